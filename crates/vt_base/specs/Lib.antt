@@ -1,0 +1,5 @@
+pub mod Bytes
+pub mod Faults
+pub mod Kind
+pub mod Protocol
+pub mod Scores

@@ -1,0 +1,78 @@
+//! Scores, and what computes them.
+
+ghost use Rattle.std.specs.Prelude.{◌≡◌, ℕ, List, [], length};
+ghost use Rattle.sha1.specs.Sha1.{sha1};
+
+/// A score names a block: 20 bytes, of SHA-1 where the server is the real one (venti(6)).
+#[derive(Clone, Copy, Debug, PartialEq, Eq, PartialOrd, Ord, Hash)]
+pub struct Score(pub [u8; 20]);
+
+/// Gives each block its score.
+pub trait Scorer {
+    ghost use Rattle.vt_base.specs.Bytes.{AreBytes};
+
+    /// The score of a block's bytes, and of nothing else. That of no bytes is the zero score.
+    ghost score_of: { List ℕ → List ℕ };
+
+    fn score(&self, block: &[u8]) -> Score
+        ensures { result.0 ≡ score_of block.now };
+
+    /// A score has 20 bytes.
+    ghost score_len: { (block : List ℕ) → length (score_of block) ≡ 20 };
+
+    ghost score_bytes: { (block : List ℕ) → AreBytes block → AreBytes (score_of block) };
+}
+
+/// A borrowed scorer is one.
+impl<S: Scorer> Scorer for &S {
+    ghost score_of = { S.score_of };
+
+    ghost score_len = { S.score_len };
+
+    ghost score_bytes = { S.score_bytes };
+
+    fn score(&self, block: &[u8]) -> Score {
+        (**self).score(block)
+    }
+}
+
+/// SHA-1 (FIPS 180-4), by the crate `sha1`.
+#[derive(Clone, Copy, Debug)]
+pub struct Sha1Scorer;
+
+impl Scorer for Sha1Scorer {
+    ghost use Rattle.vt_base.specs.Scores.{length-sha1, bytes-sha1};
+
+    ghost score_of = { sha1 };
+
+    ghost score_len = { length-sha1 };
+
+    ghost score_bytes = { λ block _. bytes-sha1 block };
+
+    fn score(&self, block: &[u8]) -> Score {
+        Score(sha1::Sha1::digest(block))
+    }
+}
+
+/// For tests, so that blocks with one score can be had: the block's first byte, or 0 where it has none,
+/// and 19 zero bytes.
+#[derive(Clone, Copy, Debug)]
+pub struct ShortScorer;
+
+impl Scorer for ShortScorer {
+    ghost use Rattle.vt_base.specs.Scores.{short_score, length-short_score, bytes-short_score};
+
+    ghost score_of = { short_score };
+
+    ghost score_len = { length-short_score };
+
+    ghost score_bytes = { bytes-short_score };
+
+    fn score(&self, block: &[u8]) -> Score {
+        let mut bytes = [0; 20];
+        if let Some(first) = block.first() {
+            bytes[0] = *first;
+        }
+        Score(bytes)
+    }
+}

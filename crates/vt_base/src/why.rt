@@ -1,0 +1,101 @@
+//! Why a call or a request was not done.
+
+ghost use Rattle.std.specs.Prelude.{◌≡◌};
+ghost use Rattle.vt_base.specs.Protocol.{text_of};
+
+use crate::{Place, Score};
+use std::alloc::{AllocError, AllocFailed};
+
+/// A call on an object that was handed in has failed, and its count of faults has risen.
+#[derive(Clone, Copy, Debug, PartialEq, Eq)]
+pub struct Failed;
+
+/// Memory ran out.
+#[derive(Clone, Copy, Debug, PartialEq, Eq)]
+pub struct NoMemory;
+
+impl From<AllocError> for NoMemory {
+    ghost use Rattle.std.specs.Prelude.{⊤};
+
+    ghost from_gives = { λ _ _. ⊤ };
+
+    fn from(_error: AllocError) -> Self {
+        NoMemory
+    }
+}
+
+impl<T: Drop> From<AllocFailed<T>> for NoMemory {
+    ghost use Rattle.std.specs.Prelude.{⊤};
+
+    ghost from_gives = { λ _ _. ⊤ };
+
+    fn from(_error: AllocFailed<T>) -> Self {
+        NoMemory
+    }
+}
+
+/// What stands in a field, or should stand there.
+#[derive(Clone, Copy, Debug, PartialEq, Eq)]
+pub enum FieldValue {
+    Number(u128),
+    Score(Score),
+    /// The four letters of a magic number.
+    Magic([u8; 4]),
+}
+
+/// Where damage was found: in the clump that stands or should stand at a place of the log, or in the frame of the
+/// index bucket of this number.
+#[derive(Clone, Copy, Debug, PartialEq, Eq)]
+pub enum Site {
+    Clump(Place),
+    Bucket(u32),
+}
+
+/// Why a request was not done.
+#[derive(Clone, Copy, Debug, PartialEq, Eq)]
+pub enum Why {
+    /// The type is not one of a block.
+    BadType,
+    /// More than 57,344 bytes.
+    TooBig,
+    /// The block is longer than the count that the reader gave.
+    TooSmall,
+    /// No block has this score and type.
+    Absent,
+    /// Another block has the score, with other bytes, or the score is the zero score.
+    Collision,
+    /// The score's bucket has no room.
+    IndexFull,
+    /// No arena has room.
+    ArenasFull,
+    /// A device's count of faults rose.
+    DiskFault,
+    /// A part of the store makes no more writes since its device call of this number failed.
+    Stopped(u64),
+    /// What was read differs from what was wanted.
+    Damaged {
+        site: Site,
+        want: FieldValue,
+        found: FieldValue,
+    },
+    NoMemory,
+}
+
+/// The text that a client is sent (venti(6), Rerror).
+pub fn why_text(why: &Why) -> &'static str
+    ensures { result.now ≡ text_of why.now }
+{
+    match why {
+        Why::BadType => "bad type",
+        Why::TooBig => "block too big",
+        Why::TooSmall => "count too small",
+        Why::Absent => "no such block",
+        Why::Collision => "score collision",
+        Why::IndexFull => "index full",
+        Why::ArenasFull => "arenas full",
+        Why::DiskFault => "disk fault",
+        Why::Stopped(_) => "store stopped",
+        Why::Damaged { .. } => "block damaged",
+        Why::NoMemory => "no memory",
+    }
+}

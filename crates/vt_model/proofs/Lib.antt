@@ -1,0 +1,10 @@
+pub mod Lists
+pub mod Prefixes
+pub mod Held
+pub mod Added
+pub mod Adding
+pub mod Spots
+pub mod Buckets
+pub mod Keys
+pub mod Room
+pub mod Blocks

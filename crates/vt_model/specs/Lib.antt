@@ -1,0 +1,7 @@
+pub mod History
+pub mod Places
+pub mod Legal
+pub mod Answer
+pub mod Plain
+pub mod Stored
+pub mod Verdict

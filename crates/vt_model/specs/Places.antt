@@ -1,0 +1,104 @@
+-- Where blocks go. The log is kept in arenas, which are filled one after another, and the index in
+-- buckets, of which a score's first 32 bits name one (Quinlan and Dorward 2002, venti(8)).
+use Rattle.std.specs.Prelude.{ℕ, ◌≡◌, ◌+◌, ◌-◌, ◌*◌, ◌/◌, ◌^◌, ◌==◌, max, nat_le, nat_lt, Bool, if◌then◌else◌, Option, Some, None, List, [], ◌∷◌, ◌++◌, length, take, map, filter, sum, sum_by, count_by, slice_get, slice_index}
+use Rattle.std.specs.Option.{option_map}
+use Rattle.std.specs.Int.{w32, from_be_bytes}
+use Rattle.vt_model.specs.declared.TheConstants.{HEAD_LEN, CLUMP_HEADER_LEN, DIRECTORY_ENTRY_LEN}
+use Rattle.vt_model.specs.History.{History, Accepted}
+
+-- What a store was opened with: the length of each arena's region, the first arena that was not
+-- sealed then (or the count of arenas), and how many buckets each index section has.
+pub record Setup : Type 0 where
+  pub arenas : List ℕ
+  pub base : ℕ
+  pub sections : List ℕ
+
+-- ---- arenas
+
+-- the bytes of a region behind its head; none past the last arena
+abbrev pub room_of : Setup → ℕ → ℕ
+room_of c arena = slice_index c.arenas arena - HEAD_LEN
+
+-- what a block of n bytes takes in this arena: a header, and itself
+abbrev pub clump_len : Setup → ℕ → ℕ → ℕ
+clump_len c arena n = CLUMP_HEADER_LEN + n
+
+-- what the directory of so many blocks takes in this arena: an entry for each
+abbrev pub directory_len : Setup → ℕ → ℕ → ℕ
+directory_len c arena blocks = DIRECTORY_ENTRY_LEN * blocks
+
+-- what blocks of these lengths take of an arena
+abbrev pub needed : Setup → ℕ → List ℕ → ℕ
+needed c arena lengths = sum_by (clump_len c arena) lengths + directory_len c arena (length lengths)
+
+-- blocks of these lengths fit an arena
+abbrev pub fits : Setup → ℕ → List ℕ → Bool
+fits c arena lengths = nat_le (needed c arena lengths) (room_of c arena)
+
+-- the lengths of an arena's blocks, in order
+abbrev pub lengths_in : ℕ → History → List ℕ
+lengths_in arena h = map (λ e. length e.block.bytes) (filter (λ e. e.arena == arena) h)
+
+-- the last block's arena, or this one where there is no block
+abbrev pub last_arena : ℕ → History → ℕ
+last_arena arena [] = arena
+last_arena arena (e ∷ es) = last_arena e.arena es
+
+-- the arena that is being filled
+abbrev pub current_arena : Setup → History → ℕ
+current_arena c h = max c.base (last_arena 0 h)
+
+-- Where a further block of n bytes goes: the current arena if it fits there, else the next one if
+-- there is one and the block fits it empty, else nowhere.
+abbrev pub next_arena : Setup → History → ℕ → Option ℕ
+next_arena c h n =
+    let a = current_arena c h in
+    if fits c a (lengths_in a h ++ n ∷ []) then Some a
+    else if fits c (a + 1) (n ∷ []) then Some (a + 1)
+    else None
+
+-- where a block stands: its arena, and the offset of its clump in the arena's region
+pub record Spot : Type 0 where
+  pub arena : ℕ
+  pub offset : ℕ
+
+-- the offset of a clump behind those of blocks of these lengths
+abbrev pub offset_behind : Setup → ℕ → List ℕ → ℕ
+offset_behind c arena lengths = HEAD_LEN + sum_by (clump_len c arena) lengths
+
+-- where block i stands: in its arena, behind the arena's earlier blocks
+abbrev pub place_of : Setup → History → ℕ → Option Spot
+place_of c h i =
+    option_map (λ e. record {
+      arena = e.arena;
+      offset = offset_behind c e.arena (lengths_in e.arena (take i h));
+    }) (slice_get h i)
+
+-- block i of the history is this one, and stands here
+pub record StandsAt (c : Setup) (h : History) (i : ℕ) (e : Accepted) (spot : Spot) : Type 0 where
+  pub block : slice_get h i ≡ Some e
+  pub place : place_of c h i ≡ Some spot
+
+-- ---- buckets
+
+-- how many buckets all sections have
+abbrev pub bucket_count : Setup → ℕ
+bucket_count c = sum c.sections
+
+-- the bucket of a score, of so many: they divide the scores evenly, in order
+abbrev pub bucket_of : ℕ → List ℕ → ℕ
+bucket_of buckets s = from_be_bytes w32 (take 4 s) * buckets / 2 ^ 32
+
+-- how many blocks a bucket has, of so many buckets
+abbrev pub crowd : (List ℕ → List ℕ) → ℕ → History → ℕ → ℕ
+crowd score buckets h bucket = count_by (λ e. bucket_of buckets (score e.block.bytes) == bucket) h
+
+-- the section of a bucket, where sections of so many buckets stand one behind another
+abbrev pub section_of_bucket : List ℕ → ℕ → ℕ
+section_of_bucket [] bucket = 0
+section_of_bucket (n ∷ sections) bucket =
+    if nat_lt bucket n then 0 else section_of_bucket sections (bucket - n) + 1
+
+-- the section of a score's bucket
+abbrev pub section_of_score : Setup → List ℕ → ℕ
+section_of_score c s = section_of_bucket c.sections (bucket_of (bucket_count c) s)

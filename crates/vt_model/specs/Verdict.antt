@@ -1,0 +1,15 @@
+-- What becomes of a write to the plain store.
+use Rattle.std.specs.Prelude.{ℕ, List, Result, Ok, Err}
+use Rattle.std.specs.Option.{option_map}
+use Rattle.vt_base.specs.declared.why.Why.{Why}
+use Rattle.vt_base.specs.Protocol.{r_write}
+use Rattle.vt_model.specs.declared.plain.Verdict.{Verdict}
+use Rattle.vt_model.specs.Answer.{Outcome, refuses}
+
+abbrev pub outcome_of : ℕ → List ℕ → Result Verdict Why → Outcome
+outcome_of kind bytes (Err why) = refuses why
+outcome_of kind bytes (Ok v) = record {
+  reply = r_write v.score.0;
+  added = option_map
+      (λ arena. record { block = record { kind = kind; bytes = bytes }; arena = arena }) v.arena;
+}
