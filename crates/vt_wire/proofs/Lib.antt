@@ -1,0 +1,9 @@
+pub mod Buffers
+pub mod Forms
+pub mod Frames
+pub mod Lines
+pub mod Messages
+pub mod Refusals
+pub mod Texts
+pub mod Versions
+pub mod WholeLines

@@ -1,0 +1,7 @@
+pub mod Fields
+pub mod Frames
+pub mod Lines
+pub mod Messages
+pub mod Refusals
+pub mod Rules
+pub mod Views

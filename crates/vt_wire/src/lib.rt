@@ -1,0 +1,21 @@
+//! How a client and a Venti server spell what they say (venti(6), version 02).
+#![tactic(auto)]
+
+mod decoder;
+mod encoder;
+mod frame;
+pub mod laws;
+mod line;
+mod message;
+mod parameters;
+mod rule;
+
+pub use decoder::decode;
+pub use encoder::encode;
+pub use frame::frame_len;
+pub use line::{Line, MAX_LINE, decode_line};
+pub use message::{MAX_STRING, Reply, Request, WireBad};
+pub use rule::{Rule, rule_text};
+
+#[cfg(test)]
+mod tests;

@@ -1,0 +1,64 @@
+//! Reading the parameters of a message, one behind another. Each call takes the parameter of this
+//! number from the front, and gives what stands behind it too.
+
+ghost use Rattle.std.specs.Prelude.{◌≡◌, ◌≢◌, ℕ, List, [], ◌++◌, length, IfOk, IfErr};
+ghost use Rattle.vt_wire.specs.Fields.{IsText, string, bytes_of, a_string, a_list, Begins};
+
+use crate::{MAX_STRING, WireBad};
+use vt_fields::u16_at;
+
+/// So many bytes.
+pub(crate) fn array_at<const N: usize>(
+    bytes: &[u8],
+    number: u8,
+) -> Result<(&[u8; N], &[u8]), WireBad>
+    ensures found { IfOk result (λ r. (length r.0.now ≡ N) × (bytes.now ≡ r.0.now ++ r.1.now)) }
+    ensures bad { IfErr result (λ e. e ≡ WireBad.Bad number) }
+    ensures none { IfErr result (λ _. (rest : List ℕ) → ¬ Begins (bytes_of N) bytes.now rest) }
+{
+    bytes.split_first_chunk().ok_or(WireBad::Bad(number))
+}
+
+/// A string, which has two bytes of length.
+pub(crate) fn string_at(bytes: &[u8], number: u8) -> Result<(&[u8], &[u8]), WireBad>
+    ensures found { IfOk result (λ r. IsText r.0.now × (bytes.now ≡ string r.0.now ++ r.1.now)) }
+    ensures bad { IfErr result (λ e. e ≡ WireBad.Bad number) }
+    ensures none { IfErr result (λ _. (rest : List ℕ) → ¬ Begins a_string bytes.now rest) }
+{
+    if bytes.len() < 2 {
+        return Err(WireBad::Bad(number));
+    }
+    let Some((text, rest)) = bytes[2..].split_at_checked(usize::from(u16_at(bytes, 0))) else {
+        return Err(WireBad::Bad(number));
+    };
+    if text.len() > MAX_STRING || text.contains(&0) {
+        return Err(WireBad::Bad(number));
+    }
+    Ok((text, rest))
+}
+
+/// What stands behind a list, which has one byte of length.
+pub(crate) fn behind_list(bytes: &[u8], number: u8) -> Result<&[u8], WireBad>
+    ensures found { IfOk result (λ rest. Begins a_list bytes.now rest.now) }
+    ensures bad { IfErr result (λ e. e ≡ WireBad.Bad number) }
+    ensures none { IfErr result (λ _. (rest : List ℕ) → ¬ Begins a_list bytes.now rest) }
+{
+    let (size, rest) = bytes.split_first().ok_or(WireBad::Bad(number))?;
+    let (_items, rest) = rest
+        .split_at_checked(usize::from(*size))
+        .ok_or(WireBad::Bad(number))?;
+    Ok(rest)
+}
+
+/// Nothing, behind the last parameter.
+pub(crate) fn at_end(bytes: &[u8], number: u8) -> Result<(), WireBad>
+    ensures found { IfOk result (λ _. bytes.now ≡ []) }
+    ensures bad { IfErr result (λ e. e ≡ WireBad.Bad number) }
+    ensures none { IfErr result (λ _. bytes.now ≢ []) }
+{
+    if bytes.is_empty() {
+        Ok(())
+    } else {
+        Err(WireBad::Bad(number))
+    }
+}
