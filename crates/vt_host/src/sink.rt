@@ -1,0 +1,67 @@
+//! Standard output and standard error.
+
+ghost use Rattle.std.specs.Prelude.{OnOk};
+ghost use Rattle.std.specs.Io.KnownBytes.{Appends};
+
+use crate::faults::Faults;
+use std::io;
+use std::io::Write;
+use vt_base::Failed;
+use vt_out::Sink;
+
+/// Writes straight from the piece, and whole: a full or closed output is a fault of the `put` that
+/// met it.
+#[derive(Drop)]
+pub struct StdSink<W> {
+    output: W,
+    faults: Faults,
+}
+
+impl<W: Write> StdSink<W> {
+    ghost use Rattle.std.specs.Prelude.{◌≡◌};
+    ghost use Rattle.vt_host.specs.Streams.{sink_output};
+
+    /// Over a writer, as `rt.stdout()` or `rt.stderr()`.
+    pub fn new(output: W) -> Self
+        ensures output { sink_output result ≡ output }
+        ensures faults { ⟦<StdSink<W> as Sink>⟧.faults result ≡ 0 }
+    {
+        StdSink {
+            output,
+            faults: Faults::new(),
+        }
+    }
+}
+
+/// Writes the whole piece, and leaves none of it in a buffer.
+fn write_through<W: Write>(output: &mut W, piece: &[u8]) -> io::Result<()>
+    ensures { OnOk result (Appends (W.contents output.old) (W.contents output.new) piece.now) }
+{
+    output.write_all(piece)?;
+    output.flush()
+}
+
+impl<W: Write> Sink for StdSink<W> {
+    ghost use Rattle.std.specs.Prelude.{false, [], OnOk};
+    ghost use Rattle.std.specs.Io.KnownBytes.{Appends};
+    ghost use Rattle.vt_host.specs.Streams.{sink_output};
+    ghost use Rattle.vt_base.specs.Faults.{HasCause};
+
+    ghost tells = { false };
+
+    ghost written = { λ _. [] };
+
+    ghost faults = { λ sink. sink.faults.count };
+
+    ghost faults_fit = { λ sink. sink.faults.fits };
+
+    /// Where the writer tells what it holds, the piece comes to it.
+    fn put(&mut self, piece: &[u8]) -> Result<(), Failed>
+        ensures bytes { OnOk result (Appends (W.contents (sink_output self.old))
+            (W.contents (sink_output self.new)) piece.now) }
+        ensures cause { HasCause result (⟦<StdSink<W> as Sink>⟧.faults self.old)
+            (⟦<StdSink<W> as Sink>⟧.faults self.new) }
+    {
+        self.faults.counted(write_through(&mut self.output, piece))
+    }
+}

@@ -1,0 +1,4 @@
+pub mod Cells
+pub mod Memory
+pub mod Sectors
+pub mod Writes
