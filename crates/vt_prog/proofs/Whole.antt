@@ -1,0 +1,140 @@
+-- A whole session, by how its input was read and what was said to it.
+use Rattle.std.proofs.Common.{◌≡◌, ◌≢◌, List, [], ◌∷◌, ◌++◌, ℕ, ◌≤◌, length, Bool, true, false, refl, sym, ◌∙◌, subst, ◌⊎◌, inl, inr, append-nil, arith}
+use Rattle.std.specs.List.{AllByRecursion}
+use Rattle.vt_base.specs.Faults.{HasRisen}
+use Rattle.vt_session.specs.declared.Ended.{Ended}
+use Rattle.vt_session.specs.declared.Ended.TheVariants.{Closed, Cut, Spent, ReadFault, WriteFault, NoMemory}
+use Rattle.vt_session.specs.Turns.{Turn, Cause, causes_of}
+use Rattle.vt_session.specs.Answered.{no_faults, AreToldBy, CountsRise, IsKnownStop}
+use Rattle.vt_session.specs.Talk.{Carries, spent_len}
+use Rattle.vt_prog.specs.declared.input.Reading.{Reading}
+use Rattle.vt_prog.specs.declared.input.Reading.TheVariants.{End, Limit, Fault}
+use Rattle.vt_prog.specs.Reading.{EndsBy, is_fault}
+use Rattle.vt_prog.specs.Sessions.{OnlyMemory, Says, AnswersInput, IsSession, HasCauses, SinkCause, end_of_session}
+
+-- want of memory is told by no count and no stop
+memory_counts : (causes : List Cause) → OnlyMemory causes → CountsRise [] causes []
+memory_counts [] only = λ k. omega arith
+memory_counts (cause ∷ causes) only = subst (λ (x : Cause). CountsRise [] (x ∷ causes) []) (sym only.0) (memory_counts causes only.1)
+
+memory_stops : (causes : List Cause) → OnlyMemory causes → AllByRecursion (IsKnownStop []) causes
+memory_stops [] only = tt
+memory_stops (cause ∷ causes) only = (subst (IsKnownStop []) (sym only.0) tt, memory_stops causes only.1)
+
+told_by_none : (causes : List Cause) → OnlyMemory causes → AreToldBy no_faults causes
+told_by_none causes only = record { counts = memory_counts causes only; stops = memory_stops causes only }
+
+carries : (P : Type 0) (reading : Reading) (ended : Ended) (input output : List ℕ) (turns : List Turn) (left : List ℕ) (old new : ℕ) → EndsBy reading input P left old new
+    → Says ended input turns output → Carries input output turns (end_of_session reading ended)
+carries P End Closed input output turns left old new by says = (says.0, by.0)
+carries P End Cut input output turns left old new by says = (says.0, by.0)
+carries P Limit Closed input output turns left old new by says = (inl says.0, by.0)
+carries P Limit Cut input output turns left old new by says = (inr says.0, by.0)
+carries P Fault Closed input output turns left old new by says = (inl says.0, by.0)
+carries P Fault Cut input output turns left old new by says = (inr says.0, by.0)
+carries P End Spent input output turns left old new by says = absurd says.1
+carries P Limit Spent input output turns left old new by says = absurd says.1
+carries P Fault Spent input output turns left old new by says = absurd says.1
+carries P End ReadFault input output turns left old new by says = absurd says.1
+carries P Limit ReadFault input output turns left old new by says = absurd says.1
+carries P Fault ReadFault input output turns left old new by says = absurd says.1
+carries P End WriteFault input output turns left old new by says = says
+carries P Limit WriteFault input output turns left old new by says = says
+carries P Fault WriteFault input output turns left old new by says = says
+carries P End NoMemory input output turns left old new by says = says
+carries P Limit NoMemory input output turns left old new by says = says
+carries P Fault NoMemory input output turns left old new by says = says
+carries P reading ended input output turns left old new by says = says.0
+
+within : (P : Type 0) (reading : Reading) (input : List ℕ) (left : List ℕ) (old new : ℕ) → EndsBy reading input P left old new → length input ≤ spent_len
+within P End input left old new by = omega (arith, by.0)
+within P Limit input left old new by = omega (arith, by.0)
+within P Fault input left old new by = omega (arith, by.0)
+
+-- only an input that was read to its end is closed or cut
+read_to_end : (P : Type 0) (reading : Reading) (ended : Ended) (input : List ℕ) (left : List ℕ) (old new : ℕ) → EndsBy reading input P left old new → P
+    → (end_of_session reading ended ≡ Closed) ⊎ (end_of_session reading ended ≡ Cut) → left ≡ []
+read_to_end P End ended input left old new by p is = by.1 p
+read_to_end P reading Closed input left old new by p is = elim is [ inl e ↦ absurd (cc) | inr e ↦ absurd (cc) ]
+read_to_end P reading ended input left old new by p is = elim is [ inl e ↦ absurd (cc) | inr e ↦ absurd (cc) ]
+
+-- a write fault is none of reading
+no_fault_of_reading : (reading : Reading) (ended : Ended) (old new : ℕ) → SinkCause ended old new → SinkCause (end_of_session reading ended) old new
+no_fault_of_reading End ended old new cause = cause
+no_fault_of_reading reading Closed old new cause = cause
+no_fault_of_reading reading ended old new cause = cause
+
+write_fault_stays : (reading : Reading) (ended : Ended) → ended ≡ WriteFault → end_of_session reading ended ≡ WriteFault
+write_fault_stays End ended is = is
+write_fault_stays reading Closed is = absurd (cc)
+write_fault_stays reading Cut is = absurd (cc)
+write_fault_stays reading ended is = is
+
+-- a read fault is one of reading
+fault_of_reading : (reading : Reading) (ended : Ended) → ended ≢ ReadFault → end_of_session reading ended ≡ ReadFault → is_fault reading ≡ true
+fault_of_reading End ended other is = absurd (other is)
+fault_of_reading Fault ended other is = refl
+fault_of_reading Limit Closed other is = absurd (cc)
+fault_of_reading Limit Cut other is = absurd (cc)
+fault_of_reading Limit ended other is = absurd (other is)
+
+rose : (P : Type 0) (reading : Reading) (input left : List ℕ) (old new : ℕ) → EndsBy reading input P left old new → is_fault reading ≡ true → HasRisen old new
+rose P Fault input left old new by is = by.1
+rose P End input left old new by is = absurd (cc)
+rose P Limit input left old new by is = absurd (cc)
+
+stood : (P : Type 0) (reading : Reading) (input left : List ℕ) (old new : ℕ) → EndsBy reading input P left old new → is_fault reading ≡ false → new ≡ old
+stood P Fault input left old new by is = absurd (cc)
+stood P End input left old new by is = by.2
+stood P Limit input left old new by is = by.1
+
+pub session_is : (score : List ℕ → List ℕ) (P : Type 0) (reading : Reading) (ended ended' : Ended) (read_failed ran : Bool) (input had left before after : List ℕ) (taken old new : ℕ)
+    → P → had ≡ input ++ left → EndsBy reading input P left old new → AnswersInput score input ended ran before after → ended' ≡ end_of_session reading ended → taken ≡ length input
+    → IsSession score (record { ended = ended'; read_failed = read_failed; ran_out = ran; taken = taken }) had left before after
+session_is score P reading ended ended' read_failed ran input had left before after taken old new p parts by x is len =
+    let at_end = read_to_end P reading ended input left old new by p in
+    record {
+      input = input;
+      output = x.output;
+      turns = x.turns;
+      history = x.history;
+      alone = record {
+        carried = subst (Carries input x.output x.turns) (sym is) (carries P reading ended input x.output x.turns left old new by x.says);
+        taken = within P reading input left old new by;
+        answered = x.answered;
+        failures = told_by_none (causes_of x.turns) x.memory_alone;
+      };
+      took = record { parts = parts; closed = λ e. at_end (inl (sym is ∙ e)); cut = λ e. at_end (inr (sym is ∙ e)) };
+      written = x.written;
+      taken = λ _. len;
+      memory = x.memory_alone;
+      ran = x.ran;
+      ran_only = λ e. elim (x.ran_only e) [ inl f ↦ inl f | inr f ↦ inr (is ∙ write_fault_stays reading ended f) ];
+    }
+
+pub causes_are : (P : Type 0) (reading : Reading) (ended ended' : Ended) (read_failed ran : Bool) (input left : List ℕ) (taken old new sink sink' : ℕ) → EndsBy reading input P left old new
+    → SinkCause ended sink sink' → ended ≢ ReadFault → ended' ≡ end_of_session reading ended → read_failed ≡ is_fault reading
+    → HasCauses (record { ended = ended'; read_failed = read_failed; ran_out = ran; taken = taken }) old new sink sink'
+causes_are P reading ended ended' read_failed ran input left taken old new sink sink' by cause other is failed = record {
+  read = λ e. rose P reading input left old new by (sym failed ∙ e);
+  no_read = λ e. stood P reading input left old new by (sym failed ∙ e);
+  read_fault = λ e. failed ∙ fault_of_reading reading ended other (sym is ∙ e);
+  write = subst (λ (e : Ended). SinkCause e sink sink') (sym is) (no_fault_of_reading reading ended sink sink' cause);
+}
+
+-- memory ran out before anything was written
+pub none_is : (score : List ℕ → List ℕ) (had left before : List ℕ) → ((front : List ℕ) × (had ≡ front ++ left) × (length front ≤ spent_len))
+    → IsSession score (record { ended = NoMemory; read_failed = false; ran_out = false; taken = 0 }) had left before before
+none_is score had left before lost = record {
+  input = lost.0;
+  output = [];
+  turns = [];
+  history = [];
+  alone = record { carried = (refl, refl); taken = lost.2; answered = refl; failures = told_by_none [] tt };
+  took = record { parts = lost.1; closed = λ e. absurd (cc); cut = λ e. absurd (cc) };
+  written = sym (append-nil before);
+  taken = λ other. absurd (other refl);
+  memory = tt;
+  ran = λ e. absurd (cc);
+  ran_only = λ e. absurd (cc);
+}

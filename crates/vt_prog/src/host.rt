@@ -1,0 +1,80 @@
+//! What the program stands on: all that it reads from and writes to is handed in.
+
+ghost use Rattle.std.specs.Prelude.{◌≡◌};
+ghost use Rattle.std.specs.Borrow.{sem, Lends};
+ghost use Rattle.vt_prog.specs.Hosts.{Lent};
+
+use vt_out::{Sink, Source};
+
+/// Lends the program its streams.
+pub trait Host {
+    type Source: Source;
+
+    type Sink: Sink;
+
+    type FaultSink: Sink;
+
+    /// What it lends.
+    ghost lent: { Self → Lent Self.Source Self.Sink Self.FaultSink };
+
+    /// The host when it lends this.
+    ghost lending: { Self → Lent Self.Source Self.Sink Self.FaultSink → Self };
+
+    /// The stream that is read.
+    fn source(&mut self) -> &mut Self::Source
+        ensures* lends { sem 𝓛 (Lends Self.row Self.Source.row self.entry result
+            (λ source. lending self.old (record (lent self.old) { source = source }))) }
+        ensures source { result.now ≡ (lent self.old).source };
+
+    /// Where results go.
+    fn sink(&mut self) -> &mut Self::Sink
+        ensures* lends { sem 𝓛 (Lends Self.row Self.Sink.row self.entry result
+            (λ sink. lending self.old (record (lent self.old) { sink = sink }))) }
+        ensures sink { result.now ≡ (lent self.old).sink };
+
+    /// Where a line goes that says what went wrong.
+    fn fault_sink(&mut self) -> &mut Self::FaultSink
+        ensures* lends { sem 𝓛 (Lends Self.row Self.FaultSink.row self.entry result
+            (λ sink. lending self.old (record (lent self.old) { fault_sink = sink }))) }
+        ensures fault_sink { result.now ≡ (lent self.old).fault_sink };
+
+    ghost lent_again: { (host : Self) (lent' : Lent Self.Source Self.Sink Self.FaultSink) →
+        lent (lending host lent') ≡ lent' };
+}
+
+/// A host that is its streams.
+#[derive(Drop)]
+pub struct Streams<S, K, F> {
+    pub source: S,
+    pub sink: K,
+    pub fault_sink: F,
+}
+
+impl<S: Source, K: Sink, F: Sink> Host for Streams<S, K, F> {
+    ghost use Rattle.std.proofs.Common.{refl};
+
+    type Source = S;
+
+    type Sink = K;
+
+    type FaultSink = F;
+
+    ghost lent = { λ host. record { source = host.source; sink = host.sink; fault_sink = host.fault_sink } };
+
+    ghost lending = { λ host lent.
+        record { source = lent.source; sink = lent.sink; fault_sink = lent.fault_sink } };
+
+    ghost lent_again = { λ host lent. refl };
+
+    fn source(&mut self) -> &mut S {
+        &mut self.source
+    }
+
+    fn sink(&mut self) -> &mut K {
+        &mut self.sink
+    }
+
+    fn fault_sink(&mut self) -> &mut F {
+        &mut self.fault_sink
+    }
+}

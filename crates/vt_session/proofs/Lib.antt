@@ -1,0 +1,9 @@
+pub mod Hearings
+pub mod Turns
+pub mod Talks
+pub mod Pieces
+pub mod Replies
+pub mod Parsing
+pub mod Causes
+pub mod Numbers
+pub mod Written

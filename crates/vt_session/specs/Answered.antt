@@ -1,0 +1,142 @@
+-- Which turns a history of blocks gives, when others may add to it as well, and when nobody else
+-- does. Blocks are only ever added (Quinlan and Dorward 2002), so a reply is about a prefix.
+use Rattle.std.specs.Prelude.{ℕ, ◌≡◌, ◌≢◌, ◌+◌, ◌-◌, ◌^◌, ◌<◌, ◌≤◌, ◌⊎◌, ⊤, Option, Some, None, List, [], ◌∷◌, length, take, slice_get, slice_index, Contains}
+use Rattle.std.specs.List.{AllByRecursion}
+use Rattle.vt_base.specs.Kind.{IsKind}
+use Rattle.vt_base.specs.declared.why.FieldValue.{FieldValue}
+use Rattle.vt_base.specs.declared.why.FieldValue.TheVariants.{Number, Score, Magic}
+use Rattle.vt_base.specs.Protocol.{Operation, ping, read, write, sync}
+use Rattle.vt_model.specs.History.{History, Accepted, IsBlock}
+use Rattle.vt_model.specs.Places.{Setup, section_of_score}
+use Rattle.vt_model.specs.Answer.{answer, with_added}
+use Rattle.vt_session.specs.Turns.{Part, log, section, Cause, disk_fault, stopped, damaged, no_memory, Turn, told, served, failed}
+
+-- ---- where the store may fail
+
+-- the operation comes as far as the store's parts: a write of a block, a read that isn't of the
+-- zero score, a sync
+abbrev pub ReachesParts : (List ℕ → List ℕ) → Operation → Type 0
+ReachesParts score ping = ⊥
+ReachesParts score (read s kind count) = IsKind kind × (s ≢ score [])
+ReachesParts score (write kind bytes) = IsBlock (record { kind = kind; bytes = bytes })
+ReachesParts score sync = ⊤
+
+-- the parts that it has to write to: the log at a sync; at a write the log and the section of its
+-- score's bucket
+abbrev pub WritesTo : (List ℕ → List ℕ) → Setup → Operation → Part → Type 0
+WritesTo score c ping part = ⊥
+WritesTo score c (read s kind count) part = ⊥
+WritesTo score c (write kind bytes) part =
+    (part ≡ log) ⊎ (part ≡ section (section_of_score c (score bytes)))
+WritesTo score c sync part = part ≡ log
+
+-- it reads what was stored, and it takes memory
+abbrev pub MayFindDamage : Operation → Type 0
+MayFindDamage ping = ⊥
+MayFindDamage (read s kind count) = ⊤
+MayFindDamage (write kind bytes) = ⊤
+MayFindDamage sync = ⊥
+
+abbrev pub TakesMemory : Operation → Type 0
+TakesMemory ping = ⊥
+TakesMemory (read s kind count) = ⊤
+TakesMemory (write kind bytes) = ⊤
+TakesMemory sync = ⊥
+
+-- two values of one field
+abbrev pub SameForm : FieldValue → FieldValue → Type 0
+SameForm (Number a) (Number b) = ⊤
+SameForm (Score a) (Score b) = ⊤
+SameForm (Magic a) (Magic b) = ⊤
+SameForm a b = ⊥
+
+-- no count fell
+abbrev pub NoneFell : List ℕ → List ℕ → Type 0
+NoneFell before after = (k : ℕ) → slice_index before k ≤ slice_index after k
+
+-- a count rose, or stands at the end of its type, where it can't
+abbrev pub OneRose : List ℕ → List ℕ → Type 0
+OneRose before after = (k : ℕ)
+    × ((slice_index before k < slice_index after k) ⊎ (slice_index after k ≡ 2 ^ 64 - 1))
+
+-- the operation may fail for this cause
+abbrev pub IsCauseFor : (List ℕ → List ℕ) → Setup → Operation → Cause → Type 0
+IsCauseFor score c operation (disk_fault before after) = OneRose before after
+IsCauseFor score c operation (stopped part first) = WritesTo score c operation part
+IsCauseFor score c operation (damaged site want found) =
+    MayFindDamage operation × SameForm want found × (want ≢ found)
+IsCauseFor score c operation no_memory = TakesMemory operation
+
+abbrev pub MayFail : (List ℕ → List ℕ) → Setup → Operation → Cause → Type 0
+MayFail score c operation cause = ReachesParts score operation × IsCauseFor score c operation cause
+
+-- along the causes no count falls, from the first counts to the last
+abbrev pub CountsRise : List ℕ → List Cause → List ℕ → Type 0
+CountsRise first [] last = NoneFell first last
+CountsRise first (disk_fault before after ∷ causes) last =
+    NoneFell first before × NoneFell before after × CountsRise after causes last
+CountsRise first (stopped part n ∷ causes) last = CountsRise first causes last
+CountsRise first (damaged site want found ∷ causes) last = CountsRise first causes last
+CountsRise first (no_memory ∷ causes) last = CountsRise first causes last
+
+-- What the store's parts tell of their faults over a while: their counts of failed calls before it
+-- and behind it, in one order, and which parts have stopped by its end, each with the device call
+-- at which it did.
+pub record Faults : Type 0 where
+  pub before : List ℕ
+  pub after : List ℕ
+  pub stops : List (Part × ℕ)
+
+-- nothing fails
+abbrev pub no_faults : Faults
+no_faults = record { before = []; after = []; stops = [] }
+
+-- a part that stopped is one that tells it
+abbrev pub IsKnownStop : List (Part × ℕ) → Cause → Type 0
+IsKnownStop stops (disk_fault before after) = ⊤
+IsKnownStop stops (stopped part first) = Contains stops (part, first)
+IsKnownStop stops (damaged site want found) = ⊤
+IsKnownStop stops no_memory = ⊤
+
+-- the causes are those that the parts tell of: their counts rise one after another, and their stops
+-- are known
+pub record AreToldBy (faults : Faults) (causes : List Cause) : Type 0 where
+  pub counts : CountsRise faults.before causes faults.after
+  pub stops : AllByRecursion (IsKnownStop faults.stops) causes
+
+-- ---- one history, at numbers that never fall
+
+-- an added block is block n of the history
+abbrev pub StandsAt : History → ℕ → Option Accepted → Type 0
+StandsAt h n None = ⊤
+StandsAt h n (Some e) = slice_get h n ≡ Some e
+
+-- the least number that the next operation may have
+abbrev pub number_after : ℕ → Option Accepted → ℕ
+number_after n None = n
+number_after n (Some e) = n + 1
+
+-- Each operation has a number n from low to high, and its outcome is the answer on the first n
+-- blocks. Numbers never fall, and they rise behind a block that was added. An operation that failed
+-- adds nothing.
+abbrev pub AnsweredBy : (List ℕ → List ℕ) → Setup → History → ℕ → ℕ → List Turn → Type 0
+AnsweredBy score c h low high [] = ⊤
+AnsweredBy score c h low high (told tag reply ∷ turns) = AnsweredBy score c h low high turns
+AnsweredBy score c h low high (served tag operation n outcome ∷ turns) =
+    (low ≤ n) × (n ≤ high) × (outcome ≡ answer score c (take n h) operation)
+    × StandsAt h n outcome.added × AnsweredBy score c h (number_after n outcome.added) high turns
+AnsweredBy score c h low high (failed tag operation n cause ∷ turns) =
+    (low ≤ n) × (n ≤ high) × MayFail score c operation cause × AnsweredBy score c h n high turns
+
+-- ---- a history to which nobody else adds
+
+-- each outcome is the answer on the history so far, which goes on by what it adds, up to the last
+-- history
+abbrev pub AnsweredAlone : (List ℕ → List ℕ) → Setup → History → List Turn → History → Type 0
+AnsweredAlone score c h [] last = last ≡ h
+AnsweredAlone score c h (told tag reply ∷ turns) last = AnsweredAlone score c h turns last
+AnsweredAlone score c h (served tag operation n outcome ∷ turns) last =
+    (n ≡ length h) × (outcome ≡ answer score c h operation)
+    × AnsweredAlone score c (with_added h outcome.added) turns last
+AnsweredAlone score c h (failed tag operation n cause ∷ turns) last =
+    (n ≡ length h) × MayFail score c operation cause × AnsweredAlone score c h turns last

@@ -1,0 +1,6 @@
+pub mod Heard
+pub mod Turns
+pub mod Answered
+pub mod Talk
+pub mod Hearing
+pub mod Parsed

@@ -1,0 +1,60 @@
+-- What a parser keeps of an input, and what it reads of a frame.
+use Rattle.std.specs.Prelude.{ℕ, ◌≡◌, ◌+◌, ◌||◌, Bool, true, false, Some, None, List, [], ◌∷◌, length}
+use Rattle.vt_base.specs.Protocol.{TMessage, t_hello}
+use Rattle.vt_wire.specs.Frames.{framed}
+use Rattle.vt_wire.specs.Views.{message_of}
+use Rattle.vt_session.specs.declared.Ended.{Ended}
+use Rattle.vt_session.specs.declared.Ended.TheVariants.{Goodbye}
+use Rattle.vt_session.specs.declared.parsed.Next.{Next}
+use Rattle.vt_session.specs.declared.parsed.Next.TheVariants.{Message, Refused, End}
+use Rattle.vt_session.specs.declared.parsed.Left.{Left}
+use Rattle.vt_session.specs.declared.parsed.State.{State}
+use Rattle.vt_session.specs.declared.parsed.State.TheVariants.{GoingOn, Over}
+use Rattle.vt_session.specs.Heard.{Item, item_of, greets, Unheard, Hears}
+use Rattle.vt_session.specs.Hearing.{Hearing, going_on, over, MatchNext}
+
+abbrev pub unheard : Left → Unheard
+unheard left = record {
+  offered = left.offered;
+  greeted = left.greeted;
+  place = left.place;
+  bytes = left.bytes.now;
+}
+
+abbrev pub hearing_of : State → Hearing
+hearing_of (GoingOn left) = going_on (unheard left)
+hearing_of (Over ended) = over ended
+
+-- a hello that is accepted
+abbrev pub is_hello_message : TMessage → Bool
+is_hello_message (t_hello version) = true
+is_hello_message m = false
+
+abbrev pub is_hello : Next → Bool
+is_hello (Message tag request) = is_hello_message (message_of request)
+is_hello (Refused rule tag) = false
+is_hello (End ended) = false
+
+-- what a message comes to by the rules of a session
+abbrev pub RulesGive : Unheard → ℕ → TMessage → Next → Type 0
+RulesGive left tag message next =
+    MatchNext next (λ item. item_of left.offered left.greeted tag message ≡ Some item)
+    (λ ended. (item_of left.offered left.greeted tag message ≡ None) × (ended ≡ Goodbye))
+
+-- the first frame left has this body and is heard as this item
+abbrev pub HearsFrame : Unheard → List ℕ → Item → Type 0
+HearsFrame left body item =
+    (bodies : List (List ℕ)) (rest : List ℕ) (items : List Item) (ended : Ended)
+    → Hears left.offered (left.greeted || greets item) (left.place + length (framed body))
+    bodies rest items ended
+    → Hears left.offered left.greeted left.place (body ∷ bodies) rest (item ∷ items) ended
+
+-- it ends what is heard
+abbrev pub EndsAtFrame : Unheard → List ℕ → Ended → Type 0
+EndsAtFrame left body ended =
+    (bodies : List (List ℕ)) (rest : List ℕ)
+    → Hears left.offered left.greeted left.place (body ∷ bodies) rest [] ended
+
+-- what the first frame left comes to, which has this body
+abbrev pub FrameGives : Unheard → List ℕ → Next → Type 0
+FrameGives left body next = MatchNext next (HearsFrame left body) (EndsAtFrame left body)

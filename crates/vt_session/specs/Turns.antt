@@ -1,0 +1,107 @@
+-- What a server said to each item that it heard, and which state of the store that was about
+-- (venti(6): each request but a goodbye has one reply, under its tag).
+use Rattle.std.specs.Prelude.{ℕ, Option, Some, None, List, [], ◌∷◌, ◌++◌, map, codes}
+use Rattle.std.specs.List.{flat_map}
+use Rattle.std.specs.Option.{option_to_list}
+use Rattle.vt_base.specs.declared.why.Why.{Why}
+use Rattle.vt_base.specs.declared.why.Why.TheVariants.{DiskFault, Stopped, Damaged, NoMemory}
+use Rattle.vt_base.specs.declared.why.Site.{Site}
+use Rattle.vt_base.specs.declared.why.FieldValue.{FieldValue}
+use Rattle.vt_base.specs.Protocol.{Operation, sync, RMessage, r_refused}
+use Rattle.vt_model.specs.History.{Accepted}
+use Rattle.vt_model.specs.Answer.{Outcome}
+use Rattle.vt_wire.specs.Messages.{spelled}
+use Rattle.vt_session.specs.Heard.{Item, settled, asked}
+
+-- a part of the store that makes writes of its own: the log, or an index section by its number
+pub data Part : Type 0 where
+  log : Part
+  section : (number : ℕ) → Part
+
+-- Why the store failed in an operation: a count of faults rose, from these counts before it to
+-- those behind it; a part makes no more writes since its device call of this number failed; what
+-- was read differs from what was wanted; or memory ran out.
+pub data Cause : Type 0 where
+  disk_fault : (before after : List ℕ) → Cause
+  stopped : (part : Part) (first : ℕ) → Cause
+  damaged : (site : Site) (want found : FieldValue) → Cause
+  no_memory : Cause
+
+abbrev pub why_of : Cause → Why
+why_of (disk_fault before after) = DiskFault
+why_of (stopped part first) = Stopped first
+why_of (damaged site want found) = Damaged site want found
+why_of no_memory = NoMemory
+
+-- An item and what was said to it: a settled reply; or what the store answered, of which the first
+-- so many blocks of the history tell; or that the store failed.
+pub data Turn : Type 0 where
+  told : (tag : ℕ) (reply : RMessage) → Turn
+  served : (tag : ℕ) (operation : Operation) (number : ℕ) (outcome : Outcome) → Turn
+  failed : (tag : ℕ) (operation : Operation) (number : ℕ) (cause : Cause) → Turn
+
+abbrev pub item_of_turn : Turn → Item
+item_of_turn (told tag reply) = settled tag reply
+item_of_turn (served tag operation number outcome) = asked tag operation
+item_of_turn (failed tag operation number cause) = asked tag operation
+
+-- the bytes of the reply
+abbrev pub spelled_turn : Turn → List ℕ
+spelled_turn (told tag reply) = spelled tag reply
+spelled_turn (served tag operation number outcome) = spelled tag outcome.reply
+spelled_turn (failed tag operation number cause) = spelled tag (r_refused (why_of cause))
+
+-- ---- what a list of turns tells
+
+abbrev pub items_of : List Turn → List Item
+items_of turns = map item_of_turn turns
+
+-- the server's line, and what it writes in order: the line, and each reply
+abbrev pub server_line : List ℕ
+server_line = codes "venti-02-rattle" ++ 10 ∷ []
+
+abbrev pub pieces_of : List Turn → List (List ℕ)
+pieces_of turns = server_line ∷ map spelled_turn turns
+
+abbrev pub output_of : List Turn → List ℕ
+output_of turns = server_line ++ flat_map spelled_turn turns
+
+-- the blocks that were added, and their numbers
+abbrev pub added_by : Turn → List Accepted
+added_by (told tag reply) = []
+added_by (served tag operation number outcome) = option_to_list outcome.added
+added_by (failed tag operation number cause) = []
+
+abbrev pub added_of : List Turn → List Accepted
+added_of turns = flat_map added_by turns
+
+abbrev pub added_number : Turn → List ℕ
+added_number (told tag reply) = []
+added_number (served tag operation number outcome) =
+    map (λ _. number) (option_to_list outcome.added)
+added_number (failed tag operation number cause) = []
+
+abbrev pub added_numbers : List Turn → List ℕ
+added_numbers turns = flat_map added_number turns
+
+-- the numbers of the syncs that were answered
+abbrev pub synced_number : Turn → List ℕ
+synced_number (served tag sync number outcome) = number ∷ []
+synced_number turn = []
+
+abbrev pub synced_numbers : List Turn → List ℕ
+synced_numbers turns = flat_map synced_number turns
+
+-- the failures
+abbrev pub cause_of : Turn → List Cause
+cause_of (told tag reply) = []
+cause_of (served tag operation number outcome) = []
+cause_of (failed tag operation number cause) = cause ∷ []
+
+abbrev pub causes_of : List Turn → List Cause
+causes_of turns = flat_map cause_of turns
+
+-- why the store failed first, if it did
+abbrev pub first_why : List Cause → Option Why
+first_why [] = None
+first_why (cause ∷ causes) = Some (why_of cause)

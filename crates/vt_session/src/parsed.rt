@@ -1,0 +1,183 @@
+//! Hearing a whole input, item by item.
+
+ghost use Rattle.std.specs.Prelude.{◌≡◌, ◌+◌, ◌<◌, ◌^◌, List, drop, length};
+ghost use Rattle.vt_base.specs.Bytes.{AreBytes};
+ghost use Rattle.vt_wire.specs.Frames.{size_width, IsFrame};
+ghost use Rattle.vt_wire.specs.Views.{message_of};
+ghost use Rattle.vt_session.specs.Heard.{Item, Heard, end_of};
+ghost use Rattle.vt_session.specs.Hearing.{Hearing, going_on, HearsOn, IsHeard, Gives, TakesBytes};
+ghost use Rattle.vt_session.specs.declared.Ended.{Ended};
+
+use crate::Ended;
+use std::marker::Model;
+use vt_wire::{Line, Request, Rule, WireBad, decode, decode_line, frame_len};
+
+/// The version that a session is held in.
+const VERSION: &[u8] = b"02";
+
+/// Where a frame has its tag: behind the size field and the type.
+const TAG_AT: usize = 3;
+
+/// What comes next of an input.
+#[derive(Clone, Copy, Debug, PartialEq, Eq)]
+pub enum Next<'a> {
+    /// A message that is not refused, and its tag: the hello that begins the session, or an
+    /// operation behind it.
+    Message(u8, Request<'a>),
+    /// The rule that a message breaks, and its tag.
+    Refused(Rule, u8),
+    /// The end.
+    End(Ended),
+}
+
+impl Next<'_> {
+    ghost use Rattle.vt_session.specs.Parsed.{is_hello};
+
+    /// Whether the session begins here.
+    fn is_hello(&self) -> bool
+        ensures { result ≡ is_hello self.now }
+    {
+        matches!(self, Next::Message(_, Request::Hello { .. }))
+    }
+}
+
+/// An input of which a part was heard.
+#[derive(Drop)]
+pub struct Parsed<'a> {
+    state: State<'a>,
+}
+
+/// How far an input was heard.
+#[derive(Clone, Copy)]
+enum State<'a> {
+    GoingOn(Left<'a>),
+    Over(Ended),
+}
+
+/// What is left of an input, behind its line and whole frames.
+#[derive(Clone, Copy)]
+struct Left<'a> {
+    /// Whether the line offered version 02.
+    offered: bool,
+    /// Whether a hello was accepted.
+    greeted: bool,
+    /// Where the bytes stand in the input.
+    place: u64,
+    bytes: &'a [u8],
+    ghost are_bytes: { AreBytes bytes.now },
+    ghost fits: { place + length bytes.now < 2 ^ 64 },
+}
+
+impl<'a> Model for Parsed<'a> {
+    ghost use Rattle.vt_session.specs.Hearing.{Hearing};
+    ghost use Rattle.vt_session.specs.Parsed.{hearing_of};
+
+    ghost Value = { Hearing };
+
+    ghost view = { λ p. hearing_of p.state };
+}
+
+/// Begins to hear a whole input: its line is read.
+pub fn parse_all(input: &[u8]) -> Parsed<'_>
+    ensures heard { (items : List Item) (ended : Ended) →
+        HearsOn result items ended → Heard input.now items ended }
+    ensures goes_on { IsHeard result }
+{
+    let state = match decode_line(input) {
+        Line::Whole { len, has_02 } => State::GoingOn(Left {
+            offered: has_02,
+            greeted: false,
+            place: len as u64,
+            bytes: &input[len..],
+        }),
+        Line::More => State::Over(end_of(input)),
+        Line::Bad(place) => State::Over(Ended::Malformed(place as u64)),
+    };
+    Parsed { state }
+}
+
+impl<'a> Parsed<'a> {
+    /// Hears the next item. Behind the last one it is the end, again and again.
+    pub fn next(&mut self) -> Next<'a>
+        ensures gives { Gives result self.old self.new }
+        ensures shorter { TakesBytes result self.old self.new }
+        ensures goes_on { IsHeard self.new }
+    {
+        match self.state {
+            State::GoingOn(left) => {
+                let (next, state) = left.next();
+                self.state = state;
+                next
+            }
+            State::Over(ended) => Next::End(ended),
+        }
+    }
+}
+
+impl<'a> Left<'a> {
+    ghost use Rattle.vt_session.specs.Parsed.{unheard, hearing_of, RulesGive, FrameGives};
+
+    /// What comes next, and the state behind it.
+    fn next(self) -> (Next<'a>, State<'a>)
+        ensures gives { Gives result.0 (going_on (unheard self.entry)) (hearing_of result.1) }
+        ensures shorter { TakesBytes result.0 (going_on (unheard self.entry)) (hearing_of result.1) }
+        ensures goes_on { IsHeard (hearing_of result.1) }
+    {
+        let Some(len) = frame_len(self.bytes) else {
+            let ended = end_of(self.bytes);
+            return (Next::End(ended), State::Over(ended));
+        };
+        let (frame, behind) = self.bytes.split_at(len);
+        let next = self.next_of(frame);
+        if let Next::End(ended) = next {
+            return (next, State::Over(ended));
+        }
+        let left = Left {
+            offered: self.offered,
+            greeted: self.greeted || next.is_hello(),
+            place: self.place + len as u64,
+            bytes: behind,
+        };
+        (next, State::GoingOn(left))
+    }
+
+    /// What the first frame left comes to.
+    fn next_of(&self, frame: &'a [u8]) -> Next<'a>
+        requires { IsFrame frame.now (drop size_width frame.now) }
+        ensures { FrameGives (unheard self.now) (drop size_width frame.now) result }
+    {
+        match decode(frame) {
+            Ok((tag, request)) => self.next_by_rules(tag, request),
+            Err(WireBad::Short) => Next::End(Ended::Malformed(self.place)),
+            Err(WireBad::Unknown(_)) => Next::Refused(Rule::UnknownMessage, frame[TAG_AT]),
+            Err(WireBad::Bad(_)) => Next::Refused(Rule::BadMessage, frame[TAG_AT]),
+        }
+    }
+
+    /// What a message comes to by the rules of a session.
+    fn next_by_rules(&self, tag: u8, request: Request<'a>) -> Next<'a>
+        ensures { RulesGive (unheard self.now) tag (message_of request.entry) result }
+    {
+        match request {
+            Request::Goodbye => Next::End(Ended::Goodbye),
+            Request::Hello { .. } if self.greeted => Next::Refused(Rule::HelloRepeated, tag),
+            Request::Hello { version } if self.offered && version == VERSION => {
+                Next::Message(tag, request)
+            }
+            Request::Hello { .. } => Next::Refused(Rule::VersionNotAgreed, tag),
+            _ if self.greeted => Next::Message(tag, request),
+            _ => Next::Refused(Rule::HelloExpected, tag),
+        }
+    }
+}
+
+/// How an input ends with these bytes, which are less than a whole line or frame.
+fn end_of(rest: &[u8]) -> Ended
+    ensures { result ≡ end_of rest.now }
+{
+    if rest.is_empty() {
+        Ended::Closed
+    } else {
+        Ended::Cut
+    }
+}
