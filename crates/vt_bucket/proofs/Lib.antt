@@ -1,0 +1,4 @@
+pub mod Cells
+pub mod Entries
+pub mod Frames
+pub mod Keys

@@ -1,0 +1,35 @@
+-- Why bytes aren't the frame of a bucket: the first test that fails.
+use Rattle.std.specs.Prelude.{◌≡◌, ◌≢◌, ℕ, ◌+◌, ◌<◌, ◌≤◌, List, codes, length, take, drop}
+use Rattle.byteorder.specs.Endian.{big_number}
+use Rattle.vt_base.specs.declared.place.Entry.{Entry}
+use Rattle.vt_bucket.specs.declared.decoding.BucketBad.{BucketBad}
+use Rattle.vt_bucket.specs.declared.decoding.BucketBad.TheVariants.{Magic, Number, Count, Order}
+use Rattle.vt_bucket.specs.Frame.{BeginsWith}
+
+abbrev pub magic_in : List ℕ → List ℕ
+magic_in bytes = take 4 bytes
+
+abbrev pub number_in : List ℕ → ℕ
+number_in bytes = big_number 4 (drop 4 bytes)
+
+abbrev pub count_in : List ℕ → ℕ
+count_in bytes = big_number 2 (drop 8 bytes)
+
+-- the first n entries stand there, and are in order
+abbrev pub HasEntries : ℕ → List ℕ → Type 0
+HasEntries n bytes =
+    (entries : List Entry) × (length entries ≡ n) × BeginsWith entries (drop 10 bytes)
+
+abbrev pub HasMagic : List ℕ → Type 0
+HasMagic bytes = magic_in bytes ≡ codes "VBKT"
+
+-- the fault of these bytes, as the frame of the bucket of this number
+abbrev pub FaultIs : BucketBad → ℕ → List ℕ → Type 0
+FaultIs (Magic found) number bytes = (found ≡ magic_in bytes) × ¬ HasMagic bytes
+FaultIs (Number found) number bytes = HasMagic bytes × (found ≡ number_in bytes) × (found ≢ number)
+FaultIs (Count found) number bytes =
+    HasMagic bytes × (number_in bytes ≡ number) × (found ≡ count_in bytes)
+    × (263 < found)
+FaultIs (Order entry count) number bytes =
+    HasMagic bytes × (number_in bytes ≡ number) × (count ≡ count_in bytes)
+    × (count ≤ 263) × (entry < count) × HasEntries entry bytes × ¬ HasEntries (entry + 1) bytes

@@ -1,0 +1,55 @@
+-- The frame of an index bucket (Quinlan and Dorward 2002, the index; the layout is this project's):
+-- a head
+--   magic[4] number[4] count[2]
+-- and then `count` entries, ascending by score and then by type, each
+--   score[20] type[1] size[2] arena[4] offset[4]
+-- Numbers have their highest byte first. A frame has 8,192 bytes, so there is room for 263
+-- entries. What lies behind the last entry isn't read, and is written as zero.
+use Rattle.std.specs.Prelude.{◌≡◌, ℕ, ◌-◌, ◌*◌, ◌^◌, ◌<◌, ◌≤◌, List, ◌∷◌, ◌++◌, codes, length, take, drop, replicate}
+use Rattle.std.specs.List.{AllByRecursion, flat_map}
+use Rattle.byteorder.specs.Endian.{big_bytes}
+use Rattle.vt_base.specs.Kind.{IsKind}
+use Rattle.vt_base.specs.declared.place.Entry.{Entry}
+use Rattle.vt_bucket.specs.Order.{IsAscending}
+
+-- the bytes of an entry
+abbrev pub cell : Entry → List ℕ
+cell e =
+    e.key.score.0 ++ (e.key.kind ∷ (big_bytes 2 e.size
+    ++ (big_bytes 4 e.place.arena ++ big_bytes 4 e.place.offset)))
+
+-- the entry has a block type, and its fields have their widths
+pub record IsEntry (e : Entry) : Type 0 where
+  pub kind : IsKind e.key.kind
+  pub score_len : length e.key.score.0 ≡ 20
+  pub size : e.size < 2 ^ 16
+  pub arena : e.place.arena < 2 ^ 32
+  pub offset : e.place.offset < 2 ^ 32
+
+-- what a bucket may hold
+pub record AreEntries (entries : List Entry) : Type 0 where
+  pub each : AllByRecursion IsEntry entries
+  pub ascending : IsAscending entries
+  pub most : length entries ≤ 263
+
+abbrev pub cells : List Entry → List ℕ
+cells entries = flat_map cell entries
+
+-- the bytes begin with these entries, one behind another
+pub record BeginsWith (entries : List Entry) (bytes : List ℕ) : Type 0 where
+  pub allowed : AreEntries entries
+  pub spelling : (rest : List ℕ) × (bytes ≡ cells entries ++ rest)
+
+abbrev pub header : (number count : ℕ) → List ℕ
+header number count = codes "VBKT" ++ (big_bytes 4 number ++ big_bytes 2 count)
+
+-- the bytes are a frame of the bucket of this number, which holds these entries
+pub record IsFrame (number : ℕ) (entries : List Entry) (bytes : List ℕ) : Type 0 where
+  pub number_fits : number < 2 ^ 32
+  pub head : take 10 bytes ≡ header number (length entries)
+  pub body : BeginsWith entries (drop 10 bytes)
+
+-- the frame that is written
+abbrev pub frame_of : (number : ℕ) → (entries : List Entry) → List ℕ
+frame_of number entries =
+    header number (length entries) ++ (cells entries ++ replicate (8182 - 31 * length entries) 0)

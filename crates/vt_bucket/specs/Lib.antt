@@ -1,0 +1,5 @@
+pub mod Buckets
+pub mod Faults
+pub mod Frame
+pub mod Laws
+pub mod Order

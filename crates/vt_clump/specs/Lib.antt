@@ -1,0 +1,4 @@
+pub mod Clumps
+pub mod Faults
+pub mod Laws
+pub mod Spelling

@@ -1,0 +1,76 @@
+//! From the bytes of a clump to its block.
+
+ghost use Rattle.std.specs.Prelude.{◌≡◌, None, IfOk, MatchResult};
+ghost use Rattle.vt_clump.specs.Clumps.{IsRead};
+ghost use Rattle.vt_clump.specs.Faults.{first_bad, IsRefusal};
+ghost use Rattle.vt_clump.specs.Spelling.{Stored, BeginsWith};
+
+use crate::header::{HEADER_LEN, Header};
+use std::alloc::Global;
+use vt_base::{Bytes, Kind, Score, Scorer};
+
+/// A clump that was read.
+#[derive(Drop)]
+pub struct Clump {
+    pub kind: Kind,
+    pub score: Score,
+    /// When it was packed, in seconds since 1970.
+    pub time: u32,
+    /// The block.
+    pub bytes: Bytes,
+}
+
+/// How a block is stored where it isn't stored as it is.
+#[derive(Clone, Copy, Debug, PartialEq, Eq)]
+pub enum Encoding {
+    /// Encoding 2, which isn't read.
+    Compressed,
+    Unknown(u8),
+}
+
+/// Why bytes don't begin with a clump: the first of these tests that fails, with what was found,
+/// and what was wanted where that isn't the same for all clumps.
+#[derive(Clone, Copy, Debug, PartialEq, Eq)]
+pub enum ClumpBad {
+    /// Less than a header.
+    Short,
+    /// The first four bytes aren't `VCLP`.
+    Magic([u8; 4]),
+    /// No block type.
+    Kind(u8),
+    Encoding(Encoding),
+    /// Size and uncsize differ, or are 0, above 57,344 or more than the bytes behind the header.
+    Size { want: u16, found: u16 },
+    /// The block has another score than its header says.
+    Score { want: Score, found: Score },
+    NoMemory,
+}
+
+/// Reads the clump that the bytes begin with. Bytes may follow it.
+pub fn unpack<S: Scorer>(alloc: Global, bytes: &[u8], scorer: &S) -> Result<Clump, ClumpBad>
+    ensures read { IfOk result (λ clump. (s : Stored)
+        × BeginsWith S.score_of s bytes.now × IsRead s clump) }
+    ensures all_are_read { (s : Stored) → BeginsWith S.score_of s bytes.now
+        → MatchResult result (IsRead s) (λ bad. bad ≡ ClumpBad.NoMemory) }
+    ensures refused { MatchResult result (λ _. first_bad S.score_of bytes.now ≡ None)
+        (IsRefusal (first_bad S.score_of bytes.now)) }
+{
+    let header = Header::decode(bytes)?;
+    let block = &bytes[HEADER_LEN..HEADER_LEN + header.size as usize];
+    let found = scorer.score(block);
+    if found != header.score {
+        return Err(ClumpBad::Score {
+            want: header.score,
+            found,
+        });
+    }
+    let Ok(bytes) = Bytes::copy_of(alloc, block) else {
+        return Err(ClumpBad::NoMemory);
+    };
+    Ok(Clump {
+        kind: header.kind,
+        score: header.score,
+        time: header.time,
+        bytes,
+    })
+}

@@ -1,0 +1,4 @@
+pub mod Elsewhere
+pub mod Formatting
+pub mod Places
+pub mod Steps

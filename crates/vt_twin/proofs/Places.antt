@@ -1,0 +1,137 @@
+-- Where the frames and the selector stand, and what the calls of a change touch of them.
+use Rattle.std.proofs.Common.{◌≡◌, ⊎_elim, ℕ, ◌+◌, ◌-◌, ◌*◌, ◌%◌, ◌<◌, ◌≤◌, List, ◌∙◌, ap, arith}
+use Rattle.std.proofs.Math.Nat.{mul-le-mul_left}
+use Rattle.std.proofs.lemmas.Bool.{cases_lt}
+use Rattle.vt_disk.specs.declared.region.Region.{Region}
+use Rattle.vt_disk.specs.Disk.{Touches, IsAligned, SameBut, ChangesAt}
+use Rattle.vt_disk.specs.Region.{Inside, ChangesWithin}
+use Rattle.vt_disk.proofs.Bytes.{touches_within, part_same, same_refl, same_then, same_wider, aligned_sum, aligned_product}
+use Rattle.vt_twin.specs.declared.calls.Call.{Call}
+use Rattle.vt_twin.specs.declared.calls.Call.TheVariants.{WriteFrame, SyncFrame, WriteSelector, SyncSelector}
+use Rattle.vt_twin.specs.Frames.{HasRoom, frame_start, selector_start, selector_len, frame_of, named_number}
+use Rattle.vt_twin.specs.Calls.{TouchedBy, number_of}
+use Rattle.vt_twin.specs.Sound.{HasFrame, Names}
+
+-- frame 0 or 1 ends where the selector begins, or before it
+pub frame_bound : (n number : ℕ) → number < 2 → n * number ≤ n
+frame_bound n number two = omega (arith, mul-le-mul_left n (most number two))
+  where
+    most : (k : ℕ) → k < 2 → k ≤ 1
+    most k below = omega arith
+
+-- byte i of the disk lies in this frame
+abbrev pub InFrame : Region → (n number i : ℕ) → Type 0
+InFrame region n number i = (frame_start region n number ≤ i) × (i < frame_start region n number + n)
+
+module _ (region : Region) (n size : ℕ) (room : HasRoom region n size) where
+  -- what a write of a frame touches lies in that frame
+  in_frame : (number i : ℕ) → Touches (frame_start region n number) n i → InFrame region n number i
+  in_frame number i touched =
+      touches_within (frame_start region n number) (frame_start region n number + n) (frame_start region n number) n i
+      aligned (aligned_sum (frame_start region n number) n aligned room.aligned_frames) (omega arith) (omega arith) touched
+    where
+      aligned : IsAligned (frame_start region n number)
+      aligned = aligned_sum region.start (n * number) room.aligned_start (aligned_product n number room.aligned_frames)
+
+  -- what a write of the selector touches lies behind the frames
+  in_selector : (i : ℕ) → Touches (selector_start region n) (selector_len region n) i → (selector_start region n ≤ i) × (i < region.start + region.len)
+  in_selector i touched =
+      touches_within (selector_start region n) (region.start + region.len) (selector_start region n) (selector_len region n) i
+      (aligned_sum region.start (2 * n) room.aligned_start (omega (arith, room.aligned_frames)))
+      (aligned_sum region.start region.len room.aligned_start room.aligned_len)
+      (omega arith) (omega (arith, room.least)) touched
+
+  frames_apart : (number i : ℕ) → number < 2 → InFrame region n number i → InFrame region n (1 - number) i → ⊥
+  frames_apart number i two this that = ⊎_elim
+      (λ (zeroth : number < 1).
+      let is : number ≡ 0 = omega arith in
+      omega (arith, ap (λ (k : ℕ). n * k) is, ap (λ (k : ℕ). n * (1 - k)) is, this.1, that.0))
+      (λ (first : 1 ≤ number).
+      let is : number ≡ 1 = omega arith in
+      omega (arith, ap (λ (k : ℕ). n * k) is, ap (λ (k : ℕ). n * (1 - k)) is, this.0, that.1))
+      (cases_lt number 1)
+
+  before_selector : (number i : ℕ) → number < 2 → InFrame region n number i → selector_start region n ≤ i → ⊥
+  before_selector number i two this behind = omega (arith, this.1, frame_bound n number two)
+
+  module _ (current : ℕ) (two : current < 2) where
+    -- no call touches the current frame
+    pub current_free : (call : Call) (i : ℕ) → InFrame region n current i → ¬ TouchedBy call region n current i
+    current_free WriteFrame i here touched = frames_apart current i two here (in_frame (1 - current) i touched)
+    current_free SyncFrame i here touched = touched
+    current_free WriteSelector i here touched = before_selector current i two here (in_selector i touched).0
+    current_free SyncSelector i here touched = touched
+
+    -- none but the first touches the idle one
+    pub idle_free : (call : Call) → 1 ≤ number_of call → (i : ℕ) → InFrame region n (1 - current) i → ¬ TouchedBy call region n current i
+    idle_free WriteFrame later i here touched = omega (arith, later)
+    idle_free SyncFrame later i here touched = touched
+    idle_free WriteSelector later i here touched = before_selector (1 - current) i (omega arith) here (in_selector i touched).0
+    idle_free SyncSelector later i here touched = touched
+
+    -- none but the third touches the selector
+    pub selector_free : (call : Call) → ¬ (number_of call ≡ 2) → ¬ TouchedBy call region n current (selector_start region n)
+    selector_free WriteFrame other touched =
+        before_selector (1 - current) (selector_start region n) (omega arith) (in_frame (1 - current) (selector_start region n) touched) (omega arith)
+    selector_free SyncFrame other touched = touched
+    selector_free WriteSelector other touched = other (omega arith)
+    selector_free SyncSelector other touched = touched
+
+    -- what a call touches lies in the region
+    touched_inside : (call : Call) (i : ℕ) → TouchedBy call region n current i → Inside region i
+    touched_inside WriteFrame i touched =
+        let here = in_frame (1 - current) i touched in
+        (omega (arith, here.0), omega (arith, here.1, frame_bound n (1 - current) (omega arith), room.least))
+    touched_inside SyncFrame i touched = absurd touched
+    touched_inside WriteSelector i touched =
+        let here = in_selector i touched in
+        (omega (arith, here.0), here.1)
+    touched_inside SyncSelector i touched = absurd touched
+
+    -- so what changes where it touches changes in the region alone
+    pub bytes_inside : (call : Call) (old new : List ℕ) → SameBut (TouchedBy call region n current) old new → SameBut (Inside region) old new
+    bytes_inside call = same_wider (TouchedBy call region n current) (Inside region) (touched_inside call)
+
+    pub images_inside : (call : Call) (before after : List ℕ → Type 0) → ChangesAt (TouchedBy call region n current) before after → ChangesWithin region before after
+    images_inside call before after changes c left =
+        let from = changes c left in
+        (from.0, from.1, bytes_inside call from.0 c from.2)
+
+  -- a frame and the selector lie in the region
+  pub frame_inside : (number i : ℕ) → number < 2 → InFrame region n number i → Inside region i
+  frame_inside number i two here = (omega (arith, here.0), omega (arith, here.1, frame_bound n number two, room.least))
+
+  pub selector_inside : Inside region (selector_start region n)
+  selector_inside = (omega arith, omega (arith, room.least))
+
+-- Where bytes change at P alone, a frame without any such byte stays, and so does the frame that the selector names.
+module _ (P : ℕ → Type 0) (region : Region) (n : ℕ) where
+  pub frame_same : (number : ℕ) → ((i : ℕ) → InFrame region n number i → ¬ P i) → (old new : List ℕ) → SameBut P old new
+      → frame_of region n number new ≡ frame_of region n number old
+  frame_same number free old new same = part_same P (frame_start region n number) n old new same (λ i above below. free i (above, below))
+
+  pub named_same : ¬ P (selector_start region n) → (old new : List ℕ) → SameBut P old new → named_number region n new ≡ named_number region n old
+  named_same free old new same = ap (λ (b : ℕ). b % 2) (same.others (selector_start region n) free)
+
+  module _ (before after : List ℕ → Type 0) (changes : ChangesAt P before after) where
+    pub has_same : (number : ℕ) → ((i : ℕ) → InFrame region n number i → ¬ P i) → (frame : List ℕ)
+        → HasFrame region n number frame before → HasFrame region n number frame after
+    has_same number free frame has c left =
+        let from = changes c left in
+        frame_same number free from.0 c from.2 ∙ has from.0 from.1
+
+    pub names_same : ¬ P (selector_start region n) → (number : ℕ) → Names region n number before → Names region n number after
+    names_same free number names c left =
+        let from = changes c left in
+        named_same free from.0 c from.2 ∙ names from.0 from.1
+
+-- one change after another
+pub changes_then : (P : ℕ → Type 0) (first second third : List ℕ → Type 0) → ChangesAt P first second → ChangesAt P second third → ChangesAt P first third
+changes_then P first second third one two c left =
+    let back = two c left in
+    let from = one back.0 back.1 in
+    (from.0, from.1, same_then P from.0 back.0 c from.2 back.2)
+
+-- fewer images
+pub changes_none : (P : ℕ → Type 0) (first second : List ℕ → Type 0) → ((c : List ℕ) → second c → first c) → ChangesAt P first second
+changes_none P first second fewer c left = (c, fewer c left, same_refl P c)

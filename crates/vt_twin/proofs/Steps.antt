@@ -1,0 +1,172 @@
+-- What each call of a change leaves of a sound twin.
+use Rattle.std.proofs.Common.{◌≡◌, ⊎_elim, inl, inr, ℕ, ◌+◌, ◌-◌, ◌%◌, ◌<◌, ◌≤◌, Bool, true, false, is_some, if◌then◌else◌, List, get_or, Some, length, sym, ◌∙◌, ap, subst, arith}
+use Rattle.std.proofs.lemmas.Bool.{cases_lt, cases_eq}
+use Rattle.std.proofs.lemmas.List.{length-replicate}
+use Rattle.vt_disk.specs.declared.region.Region.{Region}
+use Rattle.vt_disk.specs.Disk.{SameBut, ChangesAt, WithinCall, Only, with_bytes, part}
+use Rattle.vt_disk.proofs.Bytes.{part-with_bytes, with_bytes_within}
+use Rattle.vt_twin.specs.declared.calls.Call.{Call}
+use Rattle.vt_twin.specs.declared.calls.Call.TheVariants.{WriteFrame, SyncFrame, WriteSelector, SyncSelector}
+use Rattle.vt_twin.specs.Frames.{HasRoom, frame_start, selector_start, selector_len, selector_bytes, frame_of, named_number, current_frame}
+use Rattle.vt_twin.specs.Twin.{TwinState, calls_made, calls_begun, next_frame, after_call, after_fault}
+use Rattle.vt_twin.specs.Calls.{bytes_after, next_call, IsSync, TouchedBy, number_of}
+use Rattle.vt_twin.specs.Sound.{HasFrame, Names, IsSound, HasBegunSelector, GivesOldOrNew}
+use Rattle.vt_twin.proofs.Places.{current_free, idle_free, selector_free, frame_same, named_same, has_same, names_same, frame_bound}
+
+-- the call behind this one has the next number
+pub next_number : (call later : Call) → next_call call ≡ Some later → number_of later ≡ number_of call + 1
+next_number WriteFrame later is = cc
+next_number SyncFrame later is = cc
+next_number WriteSelector later is = cc
+next_number SyncSelector later is = cc
+
+-- at most one call that was begun has failed
+begun_bound : (t : TwinState) → calls_begun t ≤ calls_made t + 1
+begun_bound t = bound (is_some t.stopped)
+  where
+    bound : (b : Bool) → calls_made t + (if b then 1 else 0) ≤ calls_made t + 1
+    bound true = omega arith
+    bound false = omega arith
+
+-- what a crash between two calls leaves
+pub sound_gives : (t : TwinState) (region : Region) (old read : List ℕ) (images : List ℕ → Type 0) → IsSound t region old read images
+    → (c : List ℕ) → images c → GivesOldOrNew (HasBegunSelector t) region t.frame_len old (next_frame t) c
+sound_gives t region old read images sound c left = ⊎_elim
+    (λ (few : calls_begun t < 3). inl (gives old (sound.named (λ begun. omega (arith, few, begun)) c left) sound.kept))
+    (λ (begun : 3 ≤ calls_begun t). ⊎_elim
+    (λ (same : named_number region t.frame_len c ≡ t.current). inl (gives old same sound.kept))
+    (λ (other : named_number region t.frame_len c ≡ t.current → ⊥).
+    let is : named_number region t.frame_len c ≡ 1 - t.current = omega (arith, sound.number) in
+    inr (begun, gives (next_frame t) is (sound.synced (omega (arith, begun, begun_bound t)))))
+    (cases_eq (named_number region t.frame_len c) t.current))
+    (cases_lt (calls_begun t) 3)
+  where
+    gives : {number : ℕ} (frame : List ℕ) → named_number region t.frame_len c ≡ number → HasFrame region t.frame_len number frame images → current_frame region t.frame_len c ≡ frame
+    gives frame is has = ap (λ (k : ℕ). frame_of region t.frame_len k c) is ∙ has c left
+
+-- what a crash within a call leaves, by the twin before it and after it
+pub crash_gives : (t later : TwinState) (region : Region) (old read reads : List ℕ) (before after : List ℕ → Type 0)
+    → IsSound t region old read before → IsSound later region old reads after
+    → later.frame_len ≡ t.frame_len → next_frame later ≡ next_frame t → calls_begun later ≤ calls_made t + 1
+    → (c : List ℕ) → WithinCall before after c → GivesOldOrNew (2 ≤ calls_made t) region t.frame_len old (next_frame t) c
+crash_gives t later region old read reads before after sound sound_later same_len same_frame begun c left = ⊎_elim
+    (λ (was : before c). ⊎_elim inl (λ gives. inr (omega (arith, gives.0, begun_bound t), gives.1)) (sound_gives t region old read before sound c was))
+    (λ (is : after c). ⊎_elim
+    (λ gives. inl (ap (λ (n : ℕ). current_frame region n c) (sym same_len) ∙ gives))
+    (λ gives. inr (omega (arith, gives.0, begun), ap (λ (n : ℕ). current_frame region n c) (sym same_len) ∙ gives.1 ∙ same_frame))
+    (sound_gives later region old reads after sound_later c is))
+    left
+
+module _ (t : TwinState) (region : Region) (size : ℕ) (room : HasRoom region t.frame_len size)
+    (old read reads : List ℕ) (before after : List ℕ → Type 0) (call : Call) (made : calls_made t ≡ number_of call)
+    (same : SameBut (TouchedBy call region t.frame_len t.current) read reads)
+    (changes : ChangesAt (TouchedBy call region t.frame_len t.current) before after)
+    (sound : IsSound t region old read before) where
+  P : ℕ → Type 0
+  P = TouchedBy call region t.frame_len t.current
+
+  kept_after : HasFrame region t.frame_len t.current old after
+  unfolding P
+  kept_after = has_same P region t.frame_len before after changes t.current (current_free region t.frame_len size room t.current sound.number call) old sound.kept
+
+  named_after : ¬ (3 ≤ calls_made t + 1) → Names region t.frame_len t.current after
+  unfolding P
+  named_after waits =
+      names_same P region t.frame_len before after changes
+      (selector_free region t.frame_len size room t.current sound.number call (λ third. waits (omega (arith, made, third))))
+      t.current (sound.named (λ begun. waits (omega (arith, begun, begun_bound t))))
+
+  later : 1 ≤ calls_made t → 1 ≤ number_of call
+  later some = omega (arith, made, some)
+
+  written_after : 1 ≤ calls_made t → frame_of region t.frame_len (1 - t.current) reads ≡ next_frame t
+  unfolding P
+  written_after some =
+      frame_same P region t.frame_len (1 - t.current) (idle_free region t.frame_len size room t.current sound.number call (later some)) read reads same
+      ∙ sound.written some
+
+  synced_after : 2 ≤ calls_made t → HasFrame region t.frame_len (1 - t.current) (next_frame t) after
+  unfolding P
+  synced_after some =
+      has_same P region t.frame_len before after changes (1 - t.current) (idle_free region t.frame_len size room t.current sound.number call (later (omega arith)))
+      (next_frame t) (sound.synced some)
+
+  selected_after : 3 ≤ calls_made t → named_number region t.frame_len reads ≡ 1 - t.current
+  unfolding P
+  selected_after some =
+      named_same P region t.frame_len (selector_free region t.frame_len size room t.current sound.number call (λ third. omega (arith, made, third, some))) read reads same
+      ∙ sound.selected some
+
+  -- a call that failed
+  pub fault_sound : IsSound (after_fault t) region old reads after
+  fault_sound = record {
+    number = sound.number;
+    kept = kept_after;
+    named = named_after;
+    written = written_after;
+    synced = synced_after;
+    selected = selected_after;
+  }
+
+  module _ (whole : length (next_frame t) ≡ t.frame_len) (fits : length read ≡ size)
+      (bytes : reads ≡ bytes_after (number_of call) region t.frame_len t.current (next_frame t) read)
+      (settled : IsSync (number_of call) → Only reads after) where
+    written_by : (k : ℕ) → number_of call ≡ k → reads ≡ bytes_after k region t.frame_len t.current (next_frame t) read
+    written_by k is = subst (λ (n : ℕ). reads ≡ bytes_after n region t.frame_len t.current (next_frame t) read) is bytes
+
+    -- the first call writes the idle frame
+    frame_read : frame_of region t.frame_len (1 - t.current) reads ≡ next_frame t
+    frame_read = ⊎_elim first written_after (cases_lt (calls_made t) 1)
+      where
+        first : calls_made t < 1 → frame_of region t.frame_len (1 - t.current) reads ≡ next_frame t
+        first none =
+            let bytes_are : reads ≡ with_bytes (frame_start region t.frame_len (1 - t.current)) (next_frame t) read =
+            written_by 0 (omega (arith, made, none)) in
+            ap (λ (file : List ℕ). frame_of region t.frame_len (1 - t.current) file) bytes_are
+            ∙ subst (λ (k : ℕ). part (frame_start region t.frame_len (1 - t.current)) k (with_bytes (frame_start region t.frame_len (1 - t.current)) (next_frame t) read) ≡ next_frame t) whole
+            (part-with_bytes (frame_start region t.frame_len (1 - t.current)) (next_frame t) read
+            (omega (arith, whole, fits, room.within, room.least, frame_bound t.frame_len (1 - t.current) (omega arith))))
+
+    -- the third call writes the selector
+    start : ℕ
+    start = selector_start region t.frame_len
+
+    selector : List ℕ
+    selector = selector_bytes (1 - t.current) (selector_len region t.frame_len)
+
+    selector_fits : start + length selector ≤ length read
+    unfolding start selector
+    selector_fits = omega (arith, length-replicate {A = ℕ} (selector_len region t.frame_len - 1) 0, fits, room.within, room.least)
+
+    selector_read : 3 ≤ calls_made t + 1 → named_number region t.frame_len reads ≡ 1 - t.current
+    unfolding start selector
+    selector_read some = ⊎_elim third selected_after (cases_lt (calls_made t) 3)
+      where
+        third : calls_made t < 3 → named_number region t.frame_len reads ≡ 1 - t.current
+        third few =
+            let bytes_are : reads ≡ with_bytes start selector read =
+            written_by 2 (omega (arith, made, some, few)) in
+            let some_bytes : start < start + length selector = omega arith in
+            let first : start - start ≡ 0 = omega arith in
+            let small : (1 - t.current) % 2 ≡ 1 - t.current = omega (arith, sound.number) in
+            ap (λ (file : List ℕ). named_number region t.frame_len file) bytes_are
+            ∙ ap (λ (b : ℕ). b % 2) (with_bytes_within start selector read selector_fits 0 start (omega arith) some_bytes ∙ ap (λ (k : ℕ). get_or selector k 0) first)
+            ∙ small
+
+    -- the second call syncs the idle frame
+    frame_synced : 2 ≤ calls_made t + 1 → HasFrame region t.frame_len (1 - t.current) (next_frame t) after
+    frame_synced some = ⊎_elim second synced_after (cases_lt (calls_made t) 2)
+      where
+        second : calls_made t < 2 → HasFrame region t.frame_len (1 - t.current) (next_frame t) after
+        second few c left = ap (λ (file : List ℕ). frame_of region t.frame_len (1 - t.current) file) (settled (inl (omega arith)) c left) ∙ frame_read
+
+    -- a call that succeeded, and wasn't the last
+    pub call_sound : IsSound (after_call t) region old reads after
+    call_sound = record {
+      number = sound.number;
+      kept = kept_after;
+      named = λ waits. named_after (λ begun. waits (omega (arith, begun)));
+      written = λ some. frame_read;
+      synced = frame_synced;
+      selected = selector_read;
+    }

@@ -1,0 +1,94 @@
+-- A twin as its calls see it.
+use Rattle.std.specs.Prelude.{◌≡◌, ℕ, ◌+◌, ◌-◌, ◌^◌, min, List, [], Option, Some, None, is_some, if◌then◌else◌, Result, Ok, Err}
+use Rattle.std.specs.Option.{option_map_or}
+use Rattle.vt_base.specs.Faults.{HasRisen}
+use Rattle.vt_twin.specs.declared.step.Step.{Step}
+use Rattle.vt_twin.specs.declared.step.Step.TheVariants.{More, Done}
+use Rattle.vt_twin.specs.declared.step.TwinErr.{TwinErr}
+use Rattle.vt_twin.specs.declared.step.TwinErr.TheVariants.{Fault, Stopped}
+
+-- A change under way: the frame that it brings, and how many of its four device calls succeeded.
+-- The first writes the idle frame, the second syncs it, the third writes the selector, the fourth
+-- syncs it.
+pub record Change : Type 0 where
+  pub frame : List ℕ
+  pub made : ℕ
+
+-- A twin: the length of its frames, the number of the current one, the change under way, the buffer
+-- of the last change until it is handed back, how many device calls this value has made, and the
+-- number of the one that failed.
+pub record TwinState : Type 0 where
+  pub frame_len : ℕ
+  pub current : ℕ
+  pub change : Option Change
+  pub spare : Option (List ℕ)
+  pub calls : ℕ
+  pub stopped : Option ℕ
+
+-- how many calls of the change under way succeeded
+abbrev pub calls_made : TwinState → ℕ
+calls_made t = option_map_or (λ it. it.made) t.change 0
+
+-- how many of them were begun: the one that failed too
+abbrev pub calls_begun : TwinState → ℕ
+calls_begun t = calls_made t + (if is_some t.stopped then 1 else 0)
+
+-- the frame that the change under way brings
+abbrev pub next_frame : TwinState → List ℕ
+next_frame t = option_map_or (λ it. it.frame) t.change []
+
+-- a twin that has made no call, whose current frame has this number
+abbrev pub fresh : (frame_len number : ℕ) → TwinState
+fresh frame_len number = record {
+  frame_len = frame_len;
+  current = number;
+  change = None;
+  spare = None;
+  calls = 0;
+  stopped = None;
+}
+
+-- the twin with a change to this frame under way
+abbrev pub with_change : List ℕ → TwinState → TwinState
+with_change frame t = record t { change = Some (record { frame = frame; made = 0 }); spare = None }
+
+-- the twin whose buffer was handed back
+abbrev pub without_spare : TwinState → TwinState
+without_spare t = record t { spare = None }
+
+-- a count of calls, raised by one; it stands still at the end of its type
+abbrev pub one_more : ℕ → ℕ
+one_more n = min (n + 1) (2 ^ 64 - 1)
+
+-- the twin after a call of the change that succeeded and wasn't the last
+abbrev pub after_call : TwinState → TwinState
+after_call t = record t {
+  change = Some (record { frame = next_frame t; made = calls_made t + 1 });
+  calls = one_more t.calls;
+}
+
+-- after the last one: the frame that was idle is the current one
+abbrev pub after_last : TwinState → TwinState
+after_last t = record t {
+  current = 1 - t.current;
+  change = None;
+  spare = Some (next_frame t);
+  calls = one_more t.calls;
+}
+
+-- after one that failed: it is stopped at that call's number
+abbrev pub after_fault : TwinState → TwinState
+after_fault t = record t { calls = one_more t.calls; stopped = Some t.calls }
+
+-- what `advance` makes of a twin
+abbrev pub Advances : Result Step TwinErr → (old new : TwinState) → Type 0
+Advances (Ok More) old new = new ≡ after_call old
+Advances (Ok Done) old new = new ≡ after_last old
+Advances (Err Fault) old new = new ≡ after_fault old
+Advances (Err (Stopped n)) old new = new ≡ old
+
+-- a fault comes only where the count of faults rises, and it rises only then
+abbrev pub CountsFault : Result Step TwinErr → (old new : ℕ) → Type 0
+CountsFault (Ok step) old new = new ≡ old
+CountsFault (Err Fault) old new = HasRisen old new
+CountsFault (Err (Stopped n)) old new = new ≡ old

@@ -1,0 +1,63 @@
+//! Formatting a twin, and finding its current frame.
+
+ghost use Rattle.std.specs.Prelude.{◌≡◌, ◌*◌, ◌%◌, List, ℕ, length, IsTrue, IfOk, OnOk};
+ghost use Rattle.vt_disk.specs.Disk.{SameBut, AreAmong, Only};
+ghost use Rattle.vt_base.specs.Faults.{HasCause};
+ghost use Rattle.vt_disk.specs.Region.{Inside, ChangesWithin};
+ghost use Rattle.vt_twin.specs.Frames.{HasRoom, frame_of, selector_of, selector_len, selector_bytes, named_number, current_frame};
+ghost use Rattle.vt_twin.specs.Twin.{fresh};
+ghost use Rattle.vt_twin.specs.Sound.{IsSound};
+
+use crate::Twin;
+use crate::calls::write_selector;
+use vt_base::Failed;
+use vt_disk::{Disk, Region};
+
+/// Writes frame 0 and a selector of zero bytes, and syncs. Frame 1 stays as it is.
+pub fn format<D: Disk>(disk: &mut D, region: Region, frame: &[u8]) -> Result<(), Failed>
+    requires { HasRoom region (length frame.now) (D.size disk.old) }
+
+    ensures frame { let n = length frame.now in OnOk result (IsTrue D.tells
+        → frame_of region n 0 (D.bytes disk.new) ≡ frame.now) }
+    ensures selector { let n = length frame.now in OnOk result (IsTrue D.tells
+        → selector_of region n (D.bytes disk.new) ≡ selector_bytes 0 (selector_len region n)) }
+    ensures idle { let n = length frame.now in OnOk result (IsTrue D.tells
+        → frame_of region n 1 (D.bytes disk.new) ≡ frame_of region n 1 (D.bytes disk.old)) }
+    ensures current { let n = length frame.now in OnOk result (IsTrue D.tells
+        → current_frame region n (D.bytes disk.new) ≡ frame.now) }
+    ensures settled { OnOk result (IsTrue D.tells → Only (D.bytes disk.new) (D.images disk.new)) }
+
+    // Nothing outside the region changes.
+    ensures images { ChangesWithin region (D.images disk.old) (D.images disk.new) }
+    ensures bytes { IsTrue D.tells → SameBut (Inside region) (D.bytes disk.old) (D.bytes disk.new) }
+    ensures size { D.size disk.new ≡ D.size disk.old }
+    ensures cause { HasCause result (D.faults disk.old) (D.faults disk.new) }
+{
+    region.write_at(disk, 0, frame)?;
+    write_selector(disk, region, frame.len() as u64, 0)?;
+    disk.sync()
+}
+
+/// Syncs, and then reads the selector: only what was synced names the current frame for good.
+pub fn mount<D: Disk>(disk: &mut D, region: Region, frame_len: u64) -> Result<Twin, Failed>
+    requires { HasRoom region frame_len (D.size disk.old) }
+
+    ensures fresh { IfOk result (λ twin. twin ≡ fresh frame_len twin.current) }
+    ensures named { IfOk result (λ twin. IsTrue D.tells
+        → twin.current ≡ named_number region frame_len (D.bytes disk.old)) }
+    ensures sound { IfOk result (λ twin. IsTrue D.tells
+        → IsSound twin region (current_frame region frame_len (D.bytes disk.old))
+        (D.bytes disk.new) (D.images disk.new)) }
+    ensures settled { OnOk result (IsTrue D.tells → Only (D.bytes disk.new) (D.images disk.new)) }
+
+    // It writes nothing.
+    ensures bytes { D.bytes disk.new ≡ D.bytes disk.old }
+    ensures images { AreAmong (D.images disk.new) (D.images disk.old) }
+    ensures size { D.size disk.new ≡ D.size disk.old }
+    ensures cause { HasCause result (D.faults disk.old) (D.faults disk.new) }
+{
+    disk.sync()?;
+    let mut selector = [0];
+    region.read_at(disk, 2 * frame_len, &mut selector)?;
+    Ok(Twin::resume(frame_len, selector[0]))
+}

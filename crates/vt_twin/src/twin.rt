@@ -1,0 +1,222 @@
+//! A twin, and its changes step by step.
+
+ghost use Rattle.std.specs.Prelude.{◌≡◌, ◌⊎◌, ◌↔◌, ◌-◌, ◌%◌, ◌<◌, ◌≤◌, ℕ, List, length, IsTrue, IsSome, is_some, is_none, IfOk, OnOk, None, Some, Ok, Err};
+
+use crate::calls::{Call, make_call, next};
+use crate::{Step, TwinErr};
+use std::marker::Model;
+use vt_base::{Bytes, Failed};
+use vt_disk::{Disk, Region};
+
+/// A change under way: its next device call, and the frame that it brings.
+#[derive(Drop)]
+struct Pending {
+    call: Call,
+    frame: Bytes,
+}
+
+/// A frame that changes whole: one of two frames of a region is current, and a change writes the
+/// other one and then the selector that names it.
+///
+/// It holds no frame but the one of a change. A call that reaches the device is handed the device
+/// and the region, the same one each time.
+#[derive(Drop)]
+pub struct Twin {
+    frame_len: u64,
+    current: u8,
+    pending: Option<Pending>,
+    spare: Option<Bytes>,
+    calls: u64,
+    stopped: Option<u64>,
+}
+
+impl Model for Twin {
+    ghost use Rattle.std.specs.Prelude.{◌≡◌, ◌<◌, length};
+    ghost use Rattle.std.specs.Option.{ForSome, option_map};
+    ghost use Rattle.vt_twin.specs.Twin.{TwinState};
+
+    ghost Value = { TwinState };
+
+    ghost use Rattle.vt_twin.specs.Calls.{number_of};
+
+    ghost view = { λ t. record {
+      frame_len = t.frame_len;
+      current = t.current;
+      change = option_map (λ it. record { frame = it.frame; made = number_of it.call }) t.pending;
+      spare = t.spare;
+      calls = t.calls;
+      stopped = t.stopped;
+    } };
+
+    ghost invariant = { λ t. (t.current < 2)
+        × ForSome t.pending (λ it. length it.frame ≡ t.frame_len) };
+}
+
+impl Twin {
+    ghost use Rattle.vt_disk.specs.Disk.{SameBut, Only, WithinCall, IsOneMore};
+    ghost use Rattle.vt_disk.specs.Region.{Inside, ChangesWithin};
+    ghost use Rattle.vt_twin.specs.Frames.{HasRoom, frame_of, current_frame};
+    ghost use Rattle.vt_twin.specs.Twin.{fresh, with_change, without_spare, calls_made, next_frame, Advances, CountsFault};
+    ghost use Rattle.vt_twin.specs.Calls.{bytes_after, IsSync};
+    ghost use Rattle.vt_twin.specs.Sound.{IsSound, GivesOldOrNew, frame_after};
+
+    /// A twin with frames of `frame_len` bytes whose current one is named by this first byte of its
+    /// selector: frame 0 by an even byte, frame 1 by an odd one. It makes no device call.
+    ///
+    /// A disk is sound for it where every image names that frame and has it as it is read.
+    pub fn resume(frame_len: u64, selector: u8) -> Twin
+        ensures { result ≡ fresh frame_len (selector % 2) }
+    {
+        Twin {
+            frame_len,
+            current: selector % 2,
+            pending: None,
+            spare: None,
+            calls: 0,
+            stopped: None,
+        }
+    }
+
+    /// The current frame's number, 0 or 1. It begins at this many frames' lengths in the region.
+    pub fn current(&self) -> u8
+        ensures number { result ≡ self.now.current }
+        ensures bound { result < 2 }
+    {
+        self.current
+    }
+
+    /// Whether a change is under way. One that was stopped stays so.
+    pub fn is_changing(&self) -> bool
+        ensures { result ≡ is_some self.now.change }
+    {
+        self.pending.is_some()
+    }
+
+    /// The number of the device call that stopped it, if one did.
+    pub fn stopped(&self) -> Option<u64>
+        ensures { result ≡ self.now.stopped }
+    {
+        self.stopped
+    }
+
+    /// Takes in the frame of the next change. It makes no device call.
+    pub fn begin(&mut self, frame: Bytes)
+        requires rest { self.old.change ≡ None }
+        requires whole { length frame ≡ self.old.frame_len }
+        ensures { self.new ≡ with_change frame self.old }
+    {
+        self.pending = Some(Pending {
+            call: Call::WriteFrame,
+            frame,
+        });
+        self.spare = None;
+    }
+
+    /// Hands back the last change's buffer, once. There is none while a change is under way, and
+    /// none before the first one has ended.
+    pub fn idle(&mut self) -> Option<Bytes>
+        ensures buffer { result ≡ self.old.spare }
+        ensures same { self.new ≡ without_spare self.old }
+    {
+        self.spare.take()
+    }
+
+    /// Makes one device call of the change under way: it writes the idle frame, syncs it, writes
+    /// the selector, syncs it.
+    ///
+    /// Done is the answer to the last of them, and Fault to one that fails. From then on the answer
+    /// is Stopped with the number of that call, and nothing is done.
+    pub fn advance<D: Disk>(&mut self, disk: &mut D, region: Region) -> Result<Step, TwinErr>
+        requires under_way { IsSome self.old.change }
+        requires room { HasRoom region self.old.frame_len (D.size disk.old) }
+
+        // A sound disk stays so, for the old frame or, after the last call, for the new one.
+        ensures sound { (old : List ℕ) → IsTrue D.tells
+            → IsSound self.old region old (D.bytes disk.old) (D.images disk.old)
+            → IsSound self.new region (frame_after result self.old old)
+            (D.bytes disk.new) (D.images disk.new) }
+
+        // A crash at any moment of it leaves the old frame or, from the selector's write on, the
+        // old one or the new.
+        ensures crash { (old : List ℕ) → IsTrue D.tells
+            → IsSound self.old region old (D.bytes disk.old) (D.images disk.old)
+            → (c : List ℕ) → WithinCall (D.images disk.old) (D.images disk.new) c
+            → GivesOldOrNew (2 ≤ calls_made self.old) region self.old.frame_len
+            old (next_frame self.old) c }
+
+        // After the last call each crash leaves the new one.
+        ensures last { (old : List ℕ) → IsTrue D.tells
+            → IsSound self.old region old (D.bytes disk.old) (D.images disk.old)
+            → result ≡ Ok Step.Done → (c : List ℕ) → D.images disk.new c
+            → current_frame region self.old.frame_len c ≡ next_frame self.old }
+
+        // Whatever the answer, the current frame is read whole: the old one, and after the last
+        // call the new one.
+        ensures read { (old : List ℕ) → IsTrue D.tells
+            → IsSound self.old region old (D.bytes disk.old) (D.images disk.old)
+            → frame_of region self.new.frame_len self.new.current (D.bytes disk.new)
+            ≡ frame_after result self.old old }
+
+        // What it writes, and that it syncs.
+        ensures written { IsTrue D.tells → OnOk result (D.bytes disk.new
+            ≡ bytes_after (calls_made self.old) region self.old.frame_len self.old.current
+            (next_frame self.old) (D.bytes disk.old)) }
+        ensures settled { IsTrue D.tells → IsSync (calls_made self.old)
+            → OnOk result (Only (D.bytes disk.new) (D.images disk.new)) }
+
+        ensures steps { Advances result self.old self.new }
+        ensures len { self.new.frame_len ≡ self.old.frame_len }
+        ensures done { IfOk result (λ step. (step ≡ Step.Done) ↔ (calls_made self.old ≡ 3)) }
+        ensures stopped { (n : ℕ)
+            → (result ≡ Err (TwinErr.Stopped n)) ↔ (self.old.stopped ≡ Some n) }
+        ensures faults { CountsFault result (D.faults disk.old) (D.faults disk.new) }
+
+        // It makes one call or, where it is stopped, none.
+        ensures calls { IsTrue D.tells → self.old.stopped ≡ None
+            → IsOneMore (D.calls disk.old) (D.calls disk.new) }
+        ensures untouched { IsSome self.old.stopped → disk.new ≡ disk.old }
+
+        // Nothing outside the region changes.
+        ensures images { ChangesWithin region (D.images disk.old) (D.images disk.new) }
+        ensures bytes { IsTrue D.tells
+            → SameBut (Inside region) (D.bytes disk.old) (D.bytes disk.new) }
+        ensures size { D.size disk.new ≡ D.size disk.old }
+    {
+        if let Some(call) = self.stopped {
+            return Err(TwinErr::Stopped(call));
+        }
+        let Some(mut pending) = self.pending.take() else {
+            unreachable!()
+        };
+        let number = self.calls;
+        self.calls = number.saturating_add(1);
+        let outcome = make_call(
+            disk,
+            region,
+            self.frame_len,
+            self.current,
+            pending.call,
+            pending.frame.as_slice(),
+        );
+        match outcome {
+            Ok(()) => match next(pending.call) {
+                Some(call) => {
+                    pending.call = call;
+                    self.pending = Some(pending);
+                    Ok(Step::More)
+                }
+                None => {
+                    let Pending { call: _, frame } = pending;
+                    self.current = 1 - self.current;
+                    self.spare = Some(frame);
+                    Ok(Step::Done)
+                }
+            },
+            Err(Failed) => {
+                self.pending = Some(pending);
+                self.stopped = Some(number);
+                Err(TwinErr::Fault)
+            }
+        }
+    }
+}
