@@ -1,6 +1,6 @@
 //! Laws of disks in memory: what a crash leaves is what the model says, and all that it says.
 
-ghost use Rattle.std.specs.Prelude.{◌≡◌, ◌↔◌, ◌+◌, ◌≤◌, ℕ, Bool, List, length};
+ghost use Rattle.std.specs.Prelude.{◌≡◌, ◌↔◌, ◌+◌, ◌≤◌, ℕ, Bool, List, IsTrue, length};
 ghost use Rattle.vt_base.specs.Bytes.{AreBytes};
 ghost use Rattle.vt_disk.specs.Disk.{Touches, SameBut, Only, with_bytes};
 ghost use Rattle.vt_memdisk.specs.Cells.{NonePending, IsCombination, chosen};
@@ -14,6 +14,7 @@ use vt_disk::Disk;
 /// A disk in memory, in the words of the trait: its images are the synced bytes, with any bytes
 /// where one is pending.
 pub fn memory_as_a_disk<P: Plan>()
+    ensures tells { IsTrue ⟦<MemDisk<P> as Disk>⟧.tells }
     ensures size { (disk : MemDisk P)
         → ⟦<MemDisk<P> as Disk>⟧.size disk ≡ length (memory_bytes disk) }
     ensures bytes { (disk : MemDisk P) → ⟦<MemDisk<P> as Disk>⟧.bytes disk ≡ memory_bytes disk }

@@ -100,12 +100,12 @@ no_sink_fault ReadFault old new ends same = same
 no_sink_fault WriteFault old new ends same = absurd ends
 no_sink_fault NoMemory old new ends same = same
 
-pub not_read_fault : (ended : Ended) → EndsByInput ended → ended ≢ ReadFault
-not_read_fault Goodbye ends e = cc
-not_read_fault Closed ends e = cc
-not_read_fault Cut ends e = cc
-not_read_fault (Malformed place) ends e = cc
-not_read_fault Spent ends e = cc
-not_read_fault ReadFault ends e = absurd ends
-not_read_fault WriteFault ends e = cc
-not_read_fault NoMemory ends e = cc
+pub is_other : (ended : Ended) → EndsByInput ended → (ended ≢ ReadFault) × (ended ≢ NoMemory)
+is_other Goodbye ends = (λ e. cc, λ e. cc)
+is_other Closed ends = (λ e. cc, λ e. cc)
+is_other Cut ends = (λ e. cc, λ e. cc)
+is_other (Malformed place) ends = (λ e. cc, λ e. cc)
+is_other Spent ends = absurd ends
+is_other ReadFault ends = absurd ends
+is_other WriteFault ends = absurd ends
+is_other NoMemory ends = absurd ends

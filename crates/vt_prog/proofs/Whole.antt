@@ -41,9 +41,9 @@ carries P Fault ReadFault input output turns left old new by says = absurd says.
 carries P End WriteFault input output turns left old new by says = says
 carries P Limit WriteFault input output turns left old new by says = says
 carries P Fault WriteFault input output turns left old new by says = says
-carries P End NoMemory input output turns left old new by says = says
-carries P Limit NoMemory input output turns left old new by says = says
-carries P Fault NoMemory input output turns left old new by says = says
+carries P End NoMemory input output turns left old new by says = absurd says.1
+carries P Limit NoMemory input output turns left old new by says = absurd says.1
+carries P Fault NoMemory input output turns left old new by says = absurd says.1
 carries P reading ended input output turns left old new by says = says.0
 
 within : (P : Type 0) (reading : Reading) (input : List ℕ) (left : List ℕ) (old new : ℕ) → EndsBy reading input P left old new → length input ≤ spent_len
@@ -77,6 +77,12 @@ fault_of_reading Fault ended other is = refl
 fault_of_reading Limit Closed other is = absurd (cc)
 fault_of_reading Limit Cut other is = absurd (cc)
 fault_of_reading Limit ended other is = absurd (other is)
+
+no_memory_stays : (reading : Reading) (ended : Ended) → ended ≢ NoMemory → end_of_session reading ended ≡ NoMemory → ⊥
+no_memory_stays End ended other is = other is
+no_memory_stays reading Closed other is = absurd (cc)
+no_memory_stays reading Cut other is = absurd (cc)
+no_memory_stays reading ended other is = other is
 
 rose : (P : Type 0) (reading : Reading) (input left : List ℕ) (old new : ℕ) → EndsBy reading input P left old new → is_fault reading ≡ true → HasRisen old new
 rose P Fault input left old new by is = by.1
@@ -113,13 +119,14 @@ session_is score P reading ended ended' read_failed ran input had left before af
     }
 
 pub causes_are : (P : Type 0) (reading : Reading) (ended ended' : Ended) (read_failed ran : Bool) (input left : List ℕ) (taken old new sink sink' : ℕ) → EndsBy reading input P left old new
-    → SinkCause ended sink sink' → ended ≢ ReadFault → ended' ≡ end_of_session reading ended → read_failed ≡ is_fault reading
+    → SinkCause ended sink sink' → ended ≢ ReadFault → ended ≢ NoMemory → ended' ≡ end_of_session reading ended → read_failed ≡ is_fault reading
     → HasCauses (record { ended = ended'; read_failed = read_failed; ran_out = ran; taken = taken }) old new sink sink'
-causes_are P reading ended ended' read_failed ran input left taken old new sink sink' by cause other is failed = record {
+causes_are P reading ended ended' read_failed ran input left taken old new sink sink' by cause other other' is failed = record {
   read = λ e. rose P reading input left old new by (sym failed ∙ e);
   no_read = λ e. stood P reading input left old new by (sym failed ∙ e);
   read_fault = λ e. failed ∙ fault_of_reading reading ended other (sym is ∙ e);
   write = subst (λ (e : Ended). SinkCause e sink sink') (sym is) (no_fault_of_reading reading ended sink sink' cause);
+  memory_first = λ e. absurd (no_memory_stays reading ended other' (sym is ∙ e));
 }
 
 -- memory ran out before anything was written

@@ -77,7 +77,6 @@ pub record AnswersAll (score : List ℕ → List ℕ) (c : Setup) (heard : Heari
 -- What was said to a whole input before the session ended so; where a write failed, a front of it was written.
 abbrev pub Says : Ended → (input : List ℕ) → (turns : List Turn) → (output : List ℕ) → Type 0
 Says WriteFault input turns output = (later : List Item) × (ended : Ended) × Heard input (items_of turns ++ later) ended × EndsInLast (pieces_of turns) output
-Says NoMemory input turns output = (turns ≡ []) × (output ≡ [])
 Says ended input turns output = HearsAll input output turns ended × EndsByInput ended
 
 -- a whole input was answered
@@ -126,3 +125,5 @@ pub record HasCauses (outcome : Outcome) (source source' sink sink' : ℕ) : Typ
   pub no_read : outcome.read_failed ≡ false → source' ≡ source
   pub read_fault : outcome.ended ≡ ReadFault → outcome.read_failed ≡ true
   pub write : SinkCause outcome.ended sink sink'
+  -- what was read is answered, also where the reading failed
+  pub memory_first : outcome.ended ≡ NoMemory → outcome.read_failed ≡ false

@@ -43,22 +43,25 @@ pub fn session<H: Host, S: Scorer>(alloc: Global, host: &mut H, scorer: &S) -> O
         (H.Sink.faults (H.lent host.old).sink) (H.Sink.faults (H.lent host.new).sink) }
     ensures fault_sink { (H.lent host.new).fault_sink ≡ (H.lent host.old).fault_sink }
 {
-    match read_all(alloc, host.source()) {
-        Err(NoMemory) => Outcome {
-            ended: Ended::NoMemory,
-            read_failed: false,
-            ran_out: false,
-            taken: 0,
-        },
-        Ok((input, reading)) => {
-            let (heard_end, ran_out) = answer_input(alloc, &input, host.sink(), scorer);
-            Outcome {
-                ended: ended_of(reading, heard_end),
-                read_failed: is_fault(reading),
-                ran_out,
-                taken: input.len() as u64,
-            }
-        }
+    let nothing = Outcome {
+        ended: Ended::NoMemory,
+        read_failed: false,
+        ran_out: false,
+        taken: 0,
+    };
+    // Memory for the answers is taken first: what was read is answered, also where the reading fails.
+    let Ok((mut store, mut output)) = prepare(alloc, scorer) else {
+        return nothing;
+    };
+    let Ok((input, reading)) = read_all(alloc, host.source()) else {
+        return nothing;
+    };
+    let (heard_end, ran_out) = answer_input(alloc, &input, &mut store, host.sink(), &mut output);
+    Outcome {
+        ended: ended_of(reading, heard_end),
+        read_failed: is_fault(reading),
+        ran_out,
+        taken: input.len() as u64,
     }
 }
 
@@ -79,23 +82,25 @@ fn ended_of(reading: Reading, ended: Ended) -> Ended
     }
 }
 
-/// Answers a whole input over a store without blocks. It says how the session ended, and whether memory ran out in a
-/// request.
+/// Answers a whole input over a store without blocks, behind the server's line. It says how the session ended, and
+/// whether memory ran out in a request.
 fn answer_input<K: Sink, S: Scorer>(
     alloc: Global,
     input: &[u8],
+    store: &mut PlainStore<&S>,
     sink: &mut K,
-    scorer: &S,
+    output: &mut Output,
 ) -> (Ended, bool)
+    requires setup { store.old.setup ≡ memory }
+    requires empty { store.old.history ≡ [] }
+    requires line { output.old ≡ server_line }
     ensures told { IsTrue K.tells →
         AnswersInput S.score_of input.now result.0 result.1 (K.written sink.old) (K.written sink.new) }
     ensures cause { SinkCause result.0 (K.faults sink.old) (K.faults sink.new) }
     ensures end { result.0 ≢ Ended.ReadFault }
+    ensures memory { result.0 ≢ Ended.NoMemory }
 {
-    let Ok((mut store, mut output)) = prepare(alloc, scorer) else {
-        return (Ended::NoMemory, false);
-    };
-    let (heard_end, ran_out) = answer_all(alloc, &mut store, parse_all(input), sink, &mut output);
+    let (heard_end, ran_out) = answer_all(alloc, store, parse_all(input), sink, output);
     match heard_end {
         Ok(ended) => (ended, ran_out),
         Err(Failed) => (Ended::WriteFault, ran_out),

@@ -378,19 +378,63 @@ fn pieces(rt: HostRuntime) -> Result<(), Fail> {
     Ok(())
 }
 
+/// A write of the largest block and three reads of it, so that replies go out more than once.
+fn large_sample(alloc: Global) -> Result<Vec<u8>, Fail> {
+    let block = vec![in alloc; 7; 57_344]?;
+    let score = Sha1Scorer.score(&block);
+    let write = joined(alloc, &[b"\x0d\x00\x00\x00", &block])?;
+    let write = frame(alloc, 14, &write)?;
+    let read = joined(alloc, &[&score.0, b"\x0d\x00\xff\xff"])?;
+    let read = frame(alloc, 12, &read)?;
+    joined(alloc, &[LINE, HELLO, &write, &read, &read, &read])
+}
+
+/// Output of several writes, from input in pieces. A write that fails leaves what was written before it, and a front.
+#[test]
+fn large_output(rt: HostRuntime) -> Result<(), Fail> {
+    let alloc = rt.alloc();
+    let input = large_sample(alloc)?;
+    let whole = answered(alloc, &input)?;
+    assert_eq!(rt; whole.status, 0);
+    assert_eq!(rt; whole.output.len(), 16 + 17 + 24 + 3 * 57_348);
+    for piece in [4_097, 65_537] {
+        let source = MemSource::new(alloc, Vec::from_slice(alloc, &input)?).in_pieces(vec![in alloc;
+            piece,
+        ]?);
+        let ran = session(alloc, source, MemSink::new(alloc, 1 << 21)?, &Sha1Scorer)?;
+        assert!(rt; ran.output == whole.output && ran.status == 0, "{piece}");
+    }
+    let mut before = 0;
+    for call in 0..2 {
+        let source = MemSource::new(alloc, Vec::from_slice(alloc, &input)?);
+        let sink = MemSink::new(alloc, 1 << 21)?.failing(vec![in alloc; call]?);
+        let ran = session(alloc, source, sink, &Sha1Scorer)?;
+        assert_eq!(rt; ran.status, 7, "{call}");
+        assert!(rt; whole.output.starts_with(ran.output.as_slice()), "{call}");
+        assert!(rt; ran.output.len() > before, "{call}");
+        before = ran.output.len();
+    }
+    Ok(())
+}
+
 /// A read that fails: what was taken is answered. A write that fails: a front of the output stands.
 #[test]
 fn faults(rt: HostRuntime) -> Result<(), Fail> {
     let alloc = rt.alloc();
     let (_, output) = sample(alloc)?;
-    for call in 0..9 {
+    for call in 0..8 {
         let (input, _) = sample(alloc)?;
+        let mut taken = Vec::new(alloc);
+        for piece in input.chunks(10).take(call) {
+            taken.extend_from_slice(piece)?;
+        }
+        let taken = answered(alloc, &taken)?;
         let source = MemSource::new(alloc, input)
             .in_pieces(vec![in alloc; 10]?)
-            .failing(vec![in alloc; call]?);
+            .failing(vec![in alloc; call as u64]?);
         let ran = session(alloc, source, MemSink::new(alloc, 1000)?, &Sha1Scorer)?;
         assert_eq!(rt; ran.status, 6, "{call}");
-        assert!(rt; output.starts_with(ran.output.as_slice()), "{call}");
+        assert_eq!(rt; ran.output.as_slice(), taken.output.as_slice(), "{call}");
         assert_eq!(rt; ran.complaint.as_slice(), b"venti: read fault\n".as_slice());
     }
     for room in 0..output.len() {
