@@ -15,7 +15,7 @@ abbrev pub AcceptsFrames : Type 0
 AcceptsFrames = (bad : BucketBad) (number : ℕ) (entries : List Entry) (bytes : List ℕ)
     → IsFrame number entries bytes → FaultIs bad number bytes → ⊥
 
--- and other bytes have one fault
+-- and no bytes have two faults
 abbrev pub HasOneFault : Type 0
 HasOneFault = (a b : BucketBad) (number : ℕ) (bytes : List ℕ)
     → FaultIs a number bytes → FaultIs b number bytes → a ≡ b

@@ -14,7 +14,7 @@ use vt_base::{Bytes, Kind, Score, Scorer};
 pub struct Clump {
     pub kind: Kind,
     pub score: Score,
-    /// When it was packed, in seconds since 1970.
+    /// When the session that wrote it began, in seconds since 1970.
     pub time: u32,
     /// The block.
     pub bytes: Bytes,

@@ -66,7 +66,8 @@ pub trait Disk {
         ensures calls { IsTrue tells → IsOneMore (calls self.old) (calls self.new) }
         ensures cause { HasCause result (faults self.old) (faults self.new) };
 
-    /// After it, a crash leaves what a read gives. One that fails settles nothing.
+    /// After it, a crash leaves what a read gives. After one that
+    /// fails, it leaves nothing that it could not leave before.
     fn sync(&mut self) -> Result<(), Failed>
         ensures settled { OnOk result (IsTrue tells → Only (bytes self.old) (images self.new)) }
         ensures bytes { bytes self.new ≡ bytes self.old }

@@ -112,8 +112,7 @@ impl Twin {
         self.spare = None;
     }
 
-    /// Hands back the last change's buffer, once. There is none while a change is under way, and
-    /// none before the first one has ended.
+    /// Hands back the last change's buffer, once, where there is one.
     pub fn idle(&mut self) -> Option<Bytes>
         ensures buffer { result ≡ self.old.spare }
         ensures same { self.new ≡ without_spare self.old }
