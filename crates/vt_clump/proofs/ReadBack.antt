@@ -4,7 +4,7 @@ use Rattle.std.specs.Prelude.{slice_index, codes, nat_lt, ◌==◌}
 use Rattle.std.specs.Str.{bytes_eq}
 use Rattle.std.proofs.lemmas.List.{take_at, drop_at, drop-drop, get_or-drop}
 use Rattle.std.proofs.lemmas.Slice.Eq.{bytes_eq-Decides}
-use Rattle.std.proofs.lemmas.Bool.{eqb-true, ltb-false, not-false, not-true}
+use Rattle.std.proofs.lemmas.Bool.{eqb-true, ltb-false, not-false}
 use Rattle.std.proofs.lemmas.Bool.Decides.{nat_tests}
 use Rattle.byteorder.specs.Endian.{big_number, big_bytes}
 use Rattle.byteorder.specs.Numbers.{big_number-reads_back, big_from-lt}
@@ -17,7 +17,7 @@ use Rattle.vt_clump.specs.declared.reading.Clump.{Clump}
 use Rattle.vt_clump.specs.declared.packed.Packed.{Packed}
 use Rattle.vt_clump.specs.Clumps.{IsRead, IsPacked, stored_of}
 use Rattle.vt_clump.specs.Spelling.{Stored, IsStored, spelled, sizes, size_in, uncsize_in, stored_in, BeginsWith}
-use Rattle.vt_clump.specs.Faults.{bad_encoding, bad_size, bad_header, bad_score, or_else, first_bad, IsRefusal}
+use Rattle.vt_clump.specs.Faults.{bad_encoding, bad_size, bad_header, other_score, bad_score, or_else, first_bad, IsRefusal}
 
 -- no test of the header fails
 pub record Passes (bytes : List ℕ) : Type 0 where
@@ -62,7 +62,7 @@ none_at_end : (b : Bool) (bad : ClumpBad) → cond b None (Some bad) ≡ None �
 none_at_end true bad none = refl
 none_at_end false bad none = absurd (cc)
 
-passed : (bytes : List ℕ) → bad_header bytes ≡ None → Passes bytes
+pub passed : (bytes : List ℕ) → bad_header bytes ≡ None → Passes bytes
 passed bytes none =
     let long = none_then (nat_lt (length bytes) 38) _ _ none in
     let magic = none_then (not (bytes_eq (take 4 bytes) (codes "VCLP"))) _ _ long.1 in
@@ -218,34 +218,6 @@ read_as s t clump same read = subst (λ (u : Stored). IsRead u clump) same read
 pub header_fault : (score_of : List ℕ → List ℕ) (file : List ℕ) (bad : ClumpBad) → bad_header file ≡ Some bad → first_bad score_of file ≡ Some bad
 header_fault score_of file bad fault = ap (λ (first : Option ClumpBad). or_else first (bad_score score_of (stored_in file))) fault
 
--- what is found in bytes whose header passes, where these are the size, the score that is wanted, and the score found
-module _ (score_of : List ℕ → List ℕ) (file : List ℕ) (size : ℕ) (want found : List ℕ) (good : bad_header file ≡ None)
-    (size_is : size ≡ size_in file) (want_is : want ≡ (stored_in file).score) (found_is : found ≡ score_of (take (38 + size - 38) (drop 38 file))) where
-  pub block_is : take (38 + size - 38) (drop 38 file) ≡ (stored_in file).block
-  block_is = ap (λ (n : ℕ). take n (drop 38 file)) (omega (arith, size_is))
-
-  found_score : found ≡ score_of (stored_in file).block
-  found_score = found_is ∙ ap score_of block_is
-
-  pub other_score : not (bytes_eq found want) ≡ true → first_bad score_of file ≡ Some (BadScore (record { 0 = want }) (record { 0 = found }))
-  other_score other =
-      let tested : bytes_eq (score_of (stored_in file).block) (stored_in file).score ≡ false =
-      (λ i. bytes_eq (sym found_score i) (sym want_is i)) ∙ not-true (bytes_eq found want) other in
-      ap (λ (first : Option ClumpBad). or_else first (bad_score score_of (stored_in file))) good
-      ∙ ap (λ (same : Bool). cond same None (Some (BadScore (record { 0 = (stored_in file).score }) (record { 0 = score_of (stored_in file).block })))) tested
-      ∙ (λ i. Some (BadScore (record { 0 = sym want_is i }) (record { 0 = sym found_score i })))
-
-  pub same_score : AreBytes file → not (bytes_eq found want) ≡ false → BeginsWith score_of (stored_in file) file
-  same_score are same =
-      let pass : Passes file = passed file good in
-      let scored : found ≡ want = (bytes_eq-Decides found want).0 (not-false (bytes_eq found want) same) in record {
-        stored = stored_in-stored score_of file are pass (sym want_is ∙ sym scored ∙ found_score);
-        spelling = (drop (38 + size_in file) file, spelled-stored_in file are pass);
-      }
-
-  pub no_fault : AreBytes file → not (bytes_eq found want) ≡ false → first_bad score_of file ≡ None
-  no_fault are same = begins_good score_of (stored_in file) file (same_score are same)
-
 -- bytes in which no test fails begin with what their fields say
 pub good_begins : (score_of : List ℕ → List ℕ) (file : List ℕ) → AreBytes file → first_bad score_of file ≡ None → BeginsWith score_of (stored_in file) file
 good_begins score_of file are good =
@@ -255,6 +227,18 @@ good_begins score_of file are good =
       stored = stored_in-stored score_of file are pass (sym ((bytes_eq-Decides (score_of (stored_in file).block) (stored_in file).score).0 same));
       spelling = (drop (38 + size_in file) file, spelled-stored_in file are pass);
     }
+
+-- what is found in bytes whose header passes, where these are the size and the score that is wanted
+module _ (score_of : List ℕ → List ℕ) (file : List ℕ) (size : ℕ) (want : List ℕ) (good : bad_header file ≡ None)
+    (size_is : size ≡ size_in file) (want_is : want ≡ (stored_in file).score) where
+  pub block_is : take (38 + size - 38) (drop 38 file) ≡ (stored_in file).block
+  block_is = ap (λ (n : ℕ). take n (drop 38 file)) (omega (arith, size_is))
+
+  -- the first test that fails is that of the score
+  pub score_is_left : first_bad score_of file ≡ other_score want (score_of (take (38 + size - 38) (drop 38 file)))
+  score_is_left =
+      ap (λ (first : Option ClumpBad). or_else first (bad_score score_of (stored_in file))) good
+      ∙ (λ i. other_score (sym want_is i) (score_of (sym block_is i)))
 
 -- what is packed
 pub packed_is : (score_of : List ℕ → List ℕ) (s : Stored) (p : Packed) → IsStored score_of s → p.bytes ≡ spelled s → p.kind ≡ s.kind → p.score.0 ≡ s.score → p.len ≡ length s.block

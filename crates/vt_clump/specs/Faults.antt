@@ -28,20 +28,26 @@ bad_size size uncsize room =
     else if nat_lt room size then Some (Size room size)
     else None
 
--- the first test of the header that fails
+-- the first test of a header that fails, where so many bytes stand behind it
+abbrev pub bad_fields : (header : List ℕ) → (room : ℕ) → Option ClumpBad
+bad_fields header room =
+    if nat_lt (length header) 38 then Some Short
+    else if not (bytes_eq (take 4 header) (codes "VCLP")) then Some (Magic (take 4 header))
+    else if not (is_kind (slice_index header 4)) then Some (Kind (slice_index header 4))
+    else or_else (bad_encoding (slice_index header 29))
+    (bad_size (size_in header) (uncsize_in header) room)
+
 abbrev pub bad_header : List ℕ → Option ClumpBad
-bad_header bytes =
-    if nat_lt (length bytes) 38 then Some Short
-    else if not (bytes_eq (take 4 bytes) (codes "VCLP")) then Some (Magic (take 4 bytes))
-    else if not (is_kind (slice_index bytes 4)) then Some (Kind (slice_index bytes 4))
-    else or_else (bad_encoding (slice_index bytes 29))
-    (bad_size (size_in bytes) (uncsize_in bytes) (length bytes - 38))
+bad_header bytes = bad_fields bytes (length bytes - 38)
 
 -- the test of the score
+abbrev pub other_score : (want found : List ℕ) → Option ClumpBad
+other_score want found =
+    if bytes_eq found want then None
+    else Some (BadScore (record { 0 = want }) (record { 0 = found }))
+
 abbrev pub bad_score : (List ℕ → List ℕ) → Stored → Option ClumpBad
-bad_score score_of s =
-    if bytes_eq (score_of s.block) s.score then None
-    else Some (BadScore (record { 0 = s.score }) (record { 0 = score_of s.block }))
+bad_score score_of s = other_score s.score (score_of s.block)
 
 -- the first test of all that fails
 abbrev pub first_bad : (List ℕ → List ℕ) → List ℕ → Option ClumpBad

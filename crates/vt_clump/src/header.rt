@@ -4,7 +4,7 @@ ghost use Rattle.std.specs.Prelude.{◌≡◌, ◌≤◌, ◌∷◌, ◌++◌, l
 ghost use Rattle.byteorder.specs.Endian.{big_bytes};
 ghost use Rattle.vt_base.specs.Kind.{IsKind};
 ghost use Rattle.vt_clump.specs.Spelling.{sizes, stored_in, size_in};
-ghost use Rattle.vt_clump.specs.Faults.{FailsWith, bad_encoding, bad_size, bad_header};
+ghost use Rattle.vt_clump.specs.Faults.{FailsWith, bad_encoding, bad_size, bad_fields, bad_header};
 
 use crate::{ClumpBad, Encoding};
 use vt_base::{Kind, MAX_BLOCK, Score};
@@ -59,6 +59,17 @@ impl Header {
         ensures score { IfOk result (λ header. header.score.0 ≡ (stored_in bytes.now).score) }
         ensures time { IfOk result (λ header. header.time ≡ (stored_in bytes.now).time) }
     {
+        Header::decode_before(bytes, bytes.len().saturating_sub(HEADER_LEN))
+    }
+
+    /// The header that these bytes begin with, of a clump that has `room` bytes behind its header.
+    pub fn decode_before(bytes: &[u8], room: usize) -> Result<Header, ClumpBad>
+        ensures refused { FailsWith (bad_fields bytes.now room) result }
+        ensures kind { IfOk result (λ header. header.kind ≡ (stored_in bytes.now).kind) }
+        ensures size { IfOk result (λ header. header.size ≡ size_in bytes.now) }
+        ensures score { IfOk result (λ header. header.score.0 ≡ (stored_in bytes.now).score) }
+        ensures time { IfOk result (λ header. header.time ≡ (stored_in bytes.now).time) }
+    {
         if bytes.len() < HEADER_LEN {
             return Err(ClumpBad::Short);
         }
@@ -71,7 +82,7 @@ impl Header {
         };
         check_encoding(bytes[29])?;
         let size = block_len(bytes);
-        check_sizes(size, u16_at(bytes, 7), bytes.len() - HEADER_LEN)?;
+        check_sizes(size, u16_at(bytes, 7), room)?;
         let mut score = [0; 20];
         score.copy_from_slice(&bytes[9..29]);
         Ok(Header {

@@ -11,7 +11,7 @@ pub use header::{HEADER_LEN, block_len};
 pub use laws::clumps_are_told_apart;
 pub use packed::Packed;
 pub use packing::pack;
-pub use reading::{Clump, ClumpBad, Encoding, unpack};
+pub use reading::{Clump, ClumpBad, Encoding, unpack, unpack_block};
 
 #[cfg(test)]
 mod tests;

@@ -1,9 +1,9 @@
 //! From the bytes of a clump to its block.
 
-ghost use Rattle.std.specs.Prelude.{◌≡◌, None, IfOk, MatchResult};
+ghost use Rattle.std.specs.Prelude.{◌≡◌, ◌≤◌, ◌++◌, None, length, IfOk, MatchResult};
 ghost use Rattle.vt_clump.specs.Clumps.{IsRead};
-ghost use Rattle.vt_clump.specs.Faults.{first_bad, IsRefusal};
-ghost use Rattle.vt_clump.specs.Spelling.{Stored, BeginsWith};
+ghost use Rattle.vt_clump.specs.Faults.{first_bad, other_score, FailsWith, IsRefusal};
+ghost use Rattle.vt_clump.specs.Spelling.{Stored, BeginsWith, size_in, stored_in};
 
 use crate::header::{HEADER_LEN, Header};
 use std::alloc::Global;
@@ -57,20 +57,52 @@ pub fn unpack<S: Scorer>(alloc: Global, bytes: &[u8], scorer: &S) -> Result<Clum
 {
     let header = Header::decode(bytes)?;
     let block = &bytes[HEADER_LEN..HEADER_LEN + header.size as usize];
-    let found = scorer.score(block);
-    if found != header.score {
-        return Err(ClumpBad::Score {
-            want: header.score,
-            found,
-        });
-    }
-    let Ok(bytes) = Bytes::copy_of(alloc, block) else {
+    check_score(header.score, block, scorer)?;
+    let Ok(block) = Bytes::copy_of(alloc, block) else {
         return Err(ClumpBad::NoMemory);
     };
-    Ok(Clump {
+    Ok(clump_of(&header, block))
+}
+
+/// Reads the clump of a header and of the bytes behind it, no more than it names as its block. They
+/// are taken over, and not copied.
+pub fn unpack_block<S: Scorer>(
+    header: &[u8; HEADER_LEN],
+    block: Bytes,
+    scorer: &S,
+) -> Result<Clump, ClumpBad>
+    requires { length block ≤ size_in header.now }
+    ensures read { let bytes = header.now ++ block in IfOk result (IsRead (stored_in bytes)) }
+    ensures refused { let bytes = header.now ++ block in
+        FailsWith (first_bad S.score_of bytes) result }
+{
+    let header = Header::decode_before(header, block.len())?;
+    check_score(header.score, block.as_slice(), scorer)?;
+    Ok(clump_of(&header, block))
+}
+
+/// Tests the score of a block.
+fn check_score<S: Scorer>(want: Score, block: &[u8], scorer: &S) -> Result<(), ClumpBad>
+    ensures { FailsWith (other_score want.0 (S.score_of block.now)) result }
+{
+    let found = scorer.score(block);
+    if found != want {
+        return Err(ClumpBad::Score { want, found });
+    }
+    Ok(())
+}
+
+/// The clump of this header and block.
+fn clump_of(header: &Header, block: Bytes) -> Clump
+    ensures kind { result.kind ≡ header.now.kind }
+    ensures score { result.score.0 ≡ header.now.score.0 }
+    ensures time { result.time ≡ header.now.time }
+    ensures bytes { result.bytes ≡ block }
+{
+    Clump {
         kind: header.kind,
         score: header.score,
         time: header.time,
-        bytes,
-    })
+        bytes: block,
+    }
 }

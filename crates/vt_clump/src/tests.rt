@@ -2,7 +2,7 @@
 
 use super::*;
 use std::test::Fail;
-use vt_base::{Kind, Score, Scorer, Sha1Scorer};
+use vt_base::{Bytes, Kind, Score, Scorer, Sha1Scorer};
 
 /// The score of `abc` (FIPS 180-4).
 const ABC: Score = Score(
@@ -40,6 +40,34 @@ fn a_clump_is_read_whatever_its_creator_and_what_follows(rt: HostRuntime) -> Res
     assert_eq!(rt; clump.kind.wire(), 13);
     assert_eq!(rt; clump.score, ABC);
     assert_eq!(rt; clump.time, 0x6580_0000);
+    Ok(())
+}
+
+// The block that is handed in becomes the clump's own.
+#[test]
+fn a_block_is_taken_over(rt: HostRuntime) -> Result<(), Fail> {
+    let mut header = [0; HEADER_LEN];
+    header.copy_from_slice(&CLUMP[..HEADER_LEN]);
+    for (block, bad) in [
+        (b"abc".as_slice(), None),
+        (b"ab".as_slice(), Some(bad_size(2, 3))),
+        (
+            b"abd".as_slice(),
+            Some(ClumpBad::Score {
+                want: ABC,
+                found: ABD,
+            }),
+        ),
+    ] {
+        let len = block.len();
+        match unpack_block(&header, Bytes::copy_of(rt.alloc(), block)?, &Sha1Scorer) {
+            Ok(clump) => {
+                assert!(rt; bad.is_none() && clump.bytes.as_slice() == block);
+                assert!(rt; clump.score == ABC && clump.kind.wire() == 13 && clump.time == 0);
+            }
+            Err(found) => assert_eq!(rt; Some(found), bad, "of {len}"),
+        }
+    }
     Ok(())
 }
 

@@ -33,6 +33,19 @@ pub fn next(call: Call) -> Option<Call>
     }
 }
 
+/// How many calls are left before this one was made.
+pub fn left(call: Call) -> u64
+    ensures all { result + number_of call ≡ 4 }
+    ensures some { 0 < result }
+{
+    match call {
+        Call::WriteFrame => 4,
+        Call::SyncFrame => 3,
+        Call::WriteSelector => 2,
+        Call::SyncSelector => 1,
+    }
+}
+
 /// Writes the whole selector, so that it names this frame.
 pub fn write_selector<D: Disk>(
     disk: &mut D,

@@ -1,6 +1,6 @@
 //! Formatting a twin, and finding its current frame.
 
-ghost use Rattle.std.specs.Prelude.{◌≡◌, ◌*◌, ◌%◌, List, ℕ, length, IsTrue, IfOk, OnOk};
+ghost use Rattle.std.specs.Prelude.{◌≡◌, ◌+◌, ◌-◌, ◌*◌, ◌%◌, ◌^◌, ◌≤◌, min, List, ℕ, length, IsTrue, IfOk, OnOk};
 ghost use Rattle.vt_disk.specs.Disk.{SameBut, AreAmong, Only};
 ghost use Rattle.vt_base.specs.Faults.{HasCause};
 ghost use Rattle.vt_disk.specs.Region.{Inside, ChangesWithin};
@@ -31,6 +31,9 @@ pub fn format<D: Disk>(disk: &mut D, region: Region, frame: &[u8]) -> Result<(),
     ensures images { ChangesWithin region (D.images disk.old) (D.images disk.new) }
     ensures bytes { IsTrue D.tells → SameBut (Inside region) (D.bytes disk.old) (D.bytes disk.new) }
     ensures size { D.size disk.new ≡ D.size disk.old }
+    ensures calls { IsTrue D.tells
+        → OnOk result (D.calls disk.new ≡ min (D.calls disk.old + 3) (2 ^ 64 - 1)) }
+    ensures most_calls { IsTrue D.tells → D.calls disk.new ≤ D.calls disk.old + 3 }
     ensures cause { HasCause result (D.faults disk.old) (D.faults disk.new) }
 {
     region.write_at(disk, 0, frame)?;
@@ -54,6 +57,9 @@ pub fn mount<D: Disk>(disk: &mut D, region: Region, frame_len: u64) -> Result<Tw
     ensures bytes { D.bytes disk.new ≡ D.bytes disk.old }
     ensures images { AreAmong (D.images disk.new) (D.images disk.old) }
     ensures size { D.size disk.new ≡ D.size disk.old }
+    ensures calls { IsTrue D.tells
+        → OnOk result (D.calls disk.new ≡ min (D.calls disk.old + 2) (2 ^ 64 - 1)) }
+    ensures most_calls { IsTrue D.tells → D.calls disk.new ≤ D.calls disk.old + 2 }
     ensures cause { HasCause result (D.faults disk.old) (D.faults disk.new) }
 {
     disk.sync()?;

@@ -90,6 +90,24 @@ fn current_frame(disk: &mut MemDisk<Listed>, twin: &Twin) -> Result<Frame, Faile
     Ok(frame)
 }
 
+/// Sees that a change was stopped at this call, goes no further, and leaves the old frame.
+fn check_stopped(
+    rt: &impl Abort,
+    twin: &mut Twin,
+    disk: &mut MemDisk<Listed>,
+    call: u64,
+) -> Result<(), Failed>
+    requires disk { length (memory_bytes disk.old) ≡ LEN }
+    requires twin { twin.old.frame_len ≡ 512 }
+    ensures { length (memory_bytes disk.new) ≡ LEN }
+{
+    assert_eq!(rt; twin.stopped(), Some(call));
+    assert!(rt; twin.is_changing());
+    assert_eq!(rt; twin.advance(disk, REGION), Err(TwinErr::Stopped(call)));
+    assert_eq!(rt; current_frame(disk, twin)?, OLD);
+    Ok(())
+}
+
 /// What a crash leaves of the pending bytes: the synced ones in mode 0, the written ones in mode 1,
 /// the written ones at even places in mode 2, and a5 in mode 3.
 fn choice(alloc: Global, disk: &MemDisk<Listed>, mode: usize) -> Result<Vec<u16>, AllocError>
@@ -121,6 +139,7 @@ fn a_byte_names_a_frame(rt: HostRuntime) {
         let mut twin = Twin::resume(512, selector);
         assert_eq!(rt; twin.current(), current, "at {selector}");
         assert!(rt; !twin.is_changing() && twin.idle().is_none() && twin.stopped().is_none());
+        assert_eq!(rt; twin.calls_left(), 0);
     }
 }
 
@@ -162,13 +181,7 @@ fn a_change_is_stopped_anywhere(rt: HostRuntime) -> Result<(), Fail> {
             let step = change_until(&rt, &mut twin, &mut disk, frame, call);
             if fails {
                 assert_eq!(rt; step, Err(TwinErr::Fault));
-                assert_eq!(rt; twin.stopped(), Some(call));
-                assert!(rt; twin.is_changing());
-                assert_eq!(rt;
-                    twin.advance(&mut disk, REGION),
-                    Err(TwinErr::Stopped(call))
-                );
-                assert_eq!(rt; current_frame(&mut disk, &twin)?, OLD);
+                check_stopped(&rt, &mut twin, &mut disk, call)?;
             }
             let choice = choice(rt.alloc(), &disk, mode)?;
             let mut disk = disk.crash(&choice);

@@ -1,8 +1,8 @@
 //! A twin, and its changes step by step.
 
-ghost use Rattle.std.specs.Prelude.{◌≡◌, ◌⊎◌, ◌↔◌, ◌-◌, ◌%◌, ◌<◌, ◌≤◌, ℕ, List, length, IsTrue, IsSome, is_some, is_none, IfOk, OnOk, None, Some, Ok, Err};
+ghost use Rattle.std.specs.Prelude.{◌≡◌, ◌⊎◌, ◌↔◌, ◌+◌, ◌-◌, ◌%◌, ◌<◌, ◌≤◌, ℕ, List, length, IsTrue, IsSome, is_some, is_none, IfOk, OnOk, None, Some, Ok, Err};
 
-use crate::calls::{Call, make_call, next};
+use crate::calls::{Call, left, make_call, next};
 use crate::{Step, TwinErr};
 use std::marker::Model;
 use vt_base::{Bytes, Failed};
@@ -31,7 +31,7 @@ pub struct Twin {
 }
 
 impl Model for Twin {
-    ghost use Rattle.std.specs.Prelude.{◌≡◌, ◌<◌, length};
+    ghost use Rattle.std.specs.Prelude.{◌≡◌, ◌<◌, length, None};
     ghost use Rattle.std.specs.Option.{ForSome, option_map};
     ghost use Rattle.vt_twin.specs.Twin.{TwinState};
 
@@ -49,7 +49,8 @@ impl Model for Twin {
     } };
 
     ghost invariant = { λ t. (t.current < 2)
-        × ForSome t.pending (λ it. length it.frame ≡ t.frame_len) };
+        × ForSome t.pending (λ it. length it.frame ≡ t.frame_len)
+        × ForSome t.pending (λ _. t.spare ≡ None) };
 }
 
 impl Twin {
@@ -92,6 +93,19 @@ impl Twin {
         self.pending.is_some()
     }
 
+    /// How many device calls of the change under way are still to succeed: 4 of one that was begun,
+    /// 1 before the last, 0 where none is under way.
+    pub fn calls_left(&self) -> u64
+        ensures under_way { IsSome self.now.change → result + calls_made self.now ≡ 4 }
+        ensures some { IsSome self.now.change → 0 < result }
+        ensures rest { self.now.change ≡ None → result ≡ 0 }
+    {
+        match &self.pending {
+            Some(pending) => left(pending.call),
+            None => 0,
+        }
+    }
+
     /// The number of the device call that stopped it, if one did.
     pub fn stopped(&self) -> Option<u64>
         ensures { result ≡ self.now.stopped }
@@ -112,9 +126,11 @@ impl Twin {
         self.spare = None;
     }
 
-    /// Hands back the last change's buffer, once, where there is one.
+    /// Hands back the last change's buffer, once, where there is one. While a change is under way
+    /// there is none.
     pub fn idle(&mut self) -> Option<Bytes>
         ensures buffer { result ≡ self.old.spare }
+        ensures under_way { IsSome self.old.change → result ≡ None }
         ensures same { self.new ≡ without_spare self.old }
     {
         self.spare.take()

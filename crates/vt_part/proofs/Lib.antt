@@ -1,0 +1,5 @@
+pub mod Formatted
+pub mod Layouts
+pub mod Listed
+pub mod Names
+pub mod Tables

@@ -1,0 +1,64 @@
+-- What holds of all partitions.
+use Rattle.std.specs.Prelude.{◌≡◌, ◌⊎◌, ℕ, ◌+◌, ◌<◌, ◌≤◌, List, None, Some, All, AllPairs, Contains, length, sum_by, slice_get}
+use Rattle.vt_base.specs.Bytes.{AreBytes}
+use Rattle.vt_disk.specs.Disk.{IsAligned, SameBut}
+use Rattle.vt_part.specs.declared.layout.ArenaRegion.{ArenaRegion}
+use Rattle.vt_part.specs.Faults.{first_bad}
+use Rattle.vt_part.specs.Layout.{arena_of, layout_of}
+use Rattle.vt_part.specs.Table.{Table, IsTable, IsPartition, head_of, start_of, end_of}
+
+-- no bytes are two partitions
+abbrev pub IsUnambiguous : Type 0
+IsUnambiguous = (s t : Table) (file : List ℕ) → IsPartition s file → IsPartition t file → s ≡ t
+
+-- no test fails on a partition
+abbrev pub PassesPartitions : Type 0
+PassesPartitions = (t : Table) (file : List ℕ) → IsPartition t file
+    → first_bad (length file) (head_of file) ≡ None
+
+-- and on other bytes one does
+abbrev pub PassesPartitionsOnly : Type 0
+PassesPartitionsOnly = (file : List ℕ) → AreBytes file
+    → first_bad (length file) (head_of file) ≡ None → (t : Table) × IsPartition t file
+
+-- what is done behind the block leaves a partition what it is
+abbrev pub PartitionsStay : Type 0
+PartitionsStay = (t : Table) (old new : List ℕ) → SameBut (λ i. 8192 ≤ i) old new
+    → IsPartition t old → IsPartition t new
+
+-- arenas stand behind the block, one after another, each at whole sectors
+abbrev pub ArenasFollow : Type 0
+ArenasFollow = (t : Table) (i j : ℕ) → i < j → start_of t i + t.arena_size ≤ start_of t j
+
+abbrev pub ArenasAreInside : Type 0
+ArenasAreInside = (t : Table) (i : ℕ) → i < t.count
+    → (8192 ≤ start_of t i) × (start_of t i + t.arena_size ≤ end_of t)
+
+abbrev pub ArenasAreAligned : Type 0
+ArenasAreAligned = (t : Table) (i : ℕ) → IsTable t
+    → IsAligned (start_of t i) × IsAligned t.arena_size
+
+-- this is the region of an arena of these partitions
+abbrev pub IsArena : (tables : List Table) → ArenaRegion → Type 0
+IsArena tables arena = (t : Table) × (slice_get tables arena.part ≡ Some t)
+    × (arena.number < t.count) × (arena ≡ arena_of arena.part t arena.number)
+
+-- an arena of an earlier partition, or a region that ends before the other one begins
+abbrev pub IsBefore : (a b : ArenaRegion) → Type 0
+IsBefore a b = (a.part < b.part) ⊎ ((a.part ≡ b.part) × (a.at + a.len ≤ b.at))
+
+abbrev pub LayoutsHaveArenas : Type 0
+LayoutsHaveArenas = (tables : List Table) → All (IsArena tables) (layout_of tables)
+
+-- each arena of each partition is listed, and so many are
+abbrev pub LayoutsListArenas : Type 0
+LayoutsListArenas = (tables : List Table) (part number : ℕ) (t : Table)
+    → slice_get tables part ≡ Some t → number < t.count
+    → Contains (layout_of tables) (arena_of part t number)
+
+abbrev pub LayoutsHaveLengths : Type 0
+LayoutsHaveLengths = (tables : List Table)
+    → length (layout_of tables) ≡ sum_by (λ t. t.count) tables
+
+abbrev pub LayoutsAreInOrder : Type 0
+LayoutsAreInOrder = (tables : List Table) → AllPairs IsBefore (layout_of tables)

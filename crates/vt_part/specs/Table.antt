@@ -1,0 +1,82 @@
+-- A partition of arenas: a table in a block of 8,192 bytes, and behind it arenas of one size, one
+-- after another (venti(8) formats one by fmtarenas; the layout is this project's). The table is
+--   magic[4] version[2] name[64] arenasize[8] count[4]
+-- Numbers have their highest byte first, and zeros fill up the name. What lies behind the table in
+-- its block isn't read, and is written as zero.
+use Rattle.std.specs.Prelude.{◌≡◌, ◌≢◌, ◌==◌, ℕ, ◌+◌, ◌-◌, ◌*◌, ◌/◌, ◌%◌, ◌^◌, ◌<◌, ◌≤◌, min, Bool, ◌&&◌, ◌||◌, nat_le, IsTrue, List, ◌++◌, All, codes, length, take, replicate, slice_index}
+use Rattle.std.specs.Char.{is_ascii_alphanumeric}
+use Rattle.byteorder.specs.Endian.{big_bytes}
+
+-- what the table says: the partition's name, the size of its arenas, and how many there are
+pub record Table : Type 0 where
+  pub name : List ℕ
+  pub arena_size : ℕ
+  pub count : ℕ
+
+-- a letter or a digit of ASCII, a dot, a dash or an underscore
+abbrev pub is_name_byte : ℕ → Bool
+is_name_byte b = is_ascii_alphanumeric b || b == 46 || b == 45 || b == 95
+
+-- the names that a partition is given
+pub record IsName (name : List ℕ) : Type 0 where
+  pub some : 0 < length name
+  pub most : length name ≤ 64
+  pub each : All (λ b. IsTrue (is_name_byte b)) name
+
+-- a multiple of 8,192, from 32 KiB to 1 GiB
+abbrev pub is_arena_size : ℕ → Bool
+is_arena_size n = n % 8192 == 0 && nat_le 32768 n && nat_le n 1073741824
+
+abbrev pub IsArenaSize : ℕ → Type 0
+IsArenaSize n = IsTrue (is_arena_size n)
+
+-- the name has none of the zeros that fill it up behind it
+abbrev pub HasNoFill : List ℕ → Type 0
+HasNoFill name = 0 < length name → slice_index name (length name - 1) ≢ 0
+
+-- what a table may say; its name may have any bytes
+pub record IsTable (t : Table) : Type 0 where
+  pub name_len : length t.name ≤ 64
+  pub name_end : HasNoFill t.name
+  pub arena_size : IsArenaSize t.arena_size
+  pub some : 0 < t.count
+  pub count : t.count < 2 ^ 32
+
+-- bytes, and zeros that fill them up to this length
+abbrev pub filled : (len : ℕ) → List ℕ → List ℕ
+filled len bytes = bytes ++ replicate (len - length bytes) 0
+
+-- the table's bytes
+abbrev pub spelled : Table → List ℕ
+spelled t = codes "VPRT" ++ (big_bytes 2 1 ++ (filled 64 t.name
+    ++ (big_bytes 8 t.arena_size ++ big_bytes 4 t.count)))
+
+-- the bytes of a disk that the table stands in
+abbrev pub head_of : (file : List ℕ) → List ℕ
+head_of file = take 82 file
+
+-- the block as it is written
+abbrev pub block_of : Table → List ℕ
+block_of t = filled 8192 (spelled t)
+
+-- where an arena begins, by its number from 0 on, among arenas of this size
+abbrev pub start_by : (arena_size number : ℕ) → ℕ
+start_by arena_size number = 8192 + number * arena_size
+
+-- where an arena of a table begins, and where the last one ends
+abbrev pub start_of : Table → (number : ℕ) → ℕ
+start_of t number = start_by t.arena_size number
+
+abbrev pub end_of : Table → ℕ
+end_of t = start_of t t.count
+
+-- the disk's bytes are a partition with this table
+pub record IsPartition (t : Table) (file : List ℕ) : Type 0 where
+  pub table : IsTable t
+  pub spelling : head_of file ≡ spelled t
+  pub room : end_of t ≤ length file
+
+-- How many arenas of this size a disk of this length has room for. The count's field has four
+-- bytes, so that the end of a disk of more than 128 TiB may be left unused.
+abbrev pub count_for : (len arena_size : ℕ) → ℕ
+count_for len arena_size = min ((len - 8192) / arena_size) (2 ^ 32 - 1)

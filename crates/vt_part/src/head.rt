@@ -1,0 +1,94 @@
+//! The table in block 0.
+
+ghost use Rattle.std.specs.Prelude.{◌≡◌, ◌<◌, ◌≤◌, None, Some, MatchResult, IfOk, IfErr, length, take};
+ghost use Rattle.vt_part.specs.Table.{end_of, filled, spelled, HasNoFill, IsTable};
+ghost use Rattle.vt_part.specs.Faults.{first_bad, NamesItsCause};
+
+use crate::BLOCK_LEN;
+use crate::bad::{Field, PartBad};
+use crate::formatting::is_arena_size;
+use vt_fields::{u16_at, u32_at, u64_at};
+
+/// How many bytes the table has.
+pub const HEAD_LEN: usize = 82;
+
+/// The most bytes of a name.
+pub const NAME_MAX: usize = 64;
+
+/// The table of a partition's arenas.
+#[derive(Drop)]
+pub struct Head {
+    /// The name, filled up with zeros.
+    pub field: [u8; NAME_MAX],
+    pub name_len: usize,
+    pub arena_size: u64,
+    pub count: u32,
+    ghost within: { name_len ≤ 64 },
+    ghost allowed: { IsTable (record {
+      name = take name_len field;
+      arena_size = arena_size;
+      count = count;
+    }) },
+}
+
+impl Head {
+    ghost use Rattle.vt_part.specs.Parts.{table_in};
+
+    /// The table that these bytes spell, on a disk of this length.
+    pub fn decode(head: &[u8; HEAD_LEN], len: u64) -> Result<Head, PartBad>
+        requires { 8192 ≤ len }
+        ensures spelling { IfOk result (λ it. head.now ≡ spelled (table_in it)) }
+        ensures table { IfOk result (λ it. IsTable (table_in it)) }
+        ensures room { IfOk result (λ it. end_of (table_in it) ≤ len) }
+        ensures refused { MatchResult result (λ _. first_bad len head.now ≡ None)
+            (λ bad. first_bad len head.now ≡ Some bad) }
+        ensures differs { IfErr result (NamesItsCause len) }
+    {
+        if head[..4] != b"VPRT"[..] {
+            return Err(PartBad::NotFormatted);
+        }
+        let version = u16_at(head, 4);
+        if version != 1 {
+            return Err(torn(Field::Version, u64::from(version), 1));
+        }
+        let arena_size = u64_at(head, 70);
+        if !is_arena_size(arena_size) {
+            return Err(torn(Field::ArenaSize, arena_size, 32_768));
+        }
+        let count = u32_at(head, 78);
+        if count == 0 {
+            return Err(torn(Field::Count, 0, 1));
+        }
+        let need = BLOCK_LEN as u64 + u64::from(count) * arena_size;
+        if len < need {
+            return Err(PartBad::TooSmall { len, need });
+        }
+        let mut field = [0; NAME_MAX];
+        field.copy_from_slice(&head[6..70]);
+        Ok(Head {
+            field,
+            name_len: name_len(&field),
+            arena_size,
+            count,
+        })
+    }
+}
+
+fn torn(field: Field, found: u64, want: u64) -> PartBad
+    ensures { result ≡ PartBad.Torn field found want }
+{
+    PartBad::Torn { field, found, want }
+}
+
+/// How many bytes of a name stand before the zeros that fill it up.
+fn name_len(field: &[u8; NAME_MAX]) -> usize
+    ensures within { result ≤ 64 }
+    ensures filled { field.now ≡ filled 64 (take result field.now) }
+    ensures end { HasNoFill (take result field.now) }
+{
+    let mut len = NAME_MAX;
+    while len > 0 && field[len - 1] == 0 {
+        len -= 1;
+    }
+    len
+}
