@@ -1,0 +1,233 @@
+-- What the device keeps of a filter.
+use Rattle.std.proofs.Common.{◌≡◌, ◌↔◌, inl, inr, ⊎_elim, ℕ, ◌+◌, ◌≤◌, Bool, true, false, List, [], length, None, Some, Err, refl, sym, ap, ◌∙◌, subst, arith}
+use Rattle.std.specs.Prelude.{IsSome, is_some, Option, Result, if◌then◌else◌}
+use Rattle.std.specs.Option.{ForSome, option_map_or}
+use Rattle.vt_disk.specs.Disk.{AreAmong, ChangesAt}
+use Rattle.vt_disk.specs.declared.region.Region.{Region}
+use Rattle.vt_twin.specs.Frames.{current_frame}
+use Rattle.vt_twin.specs.Sound.{HasBegunSelector, GivesOldOrNew, IsSound as IsTwinSound}
+use Rattle.vt_twin.specs.Twin.{Change, TwinState, next_frame, after_call, without_spare, Advances as TwinAdvances}
+use Rattle.vt_twin.specs.declared.step.Step.{Step}
+use Rattle.vt_twin.specs.declared.step.TwinErr.{TwinErr}
+use Rattle.vt_twin.specs.declared.step.TwinErr.TheVariants.{Fault, Stopped}
+use Rattle.vt_twin.proofs.Steps.{sound_gives}
+use Rattle.vt_bloom.specs.Bloom.{BloomState, Advances, IsSound, HasCounts, HasOldOrNew, with_save}
+use Rattle.vt_bloom.specs.Frame.{Saved, Covers, IsFrame, HasSaved, spelled, current_of}
+use Rattle.vt_bloom.specs.Size.{frame_len, region_of, IsLargest}
+
+-- only a change under way has begun its selector
+begun_some : (change : Option Change) (stopped : Bool)
+    → 3 ≤ option_map_or (λ it. it.made) change 0 + (if stopped then 1 else 0) → IsSome change
+begun_some None true begun = absurd (omega arith)
+begun_some None false begun = absurd (omega arith)
+begun_some (Some it) stopped begun = refl
+
+pub some_none : (change : Option Change) → IsSome change → change ≡ None → ⊥
+some_none change some none = cc
+
+-- the frame of a change under way
+pub brings_length : (change : Option Change) (n : ℕ) → IsSome change
+    → ForSome change (λ it. length it.frame ≡ n)
+    → length (option_map_or (λ it. it.frame) change []) ≡ n
+brings_length None n some each = absurd (cc)
+brings_length (Some it) n some each = each it refl
+
+-- what the twin makes of a change
+abbrev HasLength : (n : ℕ) → TwinState → Type 0
+HasLength n t = ForSome t.change (λ it. length it.frame ≡ n)
+
+pub call_length : (n : ℕ) (old new : TwinState) → new ≡ after_call old → IsSome old.change
+    → HasLength n old → HasLength n new
+call_length n old new steps some each = subst (HasLength n) (sym steps)
+    (λ it is. sym (ap (λ (o : Option Change). option_map_or (λ x. length x.frame) o 0) is)
+    ∙ brings_length old.change n some each)
+
+pub call_changes : (old new : TwinState) → new ≡ after_call old → IsSome new.change
+call_changes old new steps = subst (λ (t : TwinState). IsSome t.change) (sym steps) refl
+
+pub refusal_change : (e : TwinErr) (old new : TwinState) → TwinAdvances (Err e) old new
+    → new.change ≡ old.change
+refusal_change Fault old new steps = ap (λ (t : TwinState). t.change) steps
+refusal_change (Stopped n) old new steps = ap (λ (t : TwinState). t.change) steps
+
+pub refusal_frame : (e : TwinErr) (old new : TwinState) → TwinAdvances (Err e) old new
+    → next_frame new ≡ next_frame old
+refusal_frame Fault old new steps = ap (λ (t : TwinState). next_frame t) steps
+refusal_frame (Stopped n) old new steps = ap (λ (t : TwinState). next_frame t) steps
+
+abbrev refused : TwinErr → Result Step TwinErr
+refused e = Err e
+
+-- and what `advance` makes of a filter where the twin refuses
+pub refusal_steps : {D : Type 0} (e : TwinErr) (b : BloomState D) (disk : D) (t : TwinState)
+    → TwinAdvances (Err e) b.twin t
+    → ((n : ℕ) → (refused e ≡ refused (Stopped n)) ↔ (b.twin.stopped ≡ Some n))
+    → (IsSome b.twin.stopped → disk ≡ b.disk)
+    → Advances (Err e) b (record b { disk = disk; twin = t })
+refusal_steps Fault b disk t steps stopped same = λ i. record b { disk = disk; twin = steps i }
+refusal_steps (Stopped n) b disk t steps stopped same =
+    let is : b.twin.stopped ≡ Some n = (stopped n).0 refl in
+    let untouched : disk ≡ b.disk = same (ap is_some is) in
+    λ i. record b { disk = untouched i; twin = steps i }
+
+-- a read leaves what was sound
+pub sound_read : (t : TwinState) (region : Region) (old read reads : List ℕ)
+    (images after : List ℕ → Type 0) → reads ≡ read → AreAmong after images
+    → IsTwinSound t region old read images → IsTwinSound t region old reads after
+sound_read t region old read reads images after same among sound =
+    subst (λ (l : List ℕ). IsTwinSound t region old l after) (sym same) (record {
+      number = sound.number;
+      kept = λ c left. sound.kept c (among c left);
+      named = λ waits c left. sound.named waits c (among c left);
+      written = sound.written;
+      synced = λ made c left. sound.synced made c (among c left);
+      selected = sound.selected;
+    })
+
+-- a file whose current frame is that of a filter
+has_saved : (m n : ℕ) (s : Saved) (frame file : List ℕ) → s.filter.m ≡ m → n ≡ frame_len m
+    → IsLargest (length file) m → current_frame (region_of m) n file ≡ frame → IsFrame s frame
+    → HasSaved s file
+has_saved m n s frame file same len largest current is = record {
+  largest = subst (λ (j : ℕ). IsLargest (length file) j) (sym same) largest;
+  frame = subst (λ (l : List ℕ). IsFrame s l)
+      (sym (ap (λ (j : ℕ). current_of j file) same
+      ∙ ap (λ (j : ℕ). current_frame (region_of m) j file) (sym len) ∙ current)) is;
+}
+
+-- as many bytes stay
+pub largest_stays : (m : ℕ) (P : ℕ → Type 0) (before after : List ℕ → Type 0)
+    → ChangesAt P before after → ((c : List ℕ) → before c → IsLargest (length c) m)
+    → (c : List ℕ) → after c → IsLargest (length c) m
+largest_stays m P before after changes largest c left =
+    let from = changes c left in
+    subst (λ (n : ℕ). IsLargest n m) (sym from.2.same_length) (largest from.0 from.1)
+
+module _ {D : Type 0} (b : BloomState D) (saved coming : Saved) (read : List ℕ)
+    (images : List ℕ → Type 0) (sound : IsSound b saved coming read images) where
+  pub has_old : (c : List ℕ) → IsLargest (length c) b.m
+      → current_frame (region_of b.m) b.twin.frame_len c ≡ sound.old → HasSaved saved c
+  has_old c largest current =
+      has_saved b.m b.twin.frame_len saved sound.old c sound.saved_counts.0 sound.len largest
+      current sound.saved_is
+
+  pub has_new : IsSome b.twin.change → (c : List ℕ) → IsLargest (length c) b.m
+      → current_frame (region_of b.m) b.twin.frame_len c ≡ next_frame b.twin → HasSaved coming c
+  has_new some c largest current =
+      has_saved b.m b.twin.frame_len coming (next_frame b.twin) c (sound.coming_counts some).0
+      sound.len largest current (sound.coming_is some)
+
+  -- which filter a file has, by the frame that it gives
+  pub has_either : (began : Type 0) → (began → IsSome b.twin.change) → (c : List ℕ)
+      → IsLargest (length c) b.m
+      → GivesOldOrNew began (region_of b.m) b.twin.frame_len sound.old (next_frame b.twin) c
+      → HasOldOrNew began saved coming c
+  has_either began some c largest gives = ⊎_elim
+      (λ old. inl (has_old c largest old))
+      (λ new. inr (new.0, has_new (some new.0) c largest new.1))
+      gives
+
+  pub begun_save : HasBegunSelector b.twin → IsSome b.twin.change
+  begun_save = begun_some b.twin.change _
+
+  -- what a crash leaves
+  pub crash_leaves : (c : List ℕ) → images c
+      → HasOldOrNew (HasBegunSelector b.twin) saved coming c
+  crash_leaves c left =
+      has_either (HasBegunSelector b.twin) begun_save c (sound.largest c left)
+      (sound_gives b.twin (region_of b.m) sound.old read images sound.twin c left)
+
+  pub rest_leaves : b.twin.change ≡ None → (c : List ℕ) → images c → HasSaved saved c
+  rest_leaves rest c left = ⊎_elim
+      (λ has. has)
+      (λ has. absurd (some_none b.twin.change (begun_save has.0) rest))
+      (crash_leaves c left)
+
+  pub either_covers : (began : Type 0) (scores : List (List ℕ)) → Covers scores saved
+      → (began → Covers scores coming) → (c : List ℕ) → HasOldOrNew began saved coming c
+      → (s : Saved) × HasSaved s c × Covers scores s
+  either_covers began scores old new c either = ⊎_elim
+      (λ has. (saved, has, old))
+      (λ has. (coming, has.1, new has.0))
+      either
+
+  pub crash_covers : (scores : List (List ℕ)) → Covers scores saved
+      → (IsSome b.twin.change → Covers scores coming) → (c : List ℕ) → images c
+      → (s : Saved) × HasSaved s c × Covers scores s
+  crash_covers scores old new c left =
+      either_covers (HasBegunSelector b.twin) scores old (λ begun. new (begun_save begun)) c
+      (crash_leaves c left)
+
+  -- a save begins
+  pub save_sound : (next : Saved) → b.twin.change ≡ None → IsFrame next (spelled next)
+      → HasCounts b next.filter → IsSound (with_save next b) saved next read images
+  save_sound next rest is counts = record {
+    largest = sound.largest;
+    old = sound.old;
+    twin = record {
+      number = sound.twin.number;
+      kept = sound.twin.kept;
+      named = λ waits. sound.twin.named (λ begun. none_begun (begun_save begun));
+      written = λ made. absurd (omega arith);
+      synced = λ made. absurd (omega arith);
+      selected = λ made. absurd (omega arith);
+    };
+    len = sound.len;
+    saved_is = sound.saved_is;
+    saved_counts = sound.saved_counts;
+    saved_mark = sound.saved_mark;
+    coming_is = λ _. is;
+    coming_counts = λ _. counts;
+    coming_mark = λ _. refl;
+  }
+    where
+      none_begun : IsSome b.twin.change → ⊥
+      none_begun some = cc
+
+  module _ (some : IsSome b.twin.change) (disk : D) (t : TwinState) (reads : List ℕ)
+      (after : List ℕ → Type 0) (len : t.frame_len ≡ b.twin.frame_len)
+      (largest : (c : List ℕ) → after c → IsLargest (length c) b.m) where
+    -- a call that wasn't the last, or failed
+    pub step_sound : next_frame t ≡ next_frame b.twin
+        → IsTwinSound t (region_of b.m) sound.old reads after
+        → IsSound (record b { disk = disk; twin = t }) saved coming reads after
+    step_sound same twin = record {
+      largest = largest;
+      old = sound.old;
+      twin = twin;
+      len = len ∙ sound.len;
+      saved_is = sound.saved_is;
+      saved_counts = sound.saved_counts;
+      saved_mark = sound.saved_mark;
+      coming_is = λ _. subst (λ (l : List ℕ). IsFrame coming l) (sym same) (sound.coming_is some);
+      coming_counts = λ _. sound.coming_counts some;
+      coming_mark = λ _. sound.coming_mark some;
+    }
+
+    -- the last call
+    pub last_sound : t.change ≡ None
+        → IsTwinSound t (region_of b.m) (next_frame b.twin) reads after
+        → IsSound (record b { disk = disk; mark = b.next; twin = without_spare t })
+        coming coming reads after
+    last_sound rest twin = record {
+      largest = largest;
+      old = next_frame b.twin;
+      twin = record {
+        number = twin.number;
+        kept = twin.kept;
+        named = twin.named;
+        written = twin.written;
+        synced = twin.synced;
+        selected = twin.selected;
+      };
+      len = len ∙ sound.len;
+      saved_is = sound.coming_is some;
+      saved_counts = sound.coming_counts some;
+      saved_mark = sound.coming_mark some;
+      coming_is = λ changing. absurd (none changing);
+      coming_counts = λ changing. absurd (none changing);
+      coming_mark = λ changing. absurd (none changing);
+    }
+      where
+        none : IsSome t.change → ⊥
+        none changing = cc

@@ -1,0 +1,70 @@
+-- Why a device is refused.
+use Rattle.std.specs.Prelude.{◌≡◌, ◌≢◌, ◌==◌, ◌||◌, ◌⊎◌, ℕ, ◌<◌, ◌≤◌, nat_lt, not, if◌then◌else◌, Option, Some, None, List, codes}
+use Rattle.std.specs.Str.{bytes_eq}
+use Rattle.vt_base.specs.Faults.{HasRisen}
+use Rattle.vt_bloom.specs.declared.bad.Field.{Field}
+use Rattle.vt_bloom.specs.declared.bad.Field.TheVariants.{Version, M, K}
+use Rattle.vt_bloom.specs.declared.bad.BloomBad.{BloomBad}
+use Rattle.vt_bloom.specs.declared.bad.BloomBad.TheVariants.{Fault, TooSmall, NotFormatted, Torn, NoMemory}
+use Rattle.vt_bloom.specs.Frame.{magic_in, version_in, m_in, k_in, current_of}
+use Rattle.vt_bloom.specs.Size.{IsLargest, IsSize}
+
+-- the first test of a frame's fields that fails, on a device with room for 2^m bits
+abbrev pub first_bad : (m : ℕ) → (frame : List ℕ) → Option BloomBad
+first_bad m frame =
+    if not (bytes_eq (magic_in frame) (codes "VBLM")) then Some NotFormatted
+    else if not (version_in frame == 1) then Some (Torn Version (version_in frame) 1)
+    else if not (m_in frame == m) then Some (Torn M (m_in frame) m)
+    else if k_in frame == 0 || nat_lt 32 (k_in frame) then Some (Torn K (k_in frame) 32)
+    else None
+
+-- a device of less than two of the smallest frames and a block
+abbrev pub RefusesShort : (len : ℕ) → BloomBad → Type 0
+RefusesShort len bad = (len < 40960) × (bad ≡ TooSmall len 40960)
+
+-- a device call failed, or memory ran out, for a device that isn't too small
+abbrev pub RefusesNow : (len : ℕ) → BloomBad → Type 0
+RefusesNow len bad = (40960 ≤ len) × ((bad ≡ Fault) ⊎ (bad ≡ NoMemory))
+
+-- mounting is refused by the first test of the current frame that fails
+abbrev pub RefusesMount : (file : List ℕ) → (len : ℕ) → BloomBad → Type 0
+RefusesMount file len bad = RefusesShort len bad ⊎ RefusesNow len bad
+    ⊎ ((m : ℕ) × IsLargest len m × (first_bad m (current_of m file) ≡ Some bad))
+
+-- formatting is refused for a filter of another size than that of this device
+abbrev pub RefusesFormat : (len size : ℕ) → BloomBad → Type 0
+RefusesFormat len size bad = RefusesShort len bad
+    ⊎ ((found : ℕ) × (want : ℕ) × IsSize found size × IsLargest len want × (found ≢ want)
+    × (bad ≡ Torn M found want))
+    ⊎ (RefusesNow len bad × ((m : ℕ) → IsLargest len m → IsSize m size))
+
+-- a value that can't stand in a field, and the one that was wanted
+abbrev pub Differs : Field → (found want len : ℕ) → Type 0
+Differs Version found want len = (found ≢ 1) × (want ≡ 1)
+Differs M found want len = (found ≢ want) × IsLargest len want
+Differs K found want len = ((found ≡ 0) ⊎ (32 < found)) × (want ≡ 32)
+
+-- What is known of a refusal to mount a device of this size, even where it doesn't tell what it
+-- holds: the values that the refusal names make it one.
+abbrev pub NamesItsCause : (size : ℕ) → BloomBad → Type 0
+NamesItsCause size (TooSmall len need) = (len ≡ size) × (size < 40960) × (need ≡ 40960)
+NamesItsCause size Fault = 40960 ≤ size
+NamesItsCause size NotFormatted = 40960 ≤ size
+NamesItsCause size (Torn field found want) = (40960 ≤ size) × Differs field found want size
+NamesItsCause size NoMemory = 40960 ≤ size
+
+-- a fault comes only where the count of faults rises, and it rises only then
+abbrev pub CountsFault : BloomBad → (old new : ℕ) → Type 0
+CountsFault Fault old new = HasRisen old new
+CountsFault (TooSmall len need) old new = new ≡ old
+CountsFault NotFormatted old new = new ≡ old
+CountsFault (Torn field found want) old new = new ≡ old
+CountsFault NoMemory old new = new ≡ old
+
+-- the refusal tells of the current frame, which was read
+abbrev pub TellsOfFrame : BloomBad → Type 0
+TellsOfFrame NotFormatted = Unit {0}
+TellsOfFrame (Torn field found want) = Unit {0}
+TellsOfFrame Fault = ⊥
+TellsOfFrame (TooSmall len need) = ⊥
+TellsOfFrame NoMemory = ⊥

@@ -1,0 +1,6 @@
+pub mod Bits
+pub mod Bloom
+pub mod Faults
+pub mod Frame
+pub mod Laws
+pub mod Size

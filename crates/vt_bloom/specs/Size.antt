@@ -1,0 +1,41 @@
+-- How large a filter is, and where it stands on its device.
+use Rattle.std.specs.Prelude.{◌≡◌, ℕ, ◌+◌, ◌-◌, ◌*◌, ◌^◌, ◌<◌, ◌≤◌, min}
+use Rattle.std.proofs.Common.{arith}
+use Rattle.std.proofs.lemmas.Nat.{pow_below}
+use Rattle.vt_disk.specs.declared.region.Region.{Region}
+
+-- the bytes of a filter of 2^m bits
+abbrev pub size_of : (m : ℕ) → ℕ
+size_of m = 2 ^ (m - 3)
+
+-- which sizes a filter may have: from 8,192 to 1,048,576 bytes
+pub record IsSize (m size : ℕ) : Type 0 where
+  pub least : 16 ≤ m
+  pub most : m ≤ 23
+  pub bytes : size ≡ size_of m
+
+-- a frame has a block and then the bits
+abbrev pub frame_len : (m : ℕ) → ℕ
+frame_len m = 8192 + size_of m
+
+-- two frames, and a block for the selector
+abbrev pub filter_len : (m : ℕ) → ℕ
+filter_len m = 2 * frame_len m + 8192
+
+pub filter_len-fits : (m : ℕ) → 0 + filter_len (min m 23) < 2 ^ 64
+filter_len-fits m =
+    let bits : 2 ^ (min m 23 - 3) < 2 ^ 21 = pow_below (min m 23 - 3) 21 (omega arith) in
+    let x : ℕ = 2 ^ (min m 23 - 3) in
+    omega arith
+
+-- They stand at the device's start. No m is above 23.
+abbrev pub region_of : (m : ℕ) → Region
+region_of m = record { start = 0; len = filter_len (min m 23); in_range = filter_len-fits m }
+
+-- A device of this length has room for a filter of 2^m bits and for no larger one. Its filter has
+-- that size and no other, so where the selector stands depends on the length alone.
+pub record IsLargest (len m : ℕ) : Type 0 where
+  pub least : 16 ≤ m
+  pub most : m ≤ 23
+  pub fits : filter_len m ≤ len
+  pub no_larger : (n : ℕ) → n ≤ 23 → filter_len n ≤ len → n ≤ m

@@ -1,0 +1,61 @@
+//! Why a device is refused.
+
+use std::alloc::{AllocError, AllocFailed};
+use vt_base::{Failed, NoMemory};
+
+/// A field of a frame that is tested.
+#[derive(Clone, Copy, Debug, PartialEq, Eq)]
+pub enum Field {
+    Version,
+    /// How many bits there are, as a power of two.
+    M,
+    /// How many of them a score has.
+    K,
+}
+
+/// Why a device is refused. Lengths are of the whole device, in bytes.
+#[derive(Clone, Copy, Debug, PartialEq, Eq)]
+pub enum BloomBad {
+    /// A call of the device failed, and its count of faults rose.
+    Fault,
+    TooSmall { len: u64, need: u64 },
+    /// The first four bytes of the current frame aren't `VBLM`.
+    NotFormatted,
+    /// What was found in a field can't stand there. What was wanted is the one value that can or,
+    /// where there are several, the largest.
+    Torn { field: Field, found: u64, want: u64 },
+    NoMemory,
+}
+
+impl From<Failed> for BloomBad {
+    ghost use Rattle.std.specs.Prelude.{◌≡◌};
+    ghost use Rattle.vt_bloom.specs.declared.bad.BloomBad.{BloomBad};
+
+    ghost from_gives = { λ _ bad. bad ≡ BloomBad.Fault };
+
+    fn from(_failed: Failed) -> Self {
+        BloomBad::Fault
+    }
+}
+
+impl From<NoMemory> for BloomBad {
+    ghost use Rattle.std.specs.Prelude.{◌≡◌};
+    ghost use Rattle.vt_bloom.specs.declared.bad.BloomBad.{BloomBad};
+
+    ghost from_gives = { λ _ bad. bad ≡ BloomBad.NoMemory };
+
+    fn from(_error: NoMemory) -> Self {
+        BloomBad::NoMemory
+    }
+}
+
+impl From<AllocError> for BloomBad {
+    ghost use Rattle.std.specs.Prelude.{◌≡◌};
+    ghost use Rattle.vt_bloom.specs.declared.bad.BloomBad.{BloomBad};
+
+    ghost from_gives = { λ _ bad. bad ≡ BloomBad.NoMemory };
+
+    fn from(_error: AllocError) -> Self {
+        BloomBad::NoMemory
+    }
+}

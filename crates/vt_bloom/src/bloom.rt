@@ -1,0 +1,200 @@
+//! The filter that is saved on a device, and its saves step by step.
+
+ghost use Rattle.std.specs.Prelude.{◌≡◌, ◌⊎◌, ◌↔◌, ◌-◌, ◌<◌, ◌≤◌, ℕ, List, IsTrue, IsSome, is_some, IfOk, OnOk, None, Some, Ok, Err};
+
+use crate::bits::Bits;
+use crate::frame::encode;
+use crate::size::region;
+use std::marker::Model;
+use vt_base::Bytes;
+use vt_disk::{Disk, Region};
+use vt_twin::{Step, Twin, TwinErr};
+
+/// The filter that is saved on a device: its counts and its mark, which says for how many of the
+/// log's first blocks its bits are set. The bits are elsewhere in memory, and are handed to each
+/// save; a crash leaves the filter of the last save or, while one is under way, of that one or the
+/// next.
+#[derive(Drop)]
+pub struct Bloom<D: Disk> {
+    pub(crate) disk: D,
+    pub(crate) m: u8,
+    pub(crate) k: u8,
+    pub(crate) mark: u64,
+    pub(crate) next: u64,
+    pub(crate) twin: Twin,
+    /// What the next save is written into. The twin has it while a save is under way.
+    pub(crate) frame: Option<Vec<u8>>,
+}
+
+impl<D: Disk> Model for Bloom<D> {
+    ghost use Rattle.std.specs.Prelude.{◌≡◌, ◌≤◌, length, None, IsSome};
+    ghost use Rattle.std.specs.Option.{ForSome};
+    ghost use Rattle.vt_bloom.specs.Bits.{AreCounts};
+    ghost use Rattle.vt_bloom.specs.Bloom.{BloomState};
+    ghost use Rattle.vt_bloom.specs.Size.{frame_len, filter_len};
+
+    ghost Value = { BloomState D };
+
+    ghost view = { λ b. record {
+      disk = b.disk;
+      m = b.m;
+      k = b.k;
+      mark = b.mark;
+      next = b.next;
+      twin = b.twin;
+    } };
+
+    ghost invariant = { λ b. record {
+      counts : AreCounts b.m b.k;
+      room : filter_len b.m ≤ D.size b.disk;
+      twin : b.twin.frame_len ≡ frame_len b.m;
+      buffer : ForSome b.frame (λ it. length it.items ≡ frame_len b.m);
+      coming : ForSome b.twin.change (λ it. length it.frame ≡ frame_len b.m);
+      rest : b.twin.change ≡ None → IsSome b.frame;
+    } };
+}
+
+impl<D: Disk> Bloom<D> {
+    ghost use Rattle.vt_disk.specs.Disk.{SameBut, Only, WithinCall, IsOneMore};
+    ghost use Rattle.vt_disk.specs.Region.{Inside, ChangesWithin};
+    ghost use Rattle.vt_twin.specs.Calls.{bytes_after, IsSync};
+    ghost use Rattle.vt_twin.specs.Twin.{calls_made, next_frame, CountsFault};
+    ghost use Rattle.vt_bloom.specs.Bloom.{IsSound, HasOldOrNew, with_save, saved_after, Advances};
+    ghost use Rattle.vt_bloom.specs.Frame.{Saved, Covers, HasSaved};
+    ghost use Rattle.vt_bloom.specs.Size.{region_of};
+
+    /// The mark that is saved.
+    pub fn mark(&self) -> u64
+        ensures { result ≡ self.now.mark }
+    {
+        self.mark
+    }
+
+    /// Whether a save is under way. One that was stopped stays so.
+    pub fn saving(&self) -> bool
+        ensures { result ≡ is_some self.now.twin.change }
+    {
+        self.twin.is_changing()
+    }
+
+    /// The number of the device call that stopped it, if one did.
+    pub fn stopped(&self) -> Option<u64>
+        ensures { result ≡ self.now.twin.stopped }
+    {
+        self.twin.stopped()
+    }
+
+    /// Gives the device back. It makes no device call.
+    pub fn into_devices(self) -> D
+        ensures { result ≡ self.disk }
+    {
+        let Bloom {
+            disk,
+            m: _,
+            k: _,
+            mark: _,
+            next: _,
+            twin: _,
+            frame: _,
+        } = self;
+        disk
+    }
+
+    /// Takes in the bits and the mark of the next save. It makes no device call.
+    pub fn save(&mut self, bits: &Bits, mark: u64)
+        requires rest { self.old.twin.change ≡ None }
+        requires m { bits.now.m ≡ self.old.m }
+        requires k { bits.now.k ≡ self.old.k }
+        ensures begun { self.new
+            ≡ with_save (record { filter = bits.now; mark = mark }) self.old }
+
+        // A sound device stays so, for what was saved and for what now is being saved.
+        ensures sound { (saved coming : Saved) → IsTrue D.tells
+            → IsSound self.old saved coming (D.bytes self.old.disk) (D.images self.old.disk)
+            → IsSound self.new saved (record { filter = bits.now; mark = mark })
+            (D.bytes self.new.disk) (D.images self.new.disk) }
+    {
+        let Some(mut frame) = self.frame.take() else {
+            unreachable!()
+        };
+        encode(bits, mark, &mut frame);
+        self.twin.begin(Bytes::from_vec(frame));
+        self.next = mark;
+    }
+
+    /// Makes one device call of the save under way: it writes the idle frame, syncs it, writes the
+    /// selector, syncs it.
+    ///
+    /// Done is the answer to the last of them, and Fault to one that fails. From then on the answer
+    /// is Stopped with the number of that call, and nothing is done.
+    pub fn advance(&mut self) -> Result<Step, TwinErr>
+        requires { IsSome self.old.twin.change }
+
+        // A sound device stays so, for the old filter or, after the last call, for the new one.
+        ensures sound { (saved coming : Saved) → IsTrue D.tells
+            → IsSound self.old saved coming (D.bytes self.old.disk) (D.images self.old.disk)
+            → IsSound self.new (saved_after result saved coming) coming
+            (D.bytes self.new.disk) (D.images self.new.disk) }
+
+        // A crash at any moment of it leaves the old filter or, from the selector's write on, the
+        // old one or the new.
+        ensures crash { (saved coming : Saved) → IsTrue D.tells
+            → IsSound self.old saved coming (D.bytes self.old.disk) (D.images self.old.disk)
+            → (c : List ℕ) → WithinCall (D.images self.old.disk) (D.images self.new.disk) c
+            → HasOldOrNew (2 ≤ calls_made self.old.twin) saved coming c }
+
+        // So where the marks of both are true, the mark of what is left is.
+        ensures covered { (saved coming : Saved) (scores : List (List ℕ)) → IsTrue D.tells
+            → IsSound self.old saved coming (D.bytes self.old.disk) (D.images self.old.disk)
+            → Covers scores saved → Covers scores coming
+            → (c : List ℕ) → WithinCall (D.images self.old.disk) (D.images self.new.disk) c
+            → (left : Saved) × HasSaved left c × Covers scores left }
+
+        // After the last call each crash leaves the new one.
+        ensures last { (saved coming : Saved) → IsTrue D.tells
+            → IsSound self.old saved coming (D.bytes self.old.disk) (D.images self.old.disk)
+            → result ≡ Ok Step.Done → (c : List ℕ) → D.images self.new.disk c
+            → HasSaved coming c }
+
+        // What it writes, and that it syncs.
+        ensures written { IsTrue D.tells → OnOk result (D.bytes self.new.disk
+            ≡ bytes_after (calls_made self.old.twin) (region_of self.old.m)
+            self.old.twin.frame_len self.old.twin.current
+            (next_frame self.old.twin) (D.bytes self.old.disk)) }
+        ensures settled { IsTrue D.tells → IsSync (calls_made self.old.twin)
+            → OnOk result (Only (D.bytes self.new.disk) (D.images self.new.disk)) }
+
+        ensures steps { Advances result self.old self.new }
+        ensures done { IfOk result
+            (λ step. (step ≡ Step.Done) ↔ (calls_made self.old.twin ≡ 3)) }
+        ensures goes_on { (result ≡ Ok Step.Done) ⊎ IsSome self.new.twin.change }
+        ensures stopped { (n : ℕ)
+            → (result ≡ Err (TwinErr.Stopped n)) ↔ (self.old.twin.stopped ≡ Some n) }
+        ensures faults { CountsFault result (D.faults self.old.disk) (D.faults self.new.disk) }
+
+        // It makes one call or, where it is stopped, none.
+        ensures calls { IsTrue D.tells → self.old.twin.stopped ≡ None
+            → IsOneMore (D.calls self.old.disk) (D.calls self.new.disk) }
+        ensures untouched { IsSome self.old.twin.stopped → self.new.disk ≡ self.old.disk }
+
+        // Nothing behind the filter changes.
+        ensures images { ChangesWithin (region_of self.old.m)
+            (D.images self.old.disk) (D.images self.new.disk) }
+        ensures bytes { IsTrue D.tells → SameBut (Inside (region_of self.old.m))
+            (D.bytes self.old.disk) (D.bytes self.new.disk) }
+        ensures size { D.size self.new.disk ≡ D.size self.old.disk }
+    {
+        match self.twin.advance(&mut self.disk, region(self.m)) {
+            Ok(Step::More) => Ok(Step::More),
+            Ok(Step::Done) => {
+                let Some(frame) = self.twin.idle() else {
+                    unreachable!()
+                };
+                self.frame = Some(frame.into_vec());
+                self.mark = self.next;
+                Ok(Step::Done)
+            }
+            Err(bad) => Err(bad),
+        }
+    }
+}

@@ -1,0 +1,25 @@
+//! A Bloom filter over scores, and its saved form on a device: a pair of frames that changes whole,
+//! with the filter's bits and a mark.
+#![tactic(auto)]
+
+mod bad;
+mod bits;
+mod bloom;
+mod formatting;
+mod frame;
+mod laws;
+mod mounting;
+mod size;
+
+pub use bad::{BloomBad, Field};
+pub use bits::{Bits, positions};
+pub use bloom::Bloom;
+pub use formatting::format;
+pub use laws::{
+    crash_gives_old_or_new, marked_scores_stay, saved_filters_are_told_apart, true_marks_stay,
+};
+pub use mounting::mount;
+pub use size::exponent;
+
+#[cfg(test)]
+mod tests;

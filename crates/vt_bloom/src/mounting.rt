@@ -1,0 +1,146 @@
+//! Finding the filter that is saved on a device.
+
+ghost use Rattle.std.specs.Prelude.{◌≡◌, ◌⊎◌, ◌+◌, ◌-◌, ◌^◌, ◌≤◌, ◌<◌, min, None, IsTrue, IfOk, IfErr, MatchResult, length, ⊤};
+ghost use Rattle.vt_disk.specs.Disk.{AreAmong, Only};
+ghost use Rattle.vt_twin.specs.Sound.{IsSound as IsTwinSound};
+ghost use Rattle.vt_twin.specs.Twin.{fresh};
+ghost use Rattle.vt_bloom.specs.Bits.{IsFilter};
+ghost use Rattle.vt_bloom.specs.Bloom.{IsSound, HasTested, disk_after};
+ghost use Rattle.vt_bloom.specs.Faults.{RefusesMount, NamesItsCause, CountsFault, TellsOfFrame};
+ghost use Rattle.vt_bloom.specs.Frame.{Saved, HasSaved, current_of};
+ghost use Rattle.vt_bloom.specs.Size.{IsLargest, frame_len, region_of};
+ghost use Rattle.vt_bloom.specs.declared.bad.BloomBad.{BloomBad};
+
+use crate::bad::BloomBad;
+use crate::bits::Bits;
+use crate::bloom::Bloom;
+use crate::frame::{decode_head, read_words};
+use crate::size::{HEAD_LEN, LEAST_LEN, frame_len, largest, region};
+use std::alloc::Global;
+use vt_disk::Disk;
+use vt_twin::Twin;
+
+/// Syncs the device, and finds the filter that is saved there. Its bits come back beside it. A
+/// refusal hands the device back.
+pub fn mount<D: Disk>(alloc: Global, disk: D) -> Result<(Bloom<D>, Bits), (BloomBad, D)>
+    // It finds the filter that is there, and nothing else.
+    ensures found { IfOk result (λ it. IsTrue D.tells
+        → HasSaved (record { filter = it.1; mark = it.0.mark }) (D.bytes disk)) }
+    ensures all_are_found { (saved : Saved) → IsTrue D.tells → HasSaved saved (D.bytes disk)
+        → MatchResult result (λ it. record { filter = it.1; mark = it.0.mark } ≡ saved)
+        (λ refusal. (refusal.0 ≡ BloomBad.Fault) ⊎ (refusal.0 ≡ BloomBad.NoMemory)) }
+    ensures refused { IfErr result (λ refusal. IsTrue D.tells
+        → RefusesMount (D.bytes disk) (D.size disk) refusal.0) }
+
+    // From then on each crash leaves that filter.
+    ensures sound { IfOk result (λ it. IsTrue D.tells → (coming : Saved)
+        → IsSound it.0 (record { filter = it.1; mark = it.0.mark }) coming
+        (D.bytes it.0.disk) (D.images it.0.disk)) }
+
+    // So much is known of a device that doesn't tell what it holds, too.
+    ensures rest { IfOk result (λ it. it.0.twin.change ≡ None) }
+    ensures stopped { IfOk result (λ it. it.0.twin.stopped ≡ None) }
+    ensures largest { IfOk result (λ it. IsLargest (D.size disk) it.0.m) }
+    ensures filter { IfOk result (λ it. IsFilter it.1) }
+    ensures counts { IfOk result (λ it. (it.1.m ≡ it.0.m) × (it.1.k ≡ it.0.k)) }
+    ensures differs { IfErr result (λ refusal. NamesItsCause (D.size disk) refusal.0) }
+
+    // It syncs, reads the selector, reads the current frame and tests it, and changes nothing.
+    ensures settled { HasTested result → IsTrue D.tells
+        → Only (D.bytes (disk_after result)) (D.images (disk_after result)) }
+    ensures calls { HasTested result → IsTrue D.tells
+        → D.calls (disk_after result) ≡ min (D.calls disk + 3) (2 ^ 64 - 1) }
+    ensures untouched { D.size disk < 40960 → disk_after result ≡ disk }
+    ensures no_memory { IfErr result (λ refusal. refusal.0 ≡ BloomBad.NoMemory
+        → refusal.1 ≡ disk) }
+    ensures most_calls { IsTrue D.tells → D.calls (disk_after result) ≤ D.calls disk + 3 }
+    ensures bytes { D.bytes (disk_after result) ≡ D.bytes disk }
+    ensures images { AreAmong (D.images (disk_after result)) (D.images disk) }
+    ensures size { D.size (disk_after result) ≡ D.size disk }
+    ensures cause { MatchResult result (λ it. D.faults it.0.disk ≡ D.faults disk)
+        (λ refusal. CountsFault refusal.0 (D.faults disk) (D.faults refusal.1)) }
+{
+    let mut disk = disk;
+    match find(alloc, &mut disk) {
+        Ok(found) => {
+            let Found {
+                twin,
+                frame,
+                mark,
+                bits,
+            } = found;
+            let bloom = Bloom {
+                disk,
+                m: bits.m,
+                k: bits.k,
+                mark,
+                next: mark,
+                twin,
+                frame: Some(frame),
+            };
+            Ok((bloom, bits))
+        }
+        Err(bad) => Err((bad, disk)),
+    }
+}
+
+/// What is found on a device: the pair of frames, a buffer of a frame's length, and the filter.
+#[derive(Drop)]
+struct Found {
+    twin: Twin,
+    frame: Vec<u8>,
+    mark: u64,
+    bits: Bits,
+}
+
+/// Finds the filter of a device.
+fn find<D: Disk>(alloc: Global, disk: &mut D) -> Result<Found, BloomBad>
+    ensures found { IfOk result (λ it. IsTrue D.tells
+        → HasSaved (record { filter = it.bits; mark = it.mark }) (D.bytes disk.old)) }
+    ensures twin { IfOk result (λ it. IsTrue D.tells
+        → IsTwinSound it.twin (region_of it.bits.m) (current_of it.bits.m (D.bytes disk.old))
+        (D.bytes disk.new) (D.images disk.new)) }
+    ensures settled { MatchResult result (λ _. ⊤) TellsOfFrame → IsTrue D.tells
+        → Only (D.bytes disk.new) (D.images disk.new) }
+    ensures fresh { IfOk result (λ it. it.twin ≡ fresh (frame_len it.bits.m) it.twin.current) }
+    ensures filter { IfOk result (λ it. IsFilter it.bits) }
+    ensures buffer { IfOk result (λ it. length it.frame.items ≡ frame_len it.bits.m) }
+    ensures largest { IfOk result (λ it. IsLargest (D.size disk.old) it.bits.m) }
+    ensures refused { IfErr result (λ bad. IsTrue D.tells
+        → RefusesMount (D.bytes disk.old) (D.size disk.old) bad) }
+    ensures differs { IfErr result (NamesItsCause (D.size disk.old)) }
+    ensures untouched { D.size disk.old < 40960 → disk.new ≡ disk.old }
+    ensures no_memory { IfErr result (λ bad. bad ≡ BloomBad.NoMemory → disk.new ≡ disk.old) }
+    ensures calls { MatchResult result (λ _. ⊤) TellsOfFrame → IsTrue D.tells
+        → D.calls disk.new ≡ min (D.calls disk.old + 3) (2 ^ 64 - 1) }
+    ensures most_calls { IsTrue D.tells → D.calls disk.new ≤ D.calls disk.old + 3 }
+    ensures bytes { D.bytes disk.new ≡ D.bytes disk.old }
+    ensures images { AreAmong (D.images disk.new) (D.images disk.old) }
+    ensures size { D.size disk.new ≡ D.size disk.old }
+    ensures cause { MatchResult result (λ _. D.faults disk.new ≡ D.faults disk.old)
+        (λ bad. CountsFault bad (D.faults disk.old) (D.faults disk.new)) }
+{
+    let len = disk.len();
+    if len < LEAST_LEN {
+        return Err(BloomBad::TooSmall {
+            len,
+            need: LEAST_LEN,
+        });
+    }
+    let m = largest(len);
+    let mut frame = vec![in alloc; 0; frame_len(m)]?;
+    let mut words = vec![in alloc; 0; 1 << (m - 6)]?;
+    let region = region(m);
+    let twin = vt_twin::mount(disk, region, frame.len() as u64)?;
+    let start = frame.len() as u64 * u64::from(twin.current());
+    region.read_at(disk, start, &mut frame)?;
+    let (k, mark) = decode_head(&frame, m)?;
+    read_words(&frame[HEAD_LEN..], &mut words);
+    let bits = Bits { m, k, words };
+    Ok(Found {
+        twin,
+        frame,
+        mark,
+        bits,
+    })
+}

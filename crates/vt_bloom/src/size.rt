@@ -1,0 +1,59 @@
+//! How large a filter is, and where it stands.
+
+ghost use Rattle.std.specs.Prelude.{◌≡◌, ◌≤◌, ℕ, IfSome, IfNone};
+ghost use Rattle.vt_bloom.specs.Size.{IsSize, IsLargest, frame_len, region_of};
+
+use vt_disk::Region;
+
+/// How many bytes of a frame stand before its words.
+pub const HEAD_LEN: usize = 8192;
+
+/// The least device: two frames of the smallest filter, and a block.
+pub const LEAST_LEN: u64 = 40_960;
+
+/// The m of a filter of this many bytes, which has 2^m bits, if a filter may have that size: the
+/// powers of two from 8,192 to 1,048,576.
+pub fn exponent(size: u64) -> Option<u8>
+    ensures found { IfSome result (λ m. IsSize m size) }
+    ensures none { IfNone result ((m : ℕ) → ¬ IsSize m size) }
+{
+    for m in 16..24 {
+        if size == 1 << (m - 3) {
+            return Some(m);
+        }
+    }
+    None
+}
+
+/// The m of the largest filter that a device of this length has room for.
+pub fn largest(len: u64) -> u8
+    requires { 40960 ≤ len }
+    ensures { IsLargest len result }
+{
+    let mut m = 16;
+    while m < 23 && region(m + 1).len <= len {
+        m += 1;
+    }
+    m
+}
+
+/// How many bytes a frame of a filter of 2^m bits has.
+pub fn frame_len(m: u8) -> usize
+    requires least { 16 ≤ m }
+    requires most { m ≤ 23 }
+    ensures { result ≡ frame_len m }
+{
+    HEAD_LEN + (1 << (m - 3))
+}
+
+/// The region of a filter of 2^m bits, from the device's start on.
+pub fn region(m: u8) -> Region
+    requires least { 16 ≤ m }
+    requires most { m ≤ 23 }
+    ensures { result ≡ region_of m }
+{
+    Region {
+        start: 0,
+        len: 2 * frame_len(m) as u64 + 8192,
+    }
+}
