@@ -1,0 +1,284 @@
+-- The head's change of a commit, call by call, and what a crash leaves.
+use Rattle.std.proofs.Common.{◌≡◌, ◌⊎◌, inl, inr, ⊎_elim, ℕ, ◌+◌, ◌-◌, ◌*◌, ◌<◌, ◌≤◌, Bool, true, false, if◌then◌else◌, is_some, List, [], ◌∷◌, ◌++◌, length, take, drop, map, reverse, Option, Some, None, Ok, Err, Result, ◌↔◌, ◌%◌, refl, sym, ◌∙◌, ap, subst, arith, length-append, length-take, append-nil}
+use Rattle.std.specs.Prelude.{All, IsSome, MatchResult, replicate, slice_index}
+use Rattle.std.proofs.lemmas.Bool.{cases_eq}
+use Rattle.std.proofs.lemmas.List.{take_all, take_at, length-map}
+use Rattle.std.proofs.lemmas.List.Elements.{All-append}
+use Rattle.vt_disk.specs.declared.region.Region.{Region}
+use Rattle.vt_disk.specs.Disk.{SameBut, ChangesAt, Only, part}
+use Rattle.vt_twin.specs.declared.step.Step.{Step}
+use Rattle.vt_twin.specs.declared.step.Step.TheVariants.{More, Done}
+use Rattle.vt_twin.specs.declared.step.TwinErr.{TwinErr}
+use Rattle.vt_twin.specs.declared.step.TwinErr.TheVariants.{Fault, Stopped}
+use Rattle.vt_twin.specs.Frames.{current_frame}
+use Rattle.vt_twin.specs.Twin.{TwinState, Change, calls_made, calls_begun, next_frame, with_change, without_spare, after_call, after_fault as twin_after_fault, after_last as twin_after_last}
+use Rattle.vt_twin.specs.Calls.{IsSync}
+use Rattle.vt_twin.specs.Sound.{IsSound as IsSoundTwin, GivesOldOrNew, HasBegunSelector as TwinHasBegunSelector}
+use Rattle.vt_twin.proofs.Steps.{sound_gives}
+use Rattle.vt_clump.specs.declared.packed.Packed.{Packed}
+use Rattle.vt_clump.specs.Spelling.{Stored, IsStored, spelled}
+use Rattle.vt_clump.specs.Clumps.{IsPacked, stored_of}
+use Rattle.vt_model.specs.declared.TheConstants.{HEAD_LEN}
+use Rattle.vt_arena.specs.declared.TheConstants.{FRAME_LEN, FIELDS_LEN}
+use Rattle.vt_arena.specs.declared.head.ArenaHead.{ArenaHead}
+use Rattle.vt_arena.specs.Arena.{ArenaState, added_by, next_content, pieces, after_last, content_after}
+use Rattle.vt_arena.specs.Heads.{fields_of, frame_of}
+use Rattle.vt_arena.specs.Layout.{Content, IsContent, IsArena, HasBlocks, StandsAt, InHead, clumps_of, directory_of, clumps_place, directory_place, used_of, head_of}
+use Rattle.vt_arena.specs.Places.{directory_room, arena_room}
+use Rattle.vt_arena.specs.Sound.{IsSound, HasPieces, GivesOldOrNext, HasBegunSelector, clumps_made, entries_made}
+use Rattle.vt_arena.proofs.Layouts.{stands-sum, stands_same, flat_map-append, directory-append, used-append, length-clumps, length-directory, content_fits, All-stored}
+use Rattle.vt_arena.proofs.Writes.{no_calls}
+
+-- the fields of a frame
+pub length-fields : (h : ArenaHead) → length h.chain.0 ≡ 20 → length (fields_of h) ≡ FIELDS_LEN
+length-fields h chain = omega (arith, chain)
+
+pub frame_fields : (h : ArenaHead) → length h.chain.0 ≡ 20 → take FIELDS_LEN (frame_of h) ≡ fields_of h
+frame_fields h chain = take_at (fields_of h) (replicate (FRAME_LEN - FIELDS_LEN) 0) FIELDS_LEN (length-fields h chain)
+
+-- a call that was made is one of a change
+pub some_change : (change : Option Change) → change ≡ None ⊎ IsSome change
+some_change None = inl refl
+some_change (Some it) = inr refl
+
+pub begun_made : (t : TwinState) → 3 ≤ calls_begun t → 2 ≤ calls_made t
+begun_made t begun = bound (is_some t.stopped) begun
+  where
+    bound : (b : Bool) → 3 ≤ calls_made t + (if b then 1 else 0) → 2 ≤ calls_made t
+    bound true begun = omega (arith, begun)
+    bound false begun = omega (arith, begun)
+
+pub made_begun : (t : TwinState) → calls_begun t ≤ calls_made t + 1
+made_begun t = bound (is_some t.stopped)
+  where
+    bound : (b : Bool) → calls_made t + (if b then 1 else 0) ≤ calls_made t + 1
+    bound true = omega arith
+    bound false = omega arith
+
+pub is_changing : (t : TwinState) → 1 ≤ calls_made t → IsSome t.change
+is_changing t made = ⊎_elim (λ none. absurd (omega (arith, made, no_calls t none))) (λ some. some) (some_change t.change)
+
+-- old and new clumps, old and new entries
+module _ (score_of : List ℕ → List ℕ) (a : ArenaState) (region : Region) (old : Content) (read : List ℕ) (images : List ℕ → Type 0)
+    (sound : IsSound score_of a region old read images) (written : a.written ≡ pieces a) where
+  count : length (added_by a) ≡ length a.staged
+  count = length-map a.staged stored_of
+
+  all_clumps : clumps_made a ≡ added_by a
+  all_clumps = take_all a.written (added_by a) (omega (arith, written, count))
+
+  all_entries : entries_made a ≡ added_by a
+  all_entries = take_all (a.written - length a.staged) (added_by a) (omega (arith, written, count))
+
+  pub joined : (file : List ℕ) → HasBlocks region old.stored file → HasPieces a region old file → HasBlocks region (next_content a old).stored file
+  joined file blocks made =
+      let more : List Stored = added_by a in
+      let fits = content_fits score_of region.len (next_content a old) sound.next_content_is in
+      let counted : length (old.stored ++ more) ≡ length old.stored + length more = length-append old.stored more in
+      let clumps_len : length (clumps_of old.stored) ≡ used_of old.stored = length-clumps score_of old.stored sound.content.stored in
+      let more_len : length (directory_of more) ≡ directory_room (length more) =
+      length-directory score_of more (All-stored score_of a.staged sound.packed) in
+      let clumps : StandsAt (clumps_place region old.stored) (clumps_of more) file =
+      subst (λ (l : List Stored). StandsAt (clumps_place region old.stored) (clumps_of l) file) all_clumps made.clumps in
+      let entries : StandsAt (directory_place region (length old.stored + length more)) (directory_of more) file =
+      subst (λ (l : List Stored). StandsAt (directory_place region (length old.stored + length l)) (directory_of l) file) all_entries made.directory in record {
+        clumps = subst (λ (l : List ℕ). StandsAt (region.start + HEAD_LEN) l file) (sym (flat_map-append spelled old.stored more))
+            (stands-sum (region.start + HEAD_LEN) (clumps_of old.stored) (clumps_of more) file blocks.clumps
+            (subst (λ (at : ℕ). StandsAt at (clumps_of more) file) (omega (arith, clumps_len)) clumps));
+        directory = subst (λ (l : List ℕ). StandsAt (directory_place region (length (old.stored ++ more))) l file) (sym (directory-append old.stored more))
+            (subst (λ (k : ℕ). StandsAt (directory_place region k) (directory_of more ++ directory_of old.stored) file) (sym counted)
+            (stands-sum (directory_place region (length old.stored + length more)) (directory_of more) (directory_of old.stored) file entries
+            (subst (λ (at : ℕ). StandsAt at (directory_of old.stored) file) (omega (arith, more_len, fits, counted)) blocks.directory)));
+      }
+
+-- What a crash between two calls leaves.
+module _ (score_of : List ℕ → List ℕ) (a : ArenaState) (region : Region) (old : Content) (read : List ℕ) (images : List ℕ → Type 0)
+    (sound : IsSound score_of a region old read images) (c : List ℕ) (left : images c) where
+  at_frame : {frame : List ℕ} → current_frame region a.twin.frame_len c ≡ frame → current_frame region FRAME_LEN c ≡ frame
+  at_frame {frame} is = subst (λ (n : ℕ). current_frame region n c ≡ frame) sound.frame_len is
+
+  pub gives_old : current_frame region a.twin.frame_len c ≡ sound.frame → IsArena score_of region a.number old c
+  gives_old is = record {
+    content = sound.content;
+    head = ap (λ (l : List ℕ). take FIELDS_LEN l) (at_frame is) ∙ sound.fields ∙ ap fields_of sound.head;
+    blocks = sound.kept c left;
+  }
+
+  gives_next : 2 ≤ calls_made a.twin → current_frame region a.twin.frame_len c ≡ next_frame a.twin → IsArena score_of region a.number (next_content a old) c
+  gives_next made is =
+      let begun = sound.begun (is_changing a.twin (omega (arith, made))) in record {
+        content = sound.next_content_is;
+        head = ap (λ (l : List ℕ). take FIELDS_LEN l) (at_frame is ∙ begun.1) ∙ frame_fields a.next sound.chain ∙ ap fields_of sound.next;
+        blocks = joined score_of a region old read images sound begun.0 c (sound.kept c left) (sound.synced made c left);
+      }
+
+  pub arena_gives : GivesOldOrNext (HasBegunSelector a) score_of region a.number old (next_content a old) c
+  arena_gives = ⊎_elim (λ is. inl (gives_old is)) (λ is. inr (is.0, gives_next (begun_made a.twin is.0) is.1))
+      (sound_gives a.twin region sound.frame read images sound.twin c left)
+
+  pub rest_gives : a.twin.change ≡ None → IsArena score_of region a.number old c
+  rest_gives rest = ⊎_elim (λ is. gives_old is) (λ is. absurd (omega (arith, begun_made a.twin is.0, no_calls a.twin rest)))
+      (sound_gives a.twin region sound.frame read images sound.twin c left)
+
+-- the head's change is begun
+pub begin_sound : (score_of : List ℕ → List ℕ) (a : ArenaState) (region : Region) (old : Content) (read : List ℕ) (images : List ℕ → Type 0)
+    → a.twin.change ≡ None → a.written ≡ pieces a → IsSound score_of a region old read images
+    → IsSound score_of (record a { twin = with_change (frame_of a.next) a.twin }) region old read images
+begin_sound score_of a region old read images rest written sound = record {
+  len = sound.len;
+  frame_len = sound.frame_len;
+  head = sound.head;
+  next = sound.next;
+  chain = sound.chain;
+  packed = sound.packed;
+  content = sound.content;
+  next_content_is = record { stored = sound.next_content_is.stored; fit = sound.next_content_is.fit };
+  begun = λ some. (written, refl);
+  frame = sound.frame;
+  twin = record {
+    number = sound.twin.number;
+    kept = sound.twin.kept;
+    named = λ waits. sound.twin.named (λ begun. omega (arith, begun_made a.twin begun, no_calls a.twin rest));
+    written = λ made. absurd (omega (arith, made));
+    synced = λ made. absurd (omega (arith, made));
+    selected = λ made. absurd (omega (arith, made));
+  };
+  fields = sound.fields;
+  kept = sound.kept;
+  written = record { clumps = sound.written.clumps; directory = sound.written.directory };
+  synced = λ made. absurd (omega (arith, made));
+}
+
+-- a call of it, which changes the head alone
+module _ (score_of : List ℕ → List ℕ) (a : ArenaState) (region : Region) (old : Content) (read reads : List ℕ) (before after : List ℕ → Type 0)
+    (least : 32768 ≤ region.len) (changes : ChangesAt (InHead region) before after) (same : SameBut (InHead region) read reads)
+    (sound : IsSound score_of a region old read before) where
+  fits : used_of (next_content a old).stored + directory_room (length (next_content a old).stored) ≤ arena_room region.len
+  fits = content_fits score_of region.len (next_content a old) sound.next_content_is
+
+  counted : length (old.stored ++ added_by a) ≡ length old.stored + length (added_by a)
+  counted = length-append old.stored (added_by a)
+
+  stays : (place : ℕ) (bytes file files : List ℕ) → region.start + HEAD_LEN ≤ place → SameBut (InHead region) file files → StandsAt place bytes file → StandsAt place bytes files
+  stays place bytes file files behind but = stands_same (InHead region) place bytes file files but (λ i above below here. omega (arith, above, behind, here.1))
+
+  blocks_after : (c : List ℕ) → after c → HasBlocks region old.stored c
+  blocks_after c left =
+      let from = changes c left in
+      let blocks = sound.kept from.0 from.1 in record {
+        clumps = stays (region.start + HEAD_LEN) (clumps_of old.stored) from.0 c (omega arith) from.2 blocks.clumps;
+        directory = stays (directory_place region (length old.stored)) (directory_of old.stored) from.0 c (omega (arith, fits, counted, least)) from.2 blocks.directory;
+      }
+
+  pieces_after : (file files : List ℕ) → SameBut (InHead region) file files → HasPieces a region old file → HasPieces a region old files
+  pieces_after file files but made = record {
+    clumps = stays (clumps_place region old.stored) (clumps_of (clumps_made a)) file files (omega arith) but made.clumps;
+    directory = stays (directory_place region (length old.stored + length (entries_made a))) (directory_of (entries_made a)) file files
+        (omega (arith, fits, counted, least, length-take (a.written - length a.staged) (added_by a))) but made.directory;
+  }
+
+  read_after : HasPieces a region old reads
+  read_after = pieces_after read reads same sound.written
+
+  synced_after : 2 ≤ calls_made a.twin → (c : List ℕ) → after c → HasPieces a region old c
+  synced_after made c left = let from = changes c left in pieces_after from.0 c from.2 (sound.synced made from.0 from.1)
+
+  -- one that isn't the last, or fails
+  pub head_sound : (later : TwinState) (k : ℕ) (o : Option ℕ) → IsSoundTwin later region sound.frame reads after → later.frame_len ≡ a.twin.frame_len
+      → IsSome a.twin.change → next_frame later ≡ next_frame a.twin
+      → (2 ≤ calls_made later → (2 ≤ calls_made a.twin) ⊎ Only reads after)
+      → IsSound score_of (record a { twin = later; calls = k; stopped = o }) region old reads after
+  head_sound later k o twin frame_len some next_is sync = record {
+    len = sound.len;
+    frame_len = frame_len ∙ sound.frame_len;
+    head = sound.head;
+    next = sound.next;
+    chain = sound.chain;
+    packed = sound.packed;
+    content = sound.content;
+    next_content_is = record { stored = sound.next_content_is.stored; fit = sound.next_content_is.fit };
+    begun = λ still. let begun = sound.begun some in (begun.0, next_is ∙ begun.1);
+    frame = sound.frame;
+    twin = twin;
+    fields = sound.fields;
+    kept = blocks_after;
+    written = record { clumps = read_after.clumps; directory = read_after.directory };
+    synced = λ made c left. ⊎_elim
+        (λ was. let it = synced_after was c left in record { clumps = it.clumps; directory = it.directory })
+        (λ settled. let is = settled c left in record {
+          clumps = ap (λ (l : List ℕ). part (clumps_place region old.stored) (length (clumps_of (clumps_made a))) l) is ∙ read_after.clumps;
+          directory = ap (λ (l : List ℕ). part (directory_place region (length old.stored + length (entries_made a))) (length (directory_of (entries_made a))) l) is ∙ read_after.directory;
+        })
+        (sync made);
+  }
+
+  -- the last one: what was staged is committed
+  pub done_sound : (k : ℕ) → IsSoundTwin (without_spare (twin_after_last a.twin)) region (next_frame a.twin) reads after → 2 ≤ calls_made a.twin
+      → IsSound score_of (record (after_last a) { calls = k }) region (next_content a old) reads after
+  done_sound k twin made =
+      let begun = sound.begun (is_changing a.twin (omega (arith, made))) in
+      let all : (next_content a old).stored ++ [] ≡ (next_content a old).stored = append-nil (next_content a old).stored in record {
+        len = sound.len;
+        frame_len = sound.frame_len;
+        head = sound.next;
+        next = sound.next ∙ (λ i. head_of score_of a.number (record { sealed = a.next.sealed; stored = sym all i }));
+        chain = sound.chain;
+        packed = λ j d below. absurd (omega (arith, below));
+        content = sound.next_content_is;
+        next_content_is = subst (λ (l : List Stored). IsContent score_of region.len (record { sealed = a.next.sealed; stored = l })) (sym all)
+            (record { stored = sound.next_content_is.stored; fit = sound.next_content_is.fit });
+        begun = λ some. cc;
+        frame = next_frame a.twin;
+        twin = twin;
+        fields = ap (λ (l : List ℕ). take FIELDS_LEN l) begun.1 ∙ frame_fields a.next sound.chain;
+        kept = λ c left. joined score_of a region old read before sound begun.0 c (blocks_after c left) (synced_after made c left);
+        written = record { clumps = refl; directory = refl };
+        synced = λ calls. absurd (omega (arith, calls));
+      }
+
+  -- what the last one leaves is the next arena
+  pub done_gives : (k : ℕ) → IsSound score_of (record (after_last a) { calls = k }) region (next_content a old) reads after
+      → (c : List ℕ) → after c → IsArena score_of region a.number (next_content a old) c
+  done_gives k later c left = rest_gives score_of (record (after_last a) { calls = k }) region (next_content a old) reads after later c left refl
+
+-- a twin is found by its region's start
+pub twin_moved : (t : TwinState) (r s : Region) (old read : List ℕ) (images : List ℕ → Type 0) → r.start ≡ s.start → IsSoundTwin t r old read images → IsSoundTwin t s old read images
+twin_moved t r s old read images same sound = record {
+  number = sound.number;
+  kept = λ c left. ap (λ (p : ℕ). part (p + t.frame_len * t.current) t.frame_len c) (sym same) ∙ sound.kept c left;
+  named = λ waits c left. ap (λ (p : ℕ). slice_index c (p + 2 * t.frame_len) % 2) (sym same) ∙ sound.named waits c left;
+  written = λ made. ap (λ (p : ℕ). part (p + t.frame_len * (1 - t.current)) t.frame_len read) (sym same) ∙ sound.written made;
+  synced = λ made c left. ap (λ (p : ℕ). part (p + t.frame_len * (1 - t.current)) t.frame_len c) (sym same) ∙ sound.synced made c left;
+  selected = λ made. ap (λ (p : ℕ). slice_index read (p + 2 * t.frame_len) % 2) (sym same) ∙ sound.selected made;
+}
+
+-- a twin that runs isn't refused as stopped
+pub fault_only : (r : Result Step TwinErr) (stopped : Option ℕ) → stopped ≡ None → ((n : ℕ) → (r ≡ Err (Stopped n)) ↔ (stopped ≡ Some n)) → (e : TwinErr) → r ≡ Err e → e ≡ Fault
+fault_only r stopped runs only Fault is = refl
+fault_only r stopped runs only (Stopped n) is = absurd (none_some (sym runs ∙ (only n).0 is))
+  where
+    none_some : {n : ℕ} → None ≡ Some n → ⊥
+    none_some is = cc
+
+-- the second call of a change syncs
+pub sync_or_before : (t : TwinState) (reads : List ℕ) (after : List ℕ → Type 0) → (IsSync (calls_made t) → Only reads after)
+    → 2 ≤ calls_made t + 1 → (2 ≤ calls_made t) ⊎ Only reads after
+sync_or_before t reads after settled made = ⊎_elim
+    (λ (first : calls_made t ≡ 1). inr (settled (inl first)))
+    (λ (other : calls_made t ≡ 1 → ⊥). inl (omega (arith, made, other)))
+    (cases_eq (calls_made t) 1)
+
+-- what a step makes of the content doesn't depend on the twin, and a piece makes nothing of it
+pub content_twin : (r : Result Step TwinErr) (a : ArenaState) (t : TwinState) (old : Content) → content_after r (record a { twin = t }) old ≡ content_after r a old
+content_twin (Ok Done) a t old = refl
+content_twin (Ok More) a t old = refl
+content_twin (Err e) a t old = refl
+
+pub content_piece : (r : Result Step TwinErr) (A : Type 0) (B : TwinErr → Type 0) (a : ArenaState) (old : Content) → MatchResult r (λ step. (step ≡ More) × A) B → content_after r a old ≡ old
+content_piece (Ok Done) A B a old is = let wrong : Done ≡ More = is.0 in absurd (cc)
+content_piece (Ok More) A B a old is = refl
+content_piece (Err e) A B a old is = refl
+
+pub none_is : {T : Type 0} (o : Option T) → is_some o ≡ false → o ≡ None
+none_is None off = refl
+none_is (Some it) off = cc

@@ -1,0 +1,61 @@
+-- What is done to the rest of the disk leaves an arena sound.
+use Rattle.std.proofs.Common.{◌≡◌, ℕ, ◌+◌, ◌-◌, ◌<◌, ◌≤◌, List, length, take, refl, sym, ◌∙◌, ap, arith}
+use Rattle.vt_disk.specs.declared.region.Region.{Region}
+use Rattle.vt_disk.specs.Disk.{SameBut}
+use Rattle.vt_disk.specs.Region.{Inside, ChangesWithin, region_bytes}
+use Rattle.vt_disk.proofs.Bytes.{part_same}
+use Rattle.vt_model.specs.declared.TheConstants.{HEAD_LEN}
+use Rattle.std.proofs.lemmas.List.{length-map, length-take-le}
+use Rattle.std.proofs.Common.{length-append, length-take}
+use Rattle.vt_clump.specs.Spelling.{Stored, IsStored}
+use Rattle.vt_clump.specs.Clumps.{stored_of}
+use Rattle.vt_arena.specs.Arena.{ArenaState, added_by, next_content}
+use Rattle.vt_arena.specs.Layout.{Content, clumps_of, directory_of, clumps_place, directory_place, used_of}
+use Rattle.vt_arena.specs.Sound.{IsRegion, IsSound, HasPieces, clumps_made, entries_made}
+use Rattle.vt_arena.proofs.Layouts.{stands_inside, length-clumps, length-directory, used-append, content_fits, All-stored, all_take, used_take}
+use Rattle.vt_arena.proofs.Regions.{blocks_in_region}
+use Rattle.vt_arena.proofs.Writes.{twin_elsewhere}
+
+module _ (score_of : List ℕ → List ℕ) (a : ArenaState) (region : Region) (size : ℕ) (old : Content) (is_region : IsRegion region size)
+    (other : Region) (apart : (i : ℕ) → Inside other i → ¬ Inside region i)
+    (read reads : List ℕ) (before after : List ℕ → Type 0) (same : SameBut (Inside other) read reads) (changes : ChangesWithin other before after)
+    (sound : IsSound score_of a region old read before) where
+  bytes_stay : (file files : List ℕ) → SameBut (Inside other) file files → region_bytes region files ≡ region_bytes region file
+  bytes_stay file files but = part_same (Inside other) region.start region.len file files but (λ i above below there. apart i there (above, below))
+
+  pieces_stay : (file files : List ℕ) → SameBut (Inside other) file files → HasPieces a region old file → HasPieces a region old files
+  pieces_stay file files but made =
+      let news = All-stored score_of a.staged sound.packed in
+      let fits = content_fits score_of region.len (next_content a old) sound.next_content_is in
+      let used = used-append old.stored (added_by a) in
+      let count = length-append old.stored (added_by a) in
+      let clumps_len = length-clumps score_of (clumps_made a) (all_take (IsStored score_of) a.written (added_by a) news) in
+      let entries_len = length-directory score_of (entries_made a) (all_take (IsStored score_of) (a.written - length a.staged) (added_by a) news) in record {
+        clumps = stands_inside region file files (bytes_stay file files but) (clumps_place region old.stored) (clumps_of (clumps_made a)) (omega arith)
+            (omega (arith, fits, used, is_region.len.0, clumps_len, used_take a.written (added_by a))) made.clumps;
+        directory = stands_inside region file files (bytes_stay file files but) (directory_place region (length old.stored + length (entries_made a))) (directory_of (entries_made a))
+            (omega (arith, fits, used, count, is_region.len.0, length-take (a.written - length a.staged) (added_by a)))
+            (omega (arith, fits, used, count, is_region.len.0, entries_len, length-take (a.written - length a.staged) (added_by a))) made.directory;
+      }
+
+  pub arena_elsewhere : IsSound score_of a region old reads after
+  arena_elsewhere = record {
+    len = sound.len;
+    frame_len = sound.frame_len;
+    head = sound.head;
+    next = sound.next;
+    chain = sound.chain;
+    packed = sound.packed;
+    content = sound.content;
+    next_content_is = sound.next_content_is;
+    begun = sound.begun;
+    frame = sound.frame;
+    twin = twin_elsewhere a.twin region size is_region sound.frame_len (Inside other)
+        (λ i there above below. apart i there (above, omega (arith, below, is_region.len.0)))
+        sound.frame read reads before after same changes sound.twin;
+    fields = sound.fields;
+    kept = λ c left. let from = changes c left in
+        blocks_in_region score_of region old from.0 c (omega (arith, is_region.len.0)) (bytes_stay from.0 c from.2) sound.content (sound.kept from.0 from.1);
+    written = pieces_stay read reads same sound.written;
+    synced = λ made c left. let from = changes c left in pieces_stay from.0 c from.2 (sound.synced made from.0 from.1);
+  }

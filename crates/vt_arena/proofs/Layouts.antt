@@ -1,0 +1,149 @@
+-- Lengths of clumps, entries and directories, and parts of a file.
+use Rattle.std.proofs.Common.{◌≡◌, ℕ, zero, suc, ◌+◌, ◌-◌, ◌*◌, ◌<◌, ◌≤◌, List, [], ◌∷◌, ◌++◌, length, take, drop, map, reverse, get_or, refl, sym, ◌∙◌, ap, subst, arith, append-nil, append_assoc, length-append, length-take, take-append-drop}
+use Rattle.std.specs.Prelude.{All, sum_by, slice_index}
+use Rattle.std.specs.List.{flat_map}
+use Rattle.std.proofs.lemmas.List.{take-take, drop-take, drop-drop, get_or-take, get_or-drop, reverse-append, length-map, map-append}
+use Rattle.std.proofs.lemmas.List.Sums.{sum_by-cons, sum_by-append}
+use Rattle.vt_disk.specs.declared.region.Region.{Region}
+use Rattle.vt_disk.specs.Disk.{Touches, SameBut, part}
+use Rattle.vt_disk.specs.Region.{Inside, region_bytes}
+use Rattle.vt_disk.proofs.Bytes.{part_same}
+use Rattle.vt_clump.specs.declared.packed.Packed.{Packed}
+use Rattle.vt_clump.specs.Spelling.{Stored, IsStored, spelled}
+use Rattle.vt_clump.specs.Clumps.{IsPacked, stored_of}
+use Rattle.vt_clump.proofs.ReadBack.{length-spelled}
+use Rattle.vt_arena.specs.Layout.{Content, IsContent, StandsAt, entry_of, clumps_of, directory_of, used_of}
+use Rattle.vt_arena.specs.Places.{block_room, directory_room, arena_room, lengths_of, Fit}
+use Rattle.vt_arena.specs.Whole.{staged_room}
+
+-- what a write touches lies in the written range
+pub touched_within : (start n i : ℕ) → Touches start n i → (start ≤ i) × (i < start + n)
+unfolding Touches
+touched_within start n i touched = touched
+
+-- a part, split
+pub part-sum : (place m k : ℕ) (file : List ℕ) → part place (m + k) file ≡ part place m file ++ part (place + m) k file
+part-sum place m k file =
+    sym (take-append-drop m (take (m + k) (drop place file)))
+    ∙ (λ i. take-take m (m + k) (drop place file) (omega arith) i ++ drop-take m k (drop place file) i)
+    ∙ ap (λ (l : List ℕ). part place m file ++ take k l) (drop-drop m place file)
+
+-- a part of a part
+pub part-part : (start len place n : ℕ) (file : List ℕ) → place + n ≤ len → part place n (part start len file) ≡ part (start + place) n file
+part-part start len place n file fits =
+    ap (λ (l : List ℕ). take n l) (ap (λ (k : ℕ). drop place (take k (drop start file))) split ∙ drop-take place (len - place) (drop start file))
+    ∙ take-take n (len - place) (drop place (drop start file)) (omega (arith, fits))
+    ∙ ap (λ (l : List ℕ). take n l) (drop-drop place start file)
+  where
+    split : len ≡ place + (len - place)
+    split = omega (arith, fits)
+
+pub stands-sum : (place : ℕ) (low high file : List ℕ) → StandsAt place low file → StandsAt (place + length low) high file → StandsAt place (low ++ high) file
+stands-sum place low high file first second =
+    ap (λ (k : ℕ). part place k file) (length-append low high) ∙ part-sum place (length low) (length high) file ∙ (λ i. first i ++ second i)
+
+-- bytes stay where nothing touches them
+pub stands_same : (P : ℕ → Type 0) (place : ℕ) (bytes old new : List ℕ) → SameBut P old new → ((i : ℕ) → place ≤ i → i < place + length bytes → ¬ P i) → StandsAt place bytes old → StandsAt place bytes new
+stands_same P place bytes old new same free stands = part_same P place (length bytes) old new same free ∙ stands
+
+-- what lies in a region is told by the region's bytes
+module _ (region : Region) (old new : List ℕ) (same : region_bytes region new ≡ region_bytes region old) where
+  pub part_inside : (place n : ℕ) → region.start ≤ place → place + n ≤ region.start + region.len → part place n new ≡ part place n old
+  part_inside place n above below =
+      ap (λ (p : ℕ). part p n new) at_place
+      ∙ sym (part-part region.start region.len (place - region.start) n new (omega (arith, above, below)))
+      ∙ ap (λ (l : List ℕ). part (place - region.start) n l) same
+      ∙ part-part region.start region.len (place - region.start) n old (omega (arith, above, below))
+      ∙ ap (λ (p : ℕ). part p n old) (sym at_place)
+    where
+      at_place : place ≡ region.start + (place - region.start)
+      at_place = omega (arith, above)
+
+  pub byte_inside : (place : ℕ) → place < region.len → slice_index new (region.start + place) ≡ slice_index old (region.start + place)
+  byte_inside place below = sym (at new) ∙ ap (λ (l : List ℕ). slice_index l place) same ∙ at old
+    where
+      at : (file : List ℕ) → slice_index (region_bytes region file) place ≡ slice_index file (region.start + place)
+      at file = get_or-take region.len (drop region.start file) place 0 below ∙ get_or-drop region.start file place 0
+
+  pub stands_inside : (place : ℕ) (bytes : List ℕ) → region.start ≤ place → place + length bytes ≤ region.start + region.len → StandsAt place bytes old → StandsAt place bytes new
+  stands_inside place bytes above below stands = part_inside place (length bytes) above below ∙ stands
+
+pub flat_map-append : {X : Type 0} (f : X → List ℕ) (xs ys : List X) → flat_map f (xs ++ ys) ≡ flat_map f xs ++ flat_map f ys
+flat_map-append f [] ys = refl
+flat_map-append f (x ∷ xs) ys = ap (λ (l : List ℕ). f x ++ l) (flat_map-append f xs ys) ∙ sym (append_assoc (f x) (flat_map f xs) (flat_map f ys))
+
+module _ {X : Type 0} (P : X → Type 0) where
+  pub all_head : (x : X) (xs : List X) → All P (x ∷ xs) → P x
+  all_head x xs all = all 0 x (omega arith)
+
+  pub all_tail : (x : X) (xs : List X) → All P (x ∷ xs) → All P xs
+  all_tail x xs all k d below = all (suc k) d (omega arith)
+
+  pub all_take : (n : ℕ) (xs : List X) → All P xs → All P (take n xs)
+  all_take n xs all k d below =
+      subst P (sym (get_or-take n xs k d (omega (arith, length-take n xs)))) (all k d (omega (arith, length-take n xs)))
+
+-- what blocks use
+pub used-append : (xs ys : List Stored) → used_of (xs ++ ys) ≡ used_of xs + used_of ys
+used-append xs ys = ap (λ (l : List ℕ). sum_by block_room l) (map-append (λ (s : Stored). length s.block) xs ys) ∙ sum_by-append block_room (lengths_of xs) (lengths_of ys)
+
+pub used-cons : (s : Stored) (xs : List Stored) → used_of (s ∷ xs) ≡ block_room (length s.block) + used_of xs
+used-cons s xs = sum_by-cons block_room (length s.block) (lengths_of xs)
+
+pub used_take : (n : ℕ) (xs : List Stored) → used_of (take n xs) ≤ used_of xs
+used_take n xs =
+    omega (arith, ap used_of (sym (take-append-drop n xs)), used-append (take n xs) (drop n xs))
+
+-- the room of a content
+pub content_fits : (score_of : List ℕ → List ℕ) (len : ℕ) (a : Content) → IsContent score_of len a → used_of a.stored + directory_room (length a.stored) ≤ arena_room len
+content_fits score_of len a is = omega (arith, is.fit, length-map a.stored (λ (s : Stored). length s.block))
+
+pub fit_of : (len : ℕ) (stored : List Stored) → used_of stored + directory_room (length stored) ≤ arena_room len → Fit len stored
+fit_of len stored fits = omega (arith, fits, length-map stored (λ (s : Stored). length s.block))
+
+module _ (score_of : List ℕ → List ℕ) where
+  pub spelled_len : (s : Stored) → IsStored score_of s → length (spelled s) ≡ block_room (length s.block)
+  spelled_len s is = ap (λ (l : List ℕ). length l) (sym (append-nil (spelled s))) ∙ omega (arith, length-spelled score_of s [] is)
+
+  pub length-clumps : (ss : List Stored) → All (IsStored score_of) ss → length (clumps_of ss) ≡ used_of ss
+  length-clumps [] all = refl
+  length-clumps (s ∷ ss) all =
+      length-append (spelled s) (clumps_of ss)
+      ∙ (λ i. spelled_len s (all_head (IsStored score_of) s ss all) i + length-clumps ss (all_tail (IsStored score_of) s ss all) i)
+      ∙ sym (used-cons s ss)
+
+  pub length-entry : (s : Stored) → IsStored score_of s → length (entry_of s) ≡ 25
+  length-entry s is = omega (arith, is.score_len)
+
+  pub length-directory : (ss : List Stored) → All (IsStored score_of) ss → length (directory_of ss) ≡ directory_room (length ss)
+  length-directory [] all = refl
+  length-directory (s ∷ ss) all =
+      let from : reverse (s ∷ ss) ≡ reverse ss ++ (s ∷ []) = reverse-append (s ∷ []) ss in
+      let split : directory_of (s ∷ ss) ≡ directory_of ss ++ (entry_of s ++ []) = ap (λ (l : List Stored). flat_map entry_of l) from ∙ flat_map-append entry_of (reverse ss) (s ∷ []) in
+      let entry : length (entry_of s) ≡ 25 = length-entry s (all_head (IsStored score_of) s ss all) in
+      let rest : length (directory_of ss) ≡ directory_room (length ss) = length-directory ss (all_tail (IsStored score_of) s ss all) in
+      ap (λ (l : List ℕ). length l) split
+      ∙ omega (arith, length-append (directory_of ss) (entry_of s ++ []), length-append (entry_of s) [], entry, rest)
+
+  pub All-stored : (ps : List Packed) → All (IsPacked score_of) ps → All (IsStored score_of) (map stored_of ps)
+  All-stored [] all k d below = absurd (omega arith)
+  All-stored (p ∷ ps) all zero d below = (all_head (IsPacked score_of) p ps all).stored
+  All-stored (p ∷ ps) all (suc k) d below = All-stored ps (all_tail (IsPacked score_of) p ps all) k d (omega arith)
+
+  pub used-packed : (ps : List Packed) → All (IsPacked score_of) ps → used_of (map stored_of ps) ≡ staged_room ps
+  used-packed [] all = refl
+  used-packed (p ∷ ps) all =
+      used-cons (stored_of p) (map stored_of ps)
+      ∙ (λ i. block_room (sym (all_head (IsPacked score_of) p ps all).len i) + used-packed ps (all_tail (IsPacked score_of) p ps all) i)
+      ∙ sym (sum_by-cons (λ (q : Packed). block_room q.len) p ps)
+
+-- one more
+pub clumps-push : (ss : List Stored) (s : Stored) → clumps_of (ss ++ s ∷ []) ≡ clumps_of ss ++ spelled s
+clumps-push [] s = append-nil (spelled s)
+clumps-push (t ∷ ts) s = ap (λ (l : List ℕ). spelled t ++ l) (clumps-push ts s) ∙ sym (append_assoc (spelled t) (clumps_of ts) (spelled s))
+
+pub directory-append : (xs ys : List Stored) → directory_of (xs ++ ys) ≡ directory_of ys ++ directory_of xs
+directory-append xs ys = ap (λ (l : List Stored). flat_map entry_of l) (reverse-append xs ys) ∙ flat_map-append entry_of (reverse ys) (reverse xs)
+
+pub directory-push : (ss : List Stored) (s : Stored) → directory_of (ss ++ s ∷ []) ≡ entry_of s ++ directory_of ss
+directory-push ss s = ap (λ (l : List Stored). flat_map entry_of l) (reverse-append ss (s ∷ []))

@@ -1,0 +1,16 @@
+pub mod Blocks
+pub mod Clumps
+pub mod Commits
+pub mod Crashes
+pub mod Elsewhere
+pub mod Finding
+pub mod Formatting
+pub mod Fresh
+pub mod Heads
+pub mod Layouts
+pub mod Memory
+pub mod Regions
+pub mod Staging
+pub mod Unique
+pub mod Walks
+pub mod Writes

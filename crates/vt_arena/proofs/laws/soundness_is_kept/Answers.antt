@@ -1,0 +1,10 @@
+use Rattle.vt_arena.proofs.Elsewhere.{arena_elsewhere}
+use Rattle.vt_arena.proofs.Staging.{stage_sound}
+use Rattle.vt_arena.proofs.laws.soundness_is_kept.Goals as goal
+
+pub returns-clause-stage : goal.returns-clause-stage
+returns-clause-stage g c score_of a packed region old disk = stage_sound score_of a packed region old _ _
+
+pub returns-clause-elsewhere : goal.returns-clause-elsewhere
+returns-clause-elsewhere g c score_of a region old before after is other apart same changes =
+    arena_elsewhere score_of a region _ old is other apart _ _ _ _ same changes

@@ -1,0 +1,38 @@
+use Rattle.std.proofs.Common.{◌≡◌, ℕ, List, length, refl, sym, ◌∙◌, ap, subst, rules}
+use Rattle.vt_arena.specs.Heads.{frame_of}
+use Rattle.vt_arena.specs.Layout.{IsArena, head_of, empty}
+use Rattle.vt_arena.proofs.Formatting.{on_ok, on_both, written_frame, frame_there, current_there, selector_there, empty_arena}
+use Rattle.vt_arena.proofs.mounting.format.Goals as goal
+
+pub returns-clause-empty : goal.returns-clause-empty
+returns-clause-empty g c score_of told =
+    let len : length c.encode.new.frame ≡ 8192 = search rules in
+    on_both c.format.result
+    (λ current settled image left.
+    subst (λ (l : List ℕ). IsArena score_of c.args.region c.args.number empty l) (sym (settled told image left))
+    (empty_arena score_of c.args.region c.args.number (g.D.Disk.bytes c.format.new.disk) c.encode.new.frame c.requires.len.0
+    (current_there c.args.region (length c.encode.new.frame) len (g.D.Disk.bytes c.format.new.disk) ∙ current told) c.encode.ensures.fields))
+    c.format.ensures.current c.format.ensures.settled
+
+pub returns-clause-frame : goal.returns-clause-frame
+returns-clause-frame g c score_of told =
+    let len : length c.encode.new.frame ≡ 8192 = search rules in
+    on_ok c.format.result
+    (λ frame. frame_there c.args.region (length c.encode.new.frame) len (g.D.Disk.bytes c.format.new.disk) 0 ∙ frame told
+    ∙ written_frame (head_of score_of c.args.number empty) c.encode.new.frame c.encode.ensures.fields c.encode.ensures.behind)
+    c.format.ensures.frame
+
+pub returns-clause-selector : goal.returns-clause-selector
+returns-clause-selector g c told =
+    let len : length c.encode.new.frame ≡ 8192 = search rules in
+    on_ok c.format.result
+    (λ selector. selector_there c.args.region (length c.encode.new.frame) len (g.D.Disk.bytes c.format.new.disk) (selector told))
+    c.format.ensures.selector
+
+pub returns-clause-idle : goal.returns-clause-idle
+returns-clause-idle g c told =
+    let len : length c.encode.new.frame ≡ 8192 = search rules in
+    on_ok c.format.result
+    (λ idle. frame_there c.args.region (length c.encode.new.frame) len (g.D.Disk.bytes c.format.new.disk) 1 ∙ idle told
+    ∙ sym (frame_there c.args.region (length c.encode.new.frame) len (g.D.Disk.bytes c.args.disk.now) 1))
+    c.format.ensures.idle

@@ -1,0 +1,142 @@
+-- An arena as its calls see it.
+use Rattle.std.specs.Prelude.{◌≡◌, ℕ, ◌+◌, ◌*◌, nat_lt, Bool, ◌||◌, is_some, if◌then◌else◌, List, [], ◌∷◌, ◌++◌, length, map, Option, Some, None, Result, Ok, Err}
+use Rattle.vt_twin.specs.declared.step.Step.{Step}
+use Rattle.vt_twin.specs.declared.step.Step.TheVariants.{More, Done}
+use Rattle.vt_twin.specs.declared.step.TwinErr.{TwinErr}
+use Rattle.vt_twin.specs.declared.step.TwinErr.TheVariants.{Fault, Stopped}
+use Rattle.vt_twin.specs.Twin.{TwinState, fresh, with_change, without_spare, one_more, after_call, after_last as twin_after_last, after_fault as twin_after_fault, calls_made as twin_calls_made}
+use Rattle.vt_clump.specs.declared.packed.Packed.{Packed}
+use Rattle.vt_clump.specs.Spelling.{Stored}
+use Rattle.vt_clump.specs.Clumps.{stored_of}
+use Rattle.vt_arena.specs.declared.head.ArenaHead.{ArenaHead}
+use Rattle.vt_arena.specs.declared.TheConstants.{FRAME_LEN}
+use Rattle.vt_arena.specs.Heads.{frame_of}
+use Rattle.vt_arena.specs.Layout.{Content, entry_bytes}
+use Rattle.vt_arena.specs.Places.{block_room, has_room}
+
+-- An arena: its number in its partition, its region's length, the twin of its head, the head that
+-- is committed, the head that the next commit brings, the clumps that are staged for it, how many
+-- pieces of the commit under way were written, how many device calls this value has made, and the
+-- number of the one that failed.
+pub record ArenaState : Type 0 where
+  pub number : ℕ
+  pub len : ℕ
+  pub twin : TwinState
+  pub head : ArenaHead
+  pub next : ArenaHead
+  pub staged : List Packed
+  pub written : ℕ
+  pub calls : ℕ
+  pub stopped : Option ℕ
+
+-- an arena of this length that has made no call, whose head is this one, in the frame of this
+-- number
+abbrev pub fresh_arena : (len current : ℕ) → ArenaHead → ArenaState
+fresh_arena len current head = record {
+  number = head.number;
+  len = len;
+  twin = fresh FRAME_LEN current;
+  head = head;
+  next = head;
+  staged = [];
+  written = 0;
+  calls = 0;
+  stopped = None;
+}
+
+-- a block of n bytes fits behind what is committed and what is staged
+abbrev pub fits : ArenaState → (n : ℕ) → Bool
+fits a n = has_room a.len a.next.used a.next.clumps n
+
+-- a call of a commit was made, and the commit isn't done
+abbrev pub is_committing : ArenaState → Bool
+is_committing a = nat_lt 0 a.written || is_some a.twin.change || is_some a.stopped
+
+-- the arena with one more clump staged: the next head counts it, and its entry is chained
+abbrev pub with_staged : (score_of : List ℕ → List ℕ) → Packed → ArenaState → ArenaState
+with_staged score_of p a = record a {
+  staged = a.staged ++ p ∷ [];
+  next = record a.next {
+    clumps = a.next.clumps + 1;
+    used = a.next.used + block_room p.len;
+    chain = record { 0 = score_of (a.next.chain.0 ++ entry_bytes p.kind p.len p.score.0) };
+  };
+}
+
+-- the arena that the next commit seals
+abbrev pub with_seal : ArenaState → ArenaState
+with_seal a = record a { next = record a.next { sealed = Bool.true } }
+
+-- the blocks that the next commit adds, and what the arena holds after it
+abbrev pub added_by : ArenaState → List Stored
+added_by a = map stored_of a.staged
+
+abbrev pub next_content : ArenaState → Content → Content
+next_content a old = record { sealed = a.next.sealed; stored = old.stored ++ added_by a }
+
+-- The pieces of a commit are a clump and a directory entry for each block. The calls behind them
+-- are the four of the head's change.
+abbrev pub pieces : ArenaState → ℕ
+pieces a = 2 * length a.staged
+
+abbrev pub commit_calls : ArenaState → ℕ
+commit_calls a = pieces a + 4
+
+-- how many calls of the commit under way succeeded
+abbrev pub calls_made : ArenaState → ℕ
+calls_made a = a.written + twin_calls_made a.twin
+
+-- the head's twin, which changes once the pieces are written
+abbrev pub changing : ArenaState → TwinState
+changing a = if is_some a.twin.change then a.twin else with_change (frame_of a.next) a.twin
+
+-- the arena after a call that succeeded and wasn't the last of its commit: after a piece, or after
+-- a call of the head's change
+abbrev pub after_piece : ArenaState → ArenaState
+after_piece a = record a { written = a.written + 1; calls = one_more a.calls }
+
+abbrev pub after_head : ArenaState → ArenaState
+after_head a = record a { twin = after_call (changing a); calls = one_more a.calls }
+
+abbrev pub after_step : ArenaState → ArenaState
+after_step a = if nat_lt a.written (pieces a) then after_piece a else after_head a
+
+-- after the last one: what was staged is committed
+abbrev pub after_last : ArenaState → ArenaState
+after_last a = record a {
+  twin = without_spare (twin_after_last a.twin);
+  head = a.next;
+  staged = [];
+  written = 0;
+  calls = one_more a.calls;
+}
+
+-- after one that failed: the arena is stopped at that call's number
+abbrev pub stopped_at_call : ArenaState → ArenaState
+stopped_at_call a = record a { calls = one_more a.calls; stopped = Some a.calls }
+
+abbrev pub after_fault : ArenaState → ArenaState
+after_fault a =
+    if nat_lt a.written (pieces a) then stopped_at_call a
+    else record (stopped_at_call a) { twin = twin_after_fault (changing a) }
+
+-- what `advance` makes of an arena
+abbrev pub Advances : Result Step TwinErr → (old new : ArenaState) → Type 0
+Advances (Ok More) old new = new ≡ after_step old
+Advances (Ok Done) old new = new ≡ after_last old
+Advances (Err Fault) old new = new ≡ after_fault old
+Advances (Err (Stopped n)) old new = new ≡ old
+
+-- what a call of the head's change makes of one
+abbrev pub HeadAdvances : Result Step TwinErr → (old new : ArenaState) → Type 0
+HeadAdvances (Ok More) old new =
+    new ≡ record old { twin = after_call old.twin; calls = one_more old.calls }
+HeadAdvances (Ok Done) old new = new ≡ after_last old
+HeadAdvances (Err e) old new =
+    new ≡ record (stopped_at_call old) { twin = twin_after_fault old.twin }
+
+-- what the arena holds after a step of a commit: what is staged, too, after the last
+abbrev pub content_after : Result Step TwinErr → ArenaState → (old : Content) → Content
+content_after (Ok Done) a old = next_content a old
+content_after (Ok More) a old = old
+content_after (Err e) a old = old

@@ -1,0 +1,9 @@
+pub mod Arena
+pub mod Directory
+pub mod Faults
+pub mod Heads
+pub mod Layout
+pub mod Places
+pub mod Reading
+pub mod Sound
+pub mod Whole

@@ -1,0 +1,61 @@
+-- What reading a clump answers.
+use Rattle.std.specs.Prelude.{◌≡◌, ◌⊎◌, ⊤, ℕ, ◌+◌, ◌-◌, ◌≤◌, min, List, length, Option, Some, None, Result, Ok, Err, codes}
+use Rattle.vt_base.specs.Faults.{HasRisen}
+use Rattle.vt_base.specs.declared.why.FieldValue.{FieldValue}
+use Rattle.vt_base.specs.declared.why.FieldValue.TheVariants.{Number, Score as ScoreValue, Magic as MagicValue}
+use Rattle.vt_disk.specs.declared.region.Region.{Region}
+use Rattle.vt_disk.specs.Disk.{part}
+use Rattle.vt_clump.specs.declared.reading.Clump.{Clump}
+use Rattle.vt_clump.specs.declared.reading.Encoding.TheVariants.{Compressed, Unknown}
+use Rattle.vt_clump.specs.declared.reading.ClumpBad.{ClumpBad}
+use Rattle.vt_clump.specs.declared.reading.ClumpBad.TheVariants.{Short, Magic, Kind, Encoding, Size, Score, NoMemory as ClumpNoMemory}
+use Rattle.vt_clump.specs.Faults.{first_bad}
+use Rattle.vt_clump.specs.Spelling.{clump_len, size_in, stored_in}
+use Rattle.vt_clump.specs.Clumps.{IsRead}
+use Rattle.vt_model.specs.declared.TheConstants.{HEAD_LEN, CLUMP_HEADER_LEN}
+use Rattle.vt_arena.specs.declared.bad.ReadBad.{ReadBad}
+use Rattle.vt_arena.specs.declared.bad.ReadBad.TheVariants.{Fault, Damaged, NoMemory}
+
+-- a clump's header at this offset lies in a region of this length, behind the head
+abbrev pub HasHeader : (len offset : ℕ) → Type 0
+HasHeader len offset = (HEAD_LEN ≤ offset) × (offset + CLUMP_HEADER_LEN ≤ len)
+
+-- the header at an offset, and the clump that it begins, cut at the region's end
+abbrev pub header_at : Region → (offset : ℕ) → (file : List ℕ) → List ℕ
+header_at region offset file = part (region.start + offset) CLUMP_HEADER_LEN file
+
+abbrev pub clump_at : Region → (offset : ℕ) → (file : List ℕ) → List ℕ
+clump_at region offset file =
+    let len = clump_len (size_in (header_at region offset file)) in
+    part (region.start + offset) (min len (region.len - offset)) file
+
+-- what was wanted, and what was found
+abbrev pub damage_of : ClumpBad → FieldValue × FieldValue
+damage_of Short = (Number CLUMP_HEADER_LEN, Number 0)
+damage_of (Magic found) = (MagicValue (codes "VCLP"), MagicValue found)
+damage_of (Kind found) = (Number 13, Number found)
+damage_of (Encoding Compressed) = (Number 1, Number 2)
+damage_of (Encoding (Unknown found)) = (Number 1, Number found)
+damage_of (Size want found) = (Number want, Number found)
+damage_of (Score want found) = (ScoreValue want, ScoreValue found)
+damage_of ClumpNoMemory = (Number 0, Number 0)
+
+-- the bytes are damaged so: by the first test of a clump that fails
+abbrev pub IsDamaged : (score_of : List ℕ → List ℕ) → (bytes : List ℕ) → (want found : FieldValue)
+    → Type 0
+IsDamaged score_of bytes want found =
+    (bad : ClumpBad) × (first_bad score_of bytes ≡ Some bad) × (damage_of bad ≡ (want, found))
+
+-- the answer where a header at the offset lies in the region and these are the clump's bytes
+abbrev pub ReadsAs : (score_of : List ℕ → List ℕ) → (bytes : List ℕ) → Result Clump ReadBad → Type 0
+ReadsAs score_of bytes (Ok clump) =
+    (first_bad score_of bytes ≡ None) × IsRead (stored_in bytes) clump
+ReadsAs score_of bytes (Err (Damaged want found)) = IsDamaged score_of bytes want found
+ReadsAs score_of bytes (Err NoMemory) = ⊤
+ReadsAs score_of bytes (Err Fault) = ⊤
+
+-- a fault comes only where the count of faults rises, and it rises only then
+abbrev pub CountsFault : ReadBad → (old new : ℕ) → Type 0
+CountsFault Fault old new = HasRisen old new
+CountsFault (Damaged want found) old new = new ≡ old
+CountsFault NoMemory old new = new ≡ old

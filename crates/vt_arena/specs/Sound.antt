@@ -1,0 +1,76 @@
+-- What a disk holds for an arena, and what a crash leaves of it.
+use Rattle.std.specs.Prelude.{◌≡◌, ◌⊎◌, ℕ, ◌+◌, ◌-◌, ◌≤◌, List, ◌++◌, All, IsSome, length, take}
+use Rattle.vt_disk.specs.declared.region.Region.{Region}
+use Rattle.vt_disk.specs.Disk.{IsAligned}
+use Rattle.vt_disk.specs.Region.{FitsDisk, region_bytes}
+use Rattle.vt_twin.specs.Twin.{next_frame, calls_made as twin_calls_made}
+use Rattle.vt_twin.specs.Sound.{IsSound as IsSoundTwin, HasBegunSelector as TwinHasBegunSelector}
+use Rattle.vt_clump.specs.Spelling.{Stored}
+use Rattle.vt_clump.specs.Clumps.{IsPacked}
+use Rattle.vt_arena.specs.declared.TheConstants.{FRAME_LEN, FIELDS_LEN}
+use Rattle.vt_arena.specs.Arena.{ArenaState, added_by, next_content, pieces}
+use Rattle.vt_arena.specs.Heads.{fields_of, frame_of}
+use Rattle.vt_arena.specs.Places.{IsArenaLen}
+use Rattle.vt_arena.specs.Layout.{Content, IsContent, IsArena, HasBlocks, StandsAt, clumps_of, directory_of, clumps_place, directory_place, head_of}
+
+-- a region of a disk of this size that an arena may have, from a sector's start on
+pub record IsRegion (region : Region) (size : ℕ) : Type 0 where
+  pub within : FitsDisk region size
+  pub aligned : IsAligned region.start
+  pub len : IsArenaLen region.len
+
+-- a crash leaves in the region nothing but what a read gives
+abbrev pub IsSettled : Region → (read : List ℕ) → (images : List ℕ → Type 0) → Type 0
+IsSettled region read images =
+    (c : List ℕ) → images c → region_bytes region c ≡ region_bytes region read
+
+-- the blocks whose clumps the commit under way has written, and those whose entries it has
+abbrev pub clumps_made : ArenaState → List Stored
+clumps_made a = take a.written (added_by a)
+
+abbrev pub entries_made : ArenaState → List Stored
+entries_made a = take (a.written - length a.staged) (added_by a)
+
+-- the pieces that it has written stand in the region: clumps behind those of the blocks that were
+-- there, entries below theirs
+pub record HasPieces (a : ArenaState) (region : Region) (old : Content) (file : List ℕ)
+    : Type 0 where
+  pub clumps : StandsAt (clumps_place region old.stored) (clumps_of (clumps_made a)) file
+  pub directory : StandsAt (directory_place region (length old.stored + length (entries_made a)))
+      (directory_of (entries_made a)) file
+
+-- A disk, by what it reads as and by its images, is sound for an arena in this region that holds
+-- `old`.
+pub record IsSound (score_of : List ℕ → List ℕ) (a : ArenaState) (region : Region) (old : Content)
+    (read : List ℕ) (images : List ℕ → Type 0) : Type 0 where
+  -- the heads in memory are those of what is committed and of what the next commit makes of it
+  pub len : a.len ≡ region.len
+  pub frame_len : a.twin.frame_len ≡ FRAME_LEN
+  pub head : a.head ≡ head_of score_of a.number old
+  pub next : a.next ≡ head_of score_of a.number (next_content a old)
+  pub chain : length a.next.chain.0 ≡ 20
+  pub packed : All (IsPacked score_of) a.staged
+  pub content : IsContent score_of region.len old
+  pub next_content_is : IsContent score_of region.len (next_content a old)
+  -- the head changes to the next one once all pieces are written
+  pub begun : IsSome a.twin.change
+      → (a.written ≡ pieces a) × (next_frame a.twin ≡ frame_of a.next)
+  -- the twin is sound for a frame with the head
+  pub frame : List ℕ
+  pub twin : IsSoundTwin a.twin region frame read images
+  pub fields : take FIELDS_LEN frame ≡ fields_of a.head
+  -- what is committed stands in every image, whatever is under way
+  pub kept : (c : List ℕ) → images c → HasBlocks region old.stored c
+  -- the pieces are written, and then synced with the idle frame, so that they stand in every image
+  pub written : HasPieces a region old read
+  pub synced : 2 ≤ twin_calls_made a.twin → (c : List ℕ) → images c → HasPieces a region old c
+
+-- the selector's write began: the last call but one of the commit
+abbrev pub HasBegunSelector : ArenaState → Type 0
+HasBegunSelector a = TwinHasBegunSelector a.twin
+
+-- the file is the old arena or, once the selector's write began, the old one or the next
+abbrev pub GivesOldOrNext : (began : Type 0) → (score_of : List ℕ → List ℕ) → Region
+    → (number : ℕ) → (old next : Content) → (file : List ℕ) → Type 0
+GivesOldOrNext began score_of region number old next file =
+    IsArena score_of region number old file ⊎ (began × IsArena score_of region number next file)

@@ -1,0 +1,37 @@
+-- What an arena in memory keeps, whatever the disk holds.
+use Rattle.std.specs.Prelude.{◌≡◌, ℕ, ◌+◌, ◌-◌, ◌*◌, ◌^◌, ◌<◌, ◌≤◌, IsSome, Option, Some, None, List, length, take, drop, replicate, MatchOption, sum_by, vec_capacity}
+use Rattle.std.specs.Option.{ForSome}
+use Rattle.vt_twin.specs.Twin.{calls_made}
+use Rattle.vt_clump.specs.declared.packed.Packed.{Packed}
+use Rattle.vt_arena.specs.declared.TheConstants.{FRAME_LEN, FIELDS_LEN, STAGED_MAX}
+use Rattle.vt_arena.specs.declared.arena.Arena.TheInside.{Inside}
+use Rattle.vt_arena.specs.Places.{IsArenaLen, block_room, directory_room, arena_room}
+
+-- what staged clumps take
+abbrev pub staged_room : List Packed → ℕ
+staged_room staged = sum_by (λ p. block_room p.len) staged
+
+-- a buffer for a head's frame, zero behind the fields
+abbrev pub IsBuffer : List ℕ → Type 0
+IsBuffer frame =
+    (length frame ≡ FRAME_LEN) × (drop FIELDS_LEN frame ≡ replicate (FRAME_LEN - FIELDS_LEN) 0)
+
+pub record IsWhole (a : Inside) : Type 0 where
+  pub frame_len : a.twin.frame_len ≡ FRAME_LEN
+  pub runs : a.stopped ≡ None → a.twin.stopped ≡ None
+  pub len_is : IsArenaLen a.len
+  -- the next head counts what is committed and what is staged, and there is room for it
+  pub room : a.next.used + directory_room a.next.clumps ≤ arena_room a.len
+  pub used : a.next.used ≡ a.head.used + staged_room a.staged.items
+  pub clumps : a.next.clumps ≡ a.head.clumps + length a.staged.items
+  pub few : length a.staged.items ≤ STAGED_MAX
+  pub capacity : STAGED_MAX ≤ vec_capacity a.staged
+  -- how far the commit under way has come
+  pub written_most : a.written ≤ 2 * length a.staged.items
+  pub end_is : a.end ≡ a.head.used + staged_room (take a.written a.staged.items)
+  -- the one buffer is here, or is the frame of the head's change
+  pub buffer : a.twin.change ≡ None → MatchOption a.buffer ⊥ IsBuffer
+  pub frame : ForSome a.twin.change (λ it. IsBuffer it.frame)
+  pub head_calls_is : a.head_calls ≡ calls_made a.twin
+  pub head_calls_most : a.head_calls ≤ 3
+  pub begun : IsSome a.twin.change → a.written ≡ 2 * length a.staged.items

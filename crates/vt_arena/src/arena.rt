@@ -1,0 +1,258 @@
+//! An arena in memory: what is committed, what is staged, and how far a commit has come.
+
+ghost use Rattle.std.specs.Prelude.{◌≡◌, ◌⊎◌, ◌↔◌, ◌+◌, ◌%◌, ◌<◌, ◌≤◌, ℕ, List, [], length, IsTrue, IsFalse, IsSome, IfOk, OnOk, None, Some, Ok, Err};
+
+use crate::committing::entry_bytes;
+use crate::head::{ArenaHead, Found};
+use crate::{FRAME_LEN, STAGED_MAX, block_room, has_room};
+use std::alloc::Global;
+use std::marker::Model;
+use vt_base::{Bytes, NoMemory, Scorer};
+use vt_clump::Packed;
+use vt_disk::{Disk, Region};
+use vt_fields::put;
+use vt_model::DIRECTORY_ENTRY_LEN;
+use vt_twin::{Step, Twin, TwinErr};
+
+/// How many bytes a link of the chain is the score of: the chain before it, and an entry.
+const LINK_LEN: usize = 20 + DIRECTORY_ENTRY_LEN;
+
+/// An arena of a disk: a head, clumps and their directory in a region, and clumps that are staged
+/// for the next commit.
+///
+/// It holds no device. A call that reaches the disk is handed the disk and the region, the same one
+/// each time.
+#[derive(Drop)]
+pub struct Arena {
+    pub(crate) number: u32,
+    pub(crate) len: u64,
+    pub(crate) twin: Twin,
+    pub(crate) head: ArenaHead,
+    pub(crate) next: ArenaHead,
+    pub(crate) staged: Vec<Packed>,
+    /// How many pieces of the commit under way were written: clumps, then entries.
+    pub(crate) written: usize,
+    /// How many bytes the clumps are, those counted that the commit under way has written.
+    pub(crate) end: u64,
+    /// The buffer of the head's next frame, while no change of the head is under way.
+    pub(crate) buffer: Option<Bytes>,
+    /// How many calls of the head's change under way succeeded.
+    pub(crate) head_calls: u8,
+    pub(crate) calls: u64,
+    pub(crate) stopped: Option<u64>,
+}
+
+impl Model for Arena {
+    ghost use Rattle.vt_arena.specs.Arena.{ArenaState};
+
+    ghost Value = { ArenaState };
+
+    ghost use Rattle.vt_arena.specs.Whole.{IsWhole};
+
+    ghost view = { λ a. record {
+      number = a.number;
+      len = a.len;
+      twin = a.twin;
+      head = a.head;
+      next = a.next;
+      staged = a.staged.items;
+      written = a.written;
+      calls = a.calls;
+      stopped = a.stopped;
+    } };
+
+    ghost invariant = { IsWhole };
+}
+
+impl Arena {
+    ghost use Rattle.vt_disk.specs.Disk.{SameBut, Only, WithinCall, IsOneMore};
+    ghost use Rattle.vt_disk.specs.Region.{Inside, ChangesWithin};
+    ghost use Rattle.vt_twin.specs.Twin.{CountsFault};
+    ghost use Rattle.vt_arena.specs.Layout.{Content, IsArena};
+    ghost use Rattle.vt_arena.specs.Arena.{fresh_arena, fits, is_committing, with_staged, with_seal, next_content, commit_calls, calls_made, Advances, content_after};
+    ghost use Rattle.vt_arena.specs.Places.{IsArenaLen, directory_room, arena_room};
+    ghost use Rattle.vt_arena.specs.Sound.{IsRegion, IsSound, GivesOldOrNext};
+
+    /// The arena of this length that was found. It makes room for commits, and no device call.
+    pub fn resume(alloc: Global, len: u64, found: Found) -> Result<Arena, NoMemory>
+        requires len { IsArenaLen len }
+        requires fit { found.head.used + directory_room found.head.clumps ≤ arena_room len }
+        ensures { IfOk result (λ a. a ≡ fresh_arena len (found.selector % 2) found.head) }
+    {
+        let staged = Vec::with_capacity(alloc, STAGED_MAX)?;
+        let buffer = Bytes::copy_of(alloc, &[0; FRAME_LEN])?;
+        Ok(Arena {
+            number: found.head.number,
+            len,
+            twin: Twin::resume(FRAME_LEN as u64, found.selector),
+            head: found.head,
+            next: found.head,
+            staged,
+            written: 0,
+            end: found.head.used,
+            buffer: Some(buffer),
+            head_calls: 0,
+            calls: 0,
+            stopped: None,
+        })
+    }
+
+    /// Turns to the arena of this length that was found, with the room for commits as it is. Its
+    /// calls are counted from 0. It makes no device call.
+    pub fn move_to(&mut self, len: u64, found: Found)
+        requires rest { IsFalse (is_committing self.old) }
+        requires none { self.old.staged ≡ [] }
+        requires len { IsArenaLen len }
+        requires fit { found.head.used + directory_room found.head.clumps ≤ arena_room len }
+        ensures { self.new ≡ fresh_arena len (found.selector % 2) found.head }
+    {
+        self.number = found.head.number;
+        self.len = len;
+        self.twin = Twin::resume(FRAME_LEN as u64, found.selector);
+        self.head = found.head;
+        self.next = found.head;
+        self.end = found.head.used;
+        self.calls = 0;
+    }
+
+    /// The head, as mounted or last committed.
+    pub fn head(&self) -> ArenaHead
+        ensures head { result ≡ self.now.head }
+        ensures fit { result.used + directory_room result.clumps ≤ arena_room self.now.len }
+    {
+        self.head
+    }
+
+    /// The clumps that are staged, in order. Those of a commit under way are among them until it is
+    /// done.
+    pub fn staged(&self) -> &[Packed]
+        ensures staged { result.now ≡ self.now.staged }
+        ensures most { length result.now ≤ STAGED_MAX }
+    {
+        &self.staged
+    }
+
+    /// Whether a block of `n` bytes fits behind what is committed and what is staged.
+    pub fn fits(&self, n: u32) -> bool
+        ensures { result ≡ fits self.now n }
+    {
+        has_room(self.len, self.next.used, self.next.clumps, n)
+    }
+
+    /// Whether a call of a commit was made that isn't done. One that was stopped stays so.
+    pub fn is_committing(&self) -> bool
+        ensures { result ≡ is_committing self.now }
+    {
+        self.written > 0 || self.twin.is_changing() || self.stopped.is_some()
+    }
+
+    /// Whether the next commit leaves the arena sealed.
+    pub fn is_sealing(&self) -> bool
+        ensures { result ≡ self.now.next.sealed }
+    {
+        self.next.sealed
+    }
+
+    /// How many device calls a commit of what is staged takes, or the one under way still takes.
+    pub fn calls_left(&self) -> u64
+        ensures left { result + calls_made self.now ≡ commit_calls self.now }
+        ensures some { 0 < result }
+    {
+        let calls = 2 * self.staged.len() + 4;
+        (calls - self.written) as u64 - u64::from(self.head_calls)
+    }
+
+    /// The number of the device call that stopped it, if one did. The calls are those that
+    /// `advance` made, counted from 0.
+    pub fn stopped(&self) -> Option<u64>
+        ensures { result ≡ self.now.stopped }
+    {
+        self.stopped
+    }
+
+    /// Takes in a clump for the next commit. It makes no device call.
+    pub fn stage<S: Scorer>(&mut self, scorer: &S, packed: Packed)
+        requires fits { IsTrue (fits self.old packed.len) }
+        requires few { length self.old.staged < STAGED_MAX }
+        requires rest { IsFalse (is_committing self.old) }
+        ensures { self.new ≡ with_staged S.score_of packed self.old }
+    {
+        let mut link = [0; LINK_LEN];
+        let at = put(&mut link, 0, &self.next.chain.0);
+        put(&mut link, at, &entry_bytes(&packed));
+        self.next.chain = scorer.score(&link);
+        self.next.clumps += 1;
+        self.next.used += block_room(packed.len);
+        let Ok(()) = self.staged.push(packed) else {
+            unreachable!()
+        };
+    }
+
+    /// Lets the next commit seal the arena. It makes no device call.
+    pub fn seal(&mut self)
+        requires rest { IsFalse (is_committing self.old) }
+        ensures { self.new ≡ with_seal self.old }
+    {
+        self.next.sealed = true;
+    }
+
+    /// Makes one device call of a commit of all that is staged: it writes each clump, then each
+    /// directory entry, then the idle frame of the head, syncs, writes the head's selector, syncs.
+    /// Where nothing is staged, it makes the last four alone.
+    ///
+    /// Done is the answer to the last of them, and Fault to one that fails. From then on the answer
+    /// is Stopped with the number of that call, and nothing is done.
+    pub fn advance<D: Disk>(&mut self, disk: &mut D, region: Region) -> Result<Step, TwinErr>
+        requires region { IsRegion region (D.size disk.old) }
+        requires same { region.len ≡ self.old.len }
+
+        // A sound disk stays so, for what the arena held or, after the last call, for that with all
+        // that was staged behind it.
+        ensures sound { (score_of : List ℕ → List ℕ) (old : Content) → IsTrue D.tells
+            → IsSound score_of self.old region old (D.bytes disk.old) (D.images disk.old)
+            → IsSound score_of self.new region (content_after result self.old old)
+            (D.bytes disk.new) (D.images disk.new) }
+
+        // A crash at any moment of it leaves the arena as it was or, from the selector's write on,
+        // as it was or with all that was staged.
+        ensures crash { (score_of : List ℕ → List ℕ) (old : Content) → IsTrue D.tells
+            → IsSound score_of self.old region old (D.bytes disk.old) (D.images disk.old)
+            → (c : List ℕ) → WithinCall (D.images disk.old) (D.images disk.new) c
+            → GivesOldOrNext (commit_calls self.old ≤ calls_made self.old + 2) score_of region
+            self.old.number old (next_content self.old old) c }
+
+        // After the last call each crash leaves the arena with all that was staged.
+        ensures last { (score_of : List ℕ → List ℕ) (old : Content) → IsTrue D.tells
+            → IsSound score_of self.old region old (D.bytes disk.old) (D.images disk.old)
+            → result ≡ Ok Step.Done → (c : List ℕ) → D.images disk.new c
+            → IsArena score_of region self.old.number (next_content self.old old) c }
+
+        // After the last call a read gives what every image is.
+        ensures settled { IsTrue D.tells → result ≡ Ok Step.Done
+            → Only (D.bytes disk.new) (D.images disk.new) }
+
+        ensures steps { Advances result self.old self.new }
+        ensures len { self.new.len ≡ self.old.len }
+        ensures done { IfOk result (λ step. (step ≡ Step.Done)
+            ↔ (calls_made self.old + 1 ≡ commit_calls self.old)) }
+        ensures stopped { (n : ℕ)
+            → (result ≡ Err (TwinErr.Stopped n)) ↔ (self.old.stopped ≡ Some n) }
+        ensures faults { CountsFault result (D.faults disk.old) (D.faults disk.new) }
+
+        // It makes one call or, where it is stopped, none.
+        ensures calls { IsTrue D.tells → self.old.stopped ≡ None
+            → IsOneMore (D.calls disk.old) (D.calls disk.new) }
+        ensures untouched { IsSome self.old.stopped → disk.new ≡ disk.old }
+
+        // Nothing outside the region changes.
+        ensures images { ChangesWithin region (D.images disk.old) (D.images disk.new) }
+        ensures bytes { IsTrue D.tells
+            → SameBut (Inside region) (D.bytes disk.old) (D.bytes disk.new) }
+        ensures size { D.size disk.new ≡ D.size disk.old }
+    {
+        if let Some(call) = self.stopped {
+            return Err(TwinErr::Stopped(call));
+        }
+        self.make_call(disk, region)
+    }
+}

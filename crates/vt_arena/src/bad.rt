@@ -1,0 +1,47 @@
+//! Why an arena, a clump or a directory entry is refused.
+
+use vt_base::FieldValue;
+
+/// A field of a head that is tested.
+#[derive(Clone, Copy, Debug, PartialEq, Eq)]
+pub enum Field {
+    Version,
+    Number,
+    Sealed,
+    /// What clumps and directory take by the head's counts, in bytes.
+    Used,
+}
+
+/// Why an arena can't be mounted.
+#[derive(Clone, Copy, Debug, PartialEq, Eq)]
+pub enum ArenaBad {
+    /// A call of the disk failed, and its count of faults rose.
+    Fault,
+    /// The first four bytes of the head aren't `VARN`.
+    NotFormatted,
+    /// What was found in a field can't stand there. What was wanted is the one value that can or,
+    /// where there are several, the largest.
+    Torn {
+        field: Field,
+        found: u128,
+        want: u128,
+    },
+    NoMemory,
+}
+
+/// Why a clump can't be read.
+#[derive(Clone, Copy, Debug, PartialEq, Eq)]
+pub enum ReadBad {
+    /// A call of the disk failed, and its count of faults rose.
+    Fault,
+    Damaged { want: FieldValue, found: FieldValue },
+    NoMemory,
+}
+
+/// Why a directory entry isn't given.
+#[derive(Clone, Copy, Debug, PartialEq, Eq)]
+pub enum BackBad {
+    /// A call of the disk failed, and its count of faults rose.
+    Fault,
+    Damaged { want: FieldValue, found: FieldValue },
+}

@@ -1,0 +1,72 @@
+//! An arena: clumps one behind another, a directory of them, and a head that changes whole. A
+//! commit writes what is staged and then the head, one device call at a time, so that whatever a
+//! crash leaves is the arena as it was or, at the end, the arena with all that was staged.
+#![tactic(auto)]
+
+mod arena;
+mod bad;
+mod committing;
+mod directory;
+mod head;
+mod laws;
+mod mounting;
+mod reading;
+
+pub use arena::Arena;
+pub use bad::{ArenaBad, BackBad, Field, ReadBad};
+pub use directory::{At, info};
+pub use head::{ArenaHead, Found};
+pub use laws::{
+    arenas_are_in_their_regions, arenas_are_told_apart, blocks_stand_at_their_places,
+    crash_gives_old_or_next, room_is_the_models, settled_regions, soundness_is_kept,
+};
+pub use mounting::{find, format, mount};
+pub use reading::read;
+use vt_model::{CLUMP_HEADER_LEN, DIRECTORY_ENTRY_LEN, HEAD_LEN};
+
+/// How many bytes a frame of the head has.
+pub const FRAME_LEN: usize = 8192;
+
+/// How many bytes of a frame the head's fields are.
+pub const FIELDS_LEN: usize = 43;
+
+/// How many clumps may be staged for one commit.
+pub const STAGED_MAX: usize = 64;
+
+/// What a block of `n` bytes takes of an arena.
+fn block_room(n: u32) -> u64
+    ensures { result ≡ block_room n }
+{
+    CLUMP_HEADER_LEN as u64 + u64::from(n)
+}
+
+/// What the directory of so many blocks takes.
+fn directory_room(blocks: u64) -> u64
+    requires { blocks ≤ 2 ^ 32 }
+    ensures { result ≡ directory_room blocks }
+{
+    DIRECTORY_ENTRY_LEN as u64 * blocks
+}
+
+/// What an arena of this length has for both.
+fn arena_room(len: u64) -> u64
+    ensures { result ≡ arena_room len }
+{
+    len.saturating_sub(HEAD_LEN as u64)
+}
+
+/// Whether a block of `n` bytes fits an arena of this length, behind so many clumps of `used` bytes
+/// in all.
+pub fn has_room(len: u64, used: u64, clumps: u32, n: u32) -> bool
+    ensures { result ≡ has_room len used clumps n }
+{
+    let directory = directory_room(u64::from(clumps) + 1);
+    let taken = u128::from(used) + u128::from(block_room(n)) + u128::from(directory);
+    taken <= u128::from(arena_room(len))
+}
+
+ghost use Rattle.std.specs.Prelude.{◌≡◌, ◌≤◌, ◌^◌};
+ghost use Rattle.vt_arena.specs.Places.{block_room, directory_room, arena_room, has_room};
+
+#[cfg(test)]
+mod tests;

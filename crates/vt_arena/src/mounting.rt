@@ -1,0 +1,161 @@
+//! Making a region an arena, and finding the arena of a region.
+
+ghost use Rattle.std.specs.Prelude.{◌≡◌, ◌⊎◌, ◌+◌, ◌-◌, ◌*◌, ◌%◌, ◌^◌, ◌≤◌, min, [], ℕ, Bool, List, IsTrue, IfOk, IfErr, OnOk, MatchResult, None, Err};
+ghost use Rattle.vt_base.specs.Faults.{HasCause};
+ghost use Rattle.vt_disk.specs.Disk.{SameBut, AreAmong, ChangesAt, Only};
+ghost use Rattle.vt_twin.specs.Frames.{frame_of as frame_at, named_number, selector_start, selector_bytes};
+ghost use Rattle.vt_arena.specs.Arena.{fresh_arena};
+ghost use Rattle.vt_arena.specs.Faults.{first_bad, Finds, RefusesMount, CanStand, CountsFault};
+ghost use Rattle.vt_arena.specs.Heads.{frame_of};
+ghost use Rattle.vt_arena.specs.Layout.{Content, IsArena, StandsAt, InHead, fields_at, head_of, empty};
+ghost use Rattle.vt_arena.specs.Sound.{IsRegion, IsSound};
+
+use crate::arena::Arena;
+use crate::bad::ArenaBad;
+use crate::head::{ArenaHead, Found};
+use crate::{FIELDS_LEN, FRAME_LEN};
+use std::alloc::Global;
+use vt_base::{Failed, NoMemory, Score};
+use vt_disk::{Disk, Region};
+use vt_model::HEAD_LEN;
+
+/// Writes the head of an arena without blocks, and syncs. The head's other frame and what lies
+/// behind the head stay as they are.
+pub fn format<D: Disk>(disk: &mut D, region: Region, number: u32) -> Result<(), Failed>
+    requires { IsRegion region (D.size disk.old) }
+
+    // Every image is the empty arena.
+    ensures empty { (score_of : List ℕ → List ℕ) → IsTrue D.tells → OnOk result
+        ((c : List ℕ) → D.images disk.new c → IsArena score_of region number empty c) }
+    ensures settled { OnOk result (IsTrue D.tells → Only (D.bytes disk.new) (D.images disk.new)) }
+
+    // Byte for byte, frame 0 is its head and zeros, and the selector is zeros.
+    ensures frame { (score_of : List ℕ → List ℕ) → IsTrue D.tells → OnOk result
+        (frame_at region FRAME_LEN 0 (D.bytes disk.new)
+        ≡ frame_of (head_of score_of number empty)) }
+    ensures selector { IsTrue D.tells → OnOk result (StandsAt (selector_start region FRAME_LEN)
+        (selector_bytes 0 (HEAD_LEN - 2 * FRAME_LEN)) (D.bytes disk.new)) }
+    ensures idle { IsTrue D.tells → OnOk result (frame_at region FRAME_LEN 1 (D.bytes disk.new)
+        ≡ frame_at region FRAME_LEN 1 (D.bytes disk.old)) }
+
+    // Nothing outside the head changes.
+    ensures images { ChangesAt (InHead region) (D.images disk.old) (D.images disk.new) }
+    ensures bytes { IsTrue D.tells → SameBut (InHead region) (D.bytes disk.old) (D.bytes disk.new) }
+    ensures size { D.size disk.new ≡ D.size disk.old }
+    ensures calls { IsTrue D.tells
+        → OnOk result (D.calls disk.new ≡ min (D.calls disk.old + 3) (2 ^ 64 - 1)) }
+    ensures most_calls { IsTrue D.tells → D.calls disk.new ≤ D.calls disk.old + 3 }
+    ensures cause { HasCause result (D.faults disk.old) (D.faults disk.new) }
+{
+    let head = ArenaHead {
+        version: 1,
+        number,
+        sealed: false,
+        clumps: 0,
+        used: 0,
+        chain: Score([0; 20]),
+    };
+    let mut frame = [0; FRAME_LEN];
+    head.encode(&mut frame);
+    let place = Region {
+        start: region.start,
+        len: HEAD_LEN as u64,
+    };
+    vt_twin::format(disk, place, &frame)
+}
+
+/// Finds the arena of this number in a region, as it is read. What is read names the current head
+/// for good only where it was synced.
+pub fn find<D: Disk>(disk: &mut D, region: Region, number: u32) -> Result<Found, ArenaBad>
+    requires { IsRegion region (D.size disk.old) }
+
+    // Each refusal comes exactly where its test is the first to fail.
+    ensures answer { (fields : List ℕ)
+        × (IsTrue D.tells → fields ≡ fields_at region (D.bytes disk.old))
+        × Finds number region.len fields result }
+
+    // The arena is the one that is there.
+    ensures found { (score_of : List ℕ → List ℕ) (old : Content) → IsTrue D.tells
+        → IsArena score_of region number old (D.bytes disk.old)
+        → MatchResult result (λ it. it.head ≡ head_of score_of number old)
+        (λ bad. bad ≡ ArenaBad.Fault) }
+    ensures selector { IfOk result (λ it. IsTrue D.tells
+        → it.selector % 2 ≡ named_number region FRAME_LEN (D.bytes disk.old)) }
+    ensures checked { IfOk result (λ it. CanStand number region.len it.head) }
+
+    // It makes two reads, and writes nothing.
+    ensures bytes { D.bytes disk.new ≡ D.bytes disk.old }
+    ensures images { AreAmong (D.images disk.new) (D.images disk.old) }
+    ensures size { D.size disk.new ≡ D.size disk.old }
+    ensures calls { IsTrue D.tells → (result ≡ Err ArenaBad.Fault)
+        ⊎ (D.calls disk.new ≡ min (D.calls disk.old + 2) (2 ^ 64 - 1)) }
+    ensures most_calls { IsTrue D.tells → D.calls disk.new ≤ D.calls disk.old + 2 }
+    ensures cause { MatchResult result (λ _. D.faults disk.new ≡ D.faults disk.old)
+        (λ bad. CountsFault bad (D.faults disk.old) (D.faults disk.new)) }
+{
+    let mut selector = [0];
+    let Ok(()) = region.read_at(disk, 2 * FRAME_LEN as u64, &mut selector) else {
+        return Err(ArenaBad::Fault);
+    };
+    let mut fields = [0; FIELDS_LEN];
+    let frame = FRAME_LEN as u64 * u64::from(selector[0] % 2);
+    let Ok(()) = region.read_at(disk, frame, &mut fields) else {
+        return Err(ArenaBad::Fault);
+    };
+    match ArenaHead::decode(&fields, number, region.len) {
+        Ok(head) => Ok(Found {
+            head,
+            selector: selector[0],
+        }),
+        Err(bad) => Err(bad),
+    }
+}
+
+/// Finds the arena of this number in a region, and makes room for commits. It syncs first: only
+/// what was synced names the current head for good.
+pub fn mount<D: Disk>(
+    alloc: Global,
+    disk: &mut D,
+    region: Region,
+    number: u32,
+) -> Result<Arena, ArenaBad>
+    requires { IsRegion region (D.size disk.old) }
+
+    // Each refusal comes exactly where its test is the first to fail.
+    ensures accepted { OnOk result (IsTrue D.tells
+        → first_bad number region.len (fields_at region (D.bytes disk.old)) ≡ None) }
+    ensures refused { IfErr result (λ bad. IsTrue D.tells
+        → RefusesMount number region.len (fields_at region (D.bytes disk.old)) bad) }
+
+    // The arena is the one that is there.
+    ensures fresh { IfOk result (λ a. a ≡ fresh_arena region.len a.twin.current a.head) }
+    ensures sound { (score_of : List ℕ → List ℕ) (old : Content) → IsTrue D.tells
+        → IsArena score_of region number old (D.bytes disk.old)
+        → MatchResult result
+        (λ a. IsSound score_of a region old (D.bytes disk.new) (D.images disk.new))
+        (λ bad. (bad ≡ ArenaBad.Fault) ⊎ (bad ≡ ArenaBad.NoMemory)) }
+    ensures settled { OnOk result (IsTrue D.tells → Only (D.bytes disk.new) (D.images disk.new)) }
+    ensures checked { IfOk result (λ a. CanStand number region.len a.head) }
+
+    // It makes a sync and two reads, and writes nothing.
+    ensures bytes { D.bytes disk.new ≡ D.bytes disk.old }
+    ensures images { AreAmong (D.images disk.new) (D.images disk.old) }
+    ensures size { D.size disk.new ≡ D.size disk.old }
+    ensures calls { IsTrue D.tells → (result ≡ Err ArenaBad.Fault)
+        ⊎ (D.calls disk.new ≡ min (D.calls disk.old + 3) (2 ^ 64 - 1)) }
+    ensures most_calls { IsTrue D.tells → D.calls disk.new ≤ D.calls disk.old + 3 }
+    ensures cause { MatchResult result (λ _. D.faults disk.new ≡ D.faults disk.old)
+        (λ bad. CountsFault bad (D.faults disk.old) (D.faults disk.new)) }
+{
+    let Ok(()) = disk.sync() else {
+        return Err(ArenaBad::Fault);
+    };
+    let found = match find(disk, region, number) {
+        Ok(found) => found,
+        Err(bad) => return Err(bad),
+    };
+    match Arena::resume(alloc, region.len, found) {
+        Ok(arena) => Ok(arena),
+        Err(NoMemory) => Err(ArenaBad::NoMemory),
+    }
+}

@@ -1,0 +1,150 @@
+//! Reading a clump.
+
+ghost use Rattle.std.specs.Prelude.{◌≡◌, ◌⊎◌, ◌+◌, ◌≤◌, ◌∷◌, ◌++◌, min, ◌-◌, ◌^◌, ℕ, List, length, IsTrue, IfOk, OnOk, Ok, Err, MatchResult};
+ghost use Rattle.vt_disk.specs.Disk.{AreAmong, part};
+ghost use Rattle.vt_disk.specs.Region.{FitsDisk};
+ghost use Rattle.vt_clump.specs.Spelling.{Stored, IsStored};
+ghost use Rattle.vt_clump.specs.Clumps.{IsRead};
+ghost use Rattle.vt_arena.specs.Layout.{Content, IsContent, HasBlocks};
+ghost use Rattle.vt_arena.specs.Places.{offset_of};
+ghost use Rattle.vt_arena.specs.Reading.{HasHeader, clump_at, header_at, damage_of, ReadsAs, CountsFault};
+
+use crate::bad::ReadBad;
+use std::alloc::Global;
+use vt_base::{Failed, FieldValue, Scorer};
+use vt_clump::{Clump, ClumpBad, Encoding, block_len, unpack};
+use vt_disk::{Disk, Region};
+use vt_model::{CLUMP_HEADER_LEN, HEAD_LEN};
+
+/// Reads the clump at an offset of an arena's region: its header, which says how long it is, and
+/// then the whole of it.
+///
+/// Damaged says by what value the clump differs from one whose block has the score that it names.
+/// An offset at which no header lies between the head and the region's end is Damaged too, with
+/// that offset.
+pub fn read<D: Disk, S: Scorer>(
+    alloc: Global,
+    disk: &mut D,
+    region: Region,
+    offset: u64,
+    scorer: &S,
+) -> Result<Clump, ReadBad>
+    requires region { FitsDisk region (D.size disk.old) }
+
+    // The clump is given that stands there, and refused exactly where none does.
+    ensures answer { HasHeader region.len offset → (bytes : List ℕ)
+        × (IsTrue D.tells → bytes ≡ clump_at region offset (D.bytes disk.old))
+        × ReadsAs S.score_of bytes result }
+    ensures outside { ¬ HasHeader region.len offset
+        → result ≡ Err (ReadBad.Damaged (FieldValue.Number HEAD_LEN) (FieldValue.Number offset)) }
+    ensures whole { IfOk result (λ clump. (s : Stored)
+        × IsStored S.score_of s × IsRead s clump) }
+
+    // The block that stands there is given.
+    ensures committed { (old : Content) (before behind : List Stored) (s : Stored)
+        → IsTrue D.tells → IsContent S.score_of region.len old
+        → HasBlocks region old.stored (D.bytes disk.old)
+        → old.stored ≡ before ++ s ∷ behind → offset ≡ offset_of before
+        → MatchResult result (IsRead s)
+        (λ bad. (bad ≡ ReadBad.Fault) ⊎ (bad ≡ ReadBad.NoMemory)) }
+
+    // It makes two reads at most, and none where no header lies there. It writes nothing.
+    ensures untouched { ¬ HasHeader region.len offset → disk.new ≡ disk.old }
+    ensures calls { IsTrue D.tells
+        → OnOk result (D.calls disk.new ≡ min (D.calls disk.old + 2) (2 ^ 64 - 1)) }
+    ensures most_calls { IsTrue D.tells → D.calls disk.new ≤ D.calls disk.old + 2 }
+    ensures bytes { D.bytes disk.new ≡ D.bytes disk.old }
+    ensures images { AreAmong (D.images disk.new) (D.images disk.old) }
+    ensures size { D.size disk.new ≡ D.size disk.old }
+    ensures cause { MatchResult result (λ _. D.faults disk.new ≡ D.faults disk.old)
+        (λ bad. CountsFault bad (D.faults disk.old) (D.faults disk.new)) }
+{
+    if !has_header(region.len, offset) {
+        return Err(ReadBad::Damaged {
+            want: FieldValue::Number(HEAD_LEN as u128),
+            found: FieldValue::Number(u128::from(offset)),
+        });
+    }
+    let clump = match read_bytes(alloc, disk, region, offset) {
+        Ok(clump) => clump,
+        Err(bad) => return Err(bad),
+    };
+    match unpack(alloc, &clump, scorer) {
+        Ok(clump) => Ok(clump),
+        Err(bad) => Err(refusal(bad)),
+    }
+}
+
+/// Whether a clump's header at this offset lies in a region of this length, behind the head.
+fn has_header(len: u64, offset: u64) -> bool
+    ensures { IsTrue result ↔ HasHeader len offset }
+{
+    let header_len = CLUMP_HEADER_LEN as u64;
+    offset >= HEAD_LEN as u64 && len >= header_len && offset <= len - header_len
+}
+
+/// Reads a clump's bytes, cut at the region's end.
+fn read_bytes<D: Disk>(
+    alloc: Global,
+    disk: &mut D,
+    region: Region,
+    offset: u64,
+) -> Result<Vec<u8>, ReadBad>
+    requires region { FitsDisk region (D.size disk.old) }
+    requires header { HasHeader region.len offset }
+    ensures read { IfOk result (λ clump. IsTrue D.tells
+        → clump.items ≡ clump_at region offset (D.bytes disk.old)) }
+    ensures header { IfOk result (λ clump. CLUMP_HEADER_LEN ≤ length clump.items) }
+    ensures refused { MatchResult result (λ _. ⊤)
+        (λ bad. (bad ≡ ReadBad.Fault) ⊎ (bad ≡ ReadBad.NoMemory)) }
+    ensures calls { IsTrue D.tells
+        → OnOk result (D.calls disk.new ≡ min (D.calls disk.old + 2) (2 ^ 64 - 1)) }
+    ensures most_calls { IsTrue D.tells → D.calls disk.new ≤ D.calls disk.old + 2 }
+    ensures bytes { D.bytes disk.new ≡ D.bytes disk.old }
+    ensures images { AreAmong (D.images disk.new) (D.images disk.old) }
+    ensures size { D.size disk.new ≡ D.size disk.old }
+    ensures cause { MatchResult result (λ _. D.faults disk.new ≡ D.faults disk.old)
+        (λ bad. CountsFault bad (D.faults disk.old) (D.faults disk.new)) }
+{
+    let mut header = [0; CLUMP_HEADER_LEN];
+    let Ok(()) = region.read_at(disk, offset, &mut header) else {
+        return Err(ReadBad::Fault);
+    };
+    let rest = (region.len - offset) as usize - CLUMP_HEADER_LEN;
+    let len = usize::from(block_len(&header)).min(rest);
+    let mut clump = Vec::new(alloc);
+    let Ok(()) = clump.resize(CLUMP_HEADER_LEN + len, 0) else {
+        return Err(ReadBad::NoMemory);
+    };
+    match region.read_at(disk, offset, &mut clump) {
+        Ok(()) => Ok(clump),
+        Err(Failed) => Err(ReadBad::Fault),
+    }
+}
+
+/// What was wanted and what was found, in a clump that is no clump.
+fn refusal(bad: ClumpBad) -> ReadBad
+    ensures damaged { ¬ (bad ≡ ClumpBad.NoMemory)
+        → result ≡ ReadBad.Damaged (damage_of bad).0 (damage_of bad).1 }
+    ensures memory { bad ≡ ClumpBad.NoMemory → result ≡ ReadBad.NoMemory }
+{
+    let (want, found) = match bad {
+        ClumpBad::Short => (number(CLUMP_HEADER_LEN as u16), number(0)),
+        ClumpBad::Magic(found) => (FieldValue::Magic(*b"VCLP"), FieldValue::Magic(found)),
+        ClumpBad::Kind(found) => (number(13), number(u16::from(found))),
+        ClumpBad::Encoding(Encoding::Compressed) => (number(1), number(2)),
+        ClumpBad::Encoding(Encoding::Unknown(found)) => (number(1), number(u16::from(found))),
+        ClumpBad::Size { want, found } => (number(want), number(found)),
+        ClumpBad::Score { want, found } => (FieldValue::Score(want), FieldValue::Score(found)),
+        ClumpBad::NoMemory => return ReadBad::NoMemory,
+    };
+    ReadBad::Damaged { want, found }
+}
+
+fn number(n: u16) -> FieldValue
+    ensures { result ≡ FieldValue.Number n }
+{
+    FieldValue::Number(u128::from(n))
+}
+
+ghost use Rattle.std.specs.Prelude.{◌↔◌, ⊤};

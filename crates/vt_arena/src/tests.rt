@@ -1,0 +1,507 @@
+//! Arenas on a disk in memory: committed, stopped, crashed, damaged and mounted again.
+
+ghost use Rattle.std.specs.Prelude.{◌≡◌, ◌+◌, ◌<◌, ◌≤◌, length};
+ghost use Rattle.vt_memdisk.specs.Memory.{memory_bytes};
+
+use super::*;
+use std::alloc::Global;
+use std::test::Fail;
+use vt_base::{Failed, FieldValue, Info, Key, Kind, Place, Score, Scorer, Sha1Scorer};
+use vt_clump::{Clump, pack};
+use vt_disk::{Disk, Region};
+use vt_memdisk::{Listed, MemDisk};
+use vt_twin::{Step, TwinErr};
+
+const LEN: u64 = 33_792;
+
+const REGION: Region = Region {
+    start: 512,
+    len: 32_768,
+};
+
+const NUMBER: u32 = 3;
+
+/// The calls before a commit's first one: three of formatting, three of mounting.
+const FIRST_CALL: u64 = 6;
+
+/// The score of `abc` (FIPS 180-4).
+const ABC: Score = Score(
+    *b"\xa9\x99\x3e\x36\x47\x06\x81\x6a\xba\x3e\x25\x71\x78\x50\xc2\x6c\x9c\xd0\xd8\x9d",
+);
+
+/// The score of `abd`.
+const ABD: Score = Score(
+    *b"\xcb\x4c\xc2\x8d\xf0\xfd\xbe\x0e\xcf\x9d\x96\x62\xe2\x94\xb1\x18\x09\x2a\x57\x35",
+);
+
+/// The clumps of `abc` and `abd`, of type 13, at time 0.
+const CLUMPS: [u8; 82] = *b"VCLP\x0d\x00\x03\x00\x03\
+    \xa9\x99\x3e\x36\x47\x06\x81\x6a\xba\x3e\x25\x71\x78\x50\xc2\x6c\x9c\xd0\xd8\x9d\
+    \x01\x00\x00\x00\x00\x00\x00\x00\x00abc\
+    VCLP\x0d\x00\x03\x00\x03\
+    \xcb\x4c\xc2\x8d\xf0\xfd\xbe\x0e\xcf\x9d\x96\x62\xe2\x94\xb1\x18\x09\x2a\x57\x35\
+    \x01\x00\x00\x00\x00\x00\x00\x00\x00abd";
+
+/// Their directory, the last entry first.
+const DIRECTORY: [u8; 50] = *b"\x0d\x00\x03\x00\x03\
+    \xcb\x4c\xc2\x8d\xf0\xfd\xbe\x0e\xcf\x9d\x96\x62\xe2\x94\xb1\x18\x09\x2a\x57\x35\
+    \x0d\x00\x03\x00\x03\
+    \xa9\x99\x3e\x36\x47\x06\x81\x6a\xba\x3e\x25\x71\x78\x50\xc2\x6c\x9c\xd0\xd8\x9d";
+
+/// The heads of arena 3, empty and with the two blocks.
+const EMPTY: [u8; 43] = *b"VARN\x00\x01\x00\x00\x00\x03\x00\x00\x00\x00\x00\
+    \x00\x00\x00\x00\x00\x00\x00\x00\
+    \x00\x00\x00\x00\x00\x00\x00\x00\x00\x00\x00\x00\x00\x00\x00\x00\x00\x00\x00\x00";
+
+const TWO: [u8; 43] = *b"VARN\x00\x01\x00\x00\x00\x03\x00\x00\x00\x00\x02\
+    \x00\x00\x00\x00\x00\x00\x00\x52\
+    \xe5\xa4\x74\x09\x00\xa0\x3a\x26\x25\xaa\x16\x03\x07\xa5\x80\x90\x38\x65\xf8\x3b";
+
+/// Goes on where this holds.
+fn see(holds: bool, otherwise: &'static str) -> Result<(), Fail> {
+    if holds {
+        return Ok(());
+    }
+    Err(otherwise.into())
+}
+
+/// A disk with an arena, and the arena.
+#[derive(Drop)]
+struct Rig {
+    disk: MemDisk<Listed>,
+    arena: Arena,
+    ghost sized: { length (memory_bytes disk) ≡ 33792 },
+    ghost len: { arena.len ≡ 32768 },
+}
+
+impl Rig {
+    /// A disk with an empty arena, of which this call fails.
+    fn new(alloc: Global, failing: u64) -> Result<Rig, Fail> {
+        let calls = vec![in alloc; failing]?;
+        let mut disk = MemDisk::failing(alloc, LEN, calls)?;
+        format(&mut disk, REGION, NUMBER)?;
+        let arena = mount(alloc, &mut disk, REGION, NUMBER)?;
+        Ok(Rig { disk, arena })
+    }
+
+    /// One whose arena holds these blocks.
+    fn with(alloc: Global, failing: u64, blocks: &[&[u8]]) -> Result<Rig, Fail> {
+        let mut rig = Rig::new(alloc, failing)?;
+        for block in blocks {
+            see(rig.stage(alloc, block)?, "no room")?;
+        }
+        rig.commit()?;
+        Ok(rig)
+    }
+
+    /// Stages a block of type 13, where that may be done.
+    fn stage(&mut self, alloc: Global, block: &[u8]) -> Result<bool, Fail> {
+        let kind = Kind::from_wire(Kind::DATA).ok_or("no type")?;
+        if block.is_empty() || block.len() > 57_344 {
+            return Ok(false);
+        }
+        let arena = &mut self.arena;
+        let is_full = arena.staged().len() == STAGED_MAX || !arena.fits(block.len() as u32);
+        if arena.is_committing() || is_full {
+            return Ok(false);
+        }
+        let packed = pack(alloc, kind, block, Sha1Scorer.score(block), 0)?;
+        arena.stage(&Sha1Scorer, packed);
+        Ok(true)
+    }
+
+    /// Stages a block as often as that may be done, up to `n` times.
+    fn stage_many(&mut self, alloc: Global, block: &[u8], n: u32) -> Result<u32, Fail> {
+        for i in 0..n {
+            if !self.stage(alloc, block)? {
+                return Ok(i);
+            }
+        }
+        Ok(n)
+    }
+
+    /// Makes one call of a commit.
+    fn advance(&mut self) -> Result<Step, TwinErr> {
+        self.arena.advance(&mut self.disk, REGION)
+    }
+
+    /// Makes so many calls of a commit, each of which gives More, and one further call.
+    fn advance_after(&mut self, calls: u64) -> Result<Result<Step, TwinErr>, Fail> {
+        for _ in 0..calls {
+            see(self.advance() == Ok(Step::More), "another step than More")?;
+        }
+        Ok(self.advance())
+    }
+
+    /// Commits what is staged.
+    fn commit(&mut self) -> Result<(), Fail> {
+        let calls = self.arena.calls_left();
+        let step = self.advance_after(calls.saturating_sub(1))?;
+        see(step == Ok(Step::Done), "another step than Done")
+    }
+
+    /// Seals the arena.
+    fn seal(&mut self) -> Result<(), Fail> {
+        let arena = &mut self.arena;
+        if arena.is_committing() {
+            return Err("a commit is under way".into());
+        }
+        arena.seal();
+        see(
+            arena.is_sealing() && !arena.head().sealed,
+            "no seal is coming",
+        )?;
+        self.commit()?;
+        see(self.arena.head().sealed, "no seal")
+    }
+
+    /// Gives the arena's room to the one that stands there, which is itself.
+    fn find_again(&mut self) -> Result<(), Fail> {
+        let found = find(&mut self.disk, REGION, NUMBER)?;
+        let arena = &mut self.arena;
+        if arena.is_committing() {
+            return Err("a commit is under way".into());
+        }
+        let [] = arena.staged() else {
+            return Err("a block is staged".into());
+        };
+        arena.move_to(REGION.len, found);
+        Ok(())
+    }
+
+    /// The block at an offset, or why it isn't read.
+    fn read(&mut self, alloc: Global, offset: u64) -> Result<Clump, ReadBad> {
+        read(alloc, &mut self.disk, REGION, offset, &Sha1Scorer)
+    }
+
+    /// Whether the block at an offset is read as this one.
+    fn reads(&mut self, alloc: Global, offset: u64, block: &[u8]) -> bool {
+        match self.read(alloc, offset) {
+            Ok(clump) => {
+                clump.bytes.as_slice() == block
+                    && clump.kind.wire() == Kind::DATA
+                    && clump.time == 0
+            }
+            Err(_) => false,
+        }
+    }
+
+    /// What the directory says where a walk stands, while it isn't at its end.
+    fn walk(&mut self, at: &mut At) -> Option<Result<Info, BackBad>> {
+        let head = self.arena.head();
+        if at.index == 0 || at.index > head.clumps || at.end > head.used {
+            return None;
+        }
+        Some(info(&mut self.disk, REGION, &head, at))
+    }
+
+    /// Writes over the disk, from a place of the region on.
+    fn write(&mut self, at: u64, bytes: &[u8]) -> Result<(), Failed> {
+        if at > REGION.len || bytes.len() as u64 > REGION.len - at {
+            return Err(Failed);
+        }
+        self.disk.write_at(REGION.start + at, bytes)
+    }
+
+    /// The first place at which the disk isn't as it is spelled by hand.
+    fn first_difference(
+        &mut self,
+        frames: [&[u8; 43]; 2],
+        selector: u8,
+    ) -> Result<Option<u64>, Failed> {
+        let mut file = [0; LEN as usize];
+        self.disk.read_at(0, &mut file)?;
+        for (at, byte) in file.iter().enumerate() {
+            if *byte != expected(at, frames, selector) {
+                return Ok(Some(at as u64));
+            }
+        }
+        Ok(None)
+    }
+
+    /// The disk after a crash, with the arena mounted again. Of the pending bytes it leaves the
+    /// synced ones in mode 0, the written ones in mode 1, the written ones at even places in mode 2,
+    /// and a5 in mode 3.
+    fn crash(self, alloc: Global, mode: usize) -> Result<Rig, Fail> {
+        let Rig { disk, arena: _ } = self;
+        let mut choice = Vec::new(alloc);
+        for at in 0..LEN {
+            if disk.pending(at) {
+                choice.push(match mode {
+                    0 => 256,
+                    1 => 257,
+                    2 => if at % 2 == 0 { 257 } else { 256 },
+                    _ => 0xa5,
+                })?;
+            }
+        }
+        let mut disk = disk.crash(&choice);
+        let arena = mount(alloc, &mut disk, REGION, NUMBER)?;
+        Ok(Rig { disk, arena })
+    }
+}
+
+/// The byte at a place of the disk, by hand: the two frames, the selector, the clumps of `abc` and
+/// `abd` and their directory, and zeros.
+fn expected(at: usize, frames: [&[u8; 43]; 2], selector: u8) -> u8 {
+    if at >= 512 && at < 555 {
+        frames[0][at - 512]
+    } else if at >= 8704 && at < 8747 {
+        frames[1][at - 8704]
+    } else if at == 16_896 {
+        selector
+    } else if at >= 25_088 && at < 25_170 {
+        CLUMPS[at - 25_088]
+    } else if at >= 33_230 && at < 33_280 {
+        DIRECTORY[at - 33_230]
+    } else {
+        0
+    }
+}
+
+#[test]
+fn room_is_used_to_the_end(rt: HostRuntime) -> Result<(), Fail> {
+    for (used, clumps, n, fits) in [
+        (0, 0, 8129, true),
+        (0, 0, 8130, false),
+        (5043, 123, 3, true),
+        (5084, 124, 3, false),
+        (u64::MAX, u32::MAX, u32::MAX, false),
+    ] {
+        assert_eq!(rt;
+            has_room(32_768, used, clumps, n),
+            fits,
+            "{n} behind {used}"
+        );
+    }
+    let mut rig = Rig::new(rt.alloc(), u64::MAX)?;
+    assert_eq!(rt; rig.stage_many(rt.alloc(), b"abc", 65)?, 64);
+    rig.commit()?;
+    assert_eq!(rt; rig.stage_many(rt.alloc(), b"abc", 64)?, 60);
+    rig.commit()?;
+    assert!(rt; !rig.stage(rt.alloc(), b"a")?);
+    assert_eq!(rt; rig.arena.head().clumps, 124);
+    assert!(rt; rig.reads(rt.alloc(), 24_576 + 123 * 41, b"abc"));
+    Ok(())
+}
+
+#[test]
+fn two_blocks_byte_for_byte(rt: HostRuntime) -> Result<(), Fail> {
+    let mut rig = Rig::with(rt.alloc(), u64::MAX, &[b"abc", b"abd"])?;
+    assert_eq!(rt; rig.first_difference([&EMPTY, &TWO], 1)?, None);
+    rig.seal()?;
+    // The other frame has the same head, but for the flag.
+    let mut sealed = TWO;
+    sealed[10] = 1;
+    assert_eq!(rt; rig.first_difference([&sealed, &TWO], 0)?, None);
+    Ok(())
+}
+
+/// Stops a commit of `abd` behind `abc` at a call. It gives the disk after a crash.
+fn stopped(alloc: Global, call: u64, fails: bool, mode: usize) -> Result<Rig, Fail> {
+    let failing = if fails {
+        call.saturating_add(FIRST_CALL + 6)
+    } else {
+        u64::MAX
+    };
+    let mut rig = Rig::with(alloc, failing, &[b"abc"])?;
+    see(rig.stage(alloc, b"abd")?, "no room")?;
+    let step = rig.advance_after(call)?;
+    if fails {
+        let stop = call.saturating_add(6);
+        see(step == Err(TwinErr::Fault), "no fault")?;
+        see(rig.arena.stopped() == Some(stop), "another stop")?;
+        see(rig.advance() == Err(TwinErr::Stopped(stop)), "a step")?;
+        see(rig.arena.is_committing(), "no commit")?;
+    }
+    see(rig.reads(alloc, 24_576, b"abc"), "no abc before the crash")?;
+    rig.crash(alloc, mode)
+}
+
+#[test]
+fn a_commit_is_stopped_anywhere(rt: HostRuntime) -> Result<(), Fail> {
+    // The call at which the commit ends, whether it fails, and in which mode a crash then leaves the
+    // new head. The new selector is 0, so that a5 names the old frame.
+    for (call, fails, is_new) in [
+        (0, true, [false, false, false, false]),
+        (0, false, [false, false, false, false]),
+        (1, true, [false, false, false, false]),
+        (1, false, [false, false, false, false]),
+        (2, true, [false, false, false, false]),
+        (2, false, [false, false, false, false]),
+        (3, true, [false, false, false, false]),
+        (3, false, [false, false, false, false]),
+        (4, true, [false, false, false, false]),
+        (4, false, [false, true, true, false]),
+        (5, true, [false, true, true, false]),
+        (5, false, [true, true, true, true]),
+    ] {
+        for (mode, is_new) in is_new.into_iter().enumerate() {
+            let mut rig = stopped(rt.alloc(), call, fails, mode)?;
+            let clumps = if is_new { 2 } else { 1 };
+            assert_eq!(rt; rig.arena.head().clumps, clumps, "call {call}, mode {mode}");
+            assert!(rt; rig.reads(rt.alloc(), 24_576, b"abc"));
+            assert!(rt; !is_new || rig.reads(rt.alloc(), 24_617, b"abd"));
+        }
+    }
+    Ok(())
+}
+
+/// Why an arena with these bytes in its head is refused.
+fn head_refusal(alloc: Global, at: u64, bytes: &[u8]) -> Result<Option<ArenaBad>, Fail> {
+    let mut rig = Rig::new(alloc, u64::MAX)?;
+    rig.write(at, bytes)?;
+    let bad = find(&mut rig.disk, REGION, NUMBER).err();
+    let again = mount(alloc, &mut rig.disk, REGION, NUMBER).err();
+    see(bad == again, "two answers")?;
+    Ok(bad)
+}
+
+#[test]
+fn heads_are_refused(rt: HostRuntime) -> Result<(), Fail> {
+    let torn = |field, found, want| ArenaBad::Torn { field, found, want };
+    for (at, bytes, bad) in [
+        (0, *b"VARM\0\0\0\0", ArenaBad::NotFormatted),
+        (4, *b"\0\x02\0\0\0\x04\x02\0", torn(Field::Version, 2, 1)),
+        (6, *b"\0\0\0\x04\x02\0\0\0", torn(Field::Number, 4, 3)),
+        (10, *b"\x02\0\0\x01\x48\0\0\0", torn(Field::Sealed, 2, 1)),
+        (11, *b"\0\0\x01\x48\0\0\0\0", torn(Field::Used, 8200, 8192)),
+        (15, *b"\0\0\0\0\0\0\x20\x01", torn(Field::Used, 8193, 8192)),
+        (
+            15,
+            [0xff; 8],
+            torn(Field::Used, 18_446_744_073_709_551_615, 8192),
+        ),
+    ] {
+        assert_eq!(rt; head_refusal(rt.alloc(), at, &bytes)?, Some(bad));
+    }
+    // Each call of mounting fails in turn: the sync, the read of the selector, that of the head.
+    for failing in 3..6 {
+        let calls = vec![in rt.alloc(); failing]?;
+        let mut disk = MemDisk::failing(rt.alloc(), LEN, calls)?;
+        format(&mut disk, REGION, NUMBER)?;
+        let bad = mount(rt.alloc(), &mut disk, REGION, NUMBER).err();
+        assert_eq!(rt; bad, Some(ArenaBad::Fault), "call {failing}");
+    }
+    Ok(())
+}
+
+/// Why a clump of `abc` with this byte isn't read.
+fn damage(alloc: Global, at: u64, byte: u8) -> Result<Option<ReadBad>, Fail> {
+    let mut rig = Rig::with(alloc, u64::MAX, &[b"abc"])?;
+    see(rig.reads(alloc, 24_576, b"abc"), "no abc")?;
+    rig.write(at, &[byte])?;
+    Ok(rig.read(alloc, 24_576).err())
+}
+
+#[test]
+fn damaged_clumps_are_refused(rt: HostRuntime) -> Result<(), Fail> {
+    let number = |n: u16| FieldValue::Number(u128::from(n));
+    let magic = FieldValue::Magic;
+    for (at, byte, want, found) in [
+        (24_576, b'X', magic(*b"VCLP"), magic(*b"XCLP")),
+        (24_580, 0, number(13), number(0)),
+        (24_605, 2, number(1), number(2)),
+        (24_605, 7, number(1), number(7)),
+        (24_582, 4, number(4), number(3)),
+        (24_584, 4, number(3), number(4)),
+        (24_616, b'd', FieldValue::Score(ABC), FieldValue::Score(ABD)),
+    ] {
+        let bad = ReadBad::Damaged { want, found };
+        assert_eq!(rt; damage(rt.alloc(), at, byte)?, Some(bad));
+    }
+    for offset in [24_575, 32_731] {
+        let mut rig = Rig::new(rt.alloc(), u64::MAX)?;
+        let bad = rig.read(rt.alloc(), offset).err();
+        let found = FieldValue::Number(u128::from(offset));
+        let want = number(24_576);
+        assert_eq!(rt; bad, Some(ReadBad::Damaged { want, found }));
+    }
+    for failing in [FIRST_CALL, FIRST_CALL + 1] {
+        let mut rig = Rig::new(rt.alloc(), failing)?;
+        assert_eq!(rt; rig.read(rt.alloc(), 24_576).err(), Some(ReadBad::Fault));
+    }
+    Ok(())
+}
+
+/// What a directory says of a block of data.
+fn info_of(block: &[u8], number: u64, offset: u32) -> Option<Info> {
+    Some(Info {
+        key: Key {
+            score: Sha1Scorer.score(block),
+            kind: Kind::from_wire(Kind::DATA)?,
+        },
+        size: block.len().min(8) as u16,
+        place: Place {
+            arena: NUMBER,
+            offset,
+        },
+        number,
+    })
+}
+
+#[test]
+fn the_directory_is_walked(rt: HostRuntime) -> Result<(), Fail> {
+    let mut rig = Rig::with(rt.alloc(), u64::MAX, &[b"a", b"bc", b"def"])?;
+    let mut at = At::start(&rig.arena.head());
+    for (block, number, offset) in [
+        (b"def".as_slice(), 2, 24_655),
+        (b"bc".as_slice(), 1, 24_615),
+        (b"a".as_slice(), 0, 24_576),
+    ] {
+        let found = rig.walk(&mut at);
+        assert!(rt; found == info_of(block, number, offset).map(Ok), "{number}");
+    }
+    assert!(rt; rig.walk(&mut at).is_none());
+    let mut rig = Rig::with(rt.alloc(), FIRST_CALL + 10, &[b"a", b"bc", b"def"])?;
+    let mut at = At::start(&rig.arena.head());
+    assert!(rt; rig.walk(&mut at) == Some(Err(BackBad::Fault)));
+    Ok(())
+}
+
+/// What a walk answers at an entry of a directory of three blocks that begins with these bytes.
+fn walk_over(alloc: Global, mut at: At, bytes: &[u8]) -> Result<Option<BackBad>, Fail> {
+    let stays = at;
+    let mut rig = Rig::with(alloc, u64::MAX, &[b"a", b"bc", b"def"])?;
+    let place = u64::from(at.index).saturating_mul(25);
+    rig.write(REGION.len.saturating_sub(place), bytes)?;
+    match rig.walk(&mut at) {
+        Some(Err(bad)) if at == stays => Ok(Some(bad)),
+        _ => Ok(None),
+    }
+}
+
+#[test]
+fn damaged_entries_are_refused(rt: HostRuntime) -> Result<(), Fail> {
+    // What begins an entry, and what the walk answers there.
+    for (index, end, bytes, want, found) in [
+        (3, 120, [0, 0, 3, 0, 3], 13, 0),
+        (3, 120, [13, 0, 0, 0, 0], 1, 0),
+        (3, 120, [13, 0xe0, 1, 0xe0, 1], 1, 57_345),
+        (3, 120, [13, 0, 3, 0, 4], 3, 4),
+        (3, 120, [13, 0, 83, 0, 83], 120, 121),
+        (1, 39, [13, 0, 2, 0, 2], 120, 121),
+    ] {
+        let bad = BackBad::Damaged {
+            want: FieldValue::Number(want),
+            found: FieldValue::Number(found),
+        };
+        assert_eq!(rt;
+            walk_over(rt.alloc(), At { index, end }, &bytes)?,
+            Some(bad)
+        );
+    }
+    Ok(())
+}
+
+#[test]
+fn an_arena_moves_to_another(rt: HostRuntime) -> Result<(), Fail> {
+    let mut rig = Rig::new(rt.alloc(), u64::MAX)?;
+    rig.find_again()?;
+    assert!(rt; rig.stage(rt.alloc(), b"abc")?);
+    rig.commit()?;
+    let head = rig.arena.head();
+    let found = find(&mut rig.disk, REGION, NUMBER)?;
+    assert_eq!(rt; found, Found { head, selector: 1 });
+    Ok(())
+}
