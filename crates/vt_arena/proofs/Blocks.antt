@@ -1,7 +1,6 @@
 -- Where the clump and the entry of each block stand.
-use Rattle.std.proofs.Common.{◌≡◌, ◌⊎◌, inl, inr, ℕ, zero, suc, ◌+◌, ◌-◌, ◌*◌, ◌^◌, ◌<◌, ◌≤◌, min, List, [], ◌∷◌, ◌++◌, length, take, drop, get_or, refl, sym, ◌∙◌, ap, subst, arith, append_assoc, append-nil, length-append}
+use Rattle.std.proofs.Common.{◌≡◌, ℕ, suc, ◌+◌, ◌-◌, min, List, [], ◌∷◌, ◌++◌, length, take, refl, sym, ◌∙◌, ap, subst, arith, append_assoc, append-nil, length-append}
 use Rattle.std.specs.Prelude.{All}
-use Rattle.std.specs.List.{flat_map}
 use Rattle.std.proofs.lemmas.List.{take_at, drop_at, get_or_append_left}
 use Rattle.byteorder.specs.Endian.{big_bytes}
 use Rattle.byteorder.specs.Numbers.{big_number-reads_back}
@@ -10,7 +9,7 @@ use Rattle.vt_disk.specs.Disk.{part}
 use Rattle.vt_clump.specs.Spelling.{Stored, IsStored, header, spelled, size_in}
 use Rattle.vt_model.specs.declared.TheConstants.{HEAD_LEN}
 use Rattle.vt_arena.specs.Layout.{Content, IsContent, HasBlocks, StandsAt, entry_of, clumps_of, directory_of, directory_place, used_of}
-use Rattle.vt_arena.specs.Places.{block_room, directory_room, arena_room, offset_of}
+use Rattle.vt_arena.specs.Places.{block_room, directory_room, offset_of}
 use Rattle.vt_arena.specs.Reading.{HasHeader, header_at, clump_at}
 use Rattle.vt_arena.proofs.Layouts.{part-part, flat_map-append, length-clumps, length-directory, length-entry, spelled_len, directory-append, used-append, used-cons, content_fits}
 

@@ -1,13 +1,24 @@
 -- What reading the clump of a block finds.
-use Rattle.std.proofs.Common.{◌≡◌, ◌⊎◌, inl, inr, ℕ, List, [], ◌∷◌, ◌++◌, Err, refl, sym, ◌∙◌, ap, subst, append-nil}
+use Rattle.std.proofs.Common.{◌≡◌, ◌⊎◌, inl, inr, ℕ, ◌+◌, ◌-◌, ◌<◌, min, Bool, true, false, cond, Option, Some, None, List, [], ◌∷◌, ◌++◌, length, drop, Err, refl, sym, ◌∙◌, ap, subst, arith, append-nil, length-take, length-drop}
+use Rattle.std.specs.Prelude.{slice_index}
+use Rattle.std.specs.Str.{bytes_eq}
+use Rattle.std.proofs.lemmas.List.{get_or-drop, get_or_append_left}
+use Rattle.std.proofs.lemmas.Slice.Eq.{bytes_eq-Decides}
+use Rattle.vt_base.specs.Bytes.{AreBytes}
 use Rattle.vt_disk.specs.declared.region.Region.{Region}
-use Rattle.vt_clump.specs.Spelling.{Stored, BeginsWith, spelled}
+use Rattle.vt_disk.specs.Disk.{part}
+use Rattle.vt_clump.specs.declared.reading.ClumpBad.{ClumpBad}
+use Rattle.vt_clump.specs.declared.reading.ClumpBad.TheVariants.{Short, Magic, Kind, Encoding, Size, Score, NoMemory as ClumpNoMemory}
+use Rattle.vt_clump.specs.Faults.{or_else, bad_header, bad_score, first_bad}
+use Rattle.vt_clump.specs.Spelling.{Stored, IsStored, BeginsWith, spelled, size_in, stored_in}
+use Rattle.vt_clump.proofs.ReadBack.{Passes, passed}
 use Rattle.vt_arena.specs.declared.bad.ReadBad.{ReadBad}
 use Rattle.vt_arena.specs.declared.bad.ReadBad.TheVariants.{Fault, Damaged, NoMemory}
 use Rattle.vt_arena.specs.Layout.{Content, IsContent, HasBlocks}
 use Rattle.vt_arena.specs.Places.{offset_of}
-use Rattle.vt_arena.specs.Reading.{clump_at, ReadsAs}
+use Rattle.vt_arena.specs.Reading.{HasHeader, header_at, clump_at, damage_of, ReadsAs}
 use Rattle.vt_arena.proofs.Blocks.{stored, clump_there}
+use Rattle.vt_arena.proofs.Layouts.{part-sum}
 
 -- a fault and want of memory say nothing of the bytes
 pub reads_nothing : (score_of : List ℕ → List ℕ) (bytes : List ℕ) (bad : ReadBad) → (bad ≡ Fault) ⊎ (bad ≡ NoMemory) → ReadsAs score_of bytes (Err bad)
@@ -15,6 +26,108 @@ reads_nothing score_of bytes Fault is = tt
 reads_nothing score_of bytes NoMemory is = tt
 reads_nothing score_of bytes (Damaged want found) (inl is) = cc
 reads_nothing score_of bytes (Damaged want found) (inr is) = cc
+
+-- the first test that fails says how the bytes are damaged
+module _ (score_of : List ℕ → List ℕ) (bytes : List ℕ) where
+  damaged : (bad : ClumpBad) (answer : ReadBad) → first_bad score_of bytes ≡ Some bad
+      → answer ≡ Damaged (damage_of bad).0 (damage_of bad).1
+      → ReadsAs score_of bytes (Err answer)
+  damaged bad answer first is =
+      subst (λ (a : ReadBad). ReadsAs score_of bytes (Err a)) (sym is) (bad, first, refl)
+
+  pub reads_refusal : (bad : ClumpBad) (answer : ReadBad) → first_bad score_of bytes ≡ Some bad
+      → (¬ (bad ≡ ClumpNoMemory) → answer ≡ Damaged (damage_of bad).0 (damage_of bad).1)
+      → (bad ≡ ClumpNoMemory → answer ≡ NoMemory)
+      → ReadsAs score_of bytes (Err answer)
+  reads_refusal ClumpNoMemory answer first found memory =
+      subst (λ (a : ReadBad). ReadsAs score_of bytes (Err a)) (sym (memory refl)) tt
+  reads_refusal Short answer first found memory =
+      damaged Short answer first (found (λ is. cc))
+  reads_refusal (Magic it) answer first found memory =
+      damaged (Magic it) answer first (found (λ is. cc))
+  reads_refusal (Kind it) answer first found memory =
+      damaged (Kind it) answer first (found (λ is. cc))
+  reads_refusal (Encoding it) answer first found memory =
+      damaged (Encoding it) answer first (found (λ is. cc))
+  reads_refusal (Size want it) answer first found memory =
+      damaged (Size want it) answer first (found (λ is. cc))
+  reads_refusal (Score want it) answer first found memory =
+      damaged (Score want it) answer first (found (λ is. cc))
+
+-- a header and what stands behind it, as far as the region goes, are the clump
+module _ (region : Region) (offset : ℕ) (header block file : List ℕ) where
+  abbrev rest : ℕ
+  rest = min (size_in header) (region.len - (offset + 38))
+
+  pub header_then_block : HasHeader region.len offset → header ≡ header_at region offset file
+      → block ≡ part (region.start + (offset + 38)) rest file
+      → header ++ block ≡ clump_at region offset file
+  header_then_block inside header_is block_is =
+      let place : region.start + (offset + 38) ≡ region.start + offset + 38 = omega arith in
+      let size : size_in header ≡ size_in (header_at region offset file) = ap size_in header_is in
+      let len : 38 + rest ≡ min (38 + size_in (header_at region offset file)) (region.len - offset) =
+      omega (arith, inside.1, size) in
+      (λ i. header_is i ++ block_is i)
+      ∙ ap (λ (p : ℕ). header_at region offset file ++ part p rest file) place
+      ∙ sym (part-sum (region.start + offset) 38 rest file)
+      ∙ ap (λ (n : ℕ). part (region.start + offset) n file) len
+
+  -- also where a call between the two reads left the bytes as they were
+  pub read_there : (between : List ℕ) → between ≡ file → header ≡ header_at region offset file
+      → (header ≡ header_at region offset between
+      → header ++ block ≡ clump_at region offset between)
+      → header ++ block ≡ clump_at region offset file
+  read_there between same is read =
+      subst (λ (f : List ℕ). header ++ block ≡ clump_at region offset f) same
+      (read (subst (λ (f : List ℕ). header ≡ header_at region offset f) (sym same) is))
+
+none_first : (first later : Option ClumpBad) → or_else first later ≡ None
+    → (first ≡ None) × (later ≡ None)
+none_first (Some bad) later none = absurd (cc)
+none_first None later none = (refl, none)
+
+none_at_end : (same : Bool) (bad : ClumpBad) → cond same None (Some bad) ≡ None → same ≡ true
+none_at_end true bad none = refl
+none_at_end false bad none = absurd (cc)
+
+-- a header and a block in which no test fails are a clump
+module _ (score_of : List ℕ → List ℕ) (header block : List ℕ) (len : length header ≡ 38)
+    (are : AreBytes header) where
+  time_byte : (k : ℕ) → k < 4 → slice_index (drop 34 (header ++ block)) k < 256
+  time_byte k below =
+      subst (λ (b : ℕ). b < 256)
+      (sym (get_or-drop 34 (header ++ block) k 0
+      ∙ get_or_append_left header block 0 (34 + k) (omega (arith, len, below))))
+      (are (34 + k))
+
+  pub good_stored : first_bad score_of (header ++ block) ≡ None
+      → IsStored score_of (stored_in (header ++ block))
+  good_stored good =
+      let bytes : List ℕ = header ++ block in
+      let s : Stored = stored_in bytes in
+      let tests = none_first (bad_header bytes) (bad_score score_of s) good in
+      let pass : Passes bytes = passed bytes tests.0 in
+      let same : bytes_eq (score_of s.block) s.score ≡ true = none_at_end _ _ tests.1 in record {
+        kind = pass.kind;
+        scored = sym ((bytes_eq-Decides (score_of s.block) s.score).0 same);
+        score_len = omega (arith, length-take 20 (drop 9 bytes), length-drop 9 bytes, pass.long);
+        creator_len = omega (arith, length-take 4 (drop 30 bytes), length-drop 30 bytes, pass.long);
+        time = omega (
+          arith,
+          time_byte 0 (omega arith),
+          time_byte 1 (omega arith),
+          time_byte 2 (omega arith),
+          time_byte 3 (omega arith),
+        );
+        some = omega (
+          arith,
+          length-take (size_in bytes) (drop 38 bytes),
+          length-drop 38 bytes,
+          pass.inside,
+          pass.some,
+        );
+        most = omega (arith, length-take (size_in bytes) (drop 38 bytes), pass.most);
+      }
 
 -- at its place stands the clump of a block
 pub begins_there : (score_of : List ℕ → List ℕ) (region : Region) (old : Content) (before behind : List Stored) (s : Stored) (file bytes : List ℕ) (offset : ℕ)

@@ -1,9 +1,8 @@
 -- The head's change of a commit, call by call, and what a crash leaves.
-use Rattle.std.proofs.Common.{◌≡◌, ◌⊎◌, inl, inr, ⊎_elim, ℕ, ◌+◌, ◌-◌, ◌*◌, ◌<◌, ◌≤◌, Bool, true, false, if◌then◌else◌, is_some, List, [], ◌∷◌, ◌++◌, length, take, drop, map, reverse, Option, Some, None, Ok, Err, Result, ◌↔◌, ◌%◌, refl, sym, ◌∙◌, ap, subst, arith, length-append, length-take, append-nil}
-use Rattle.std.specs.Prelude.{All, IsSome, MatchResult, replicate, slice_index}
+use Rattle.std.proofs.Common.{◌≡◌, ◌⊎◌, inl, inr, ⊎_elim, ℕ, ◌+◌, ◌-◌, ◌*◌, ◌≤◌, Bool, true, false, if◌then◌else◌, is_some, List, [], ◌++◌, length, take, Option, Some, None, Ok, Err, Result, ◌↔◌, ◌%◌, refl, sym, ◌∙◌, ap, subst, arith, length-append, length-take, append-nil}
+use Rattle.std.specs.Prelude.{IsSome, MatchResult, replicate, slice_index}
 use Rattle.std.proofs.lemmas.Bool.{cases_eq}
 use Rattle.std.proofs.lemmas.List.{take_all, take_at, length-map}
-use Rattle.std.proofs.lemmas.List.Elements.{All-append}
 use Rattle.vt_disk.specs.declared.region.Region.{Region}
 use Rattle.vt_disk.specs.Disk.{SameBut, ChangesAt, Only, part}
 use Rattle.vt_twin.specs.declared.step.Step.{Step}
@@ -11,13 +10,12 @@ use Rattle.vt_twin.specs.declared.step.Step.TheVariants.{More, Done}
 use Rattle.vt_twin.specs.declared.step.TwinErr.{TwinErr}
 use Rattle.vt_twin.specs.declared.step.TwinErr.TheVariants.{Fault, Stopped}
 use Rattle.vt_twin.specs.Frames.{current_frame}
-use Rattle.vt_twin.specs.Twin.{TwinState, Change, calls_made, calls_begun, next_frame, with_change, without_spare, after_call, after_fault as twin_after_fault, after_last as twin_after_last}
+use Rattle.vt_twin.specs.Twin.{TwinState, Change, calls_made, calls_begun, next_frame, with_change, without_spare, after_last as twin_after_last}
 use Rattle.vt_twin.specs.Calls.{IsSync}
-use Rattle.vt_twin.specs.Sound.{IsSound as IsSoundTwin, GivesOldOrNew, HasBegunSelector as TwinHasBegunSelector}
+use Rattle.vt_twin.specs.Sound.{IsSound as IsSoundTwin}
 use Rattle.vt_twin.proofs.Steps.{sound_gives}
-use Rattle.vt_clump.specs.declared.packed.Packed.{Packed}
-use Rattle.vt_clump.specs.Spelling.{Stored, IsStored, spelled}
-use Rattle.vt_clump.specs.Clumps.{IsPacked, stored_of}
+use Rattle.vt_clump.specs.Spelling.{Stored, spelled}
+use Rattle.vt_clump.specs.Clumps.{stored_of}
 use Rattle.vt_model.specs.declared.TheConstants.{HEAD_LEN}
 use Rattle.vt_arena.specs.declared.TheConstants.{FRAME_LEN, FIELDS_LEN}
 use Rattle.vt_arena.specs.declared.head.ArenaHead.{ArenaHead}
@@ -26,7 +24,7 @@ use Rattle.vt_arena.specs.Heads.{fields_of, frame_of}
 use Rattle.vt_arena.specs.Layout.{Content, IsContent, IsArena, HasBlocks, StandsAt, InHead, clumps_of, directory_of, clumps_place, directory_place, used_of, head_of}
 use Rattle.vt_arena.specs.Places.{directory_room, arena_room}
 use Rattle.vt_arena.specs.Sound.{IsSound, HasPieces, GivesOldOrNext, HasBegunSelector, clumps_made, entries_made}
-use Rattle.vt_arena.proofs.Layouts.{stands-sum, stands_same, flat_map-append, directory-append, used-append, length-clumps, length-directory, content_fits, All-stored}
+use Rattle.vt_arena.proofs.Layouts.{stands-sum, stands_same, flat_map-append, directory-append, length-clumps, length-directory, content_fits, All-stored}
 use Rattle.vt_arena.proofs.Writes.{no_calls}
 
 -- the fields of a frame

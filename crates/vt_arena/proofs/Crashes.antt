@@ -1,8 +1,7 @@
 -- What a crash within a call of a commit leaves.
-use Rattle.std.proofs.Common.{◌≡◌, ◌⊎◌, inl, inr, ⊎_elim, ℕ, ◌+◌, ◌*◌, ◌≤◌, Bool, true, false, if◌then◌else◌, is_some, List, length, Option, Some, None, Ok, Err, Result, ◌↔◌, refl, sym, ◌∙◌, ap, subst, arith}
+use Rattle.std.proofs.Common.{◌≡◌, inl, inr, ⊎_elim, ℕ, ◌+◌, ◌≤◌, Bool, true, false, if◌then◌else◌, is_some, List, Option, None, Ok, Err, Result, ◌↔◌, refl, ◌∙◌, subst, arith}
 use Rattle.std.specs.Prelude.{IfOk, IfErr, nat_lt}
 use Rattle.vt_disk.specs.declared.region.Region.{Region}
-use Rattle.vt_disk.specs.Disk.{WithinCall}
 use Rattle.vt_twin.specs.declared.step.Step.{Step}
 use Rattle.vt_twin.specs.declared.step.Step.TheVariants.{More, Done}
 use Rattle.vt_twin.specs.declared.step.TwinErr.{TwinErr}

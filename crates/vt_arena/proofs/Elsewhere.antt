@@ -1,16 +1,13 @@
 -- What is done to the rest of the disk leaves an arena sound.
-use Rattle.std.proofs.Common.{◌≡◌, ℕ, ◌+◌, ◌-◌, ◌<◌, ◌≤◌, List, length, take, refl, sym, ◌∙◌, ap, arith}
+use Rattle.std.proofs.Common.{◌≡◌, ℕ, ◌+◌, ◌-◌, List, length, arith}
 use Rattle.vt_disk.specs.declared.region.Region.{Region}
 use Rattle.vt_disk.specs.Disk.{SameBut}
 use Rattle.vt_disk.specs.Region.{Inside, ChangesWithin, region_bytes}
 use Rattle.vt_disk.proofs.Bytes.{part_same}
-use Rattle.vt_model.specs.declared.TheConstants.{HEAD_LEN}
-use Rattle.std.proofs.lemmas.List.{length-map, length-take-le}
 use Rattle.std.proofs.Common.{length-append, length-take}
-use Rattle.vt_clump.specs.Spelling.{Stored, IsStored}
-use Rattle.vt_clump.specs.Clumps.{stored_of}
+use Rattle.vt_clump.specs.Spelling.{IsStored}
 use Rattle.vt_arena.specs.Arena.{ArenaState, added_by, next_content}
-use Rattle.vt_arena.specs.Layout.{Content, clumps_of, directory_of, clumps_place, directory_place, used_of}
+use Rattle.vt_arena.specs.Layout.{Content, clumps_of, directory_of, clumps_place, directory_place}
 use Rattle.vt_arena.specs.Sound.{IsRegion, IsSound, HasPieces, clumps_made, entries_made}
 use Rattle.vt_arena.proofs.Layouts.{stands_inside, length-clumps, length-directory, used-append, content_fits, All-stored, all_take, used_take}
 use Rattle.vt_arena.proofs.Regions.{blocks_in_region}

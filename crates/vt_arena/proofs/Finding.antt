@@ -1,13 +1,13 @@
 -- What is read of an arena's head.
-use Rattle.std.proofs.Common.{◌≡◌, ℕ, ◌+◌, ◌*◌, ◌%◌, ◌^◌, ◌<◌, ◌≤◌, Bool, true, false, Option, Some, None, Err, List, ◌∷◌, ◌++◌, length, take, drop, refl, sym, ◌∙◌, ap, arith, add-zero}
-use Rattle.std.specs.Prelude.{slice_index, nat_lt, not, ◌==◌}
+use Rattle.std.proofs.Common.{◌≡◌, ℕ, ◌+◌, ◌*◌, ◌%◌, ◌^◌, ◌<◌, ◌≤◌, Bool, true, false, Some, None, Err, List, ◌∷◌, ◌++◌, length, drop, refl, sym, ◌∙◌, ap, arith, add-zero}
+use Rattle.std.specs.Prelude.{slice_index, nat_lt, ◌==◌}
 use Rattle.std.proofs.lemmas.List.{take-take, get_or-take, get_or-drop}
 use Rattle.std.proofs.lemmas.Bool.Decides.{nat_tests}
 use Rattle.byteorder.specs.Endian.{big_bytes}
 use Rattle.byteorder.specs.Numbers.{big_number-reads_back}
 use Rattle.vt_disk.specs.declared.region.Region.{Region}
 use Rattle.vt_disk.specs.Disk.{part}
-use Rattle.vt_twin.specs.Frames.{current_frame, named_number}
+use Rattle.vt_twin.specs.Frames.{named_number}
 use Rattle.vt_arena.specs.declared.TheConstants.{FRAME_LEN, FIELDS_LEN}
 use Rattle.vt_arena.specs.Faults.{bad_value, first_bad, Finds}
 use Rattle.vt_arena.specs.declared.bad.ArenaBad.{ArenaBad}

@@ -1,16 +1,15 @@
 -- What formatting leaves of a region.
-use Rattle.std.proofs.Common.{◌≡◌, ℕ, ◌+◌, ◌-◌, ◌*◌, ◌%◌, ◌≤◌, List, [], ◌++◌, Result, Ok, Err, length, take, drop, refl, sym, ◌∙◌, ap, arith, take-append-drop}
+use Rattle.std.proofs.Common.{◌≡◌, ℕ, ◌+◌, ◌-◌, ◌*◌, ◌%◌, ◌≤◌, List, ◌++◌, Result, Ok, Err, length, take, drop, refl, sym, ◌∙◌, ap, arith, take-append-drop}
 use Rattle.std.specs.Prelude.{OnOk, replicate, slice_index}
 use Rattle.std.proofs.lemmas.List.{length-replicate, drop-replicate}
 use Rattle.vt_disk.specs.declared.region.Region.{Region}
 use Rattle.vt_disk.specs.Disk.{part}
-use Rattle.vt_twin.specs.Frames.{frame_of as frame_at, current_frame, selector_of, selector_start, selector_len, selector_bytes}
+use Rattle.vt_twin.specs.Frames.{frame_of as frame_at, current_frame, selector_start, selector_bytes}
 use Rattle.vt_model.specs.declared.TheConstants.{HEAD_LEN}
 use Rattle.vt_arena.specs.declared.TheConstants.{FRAME_LEN, FIELDS_LEN}
 use Rattle.vt_arena.specs.declared.head.ArenaHead.{ArenaHead}
 use Rattle.vt_arena.specs.Heads.{fields_of, frame_of}
-use Rattle.vt_arena.specs.Layout.{IsArena, StandsAt, fields_at, head_of, empty}
-use Rattle.vt_arena.specs.Places.{arena_room}
+use Rattle.vt_arena.specs.Layout.{IsArena, StandsAt, head_of, empty}
 
 pub on_ok : {T E : Type 0} (r : Result T E) {P Q : Type 0} → (P → Q) → OnOk r P → OnOk r Q
 on_ok (Ok it) gives p = gives p

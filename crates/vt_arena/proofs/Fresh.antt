@@ -1,13 +1,12 @@
 -- A settled arena is sound for a fresh one.
-use Rattle.std.proofs.Common.{◌≡◌, ℕ, zero, ◌+◌, ◌*◌, ◌%◌, ◌<◌, ◌≤◌, List, [], ◌++◌, length, take, refl, sym, ◌∙◌, ap, subst, arith, append-nil}
-use Rattle.std.specs.Prelude.{All, slice_index}
+use Rattle.std.proofs.Common.{◌≡◌, ℕ, ◌+◌, ◌*◌, ◌<◌, ◌≤◌, List, [], ◌++◌, refl, sym, ◌∙◌, ap, subst, arith, append-nil}
+use Rattle.std.specs.Prelude.{slice_index}
 use Rattle.std.proofs.Math.Nat.{mod-lt}
 use Rattle.vt_disk.specs.declared.region.Region.{Region}
 use Rattle.vt_disk.specs.Disk.{SameBut}
 use Rattle.vt_disk.specs.Region.{Inside, ChangesWithin, region_bytes}
 use Rattle.vt_disk.proofs.Bytes.{part_same}
 use Rattle.vt_twin.specs.Frames.{current_frame, frame_of, named_number}
-use Rattle.vt_clump.specs.Spelling.{Stored}
 use Rattle.vt_model.specs.declared.TheConstants.{HEAD_LEN}
 use Rattle.vt_arena.specs.declared.TheConstants.{FRAME_LEN}
 use Rattle.vt_arena.specs.declared.head.ArenaHead.{ArenaHead}
@@ -16,7 +15,7 @@ use Rattle.vt_arena.specs.Faults.{CanStand}
 use Rattle.vt_arena.specs.Heads.{fields_of}
 use Rattle.vt_arena.specs.Layout.{Content, IsContent, IsArena, head_of}
 use Rattle.vt_arena.specs.Sound.{IsRegion, IsSettled, IsSound}
-use Rattle.vt_arena.proofs.Regions.{frame_in_region, named_in_region, blocks_in_region, arena_in_region}
+use Rattle.vt_arena.proofs.Regions.{frame_in_region, named_in_region, blocks_in_region}
 
 pub settled_elsewhere : (region other : Region) (read reads : List ℕ) (before after : List ℕ → Type 0) → ((i : ℕ) → Inside other i → ¬ Inside region i)
     → SameBut (Inside other) read reads → ChangesWithin other before after → IsSettled region read before → IsSettled region reads after

@@ -14,3 +14,4 @@ pub mod Staging
 pub mod Unique
 pub mod Walks
 pub mod Writes
+pub mod Written

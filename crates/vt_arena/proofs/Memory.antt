@@ -1,5 +1,5 @@
 -- What an arena in memory keeps, as the calls of a commit use it.
-use Rattle.std.proofs.Common.{◌≡◌, ℕ, ◌+◌, ◌-◌, ◌*◌, ◌<◌, ◌≤◌, List, [], length, take, get_or, Option, Some, None, refl, sym, ap, subst, arith}
+use Rattle.std.proofs.Common.{◌≡◌, ℕ, ◌+◌, ◌*◌, ◌<◌, ◌≤◌, List, [], length, take, get_or, Option, Some, None, refl, sym, ap, subst, arith}
 use Rattle.std.specs.Prelude.{IsSome, Vec, replicate, vec_capacity}
 use Rattle.std.specs.declared.alloc.Global.{Global}
 use Rattle.std.proofs.lemmas.List.{length-replicate, drop-replicate}

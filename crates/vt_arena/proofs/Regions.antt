@@ -1,12 +1,10 @@
 -- An arena lies in its region.
-use Rattle.std.proofs.Common.{◌≡◌, ℕ, ◌+◌, ◌-◌, ◌*◌, ◌%◌, ◌<◌, ◌≤◌, List, length, take, refl, sym, ◌∙◌, ap, subst, arith}
+use Rattle.std.proofs.Common.{◌≡◌, ℕ, ◌+◌, ◌*◌, ◌%◌, ◌<◌, ◌≤◌, List, length, take, ◌∙◌, ap, arith}
 use Rattle.std.specs.Prelude.{slice_index}
 use Rattle.std.proofs.Math.Nat.{mod-lt}
 use Rattle.vt_disk.specs.declared.region.Region.{Region}
-use Rattle.vt_disk.specs.Disk.{part}
 use Rattle.vt_disk.specs.Region.{region_bytes}
 use Rattle.vt_twin.specs.Frames.{current_frame, frame_of, named_number}
-use Rattle.vt_twin.proofs.Places.{frame_bound}
 use Rattle.vt_model.specs.declared.TheConstants.{HEAD_LEN}
 use Rattle.vt_arena.specs.declared.TheConstants.{FRAME_LEN}
 use Rattle.vt_arena.specs.Layout.{Content, IsContent, IsArena, HasBlocks, clumps_of, directory_of, directory_place}

@@ -1,20 +1,19 @@
 -- Staging a block keeps an arena sound.
-use Rattle.std.proofs.Common.{◌≡◌, ℕ, zero, suc, ◌+◌, ◌-◌, ◌*◌, ◌<◌, ◌≤◌, Bool, true, false, List, [], ◌∷◌, ◌++◌, length, take, map, get_or, Option, Some, None, refl, sym, ◌∙◌, ap, subst, arith, append_assoc, length-append}
+use Rattle.std.proofs.Common.{◌≡◌, ℕ, zero, suc, ◌+◌, ◌-◌, ◌≤◌, Bool, true, false, List, [], ◌∷◌, ◌++◌, length, take, map, Option, Some, None, refl, sym, ◌∙◌, ap, subst, arith, append_assoc, length-append}
 use Rattle.std.specs.Prelude.{All, IsTrue, IsFalse, IsSome, is_some, ◌||◌, nat_lt, nat_le, fold, replicate}
 use Rattle.std.proofs.lemmas.List.{map-append}
 use Rattle.std.proofs.lemmas.List.Elements.{All-append}
 use Rattle.std.proofs.lemmas.List.Sums.{sum_by_push, fold-append}
 use Rattle.std.proofs.lemmas.Bool.Decides.{nat_tests}
 use Rattle.vt_disk.specs.declared.region.Region.{Region}
-use Rattle.vt_twin.specs.Twin.{Change, calls_made}
+use Rattle.vt_twin.specs.Twin.{Change}
 use Rattle.vt_clump.specs.declared.packed.Packed.{Packed}
 use Rattle.vt_clump.specs.Spelling.{Stored, IsStored}
 use Rattle.vt_clump.specs.Clumps.{IsPacked, stored_of}
-use Rattle.vt_arena.specs.declared.head.ArenaHead.{ArenaHead}
 use Rattle.vt_arena.specs.Arena.{ArenaState, added_by, next_content, fits, is_committing, with_staged}
-use Rattle.vt_arena.specs.Layout.{Content, IsContent, StandsAt, entry_bytes, entry_of, clumps_of, directory_of, clumps_place, directory_place, used_of, chain_of, head_of}
+use Rattle.vt_arena.specs.Layout.{Content, StandsAt, entry_bytes, entry_of, clumps_of, directory_of, clumps_place, directory_place, used_of, chain_of, head_of}
 use Rattle.vt_arena.specs.Places.{block_room, directory_room, arena_room, lengths_of}
-use Rattle.vt_arena.specs.Sound.{IsSound, HasPieces}
+use Rattle.vt_arena.specs.Sound.{IsSound}
 use Rattle.vt_arena.proofs.Layouts.{fit_of, All-stored}
 use Rattle.vt_arena.proofs.Writes.{entry_is, no_calls}
 

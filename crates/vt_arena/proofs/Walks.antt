@@ -1,6 +1,6 @@
 -- What the directory says of a block that stands in it.
-use Rattle.std.proofs.Common.{◌≡◌, ℕ, zero, suc, ◌+◌, ◌-◌, ◌<◌, ◌≤◌, Bool, true, false, Option, Some, None, Err, List, [], ◌∷◌, ◌++◌, length, take, drop, refl, sym, ◌∙◌, ap, arith}
-use Rattle.std.specs.Prelude.{slice_index, nat_lt, not, ◌==◌, ◌&&◌, ◌||◌}
+use Rattle.std.proofs.Common.{◌≡◌, ℕ, ◌+◌, ◌-◌, ◌<◌, ◌≤◌, Bool, true, false, Some, None, Err, List, [], ◌∷◌, ◌++◌, length, refl, sym, ◌∙◌, ap, arith}
+use Rattle.std.specs.Prelude.{nat_lt, not, ◌==◌, ◌&&◌, ◌||◌}
 use Rattle.std.proofs.lemmas.List.{take_all}
 use Rattle.std.proofs.lemmas.Bool.Decides.{nat_tests}
 use Rattle.byteorder.specs.Endian.{big_bytes}
@@ -12,7 +12,7 @@ use Rattle.vt_clump.specs.Spelling.{Stored, IsStored}
 use Rattle.vt_arena.specs.declared.bad.BackBad.{BackBad}
 use Rattle.vt_arena.specs.declared.bad.BackBad.TheVariants.{Fault, Damaged}
 use Rattle.vt_arena.specs.declared.directory.At.{At}
-use Rattle.vt_arena.specs.Directory.{first_bad, Walks, kind_in, size_in, uncsize_in, score_in, is_out_of_sum, IsInfoOf, IsAt, IsInfo}
+use Rattle.vt_arena.specs.Directory.{first_bad, Walks, kind_in, size_in, uncsize_in, is_out_of_sum, IsInfoOf, IsAt, IsInfo}
 use Rattle.vt_arena.specs.Layout.{entry_of, used_of}
 use Rattle.vt_arena.specs.Places.{block_room}
 

@@ -1,13 +1,12 @@
 -- A commit writes clumps behind the committed ones, and entries below the committed ones.
-use Rattle.std.proofs.Common.{◌≡◌, ℕ, zero, suc, ◌+◌, ◌-◌, ◌*◌, ◌^◌, ◌<◌, ◌≤◌, List, [], ◌∷◌, ◌++◌, length, take, drop, map, Option, Some, None, refl, sym, ◌∙◌, ap, subst, arith, length-append, length-take, get_or}
+use Rattle.std.proofs.Common.{◌≡◌, ℕ, ◌+◌, ◌-◌, ◌<◌, ◌≤◌, List, [], ◌∷◌, ◌++◌, length, take, map, Option, Some, None, refl, sym, ◌∙◌, ap, subst, arith, length-take, get_or}
 use Rattle.std.specs.Prelude.{All, IsSome}
 use Rattle.std.specs.Option.{option_map_or}
 use Rattle.std.proofs.lemmas.List.{take-map, map-append, take_more, take_all, length-take-le, length-map}
-use Rattle.std.proofs.lemmas.List.Sums.{sum_by_more_le, sum_by-append}
 use Rattle.vt_disk.specs.declared.region.Region.{Region}
 use Rattle.vt_disk.specs.Disk.{Touches, SameBut, ChangesAt, part}
 use Rattle.vt_disk.specs.Region.{Inside, ChangesWithin}
-use Rattle.vt_disk.proofs.Bytes.{part_same, same_wider}
+use Rattle.vt_disk.proofs.Bytes.{same_wider}
 use Rattle.vt_twin.specs.Frames.{HasRoom}
 use Rattle.vt_twin.specs.Twin.{TwinState, Change, calls_made}
 use Rattle.vt_twin.specs.Sound.{IsSound as IsSoundTwin}
@@ -17,15 +16,15 @@ use Rattle.vt_clump.specs.Spelling.{Stored, IsStored, spelled}
 use Rattle.vt_clump.specs.Clumps.{IsPacked, stored_of}
 use Rattle.vt_model.specs.declared.TheConstants.{HEAD_LEN}
 use Rattle.vt_arena.specs.declared.TheConstants.{FRAME_LEN}
-use Rattle.vt_arena.specs.Arena.{ArenaState, added_by, next_content, pieces}
-use Rattle.vt_arena.specs.Layout.{Content, IsContent, HasBlocks, StandsAt, entry_bytes, entry_of, clumps_of, directory_of, clumps_place, directory_place, used_of}
-use Rattle.vt_arena.specs.Places.{block_room, directory_room, arena_room}
+use Rattle.vt_arena.specs.Arena.{ArenaState, added_by}
+use Rattle.vt_arena.specs.Layout.{Content, HasBlocks, StandsAt, entry_bytes, entry_of, clumps_of, directory_of, clumps_place, directory_place, used_of}
+use Rattle.vt_arena.specs.Places.{directory_room}
 use Rattle.vt_arena.specs.Sound.{IsRegion, IsSound, HasPieces, clumps_made, entries_made}
 use Rattle.vt_arena.specs.Whole.{staged_room}
-use Rattle.vt_arena.proofs.Layouts.{touched_within, stands-sum, stands_same, length-clumps, length-directory, length-entry, used-packed, All-stored, all_take, clumps-push, directory-push, content_fits}
+use Rattle.vt_arena.proofs.Layouts.{touched_within, stands-sum, stands_same, length-clumps, used-packed, All-stored, all_take, clumps-push, directory-push}
 
 -- the region of the head's twin
-pub head_region : (region : Region) → HEAD_LEN ≤ region.len → Region
+unfoldable pub head_region : (region : Region) → HEAD_LEN ≤ region.len → Region
 head_region region least =
     record { start = region.start; len = HEAD_LEN; in_range = omega (arith, region.in_range, least) }
 

@@ -2,7 +2,6 @@
 use Rattle.std.specs.Prelude.{◌≡◌, ◌==◌, ⊤, ℕ, ◌+◌, ◌≤◌, nat_lt, not, if◌then◌else◌, Option, Some, None, Result, Ok, Err, List, codes, length, take}
 use Rattle.std.specs.Str.{bytes_eq}
 use Rattle.vt_base.specs.Faults.{HasRisen}
-use Rattle.vt_arena.specs.declared.bad.Field.{Field}
 use Rattle.vt_arena.specs.declared.bad.Field.TheVariants.{Version, Number, Sealed, Used}
 use Rattle.vt_arena.specs.declared.bad.ArenaBad.{ArenaBad}
 use Rattle.vt_arena.specs.declared.bad.ArenaBad.TheVariants.{Fault, NotFormatted, Torn, NoMemory}

@@ -7,3 +7,4 @@ pub mod Places
 pub mod Reading
 pub mod Sound
 pub mod Whole
+pub mod Written

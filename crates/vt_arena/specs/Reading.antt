@@ -1,5 +1,5 @@
 -- What reading a clump answers.
-use Rattle.std.specs.Prelude.{◌≡◌, ◌⊎◌, ⊤, ℕ, ◌+◌, ◌-◌, ◌≤◌, min, List, length, Option, Some, None, Result, Ok, Err, codes}
+use Rattle.std.specs.Prelude.{◌≡◌, ⊤, ℕ, ◌+◌, ◌-◌, ◌≤◌, min, List, Some, None, Result, Ok, Err, codes}
 use Rattle.vt_base.specs.Faults.{HasRisen}
 use Rattle.vt_base.specs.declared.why.FieldValue.{FieldValue}
 use Rattle.vt_base.specs.declared.why.FieldValue.TheVariants.{Number, Score as ScoreValue, Magic as MagicValue}

@@ -1,5 +1,5 @@
 -- What an arena in memory keeps, whatever the disk holds.
-use Rattle.std.specs.Prelude.{◌≡◌, ℕ, ◌+◌, ◌-◌, ◌*◌, ◌^◌, ◌<◌, ◌≤◌, IsSome, Option, Some, None, List, length, take, drop, replicate, MatchOption, sum_by, vec_capacity}
+use Rattle.std.specs.Prelude.{◌≡◌, ℕ, ◌+◌, ◌-◌, ◌*◌, ◌≤◌, IsSome, None, List, length, take, drop, replicate, MatchOption, sum_by, vec_capacity}
 use Rattle.std.specs.Option.{ForSome}
 use Rattle.vt_twin.specs.Twin.{calls_made}
 use Rattle.vt_clump.specs.declared.packed.Packed.{Packed}

@@ -72,6 +72,7 @@ impl Arena {
     ghost use Rattle.vt_arena.specs.Arena.{fresh_arena, fits, is_committing, with_staged, with_seal, next_content, commit_calls, calls_made, Advances, content_after};
     ghost use Rattle.vt_arena.specs.Places.{IsArenaLen, directory_room, arena_room};
     ghost use Rattle.vt_arena.specs.Sound.{IsRegion, IsSound, GivesOldOrNext};
+    ghost use Rattle.vt_arena.specs.Written.{Writes};
 
     /// The arena of this length that was found. It makes room for commits, and no device call.
     pub fn resume(alloc: Global, len: u64, found: Found) -> Result<Arena, NoMemory>
@@ -231,7 +232,12 @@ impl Arena {
         ensures settled { IsTrue D.tells → result ≡ Ok Step.Done
             → Only (D.bytes disk.new) (D.images disk.new) }
 
+        // It writes one piece of the commit, or what the head's change writes, and nothing else.
+        ensures written { IsTrue D.tells
+            → OnOk result (Writes self.old region (D.bytes disk.old) (D.bytes disk.new)) }
+
         ensures steps { Advances result self.old self.new }
+        ensures left { calls_made self.old < commit_calls self.old }
         ensures len { self.new.len ≡ self.old.len }
         ensures done { IfOk result (λ step. (step ≡ Step.Done)
             ↔ (calls_made self.old + 1 ≡ commit_calls self.old)) }

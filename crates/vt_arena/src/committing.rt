@@ -1,6 +1,6 @@
 //! The device calls of a commit.
 
-ghost use Rattle.std.specs.Prelude.{◌≡◌, ◌↔◌, ◌+◌, ◌-◌, ◌*◌, ◌<◌, ◌≤◌, ℕ, List, length, IsTrue, IsSome, IfOk, IfErr, MatchResult, None, Ok};
+ghost use Rattle.std.specs.Prelude.{◌≡◌, ◌↔◌, ◌+◌, ◌-◌, ◌*◌, ◌<◌, ◌≤◌, ℕ, List, length, IsTrue, IsSome, IfOk, IfErr, OnOk, MatchResult, None, Ok};
 ghost use Rattle.vt_base.specs.Faults.{HasCause};
 ghost use Rattle.vt_disk.specs.Disk.{SameBut, Only, IsOneMore};
 ghost use Rattle.vt_disk.specs.Region.{Inside, ChangesWithin};
@@ -20,6 +20,7 @@ impl Arena {
     ghost use Rattle.vt_arena.specs.Arena.{pieces, commit_calls, calls_made, changing, after_piece, after_last, stopped_at_call, Advances, content_after, HeadAdvances};
     ghost use Rattle.vt_arena.specs.Heads.{frame_of};
     ghost use Rattle.vt_arena.specs.Sound.{IsRegion, IsSound};
+    ghost use Rattle.vt_arena.specs.Written.{Writes};
 
     /// Makes the next device call of a commit.
     pub(crate) fn make_call<D: Disk>(
@@ -36,6 +37,8 @@ impl Arena {
             (D.bytes disk.new) (D.images disk.new) }
         ensures settled { IsTrue D.tells → result ≡ Ok Step.Done
             → Only (D.bytes disk.new) (D.images disk.new) }
+        ensures written { IsTrue D.tells
+            → OnOk result (Writes self.old region (D.bytes disk.old) (D.bytes disk.new)) }
         ensures len { self.new.len ≡ self.old.len }
         ensures steps { Advances result self.old self.new }
         ensures done { IfOk result (λ step. (step ≡ Step.Done)
@@ -71,6 +74,8 @@ impl Arena {
             → IsSound score_of self.old region old (D.bytes disk.old) (D.images disk.old)
             → IsSound score_of self.new region old
             (D.bytes disk.new) (D.images disk.new) }
+        ensures written { IsTrue D.tells
+            → OnOk result (Writes self.old region (D.bytes disk.old) (D.bytes disk.new)) }
         ensures len { self.new.len ≡ self.old.len }
         ensures steps { MatchResult result
             (λ step. (step ≡ Step.More) × (self.new ≡ after_piece self.old))
@@ -112,6 +117,8 @@ impl Arena {
             → IsSound score_of self.old region old (D.bytes disk.old) (D.images disk.old)
             → IsSound score_of self.new region old
             (D.bytes disk.new) (D.images disk.new) }
+        ensures written { IsTrue D.tells
+            → OnOk result (Writes self.old region (D.bytes disk.old) (D.bytes disk.new)) }
         ensures len { self.new.len ≡ self.old.len }
         ensures steps { MatchResult result
             (λ step. (step ≡ Step.More) × (self.new ≡ after_piece self.old))
@@ -169,6 +176,8 @@ impl Arena {
             (D.bytes disk.new) (D.images disk.new) }
         ensures settled { IsTrue D.tells → result ≡ Ok Step.Done
             → Only (D.bytes disk.new) (D.images disk.new) }
+        ensures written { IsTrue D.tells
+            → OnOk result (Writes self.old region (D.bytes disk.old) (D.bytes disk.new)) }
         ensures len { self.new.len ≡ self.old.len }
         ensures steps { HeadAdvances result self.old self.new }
         ensures done { IfOk result (λ step. (step ≡ Step.Done)

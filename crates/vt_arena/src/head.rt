@@ -23,7 +23,8 @@ pub struct ArenaHead {
     pub clumps: u32,
     /// How many bytes their clumps are.
     pub used: u64,
-    /// The chain of the scores of their directory entries. In a sealed arena it is the seal score.
+    /// The chain of the scores of their directory entries. Once an arena is sealed this stays as it
+    /// is, and is the score by which the arena as a whole is known.
     pub chain: Score,
 }
 

@@ -1,9 +1,10 @@
 //! Reading a clump.
 
-ghost use Rattle.std.specs.Prelude.{◌≡◌, ◌⊎◌, ◌+◌, ◌≤◌, ◌∷◌, ◌++◌, min, ◌-◌, ◌^◌, ℕ, List, length, IsTrue, IfOk, OnOk, Ok, Err, MatchResult};
-ghost use Rattle.vt_disk.specs.Disk.{AreAmong, part};
+ghost use Rattle.std.specs.Prelude.{◌≡◌, ◌⊎◌, ◌+◌, ◌≤◌, ◌∷◌, ◌++◌, min, ◌-◌, ◌^◌, ℕ, List, length, IsTrue, IfOk, IfErr, OnOk, Ok, Err, MatchResult};
+ghost use Rattle.vt_base.specs.Bytes.{AreBytes};
+ghost use Rattle.vt_disk.specs.Disk.{AreAmong, IsOneMore};
 ghost use Rattle.vt_disk.specs.Region.{FitsDisk};
-ghost use Rattle.vt_clump.specs.Spelling.{Stored, IsStored};
+ghost use Rattle.vt_clump.specs.Spelling.{Stored, IsStored, size_in};
 ghost use Rattle.vt_clump.specs.Clumps.{IsRead};
 ghost use Rattle.vt_arena.specs.Layout.{Content, IsContent, HasBlocks};
 ghost use Rattle.vt_arena.specs.Places.{offset_of};
@@ -11,13 +12,13 @@ ghost use Rattle.vt_arena.specs.Reading.{HasHeader, clump_at, header_at, damage_
 
 use crate::bad::ReadBad;
 use std::alloc::Global;
-use vt_base::{Failed, FieldValue, Scorer};
-use vt_clump::{Clump, ClumpBad, Encoding, block_len, unpack};
+use vt_base::{Bytes, Failed, FieldValue, Scorer};
+use vt_clump::{Clump, ClumpBad, Encoding, block_len, unpack_block};
 use vt_disk::{Disk, Region};
 use vt_model::{CLUMP_HEADER_LEN, HEAD_LEN};
 
-/// Reads the clump at an offset of an arena's region: its header, which says how long it is, and
-/// then the whole of it.
+/// Reads the clump at an offset of an arena's region: its header, which says how long its block is,
+/// and then the block.
 ///
 /// Damaged says by what value the clump differs from one whose block has the score that it names.
 /// An offset at which no header lies between the head and the region's end is Damaged too, with
@@ -65,11 +66,15 @@ pub fn read<D: Disk, S: Scorer>(
             found: FieldValue::Number(u128::from(offset)),
         });
     }
-    let clump = match read_bytes(alloc, disk, region, offset) {
-        Ok(clump) => clump,
+    let mut header = [0; CLUMP_HEADER_LEN];
+    let Ok(()) = region.read_at(disk, offset, &mut header) else {
+        return Err(ReadBad::Fault);
+    };
+    let block = match read_block(alloc, disk, region, offset, &header) {
+        Ok(block) => block,
         Err(bad) => return Err(bad),
     };
-    match unpack(alloc, &clump, scorer) {
+    match unpack_block(&header, block, scorer) {
         Ok(clump) => Ok(clump),
         Err(bad) => Err(refusal(bad)),
     }
@@ -83,41 +88,38 @@ fn has_header(len: u64, offset: u64) -> bool
     offset >= HEAD_LEN as u64 && len >= header_len && offset <= len - header_len
 }
 
-/// Reads a clump's bytes, cut at the region's end.
-fn read_bytes<D: Disk>(
+/// Reads the block that stands behind this header, cut at the region's end.
+fn read_block<D: Disk>(
     alloc: Global,
     disk: &mut D,
     region: Region,
     offset: u64,
-) -> Result<Vec<u8>, ReadBad>
+    header: &[u8; CLUMP_HEADER_LEN],
+) -> Result<Bytes, ReadBad>
     requires region { FitsDisk region (D.size disk.old) }
     requires header { HasHeader region.len offset }
-    ensures read { IfOk result (λ clump. IsTrue D.tells
-        → clump.items ≡ clump_at region offset (D.bytes disk.old)) }
-    ensures header { IfOk result (λ clump. CLUMP_HEADER_LEN ≤ length clump.items) }
-    ensures refused { MatchResult result (λ _. ⊤)
-        (λ bad. (bad ≡ ReadBad.Fault) ⊎ (bad ≡ ReadBad.NoMemory)) }
-    ensures calls { IsTrue D.tells
-        → OnOk result (D.calls disk.new ≡ min (D.calls disk.old + 2) (2 ^ 64 - 1)) }
-    ensures most_calls { IsTrue D.tells → D.calls disk.new ≤ D.calls disk.old + 2 }
+    ensures read { IfOk result (λ block. IsTrue D.tells
+        → header.now ≡ header_at region offset (D.bytes disk.old)
+        → header.now ++ block ≡ clump_at region offset (D.bytes disk.old)) }
+    ensures most { IfOk result (λ block. length block ≤ size_in header.now) }
+    ensures header { (length header.now ≡ CLUMP_HEADER_LEN) × AreBytes header.now }
+    ensures refused { IfErr result (λ bad. (bad ≡ ReadBad.Fault) ⊎ (bad ≡ ReadBad.NoMemory)) }
+    ensures calls { IsTrue D.tells → OnOk result (IsOneMore (D.calls disk.old) (D.calls disk.new)) }
+    ensures most_calls { IsTrue D.tells → D.calls disk.new ≤ D.calls disk.old + 1 }
     ensures bytes { D.bytes disk.new ≡ D.bytes disk.old }
     ensures images { AreAmong (D.images disk.new) (D.images disk.old) }
     ensures size { D.size disk.new ≡ D.size disk.old }
     ensures cause { MatchResult result (λ _. D.faults disk.new ≡ D.faults disk.old)
         (λ bad. CountsFault bad (D.faults disk.old) (D.faults disk.new)) }
 {
-    let mut header = [0; CLUMP_HEADER_LEN];
-    let Ok(()) = region.read_at(disk, offset, &mut header) else {
-        return Err(ReadBad::Fault);
-    };
-    let rest = (region.len - offset) as usize - CLUMP_HEADER_LEN;
-    let len = usize::from(block_len(&header)).min(rest);
-    let mut clump = Vec::new(alloc);
-    let Ok(()) = clump.resize(CLUMP_HEADER_LEN + len, 0) else {
+    let at = offset + CLUMP_HEADER_LEN as u64;
+    let len = u64::from(block_len(header)).min(region.len - at);
+    let mut block = Vec::new(alloc);
+    let Ok(()) = block.resize(len as usize, 0) else {
         return Err(ReadBad::NoMemory);
     };
-    match region.read_at(disk, offset, &mut clump) {
-        Ok(()) => Ok(clump),
+    match region.read_at(disk, at, &mut block) {
+        Ok(()) => Ok(Bytes::from_vec(block)),
         Err(Failed) => Err(ReadBad::Fault),
     }
 }
@@ -147,4 +149,4 @@ fn number(n: u16) -> FieldValue
     FieldValue::Number(u128::from(n))
 }
 
-ghost use Rattle.std.specs.Prelude.{◌↔◌, ⊤};
+ghost use Rattle.std.specs.Prelude.{◌↔◌};

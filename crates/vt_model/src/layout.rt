@@ -76,7 +76,7 @@ impl Layout {
     }
 }
 
-/// The bucket of a score, of so many.
+/// The number of a score's bucket, of so many buckets: they divide the scores evenly, in order.
 pub fn bucket_of(buckets: u128, score: &Score) -> u128
     requires { buckets < 2 ^ 96 }
     ensures { result ≡ bucket_of buckets score.now.0 }

@@ -6,6 +6,7 @@ mod layout;
 mod plain;
 mod stored;
 
+pub use layout::bucket_of;
 pub use plain::PlainStore;
 
 /// How many bytes the head of an arena takes, and so where its first block stands.

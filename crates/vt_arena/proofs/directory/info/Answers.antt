@@ -1,10 +1,8 @@
-use Rattle.std.proofs.Common.{◌≡◌, ℕ, ◌+◌, ◌-◌, ◌*◌, ◌≤◌, List, Option, Some, None, refl, sym, ◌∙◌, ap, subst, arith, rules}
-use Rattle.vt_base.specs.declared.place.Info.{Info}
+use Rattle.std.proofs.Common.{◌≡◌, ℕ, List, Some, None, refl, sym, ◌∙◌, ap, subst, arith}
 use Rattle.vt_arena.specs.declared.head.ArenaHead.{ArenaHead}
 use Rattle.vt_arena.specs.declared.bad.BackBad.{BackBad}
-use Rattle.vt_arena.specs.Directory.{first_bad, last_entry, IsAt, IsInfo, IsInfoOf}
+use Rattle.vt_arena.specs.Directory.{first_bad, last_entry, IsInfoOf}
 use Rattle.vt_arena.specs.Layout.{entry_of, directory_place}
-use Rattle.vt_arena.specs.Places.{directory_room, arena_room}
 use Rattle.vt_arena.proofs.Blocks.{stored, entry_stands}
 use Rattle.vt_arena.proofs.Walks.{entry_passes, entry_info, entry_read, walks_bad}
 use Rattle.vt_arena.proofs.directory.info.Goals as goal

@@ -1,4 +1,3 @@
-use Rattle.std.proofs.Common.{arith}
 use Rattle.vt_disk.specs.Region.{Inside}
 use Rattle.vt_disk.proofs.Bytes.{part_same}
 use Rattle.vt_arena.proofs.Regions.{blocks_in_region, arena_in_region}

@@ -1,5 +1,4 @@
-use Rattle.std.proofs.Common.{◌≡◌, ℕ, List, length, refl, sym, ◌∙◌, ap, subst, rules}
-use Rattle.vt_arena.specs.Heads.{frame_of}
+use Rattle.std.proofs.Common.{◌≡◌, ℕ, List, length, sym, ◌∙◌, subst, rules}
 use Rattle.vt_arena.specs.Layout.{IsArena, head_of, empty}
 use Rattle.vt_arena.proofs.Formatting.{on_ok, on_both, written_frame, frame_there, current_there, selector_there, empty_arena}
 use Rattle.vt_arena.proofs.mounting.format.Goals as goal

@@ -1,4 +1,4 @@
-use Rattle.std.proofs.Common.{◌≡◌, ⊎_elim, ℕ, Option, None, sym, ◌∙◌, ap, rules}
+use Rattle.std.proofs.Common.{◌≡◌, ⊎_elim, None, sym, ◌∙◌, ap, rules}
 use Rattle.vt_arena.specs.Arena.{ArenaState}
 use Rattle.vt_arena.proofs.Crashes.{gives_before, gives_after, gives_last}
 use Rattle.vt_arena.proofs.arena.Arena.advance.Goals as goal

@@ -1,4 +1,4 @@
-use Rattle.std.proofs.Common.{◌≡◌, ◌↔◌, ◌⊎◌, inl, ℕ, ◌+◌, ◌≤◌, List, Option, Some, None, Ok, Err, Result, refl, sym, ◌∙◌, ap, subst, arith}
+use Rattle.std.proofs.Common.{◌≡◌, ◌↔◌, inl, ◌≤◌, None, Ok, Err, Result, refl, ◌∙◌, ap, subst, arith}
 use Rattle.std.specs.Prelude.{IfOk, OnOk}
 use Rattle.vt_disk.specs.Disk.{Only}
 use Rattle.vt_twin.specs.declared.step.Step.{Step}
@@ -6,13 +6,14 @@ use Rattle.vt_twin.specs.declared.step.Step.TheVariants.{More, Done}
 use Rattle.vt_twin.specs.declared.step.TwinErr.{TwinErr}
 use Rattle.vt_twin.specs.declared.step.TwinErr.TheVariants.{Fault}
 use Rattle.vt_twin.specs.Calls.{IsSync}
-use Rattle.vt_twin.specs.Twin.{TwinState, CountsFault, Advances, calls_made, next_frame, after_call, after_fault, after_last, without_spare}
+use Rattle.vt_twin.specs.Twin.{TwinState, CountsFault, Advances, calls_made, next_frame, after_last, without_spare}
 use Rattle.vt_twin.specs.Sound.{IsSound as IsSoundTwin, frame_after}
-use Rattle.vt_clump.specs.declared.packed.Packed.{Packed}
-use Rattle.vt_arena.specs.Arena.{ArenaState, next_content}
-use Rattle.vt_arena.specs.Sound.{IsSound}
+use Rattle.vt_arena.specs.Arena.{ArenaState}
 use Rattle.vt_arena.proofs.Commits.{twin_moved, fault_only, sync_or_before, head_sound, done_sound}
 use Rattle.vt_arena.proofs.Memory.{more_whole}
+use Rattle.vt_arena.specs.Written.{Writes}
+use Rattle.vt_arena.proofs.Writes.{head_region}
+use Rattle.vt_arena.proofs.Written.{writes_head}
 use Rattle.vt_arena.proofs.arena.Arena.advance_head.Goals as goal
 
 pub invariant_of-self-in-Ok-More : goal.invariant_of-self-in-Ok-More
@@ -92,3 +93,17 @@ returns-in-Err-clause-faults g c =
     let runs : t.stopped ≡ None = c.self.invariant.runs (rw (← c.self.view_is) at c.requires.runs) in
     let fault = fault_only c.advance.result t.stopped runs c.advance.ensures.stopped _ c.in-Err.is in
     subst (λ (r : Result Step TwinErr). CountsFault r (g.D.Disk.faults c.args.disk.now) (g.D.Disk.faults c.advance.new.disk)) (c.in-Err.is ∙ ap (λ (e : TwinErr). Err e) fault) c.advance.ensures.faults
+
+pub returns-in-Ok-More-clause-written : goal.returns-in-Ok-More-clause-written
+unfolding head_region
+returns-in-Ok-More-clause-written g c told =
+    let begun = rw (← c.self.view_is) at c.requires.begun in
+    subst (λ (s : ArenaState). Writes s c.args.region (g.D.Disk.bytes c.args.disk.now) (g.D.Disk.bytes c.advance.new.disk)) c.self.view_is
+    (writes_head _ c.args.region (head_region c.args.region (omega (arith, c.requires.region.len.0))) _ _ refl refl (c.self.invariant.begun begun) begun c.self.invariant.frame_len (c.in-Ok-More.ensures.written told))
+
+pub returns-in-Ok-Done-clause-written : goal.returns-in-Ok-Done-clause-written
+unfolding head_region
+returns-in-Ok-Done-clause-written g c told =
+    let begun = rw (← c.self.view_is) at c.requires.begun in
+    subst (λ (s : ArenaState). Writes s c.args.region (g.D.Disk.bytes c.args.disk.now) (g.D.Disk.bytes c.advance.new.disk)) c.self.view_is
+    (writes_head _ c.args.region (head_region c.args.region (omega (arith, c.requires.region.len.0))) _ _ refl refl (c.self.invariant.begun begun) begun c.self.invariant.frame_len (c.in-Ok-Done.ensures.written told))

@@ -1,4 +1,4 @@
-use Rattle.std.proofs.Common.{◌≡◌, ℕ, List, ◌++◌, take, drop, take-append-drop, Option, None, length, subst, refl, sym, ◌∙◌, ap, arith, rules}
+use Rattle.std.proofs.Common.{◌≡◌, ℕ, List, ◌++◌, drop, take-append-drop, Option, None, subst, sym, ◌∙◌, ap, rules}
 use Rattle.std.specs.Prelude.{MatchOption}
 use Rattle.std.proofs.lemmas.List.{take_at}
 use Rattle.vt_arena.specs.declared.TheConstants.{FIELDS_LEN}

@@ -1,11 +1,12 @@
-use Rattle.std.proofs.Common.{◌≡◌, ◌+◌, ◌*◌, ◌≤◌, ℕ, List, length, Option, Some, None, false, refl, sym, ◌∙◌, ap, subst, arith, rules}
-use Rattle.std.specs.Prelude.{is_some}
-use Rattle.vt_twin.specs.Twin.{with_change}
+use Rattle.std.proofs.Common.{◌≡◌, ◌*◌, length, None, false, sym, ◌∙◌, ap, subst, arith, rules}
+use Rattle.std.specs.Prelude.{OnOk, is_some}
 use Rattle.vt_arena.specs.Arena.{ArenaState, content_after, pieces}
 use Rattle.vt_arena.specs.Layout.{Content}
 use Rattle.vt_arena.specs.Sound.{IsSound}
 use Rattle.vt_arena.proofs.Commits.{begin_sound, content_twin, content_piece, none_is}
 use Rattle.vt_arena.proofs.arena.Arena.make_call.Goals.{then-not-is_changing, else-not-is_changing}
+use Rattle.vt_arena.specs.Written.{Writes}
+use Rattle.vt_arena.proofs.Written.{writes_first}
 use Rattle.vt_arena.proofs.arena.Arena.make_call.Goals as goal
 
 pub returns-then-self-count-clause-sound : goal.returns-then-self-count-clause-sound
@@ -38,4 +39,19 @@ returns-clause-sound g c score_of old told sound =
           (ap (λ (s : ArenaState). content_after c.advance_head.result s old) w.self-is)
           (c.advance_head.ensures.sound score_of old told
           (subst (λ (s : ArenaState). IsSound score_of s c.args.region old (g.D.Disk.bytes c.args.disk.now) (g.D.Disk.images c.args.disk.now)) (sym w.self-is) sound))
+    ]
+
+pub returns-clause-written : goal.returns-clause-written
+returns-clause-written g c told =
+    let a = c.args.self.now in
+    elim c.if-not-is_changing.branch [
+      | then-not-is_changing w ↦
+          let off : is_some c.self.inside.twin.change ≡ false = search rules in
+          let rest : a.twin.change ≡ None = ap (λ (s : ArenaState). s.twin.change) (sym c.self.view_is) ∙ none_is c.self.inside.twin.change off in
+          writes_first c.advance_head.result a c.args.region _ _ rest
+          (subst (λ (s : ArenaState). OnOk c.advance_head.result (Writes s c.args.region (g.D.Disk.bytes c.args.disk.now) (g.D.Disk.bytes c.advance_head.new.disk)))
+          (w.self-is ∙ w.begin_head.ensures.begun) (c.advance_head.ensures.written told))
+      | else-not-is_changing w ↦
+          subst (λ (s : ArenaState). OnOk c.advance_head.result (Writes s c.args.region (g.D.Disk.bytes c.args.disk.now) (g.D.Disk.bytes c.advance_head.new.disk)))
+          w.self-is (c.advance_head.ensures.written told)
     ]

@@ -1,4 +1,4 @@
-use Rattle.std.proofs.Common.{rules, arith}
+use Rattle.std.proofs.Common.{rules}
 use Rattle.vt_arena.proofs.Memory.{fresh_whole}
 use Rattle.vt_arena.proofs.arena.Arena.resume.Goals as goal
 

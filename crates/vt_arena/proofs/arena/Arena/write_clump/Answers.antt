@@ -1,8 +1,11 @@
-use Rattle.std.proofs.Common.{◌≡◌, ℕ, ◌+◌, ◌-◌, ◌*◌, ◌<◌, ◌≤◌, List, length, refl, sym, ◌∙◌, ap, arith}
+use Rattle.std.proofs.Common.{◌≡◌, ℕ, ◌+◌, List, length, refl, ◌∙◌, ap, subst, arith}
 use Rattle.vt_disk.specs.Disk.{part}
 use Rattle.vt_disk.proofs.Bytes.{part-with_bytes}
 use Rattle.vt_arena.proofs.Memory.{at_rest, clump_room}
 use Rattle.vt_arena.proofs.Writes.{clump_failed, clump_made, within_region, changes_in_region}
+use Rattle.vt_arena.specs.Arena.{ArenaState}
+use Rattle.vt_arena.specs.Written.{Writes}
+use Rattle.vt_arena.proofs.Written.{writes_clump}
 use Rattle.vt_arena.proofs.arena.Arena.write_clump.Goals as goal
 
 pub returns-in-Ok-clause-images : goal.returns-in-Ok-clause-images
@@ -55,3 +58,9 @@ returns-in-Ok-clause-sound g c score_of old told sound =
     clump_made score_of _ c.args.region _ old _ _ _ _ c.requires.region (at_rest c.self.inside c.self.invariant (omega (arith, next)))
     place (length c.as_slice.result.now) c.write_at-outcome.ensures.images (c.write_at-outcome.ensures.others told) (rw (← c.self.view_is) at sound)
     next p c.index-packed.ensures n_is c.self.inside.end 0 c.self.invariant.end_is refl (omega (arith, fits, same)) _ (written ∙ c.as_slice.ensures)
+
+pub returns-in-Ok-clause-written : goal.returns-in-Ok-clause-written
+returns-in-Ok-clause-written g c told =
+    subst (λ (s : ArenaState). Writes s c.args.region (g.D.Disk.bytes c.args.disk.now) (g.D.Disk.bytes c.write_at-outcome.new.disk)) c.self.view_is
+    (writes_clump _ c.args.region _ _ c.as_slice.result.now c.index-packed.result.now (c.args.region.start + (24576 + c.self.inside.end)) (c.in-Ok.ensures.written told)
+    (rw (← c.self.view_is) at c.requires.next) c.index-packed.ensures c.as_slice.ensures (omega (arith, c.self.invariant.end_is)))

@@ -1,4 +1,4 @@
-use Rattle.std.proofs.Common.{◌≡◌, ℕ, ◌+◌, ◌-◌, ◌*◌, ◌<◌, ◌≤◌, List, length, get_or, refl, sym, ◌∙◌, ap, subst, arith}
+use Rattle.std.proofs.Common.{◌≡◌, ℕ, ◌+◌, ◌-◌, List, length, get_or, sym, ◌∙◌, ap, subst, arith}
 use Rattle.vt_disk.specs.Disk.{part}
 use Rattle.vt_disk.proofs.Bytes.{part-with_bytes}
 use Rattle.vt_clump.specs.declared.packed.Packed.{Packed}
@@ -6,6 +6,9 @@ use Rattle.vt_clump.specs.Clumps.{IsPacked}
 use Rattle.vt_arena.specs.Places.{directory_room}
 use Rattle.vt_arena.proofs.Memory.{at_rest, entry_room}
 use Rattle.vt_arena.proofs.Writes.{entry_failed, entry_made, entry_is, within_region, changes_in_region}
+use Rattle.vt_arena.specs.Arena.{ArenaState}
+use Rattle.vt_arena.specs.Written.{Writes}
+use Rattle.vt_arena.proofs.Written.{writes_entry}
 use Rattle.vt_arena.proofs.arena.Arena.write_entry.Goals as goal
 
 -- the entry that is read
@@ -94,3 +97,16 @@ returns-in-Ok-clause-sound g c score_of old told sound =
     (omega (arith, fits, same)) _ c.entry_bytes-entry.result
     (c.entry_bytes-entry.ensures.bytes ∙ entry_is score_of p (subst (λ (q : Packed). IsPacked score_of q) (sym is) (held.packed j p (omega (arith, clumps, next)))))
     n_is written
+
+pub returns-in-Ok-clause-written : goal.returns-in-Ok-clause-written
+returns-in-Ok-clause-written g c told =
+    let a = c.self.inside in
+    let next = rw (← c.self.view_is) at c.requires.next in
+    let clumps = rw (← c.self.view_is) at c.requires.clumps in
+    let same = rw (← c.self.view_is) at c.requires.same in
+    let room : c.directory_room.result ≡ directory_room (a.head.clumps + (a.written - length a.staged.items) + 1) = omega (arith, c.directory_room.ensures, c.from.ensures, c.len.ensures) in
+    let fits = entry_room a c.self.invariant in
+    subst (λ (s : ArenaState). Writes s c.args.region (g.D.Disk.bytes c.args.disk.now) (g.D.Disk.bytes c.write_at-outcome.new.disk)) c.self.view_is
+    (writes_entry _ c.args.region _ _ c.entry_bytes-entry.result c.index.result.now (c.args.region.start + (a.len - c.directory_room.result)) (c.in-Ok.ensures.written told)
+    clumps next (index_is a.staged.items a.written c.len.result c.index.result.now (omega (arith, c.len.ensures)) c.index.ensures) c.entry_bytes-entry.ensures.bytes (sym same)
+    (omega (arith, fits, next, clumps)) (omega (arith, room)))

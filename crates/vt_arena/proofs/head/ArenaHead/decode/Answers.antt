@@ -1,6 +1,5 @@
-use Rattle.std.proofs.Common.{◌≡◌, take, sym, ◌∙◌, arith, rules, nat_eq}
+use Rattle.std.proofs.Common.{◌≡◌, take, arith, rules, nat_eq}
 use Rattle.std.specs.Prelude.{codes, slice_index}
-use Rattle.vt_arena.specs.Heads.{IsHeadOf}
 use Rattle.vt_arena.proofs.Heads.{flag_reads, head_spells}
 use Rattle.vt_arena.proofs.head.ArenaHead.decode.Goals as goal
 
