@@ -1,0 +1,116 @@
+-- What is begun on a section at rest.
+use Rattle.std.proofs.Common.{◌≡◌, ◌≢◌, ◌⊎◌, inl, inr, ⊎_elim, ℕ, ◌+◌, ◌-◌, ◌^◌, ◌<◌, ◌≤◌, List, [], ◌∷◌, ◌++◌, length, Option, Some, None, refl, sym, ◌∙◌, ap, subst, arith}
+use Rattle.std.specs.List.{Contains}
+use Rattle.vt_base.specs.declared.place.Entry.{Entry}
+use Rattle.vt_model.specs.History.{History}
+use Rattle.vt_model.specs.Places.{Setup, bucket_of}
+use Rattle.vt_twin.specs.Twin.{TwinState, with_change}
+use Rattle.vt_isect.specs.declared.head.Head.{Head}
+use Rattle.vt_isect.specs.declared.phase.Phase.{Phase}
+use Rattle.vt_isect.specs.declared.phase.Phase.TheVariants.{Rest, ReadSelector, ReadFrame, ChangeBucket, ChangeHead}
+use Rattle.vt_isect.specs.Agreement.{IsOfBlock, IsCovered, NoOthers, KnownAgrees}
+use Rattle.vt_isect.specs.Head.{IsHead, encoded}
+use Rattle.vt_isect.specs.Section.{SectionState, AreInRange, HasBucket, IsTodo, entries_of, bucket_number}
+use Rattle.std.proofs.lemmas.List.Elements.{Contains-push_cases}
+use Rattle.vt_isect.specs.Layout.{InRange}
+use Rattle.vt_isect.specs.Sound.{Known, IsSoundSection}
+use Rattle.vt_isect.specs.Writeback.{BeginsFrom}
+use Rattle.vt_isect.proofs.Heads.{frame_has}
+use Rattle.vt_isect.proofs.Moves.{section_moves, head_begins}
+use Rattle.vt_isect.proofs.Stepping.{covers_more}
+
+-- what is known agrees with the head that begins to be written
+pub agrees_begins : {D : Type 0} (score : List ℕ → List ℕ) (c : Setup) (h : History) (t : SectionState D) (next : Head) (hw : TwinState) (known : Known)
+    → KnownAgrees score c h t known → next.first ≡ t.head.first → next.total ≡ t.head.total
+    → (next.state ≡ 1 → IsCovered score c h t known NoOthers next.mark)
+    → KnownAgrees score c h (record t { next = next; phase = ChangeHead; entries = None; head_twin = hw }) known
+agrees_begins score c h t next hw known agrees first total cover =
+    let v = record t { next = next; phase = ChangeHead; entries = None; head_twin = hw } in
+    record {
+      keys = agrees.keys;
+      total = agrees.total;
+      same_first = first;
+      same_total = total;
+      whole = agrees.whole;
+      blocks = agrees.blocks;
+      todo = λ entry way. absurd way.0;
+      filed = λ live. covers_more score c h t v known NoOthers NoOthers t.head.mark refl refl (λ e none. none) (agrees.filed live);
+      coming = λ live. covers_more score c h t v known NoOthers (IsTodo v) next.mark refl refl (λ e none. absurd none) (cover live);
+    }
+
+-- and with the entries that begin to be written
+agrees_file : {D : Type 0} (score : List ℕ → List ℕ) (c : Setup) (h : History) (t : SectionState D) (mark : ℕ) (p : Phase) (es : List Entry) (b : ℕ) (hw : TwinState) (known : Known)
+    → ((entry : Entry) → Contains es entry → IsTodo (record t { next = record t.head { mark = mark }; phase = p; entries = Some es; bucket = b; head_twin = hw }) entry)
+    → KnownAgrees score c h t known
+    → ((entry : Entry) → Contains es entry → IsOfBlock score c h entry)
+    → (t.head.state ≡ 1 → IsCovered score c h t known (Contains es) mark)
+    → KnownAgrees score c h (record t { next = record t.head { mark = mark }; phase = p; entries = Some es; bucket = b; head_twin = hw }) known
+agrees_file score c h t mark p es b hw known forth agrees of cover =
+    let v = record t { next = record t.head { mark = mark }; phase = p; entries = Some es; bucket = b; head_twin = hw } in
+    record {
+      keys = agrees.keys;
+      total = agrees.total;
+      same_first = refl;
+      same_total = refl;
+      whole = agrees.whole;
+      blocks = agrees.blocks;
+      todo = λ entry way. of entry way.1;
+      filed = λ live. covers_more score c h t v known NoOthers NoOthers t.head.mark refl refl (λ e none. none) (agrees.filed live);
+      coming = λ live. covers_more score c h t v known (Contains es) (IsTodo v) mark refl refl forth (cover live);
+    }
+
+-- the section whose entries are to be written
+abbrev given : {D : Type 0} → SectionState D → (mark : ℕ) → List Entry → SectionState D
+given t mark es = record t { next = record t.head { mark = mark }; entries = Some es }
+
+-- what begins, of the bucket or of the head
+abbrev pub Begins : {D : Type 0} → (t : SectionState D) (mark : ℕ) (es : List Entry) (v : SectionState D) → Type 0
+Begins t mark es v = (v ≡ record (given t mark es) { phase = ReadSelector; bucket = v.bucket })
+    ⊎ (v ≡ record (given t mark es) { phase = ChangeHead; head_twin = with_change (encoded t.name (record t.head { mark = mark })) t.head_twin })
+
+pub file_agrees : {D : Type 0} (score : List ℕ → List ℕ) (c : Setup) (h : History) (t : SectionState D) (mark : ℕ) (es : List Entry) (v : SectionState D) (known : Known)
+    → BeginsFrom 0 v → Begins t mark es v
+    → KnownAgrees score c h t known
+    → ((entry : Entry) → Contains es entry → IsOfBlock score c h entry)
+    → (t.head.state ≡ 1 → IsCovered score c h t known (Contains es) mark)
+    → KnownAgrees score c h v known
+file_agrees score c h t mark es v known begins (inl e) agrees of cover =
+    let at = subst (λ x. BeginsFrom 0 x) e begins in
+    subst (λ x. KnownAgrees score c h x known) (sym e)
+    (agrees_file score c h t mark ReadSelector es v.bucket t.head_twin known
+    (λ entry has. (tt, has, ⊎_elim (λ here. here.3 entry has (omega arith)) (λ there. absurd (let q = there.0 in cc)) at)) agrees of cover)
+file_agrees score c h t mark es v known begins (inr e) agrees of cover =
+    let at = subst (λ x. BeginsFrom 0 x) e begins in
+    subst (λ x. KnownAgrees score c h x known) (sym e)
+    (agrees_file score c h t mark ChangeHead es t.bucket (with_change (encoded t.name (record t.head { mark = mark })) t.head_twin) known
+    (λ entry has. absurd (⊎_elim (λ here. let q = here.0 in cc) (λ there. let low = there.2 entry has in omega (arith, low)) at)) agrees of cover)
+
+pub file_sound : {D : Type 0} (t : SectionState D) (mark : ℕ) (es : List Entry) (v : SectionState D) (known : Known) (read : List ℕ) (images : List ℕ → Type 0)
+    → t.phase ≡ Rest → length t.name ≡ 64 → mark < 2 ^ 64 → Begins t mark es v
+    → IsSoundSection t known read images → IsSoundSection v known read images
+file_sound t mark es v known read images rest len low (inl e) sound =
+    subst (λ x. IsSoundSection x known read images) (sym e)
+    (section_moves t t.disk (record t.head { mark = mark }) ReadSelector (Some es) v.bucket t.calls t.bucket_twin t.stopped known read read images images
+    (λ q. cc) (λ q. cc) (λ q. cc) (λ q. cc) refl (λ c left. left) (λ k r way. absurd (cc)) sound)
+file_sound t mark es v known read images rest len low (inr e) sound =
+    let was = sound.head.fits in
+    let fits : IsHead (record t.head { mark = mark }) = record {
+      state = was.state;
+      first = was.first;
+      count = was.count;
+      total = was.total;
+      mark = low;
+    } in
+    subst (λ x. IsSoundSection x known read images) (sym e)
+    (head_begins t (record t.head { mark = mark }) (Some es) (encoded t.name (record t.head { mark = mark })) known read images (λ q. cc) (λ q. cc) (frame_has t.name (record t.head { mark = mark }) fits len) sound)
+
+-- entries one after another
+pub in_range_none : (head : Head) (buckets : ℕ) (entries : List Entry) → entries ≡ [] → AreInRange head buckets entries
+in_range_none head buckets entries none entry has = absurd (let e : length entries ≡ 0 = ap (λ (l : List Entry). length l) none in omega (arith, has.1))
+
+pub in_range_more : (head : Head) (buckets : ℕ) (front : List Entry) (y : Entry) → InRange head buckets (bucket_of head.total y.key.score.0)
+    → AreInRange head buckets front → AreInRange head buckets (front ++ y ∷ [])
+in_range_more head buckets front y here before entry has = ⊎_elim
+    (λ (was : Contains front entry). before entry was)
+    (λ (is : y ≡ entry). subst (λ (e : Entry). InRange head buckets (bucket_of head.total e.key.score.0)) is here)
+    (Contains-push_cases front y entry has)

@@ -1,0 +1,130 @@
+-- A bucket that is cleared, and what was known of the others.
+use Rattle.std.proofs.Common.{◌≡◌, ◌≢◌, ◌⊎◌, inl, inr, ⊎_elim, ℕ, ◌+◌, ◌-◌, ◌*◌, ◌%◌, ◌<◌, ◌≤◌, Bool, true, false, List, [], length, Option, Some, None, refl, sym, ◌∙◌, ap, subst, arith, cond, eqb}
+use Rattle.std.specs.Prelude.{IsSome}
+use Rattle.std.specs.List.{Contains}
+use Rattle.std.proofs.lemmas.Bool.{cases_eq, cases_Bool}
+use borrow.Author.Tests.{eqb-true, eqb-false}
+use Rattle.vt_base.specs.declared.place.Entry.{Entry}
+use Rattle.vt_bucket.specs.Frame.{IsFrame}
+use Rattle.vt_disk.specs.declared.region.Region.{Region}
+use Rattle.vt_disk.specs.Disk.{SameBut, Only, ChangesAt}
+use Rattle.vt_disk.specs.Region.{Inside, ChangesWithin}
+use Rattle.vt_model.specs.History.{History}
+use Rattle.vt_model.specs.Places.{Setup}
+use Rattle.vt_twin.specs.Frames.{HasRoom, frame_of, named_number, current_frame}
+use Rattle.vt_twin.specs.Twin.{fresh}
+use Rattle.vt_twin.specs.Sound.{IsSound}
+use Rattle.vt_isect.specs.declared.phase.Phase.TheVariants.{Rest, ReadFrame, ChangeBucket, ChangeHead}
+use Rattle.vt_isect.specs.Agreement.{KnownAgrees}
+use Rattle.vt_isect.specs.Layout.{head_place, IsPlaceOf, InRange}
+use Rattle.vt_isect.specs.Section.{SectionState, IsChanging, IsTodo}
+use Rattle.vt_isect.specs.Sound.{Known, HoldsBucket, IsSoundSection, with_bucket}
+use Rattle.vt_isect.proofs.Moves.{others_pass, bucket_passes}
+use Rattle.vt_isect.proofs.Places.{head_room, place_room, head_apart, places_apart}
+
+-- what is known of this bucket, and of another
+pub with_here : (known : Known) (n : ℕ) (o : Option (List Entry)) → with_bucket n o known n ≡ o
+with_here known n o = ⊎_elim
+    (λ (yes : eqb n n ≡ true). ap (λ (b : Bool). cond b o (known n)) yes)
+    (λ (other : eqb n n ≡ false). absurd (eqb-false n n other refl))
+    (cases_Bool (eqb n n))
+
+pub with_there : (known : Known) (n k : ℕ) (o : Option (List Entry)) → k ≢ n → with_bucket n o known k ≡ known k
+with_there known n k o there = ⊎_elim
+    (λ (yes : eqb k n ≡ true). absurd (there (eqb-true k n yes)))
+    (λ (other : eqb k n ≡ false). ap (λ (b : Bool). cond b o (known k)) other)
+    (cases_Bool (eqb k n))
+
+-- a settled bucket
+pub settled_holds : {D : Type 0} (t : SectionState D) (n : ℕ) (region : Region) (entries : List Entry) (reads : List ℕ) (after : List ℕ → Type 0)
+    → ¬ IsChanging t n → IsPlaceOf (n - t.head.first) region → Only reads after → IsFrame n entries (current_frame region 8192 reads)
+    → HoldsBucket t n entries reads after
+settled_holds t n region entries reads after still place only spelled = record {
+  region = region;
+  place = place;
+  twin = fresh 8192 (named_number region 8192 reads);
+  frame = current_frame region 8192 reads;
+  frame_len = refl;
+  sound = record {
+    number = omega arith;
+    kept = λ c left. ap (λ (l : List ℕ). frame_of region 8192 (named_number region 8192 reads) l) (only c left);
+    named = λ waits c left. ap (λ (l : List ℕ). named_number region 8192 l) (only c left);
+    written = λ made. absurd (omega (arith, made));
+    synced = λ made. absurd (omega (arith, made));
+    selected = λ made. absurd (omega (arith, made));
+  };
+  spelled = spelled;
+  rest = λ no. refl;
+  changing = λ way. absurd (still way);
+}
+
+module _ {D : Type 0} (t : SectionState D) (d : D) (n : ℕ) (region : Region) (size : ℕ) (read reads : List ℕ) (images after : List ℕ → Type 0)
+    (rest : t.phase ≡ Rest) (room : 24576 + 16896 * t.buckets ≤ size) (in_it : InRange t.head t.buckets n)
+    (place : IsPlaceOf (n - t.head.first) region) (same : SameBut (Inside region) read reads) (changes : ChangesWithin region images after) where
+  still : (k : ℕ) → ¬ IsChanging t k
+  still k way = let e = way.0 in cc
+
+  known_sound : (known knows : Known) → ((k : ℕ) → k ≢ n → knows k ≡ known k)
+      → ((entries : List Entry) → knows n ≡ Some entries → HoldsBucket (record t { disk = d }) n entries reads after)
+      → IsSoundSection t known read images → IsSoundSection (record t { disk = d }) knows reads after
+  known_sound known knows others here sound = record {
+    head_frame = sound.head_frame;
+    head_len = sound.head_len;
+    head_twin = others_pass head_place region size read reads images after (head_room 8192 size t.buckets refl room) (head_apart (n - t.head.first) region place) same changes
+        t.head_twin sound.head_frame sound.head_len sound.head_twin;
+    head = sound.head;
+    head_rest = sound.head_rest;
+    head_changing = sound.head_changing;
+    selector = λ s r way. absurd (cc);
+    bucket = λ k entries within is. ⊎_elim
+        (λ (same_n : k ≡ n). subst (λ (m : ℕ). HoldsBucket (record t { disk = d }) m entries reads after) (sym same_n) (here entries (sym (ap knows same_n) ∙ is)))
+        (λ (there : k ≢ n). bucket_passes t (record t { disk = d }) k entries read reads images after (still k) (still k) refl
+        (λ r at. others_pass r region size read reads images after (place_room 8192 size t.buckets t.head k r refl room within at)
+        (λ i in_region in_r. places_apart (n - t.head.first) (k - t.head.first) region r place at
+        (λ e. there (omega (arith, e, within.0, in_it.0))) i in_region in_r) same changes)
+        (sound.bucket k entries within (sym (others k there) ∙ is)))
+        (cases_eq k n);
+  }
+
+  none_some : (entries : List Entry) → None ≡ Some entries → ⊥
+  none_some entries e = cc
+
+  some_same : (a b : List Entry) → Some a ≡ Some b → a ≡ b
+  some_same a b e = cc
+
+  pub others_sound : (known : Known) → IsSoundSection t known read images → IsSoundSection (record t { disk = d }) (with_bucket n None known) reads after
+  others_sound known = known_sound known (with_bucket n None known) (λ k there. with_there known n k None there)
+      (λ entries is. absurd (none_some entries (sym (with_here known n None) ∙ is)))
+
+  pub cleared_sound : (known : Known) → Only reads after → IsFrame n [] (current_frame region 8192 reads)
+      → IsSoundSection t known read images → IsSoundSection (record t { disk = d }) (with_bucket n (Some []) known) reads after
+  cleared_sound known only spelled = known_sound known (with_bucket n (Some []) known) (λ k there. with_there known n k (Some []) there)
+      (λ entries is. settled_holds (record t { disk = d }) n region entries reads after (still n) place only
+      (subst (λ (l : List Entry). IsFrame n l (current_frame region 8192 reads)) (some_same [] entries (sym (with_here known n (Some [])) ∙ is)) spelled))
+
+pub agrees_cleared : {D : Type 0} (score : List ℕ → List ℕ) (c : Setup) (h : History) (t : SectionState D) (d : D) (n : ℕ) (known : Known)
+    → KnownAgrees score c h t known → t.head.state ≢ 1 → t.next ≡ t.head
+    → KnownAgrees score c h (record t { disk = d }) (with_bucket n (Some []) known)
+agrees_cleared score c h t d n known agrees waits next = record {
+  keys = agrees.keys;
+  total = agrees.total;
+  same_first = agrees.same_first;
+  same_total = agrees.same_total;
+  whole = λ k within. ⊎_elim
+      (λ (here : k ≡ n). subst (λ (o : Option (List Entry)). IsSome o) (sym (ap (with_bucket n (Some []) known) here ∙ with_here known n (Some []))) refl)
+      (λ (there : k ≢ n). subst (λ (o : Option (List Entry)). IsSome o) (sym (with_there known n k (Some []) there)) (agrees.whole k within))
+      (cases_eq k n);
+  blocks = λ k entries entry within is has. ⊎_elim
+      (λ (here : k ≡ n). absurd (empty entries entry (sym is ∙ ap (with_bucket n (Some []) known) here ∙ with_here known n (Some [])) has))
+      (λ (there : k ≢ n). agrees.blocks k entries entry within (sym (with_there known n k (Some []) there) ∙ is) has)
+      (cases_eq k n);
+  todo = agrees.todo;
+  filed = λ live. absurd (waits live);
+  coming = λ live. absurd (waits (ap (λ x. x.state) (sym next) ∙ live));
+}
+  where
+    empty : (entries : List Entry) (entry : Entry) → Some entries ≡ Some [] → ¬ Contains entries entry
+    empty entries entry e has = let none : length entries ≡ 0 = ap (λ (l : List Entry). length l) (same entries e) in omega (arith, none, has.1)
+      where
+        same : (a : List Entry) → Some a ≡ Some [] → a ≡ []
+        same a q = cc

@@ -1,0 +1,48 @@
+-- Where the head and the buckets of a section stand.
+use Rattle.std.proofs.Common.{◌≡◌, ◌≢◌, ⊎_elim, ℕ, ◌+◌, ◌-◌, ◌*◌, ◌%◌, ◌<◌, ◌≤◌, refl, sym, ◌∙◌, ap, subst, arith, lit≤}
+use Rattle.std.proofs.lemmas.Bool.{cases_lt, cases_eq, cases_order}
+use Rattle.vt_disk.specs.declared.region.Region.{Region}
+use Rattle.vt_disk.specs.Region.{Inside}
+use Rattle.vt_twin.specs.Frames.{HasRoom}
+use Rattle.vt_isect.specs.declared.head.Head.{Head}
+use Rattle.vt_isect.specs.Layout.{head_place, IsPlaceOf, InRange}
+use Rattle.vt_isect.proofs.Regions.{one_region}
+
+pub one_place : (j : ℕ) (a b : Region) → IsPlaceOf j a → IsPlaceOf j b → a ≡ b
+one_place j a b here there = one_region a b (here.start ∙ sym there.start) (here.len ∙ sym there.len)
+
+pub head_room : (n size buckets : ℕ) → n ≡ 8192 → 24576 + 16896 * buckets ≤ size → HasRoom head_place n size
+head_room n size buckets is fits = subst (λ (k : ℕ). HasRoom head_place k size) (sym is) (record {
+  within = omega arith;
+  least = lit≤ tt;
+  most = lit≤ tt;
+  aligned_start = refl;
+  aligned_len = refl;
+  aligned_frames = refl;
+})
+
+pub place_room : (n size buckets : ℕ) (head : Head) (b : ℕ) (region : Region) → n ≡ 8192 → 24576 + 16896 * buckets ≤ size
+    → InRange head buckets b → IsPlaceOf (b - head.first) region → HasRoom region n size
+place_room n size buckets head b region is fits inside place = subst (λ (k : ℕ). HasRoom region k size) (sym is) (record {
+  within = omega (arith, place.start, place.len, inside.0, inside.1);
+  least = omega (arith, place.len);
+  most = omega (arith, place.len);
+  aligned_start = omega (arith, place.start);
+  aligned_len = ap (λ (k : ℕ). k % 512) place.len;
+  aligned_frames = refl;
+})
+
+pub head_apart : (j : ℕ) (region : Region) → IsPlaceOf j region → (i : ℕ) → Inside region i → ¬ Inside head_place i
+head_apart j region place i here there = omega (arith, place.start, here.0, there.1)
+
+pub apart_from_head : (j : ℕ) (region : Region) → IsPlaceOf j region → (i : ℕ) → Inside head_place i → ¬ Inside region i
+apart_from_head j region place i here there = omega (arith, place.start, here.1, there.0)
+
+pub places_apart : (j k : ℕ) (a b : Region) → IsPlaceOf j a → IsPlaceOf k b → j ≢ k → (i : ℕ) → Inside a i → ¬ Inside b i
+places_apart j k a b one two other i here there = ⊎_elim
+    (λ (same : j ≡ k). other same)
+    (λ rest. ⊎_elim
+    (λ (low : j < k). omega (arith, one.start, one.len, two.start, two.len, here.1, there.0))
+    (λ (high : k < j). omega (arith, one.start, one.len, two.start, two.len, here.0, there.1))
+    rest)
+    (cases_order j k)

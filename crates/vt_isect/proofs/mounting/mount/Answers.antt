@@ -1,0 +1,27 @@
+use Rattle.std.proofs.Common.{◌≡◌, ◌+◌, ◌*◌, ◌≤◌, ℕ, List, sym, ap, ◌∙◌, subst, arith}
+use Rattle.vt_twin.specs.Frames.{current_frame}
+use Rattle.vt_twin.specs.Twin.{TwinState, fresh}
+use Rattle.vt_twin.specs.Sound.{IsSound}
+use Rattle.vt_isect.specs.Head.{IsHeadFrame}
+use Rattle.vt_isect.specs.Layout.{head_place}
+use Rattle.vt_isect.proofs.Mounted.{mounted_sound, mounted_agrees}
+use Rattle.vt_isect.proofs.mounting.mount.Goals as goal
+
+pub returns-in-Ok-clause-head : goal.returns-in-Ok-clause-head
+returns-in-Ok-clause-head g c told = rw c.new.ensures (c.in-Ok.ensures.head told)
+
+pub returns-in-Ok-clause-sound : goal.returns-in-Ok-clause-sound
+returns-in-Ok-clause-sound g c known told =
+    let room : 24576 + 16896 * c.buckets_in-buckets.result ≤ g.D.Disk.size c.open.new.disk = omega (arith, c.in-Ok.ensures.room) in
+    rw (c.new.ensures, ← c.open.ensures.bytes)
+    (mounted_sound c.open.new.disk c.buckets_in-buckets.result c.in-Ok.opened.name c.in-Ok.opened.head c.in-Ok.opened.twin.current _ (g.D.Disk.bytes c.open.new.disk) (g.D.Disk.images c.open.new.disk) room (g.met.D.Disk.size_fits _)
+    (c.in-Ok.ensures.settled told) (rw (← c.open.ensures.bytes) at (c.in-Ok.ensures.head told))
+    (subst (λ (t : TwinState). IsSound t head_place (current_frame head_place 8192 (g.D.Disk.bytes c.open.new.disk)) (g.D.Disk.bytes c.open.new.disk) (g.D.Disk.images c.open.new.disk)) c.in-Ok.ensures.twin (rw (← c.open.ensures.bytes) at (c.in-Ok.ensures.sound told))) known)
+
+pub returns-in-Ok-clause-agrees : goal.returns-in-Ok-clause-agrees
+returns-in-Ok-clause-agrees g c score setup h entries told =
+    let room : 24576 + 16896 * c.buckets_in-buckets.result ≤ g.D.Disk.size c.open.new.disk = omega (arith, c.in-Ok.ensures.room) in
+    rw (c.new.ensures, ← c.open.ensures.bytes)
+    (mounted_agrees c.open.new.disk c.buckets_in-buckets.result c.in-Ok.opened.name c.in-Ok.opened.head c.in-Ok.opened.twin.current _ (g.D.Disk.bytes c.open.new.disk) (g.D.Disk.images c.open.new.disk) room (g.met.D.Disk.size_fits _)
+    (c.in-Ok.ensures.settled told) (rw (← c.open.ensures.bytes) at (c.in-Ok.ensures.head told))
+    (subst (λ (t : TwinState). IsSound t head_place (current_frame head_place 8192 (g.D.Disk.bytes c.open.new.disk)) (g.D.Disk.bytes c.open.new.disk) (g.D.Disk.images c.open.new.disk)) c.in-Ok.ensures.twin (rw (← c.open.ensures.bytes) at (c.in-Ok.ensures.sound told))) score setup h entries)

@@ -1,0 +1,93 @@
+use Rattle.std.proofs.Common.{◌≡◌, ℕ, ◌%◌, Err, refl, sym, ap, ◌∙◌, subst}
+use Rattle.std.proofs.lemmas.Result.{IfErr-weaker, on_ok_weaker}
+use Rattle.vt_twin.specs.Frames.{frame_of}
+use Rattle.vt_isect.specs.declared.bad.ShardErr.TheVariants.{Stopped}
+use Rattle.vt_isect.proofs.Stepping.{keeps_quiet, same_selector}
+use Rattle.vt_isect.proofs.Within.{crash_within, agrees_within}
+use Rattle.vt_isect.proofs.Left.{bucket_made, head_made, advance_lower}
+use Rattle.vt_isect.proofs.section.Section.advance.Goals as goal
+
+pub returns-in-ReadSelector-clause-crash : goal.returns-in-ReadSelector-clause-crash
+returns-in-ReadSelector-clause-crash g c known told sound whole first =
+    crash_within _ _ _ _ _ _ _ (c.read_selector.ensures.sound told) c.read_selector.ensures.steps known sound whole first
+
+pub returns-in-ReadSelector-clause-agrees : goal.returns-in-ReadSelector-clause-agrees
+returns-in-ReadSelector-clause-agrees g c score setup h known told sound agrees =
+    agrees_within _ _ _ _ _ _ _ (c.read_selector.ensures.sound told) c.read_selector.ensures.steps score setup h known sound agrees
+
+pub returns-in-ReadFrame-clause-crash : goal.returns-in-ReadFrame-clause-crash
+returns-in-ReadFrame-clause-crash g c known told sound whole first =
+    crash_within _ _ _ _ _ _ _ (c.read_frame.ensures.sound told) c.read_frame.ensures.steps known sound whole first
+
+pub returns-in-ReadFrame-clause-agrees : goal.returns-in-ReadFrame-clause-agrees
+returns-in-ReadFrame-clause-agrees g c score setup h known told sound agrees =
+    agrees_within _ _ _ _ _ _ _ (c.read_frame.ensures.sound told) c.read_frame.ensures.steps score setup h known sound agrees
+
+pub returns-in-ChangeBucket-clause-crash : goal.returns-in-ChangeBucket-clause-crash
+returns-in-ChangeBucket-clause-crash g c known told sound whole first =
+    crash_within _ _ _ _ _ _ _ (c.change_bucket.ensures.sound told) c.change_bucket.ensures.steps known sound whole first
+
+pub returns-in-ChangeBucket-clause-agrees : goal.returns-in-ChangeBucket-clause-agrees
+returns-in-ChangeBucket-clause-agrees g c score setup h known told sound agrees =
+    agrees_within _ _ _ _ _ _ _ (c.change_bucket.ensures.sound told) c.change_bucket.ensures.steps score setup h known sound agrees
+
+pub returns-in-ChangeHead-clause-crash : goal.returns-in-ChangeHead-clause-crash
+returns-in-ChangeHead-clause-crash g c known told sound whole first =
+    crash_within _ _ _ _ _ _ _ (c.change_head.ensures.sound told) c.change_head.ensures.steps known sound whole first
+
+pub returns-in-ChangeHead-clause-agrees : goal.returns-in-ChangeHead-clause-agrees
+returns-in-ChangeHead-clause-agrees g c score setup h known told sound agrees =
+    agrees_within _ _ _ _ _ _ _ (c.change_head.ensures.sound told) c.change_head.ensures.steps score setup h known sound agrees
+
+pub returns-in-Some-clause-crash : goal.returns-in-Some-clause-crash
+returns-in-Some-clause-crash g c known told sound whole first =
+    crash_within (Err (Stopped c.in-Some.call)) c.args.self.now c.args.self.now _ _ _ _
+    (keeps_quiet _ _ _ _ _ _ _ (λ n done. let e = done.0 in cc) (λ k it. it) (λ score setup h k it. it))
+    (ap (λ x. x.stopped) (sym c.self.view_is) ∙ c.in-Some.is, refl) known sound whole first
+
+pub returns-in-Some-clause-agrees : goal.returns-in-Some-clause-agrees
+returns-in-Some-clause-agrees g c score setup h known told sound agrees =
+    agrees_within (Err (Stopped c.in-Some.call)) c.args.self.now c.args.self.now _ _ _ _
+    (keeps_quiet _ _ _ _ _ _ _ (λ n done. let e = done.0 in cc) (λ k it. it) (λ s u l k it. it))
+    (ap (λ x. x.stopped) (sym c.self.view_is) ∙ c.in-Some.is, refl) score setup h known sound agrees
+
+pub returns-in-ReadFrame-clause-damaged : goal.returns-in-ReadFrame-clause-damaged
+returns-in-ReadFrame-clause-damaged g c s =
+    IfErr-weaker c.read_frame.result _ _
+    (λ bad it other goes phase.
+    let same : c.in-ReadFrame.selector ≡ s = same_selector c.in-ReadFrame.selector s (sym c.in-ReadFrame.is ∙ ap (λ x. x.phase) c.self.view_is ∙ phase) in
+    let found = it other in
+    (found.0, found.1, λ region told place. subst (λ (k : ℕ). found.0 ≡ frame_of region 8192 (k % 2) (g.D.Disk.bytes c.args.self.now.disk)) same (found.2 region told place)))
+    c.read_frame.ensures.damaged
+
+pub returns-in-ReadFrame-clause-merged : goal.returns-in-ReadFrame-clause-merged
+returns-in-ReadFrame-clause-merged g c s =
+    on_ok_weaker c.read_frame.result
+    (λ found phase.
+    let same : c.in-ReadFrame.selector ≡ s = same_selector c.in-ReadFrame.selector s (sym c.in-ReadFrame.is ∙ ap (λ x. x.phase) c.self.view_is ∙ phase) in
+    (found.0, found.1, λ region told place. subst (λ (k : ℕ). found.0 ≡ frame_of region 8192 (k % 2) (g.D.Disk.bytes c.args.self.now.disk)) same (found.2 region told place)))
+    c.read_frame.ensures.merged
+
+pub returns-in-ReadSelector-clause-left : goal.returns-in-ReadSelector-clause-left
+returns-in-ReadSelector-clause-left g c =
+    rw (← c.self.view_is)
+    (advance_lower c.read_selector.result _ _ (rw (← c.self.view_is) at c.read_selector.ensures.steps)
+    (bucket_made _ _ _ _ _ c.self.invariant.frames) (head_made _ _ _ _ _ c.self.invariant.frames))
+
+pub returns-in-ReadFrame-clause-left : goal.returns-in-ReadFrame-clause-left
+returns-in-ReadFrame-clause-left g c =
+    rw (← c.self.view_is)
+    (advance_lower c.read_frame.result _ _ (rw (← c.self.view_is) at c.read_frame.ensures.steps)
+    (bucket_made _ _ _ _ _ c.self.invariant.frames) (head_made _ _ _ _ _ c.self.invariant.frames))
+
+pub returns-in-ChangeBucket-clause-left : goal.returns-in-ChangeBucket-clause-left
+returns-in-ChangeBucket-clause-left g c =
+    rw (← c.self.view_is)
+    (advance_lower c.change_bucket.result _ _ (rw (← c.self.view_is) at c.change_bucket.ensures.steps)
+    (bucket_made _ _ _ _ _ c.self.invariant.frames) (head_made _ _ _ _ _ c.self.invariant.frames))
+
+pub returns-in-ChangeHead-clause-left : goal.returns-in-ChangeHead-clause-left
+returns-in-ChangeHead-clause-left g c =
+    rw (← c.self.view_is)
+    (advance_lower c.change_head.result _ _ (rw (← c.self.view_is) at c.change_head.ensures.steps)
+    (bucket_made _ _ _ _ _ c.self.invariant.frames) (head_made _ _ _ _ _ c.self.invariant.frames))

@@ -1,0 +1,56 @@
+use Rattle.std.proofs.Common.{◌≡◌, ◌+◌, ◌*◌, ◌-◌, ℕ, List, Some, Result, Ok, Err, IsTrue, refl, sym, ap, ◌∙◌, subst}
+use Rattle.std.specs.Prelude.{IfOk, IfErr, IsOkAnd}
+use Rattle.std.proofs.lemmas.Result.{IfOk-weaker, IfErr-weaker}
+use Rattle.vt_base.specs.declared.place.Entry.{Entry}
+use Rattle.vt_bucket.specs.declared.Bucket.{Bucket}
+use Rattle.vt_bucket.specs.Buckets.{entries_of}
+use Rattle.vt_bucket.specs.Frame.{IsFrame}
+use Rattle.vt_bucket.proofs.Frames.{one_frame}
+use Rattle.vt_disk.specs.declared.region.Region.{Region}
+use Rattle.vt_disk.specs.Disk.{part}
+use Rattle.vt_isect.specs.Layout.{IsPlaceOf}
+use Rattle.vt_isect.specs.Section.{SectionState}
+use Rattle.vt_isect.specs.Sound.{IsReadFrom}
+use Rattle.vt_isect.proofs.Reading.{reads_from, reads_known}
+use Rattle.vt_isect.proofs.section.Section.bucket.Goals as goal
+
+-- the frame that was read
+frame_from : (g : _) (c : goal.After-decode_bucket g) → IsTrue g.D.Disk.tells → (region : Region) → IsPlaceOf (c.args.number - c.args.self.now.head.first) region
+    → IsReadFrom c.args.self.now c.args.number region (g.D.Disk.bytes c.args.self.now.disk) c.read_at.new.buf
+frame_from g c told region place =
+    let now = c.args.self.now in
+    let bytes : g.D.Disk.bytes c.self-2.inside.disk ≡ g.D.Disk.bytes now.disk =
+    ap (λ (t : SectionState g.row.D.Denot). g.D.Disk.bytes t.disk) c.self-2.view_is ∙ c.current_frame.ensures.bytes in
+    let here : IsPlaceOf (c.args.number - now.head.first) c.bucket_place-place.result =
+    subst (λ (t : SectionState g.row.D.Denot). IsPlaceOf (c.args.number - t.head.first) c.bucket_place-place.result) c.self.view_is c.bucket_place-place.ensures.place in
+    reads_from now c.args.number c.in_ok-current.current c.bucket_place-place.result region _ c.read_at.new.buf here place
+    (c.in_ok-read_at.ensures.read told ∙ (λ i. part (c.bucket_place-place.result.start + 8192 * c.from.ensures i) 8192 (bytes i)))
+    c.in_ok-current.ensures.changing (λ still. c.in_ok-current.ensures.named told still region place)
+
+not_refused : {T E : Type 0} (r : Result T E) (P : T → Type 0) (Q : E → Type 0) → IsOkAnd r P → IfErr r Q
+not_refused (Ok x) P Q is = tt
+not_refused (Err e) P Q is = absurd is
+
+pub returns-clause-found : goal.returns-clause-found
+returns-clause-found g c known entries =
+    IfOk-weaker c.decode_bucket.result _ _
+    (λ b is told sound known_is. (one_frame c.args.number c.args.number (entries_of b) entries c.read_at.new.buf is
+    (reads_known c.args.self.now known c.args.number entries _ c.read_at.new.buf _ sound (g.met.D.Disk.read_is_image _ told) c.requires known_is (frame_from g c told))).1)
+    c.decode_bucket.ensures.found
+
+pub returns-clause-undamaged : goal.returns-clause-undamaged
+returns-clause-undamaged g c known entries told sound known_is =
+    not_refused c.decode_bucket.result _ _ (c.decode_bucket.ensures.all_are_read entries
+    (reads_known c.args.self.now known c.args.number entries _ c.read_at.new.buf _ sound (g.met.D.Disk.read_is_image _ told) c.requires known_is (frame_from g c told)))
+
+pub returns-clause-spelled : goal.returns-clause-spelled
+returns-clause-spelled g c =
+    IfOk-weaker c.decode_bucket.result _ _
+    (λ b is. (c.read_at.new.buf, is, λ region told place. frame_from g c told region place))
+    c.decode_bucket.ensures.found
+
+pub returns-clause-damaged : goal.returns-clause-damaged
+returns-clause-damaged g c =
+    IfErr-weaker c.decode_bucket.result _ _
+    (λ bad is other. (c.read_at.new.buf, is, λ region told place. frame_from g c told region place))
+    c.decode_bucket.ensures.refused

@@ -1,0 +1,143 @@
+use Rattle.std.proofs.Common.{◌≡◌, ◌≢◌, ℕ, ◌+◌, List, Option, None, Err, inr, refl, sym, ap, ◌∙◌, subst}
+use Rattle.vt_base.specs.Faults.{HasRisen}
+use Rattle.vt_twin.specs.Twin.{TwinState, CountsFault, calls_made, next_frame, without_spare}
+use Rattle.vt_twin.specs.Sound.{IsSound}
+use Rattle.vt_twin.specs.declared.step.TwinErr.TheVariants.{Fault}
+use Rattle.vt_isect.specs.declared.phase.Phase.TheVariants.{ChangeHead}
+use Rattle.vt_isect.specs.Layout.{head_place}
+use Rattle.vt_isect.specs.Writeback.{IsRead}
+use Rattle.vt_isect.proofs.Moves.{idle_sound, is_fault}
+use Rattle.vt_isect.proofs.Stepping.{keeps_quiet, agrees_moves, next_of, images_wider, head_written}
+use Rattle.vt_disk.proofs.Bytes.{same_wider}
+use Rattle.vt_isect.proofs.Changes.{head_goes, keeps_head}
+use Rattle.vt_isect.proofs.section.Section.change_head.Goals as goal
+
+pub returns-in-Ok-More-clause-sound : goal.returns-in-Ok-More-clause-sound
+returns-in-Ok-More-clause-sound g c told =
+    let s = c.self.inside in
+    let phase = rw (← c.self.view_is) at c.requires.phase in
+    let steps = rw c.in-Ok-More.field-0-is at c.in-Ok-More.ensures.steps in
+    rw (← c.self.view_is)
+    (keeps_quiet _ _ _ _ _ _ _ (λ n done. let e = done.1 in cc)
+    (λ known sound. head_goes _ _ _ _ _ _ phase c.self.invariant.room (rw c.head_place.ensures at (c.advance.ensures.bytes told)) (rw c.head_place.ensures at c.advance.ensures.images)
+    _ _ _ _ known (c.advance.ensures.len ∙ c.self.invariant.head_len) (ap next_frame steps)
+    (λ old it. rw (c.in-Ok-More.field-0-is, c.head_place.ensures) at (c.in-Ok-More.ensures.sound old told (rw c.head_place.ensures it))) sound)
+    (λ score setup h known agrees. agrees_moves score setup h _ _ _ _ _ _ _ _ known (λ entry way. way) (λ entry way. way) agrees))
+
+pub returns-in-Ok-More-clause-steps : goal.returns-in-Ok-More-clause-steps
+returns-in-Ok-More-clause-steps g c =
+    let s = c.self.inside in
+    let phase = rw (← c.self.view_is) at c.requires.phase in
+    let goes = rw (← c.self.view_is) at c.requires.goes in
+    let steps = rw c.in-Ok-More.field-0-is at c.in-Ok-More.ensures.steps in
+    let done = rw c.in-Ok-More.field-0-is at c.in-Ok-More.ensures.done in
+    let no : calls_made s.head_twin ≢ 3 = λ three. let e = done.1 three in cc in
+    rw (← c.self.view_is) (
+      record {
+        section = record { buckets = refl; name = refl; entries = refl };
+        head_is = refl;
+        next_is = refl;
+        calls = c.saturating_add-self-inside.ensures;
+      },
+      goes,
+      next_of ChangeHead _ _ phase (no, phase, ap calls_made steps),
+    )
+
+pub returns-in-Ok-Done-clause-sound : goal.returns-in-Ok-Done-clause-sound
+returns-in-Ok-Done-clause-sound g c told =
+    let s = c.self.inside in
+    let phase = rw (← c.self.view_is) at c.requires.phase in
+    let steps = rw c.in-Ok-Done.field-0-is at c.in-Ok-Done.ensures.steps in
+    rw (← c.self.view_is)
+    (keeps_head _ _ _ _ _ _ phase c.self.invariant.room (rw c.head_place.ensures at (c.advance.ensures.bytes told)) (rw c.head_place.ensures at c.advance.ensures.images)
+    _ _ _ (ap (λ (t : TwinState). t.frame_len) c.idle.ensures.same ∙ c.advance.ensures.len ∙ c.self.invariant.head_len)
+    (ap (λ (t : TwinState). t.change) (c.idle.ensures.same ∙ ap without_spare steps))
+    (λ old it. rw c.idle.ensures.same (idle_sound _ _ _ _ _ (rw (c.in-Ok-Done.field-0-is, c.head_place.ensures) at (c.in-Ok-Done.ensures.sound old told (rw c.head_place.ensures it))))))
+
+pub returns-in-Ok-Done-clause-steps : goal.returns-in-Ok-Done-clause-steps
+returns-in-Ok-Done-clause-steps g c =
+    let s = c.self.inside in
+    let phase = rw (← c.self.view_is) at c.requires.phase in
+    let goes = rw (← c.self.view_is) at c.requires.goes in
+    let done = rw c.in-Ok-Done.field-0-is at c.in-Ok-Done.ensures.done in
+    rw (← c.self.view_is) (
+      phase,
+      done.0 refl,
+      record {
+        section = record { buckets = refl; name = refl; entries = refl };
+        head_is = refl;
+        next_is = refl;
+        phase = refl;
+        calls = c.saturating_add-self-inside.ensures;
+        stopped = goes;
+      },
+    )
+
+pub returns-in-Err-clause-sound : goal.returns-in-Err-clause-sound
+returns-in-Err-clause-sound g c told =
+    let s = c.self.inside in
+    let phase = rw (← c.self.view_is) at c.requires.phase in
+    let goes = rw (← c.self.view_is) at c.requires.goes in
+    let fault : c.in-Err.field-0 ≡ Fault = is_fault c.in-Err.field-0 s.head_twin.stopped (c.self.invariant.goes goes).0 (λ n is. (c.in-Err.ensures.stopped n).0 (ap Err is)) in
+    let steps = rw fault at c.in-Err.ensures.steps in
+    rw (← c.self.view_is)
+    (keeps_quiet _ _ _ _ _ _ _ (λ n done. let e = done.0 in cc)
+    (λ known sound. head_goes _ _ _ _ _ _ phase c.self.invariant.room (rw c.head_place.ensures at (c.advance.ensures.bytes told)) (rw c.head_place.ensures at c.advance.ensures.images)
+    _ _ _ _ known (c.advance.ensures.len ∙ c.self.invariant.head_len) (ap next_frame steps)
+    (λ old it. rw c.head_place.ensures at (c.in-Err.ensures.sound old told (rw c.head_place.ensures it))) sound)
+    (λ score setup h known agrees. agrees_moves score setup h _ _ _ _ _ _ _ _ known (λ entry way. way) (λ entry way. way) agrees))
+
+pub returns-in-Err-clause-steps : goal.returns-in-Err-clause-steps
+returns-in-Err-clause-steps g c =
+    let s = c.self.inside in
+    let phase = rw (← c.self.view_is) at c.requires.phase in
+    rw (← c.self.view_is)
+    (inr (
+      λ read. subst IsRead phase read,
+      record {
+        section = record { buckets = refl; name = refl; entries = refl };
+        head_is = refl;
+        next_is = refl;
+        calls = c.saturating_add-self-inside.ensures;
+      },
+      refl,
+      refl,
+      refl,
+    ))
+
+pub returns-in-Err-clause-faults : goal.returns-in-Err-clause-faults
+returns-in-Err-clause-faults g c =
+    let s = c.self.inside in
+    let goes = rw (← c.self.view_is) at c.requires.goes in
+    let fault : c.in-Err.field-0 ≡ Fault = is_fault c.in-Err.field-0 s.head_twin.stopped (c.self.invariant.goes goes).0 (λ n is. (c.in-Err.ensures.stopped n).0 (ap Err is)) in
+    rw (← c.self.view_is) (rw fault at c.in-Err.ensures.faults)
+
+pub returns-in-Ok-More-clause-images : goal.returns-in-Ok-More-clause-images
+returns-in-Ok-More-clause-images g c =
+    let phase = rw (← c.self.view_is) at c.requires.phase in
+    rw (← c.self.view_is) (images_wider _ _ (head_written _ phase) _ _ (rw c.head_place.ensures at c.advance.ensures.images))
+
+pub returns-in-Ok-More-clause-bytes : goal.returns-in-Ok-More-clause-bytes
+returns-in-Ok-More-clause-bytes g c told =
+    let phase = rw (← c.self.view_is) at c.requires.phase in
+    rw (← c.self.view_is) (same_wider _ _ (head_written _ phase) _ _ (rw c.head_place.ensures at (c.advance.ensures.bytes told)))
+
+pub returns-in-Ok-Done-clause-images : goal.returns-in-Ok-Done-clause-images
+returns-in-Ok-Done-clause-images g c =
+    let phase = rw (← c.self.view_is) at c.requires.phase in
+    rw (← c.self.view_is) (images_wider _ _ (head_written _ phase) _ _ (rw c.head_place.ensures at c.advance.ensures.images))
+
+pub returns-in-Ok-Done-clause-bytes : goal.returns-in-Ok-Done-clause-bytes
+returns-in-Ok-Done-clause-bytes g c told =
+    let phase = rw (← c.self.view_is) at c.requires.phase in
+    rw (← c.self.view_is) (same_wider _ _ (head_written _ phase) _ _ (rw c.head_place.ensures at (c.advance.ensures.bytes told)))
+
+pub returns-in-Err-clause-images : goal.returns-in-Err-clause-images
+returns-in-Err-clause-images g c =
+    let phase = rw (← c.self.view_is) at c.requires.phase in
+    rw (← c.self.view_is) (images_wider _ _ (head_written _ phase) _ _ (rw c.head_place.ensures at c.advance.ensures.images))
+
+pub returns-in-Err-clause-bytes : goal.returns-in-Err-clause-bytes
+returns-in-Err-clause-bytes g c told =
+    let phase = rw (← c.self.view_is) at c.requires.phase in
+    rw (← c.self.view_is) (same_wider _ _ (head_written _ phase) _ _ (rw c.head_place.ensures at (c.advance.ensures.bytes told)))

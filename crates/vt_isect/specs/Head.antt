@@ -1,0 +1,39 @@
+-- The head of an index section: the first bytes of a frame of 8,192,
+--   magic[4] version[2] state[1] name[64] first[4] count[4] total[4] mark[8]
+-- Numbers have their highest byte first, and zeros fill up the name. What lies behind the mark
+-- isn't read, and is written as zero.
+use Rattle.std.specs.Prelude.{◌≡◌, ℕ, ◌-◌, ◌^◌, ◌<◌, List, ◌∷◌, ◌++◌, codes, length, take, replicate}
+use Rattle.byteorder.specs.Endian.{big_bytes}
+use Rattle.vt_isect.specs.declared.head.Head.{Head}
+
+-- the bytes of a head with this field of a name
+abbrev pub spelled : (name : List ℕ) → Head → List ℕ
+spelled name head = codes "VSEC" ++ (big_bytes 2 1 ++ (head.state ∷ (name
+    ++ (big_bytes 4 head.first ++ (big_bytes 4 head.count
+    ++ (big_bytes 4 head.total ++ big_bytes 8 head.mark))))))
+
+-- the bytes of a frame that the head stands in
+abbrev pub head_of : (frame : List ℕ) → List ℕ
+head_of frame = take 91 frame
+
+-- each number of a head fits its field
+pub record IsHead (head : Head) : Type 0 where
+  pub state : head.state < 2 ^ 8
+  pub first : head.first < 2 ^ 32
+  pub count : head.count < 2 ^ 32
+  pub total : head.total < 2 ^ 32
+  pub mark : head.mark < 2 ^ 64
+
+-- the frame has this head, with this field of a name
+pub record IsHeadFrame (name : List ℕ) (head : Head) (frame : List ℕ) : Type 0 where
+  pub fits : IsHead head
+  pub name_len : length name ≡ 64
+  pub spelling : head_of frame ≡ spelled name head
+
+-- bytes, and zeros that fill them up to this length
+abbrev pub filled : (len : ℕ) → List ℕ → List ℕ
+filled len bytes = bytes ++ replicate (len - length bytes) 0
+
+-- the frame that is written
+abbrev pub encoded : (name : List ℕ) → Head → List ℕ
+encoded name head = filled 8192 (spelled name head)

@@ -1,0 +1,38 @@
+-- An index section on a disk: a twin for its head, and behind it a twin for each of its buckets
+-- (Quinlan and Dorward 2002, the index; venti(8) formats one by fmtisect; the layout is this
+-- project's).
+use Rattle.std.specs.Prelude.{◌≡◌, ℕ, ◌+◌, ◌-◌, ◌*◌, ◌/◌, ◌^◌, ◌<◌, ◌≤◌, min, List}
+use Rattle.std.proofs.Common.{lit<}
+use Rattle.vt_base.specs.declared.place.Entry.{Entry}
+use Rattle.vt_bucket.specs.Frame.{IsFrame}
+use Rattle.vt_disk.specs.declared.region.Region.{Region}
+use Rattle.vt_twin.specs.Frames.{current_frame}
+use Rattle.vt_isect.specs.declared.head.Head.{Head}
+use Rattle.vt_isect.specs.Head.{IsHeadFrame}
+
+-- the place of the head: two frames of 8,192 bytes and a block
+abbrev pub head_place : Region
+head_place = record { start = 0; len = 24576; in_range = lit< tt }
+
+-- the place of bucket j of a section: two frames of 8,192 bytes and a sector
+pub record IsPlaceOf (j : ℕ) (region : Region) : Type 0 where
+  pub start : region.start ≡ 24576 + 16896 * j
+  pub len : region.len ≡ 16896
+
+-- How many buckets a section of this length has. Buckets are numbered in four bytes, so that the
+-- end of a disk of more than 64 TiB may be left unused.
+abbrev pub buckets_in : (len : ℕ) → ℕ
+buckets_in len = min ((len - 24576) / 16896) (2 ^ 32 - 1)
+
+-- The section has the bucket of this number. Buckets are numbered over all sections.
+abbrev pub InRange : Head → (buckets n : ℕ) → Type 0
+InRange head buckets n = (head.first ≤ n) × (n < head.first + buckets)
+
+-- The file is a section of so many buckets, with this head and name, and with these entries in
+-- each of its buckets.
+pub record IsSection (name : List ℕ) (head : Head) (buckets : ℕ) (entries : ℕ → List Entry)
+    (file : List ℕ) : Type 0 where
+  pub head_frame : IsHeadFrame name head (current_frame head_place 8192 file)
+  pub bucket : (n : ℕ) → InRange head buckets n
+      → (region : Region) × IsPlaceOf (n - head.first) region
+      × IsFrame n (entries n) (current_frame region 8192 file)

@@ -1,0 +1,70 @@
+-- Putting entries into a bucket.
+use Rattle.std.specs.Prelude.{◌≡◌, ◌≢◌, ◌⊎◌, ℕ, ◌<◌, List, length}
+use Rattle.std.specs.List.{AllPairs, Contains}
+use Rattle.vt_base.specs.declared.key.Key.{Key}
+use Rattle.vt_base.specs.declared.place.Entry.{Entry}
+use Rattle.vt_base.specs.declared.why.FieldValue.TheVariants.{Number}
+use Rattle.vt_bucket.specs.declared.decoding.BucketBad.{BucketBad}
+use Rattle.vt_bucket.specs.Faults.{FaultIs}
+use Rattle.vt_bucket.specs.Frame.{IsFrame, frame_of}
+use Rattle.vt_model.specs.Places.{bucket_of}
+use Rattle.vt_isect.specs.declared.bad.ShardErr.{ShardErr}
+use Rattle.vt_isect.specs.declared.bad.ShardErr.TheVariants.{Damaged}
+use Rattle.vt_isect.specs.Faults.{damage_of}
+
+-- one of the entries has this key
+abbrev pub HasKey : (entries : Entry → Type 0) → Key → Type 0
+HasKey entries key = (entry : Entry) × entries entry × (entry.key ≡ key)
+
+-- The new entries are those of a group, and the old ones whose keys the group lacks.
+pub record Merges (old : List Entry) (group : Entry → Type 0) (new : List Entry) : Type 0 where
+  pub from : (entry : Entry) → Contains new entry
+      → group entry ⊎ (Contains old entry × ¬ HasKey group entry.key)
+  pub keeps : (entry : Entry) → Contains old entry ⊎ group entry → HasKey (Contains new) entry.key
+
+-- those of the entries that belong to bucket n, of so many
+abbrev pub IsOf : (total n : ℕ) → List Entry → Entry → Type 0
+IsOf total n entries entry = Contains entries entry × (bucket_of total entry.key.score.0 ≡ n)
+
+-- the frame has a fault
+abbrev pub IsFaulty : (n : ℕ) → (frame : List ℕ) → ShardErr → Type 0
+IsFaulty n frame bad = (fault : BucketBad) × FaultIs fault n frame × (bad ≡ damage_of n fault)
+
+-- Some of the entries have so many keys, and no two of them one key: each key of the entries is
+-- theirs.
+pub record HasKeys (entries : Entry → Type 0) (count : ℕ) : Type 0 where
+  pub some : List Entry
+  pub count_is : length some ≡ count
+  pub distinct : AllPairs (λ a b. a.key ≢ b.key) some
+  pub each : (entry : Entry) → Contains some entry → entries entry
+  pub all : (entry : Entry) → entries entry → HasKey (Contains some) entry.key
+
+-- the old entries, and those of a group
+abbrev pub Joined : (old : List Entry) → (group : Entry → Type 0) → Entry → Type 0
+Joined old group entry = Contains old entry ⊎ group entry
+
+-- those of a group whose keys the old entries lack
+abbrev pub IsAbsent : (old : List Entry) → (group : Entry → Type 0) → Entry → Type 0
+IsAbsent old group entry = group entry × ¬ HasKey (Contains old) entry.key
+
+-- The bucket of the frame has no room for the entries that belong to it: with them it would have
+-- as many as are found.
+abbrev pub IsOverfull : (total n : ℕ) → List Entry → (frame : List ℕ) → ShardErr → Type 0
+IsOverfull total n entries frame bad = (old : List Entry) × IsFrame n old frame
+    × (found : ℕ) × HasKeys (Joined old (IsOf total n entries)) found
+    × (263 < found) × (bad ≡ Damaged n (Number 263) (Number found))
+
+-- why the entries aren't put into the bucket of this frame
+abbrev pub IsDamage : (total n : ℕ) → List Entry → (frame : List ℕ) → ShardErr → Type 0
+IsDamage total n entries frame bad =
+    IsFaulty n frame bad ⊎ IsOverfull total n entries frame bad
+
+-- The new frame is that of the bucket of the frame that was read, with those of the entries in it,
+-- too, that belong to it.
+pub record IsMerged (total n : ℕ) (entries : List Entry) (read frame : List ℕ) : Type 0 where
+  pub old : List Entry
+  pub new : List Entry
+  pub was : IsFrame n old read
+  pub is : IsFrame n new frame
+  pub bytes : frame ≡ frame_of n new
+  pub merges : Merges old (IsOf total n entries) new

@@ -1,0 +1,157 @@
+-- The steps of a writeback and of a change of the head.
+use Rattle.std.specs.Prelude.{◌≡◌, ◌≢◌, ◌⊎◌, ◌+◌, ◌-◌, ◌*◌, ◌<◌, ◌≤◌, nat_lt, ℕ, List, length, Option, Some, None, Result, Ok, Err}
+use Rattle.std.specs.List.{Contains, count_by}
+use Rattle.vt_base.specs.Faults.{HasRisen}
+use Rattle.vt_base.specs.declared.place.Entry.{Entry}
+use Rattle.vt_base.specs.declared.why.FieldValue.{FieldValue}
+use Rattle.vt_twin.specs.Twin.{calls_made, one_more}
+use Rattle.vt_twin.specs.declared.step.Step.{Step}
+use Rattle.vt_twin.specs.declared.step.Step.TheVariants.{More, Done}
+use Rattle.vt_isect.specs.declared.bad.ShardErr.{ShardErr}
+use Rattle.vt_isect.specs.declared.bad.ShardErr.TheVariants.{Fault, Damaged, Stopped}
+use Rattle.vt_isect.specs.declared.head.Head.{Head}
+use Rattle.vt_isect.specs.declared.phase.Phase.{Phase}
+use Rattle.vt_isect.specs.declared.phase.Phase.TheVariants.{Rest, ReadSelector, ReadFrame, ChangeBucket, ChangeHead}
+use Rattle.vt_isect.specs.Section.{SectionState, HasBucket, IsOfGroup, entries_of, bucket_number}
+use Rattle.vt_disk.specs.declared.region.Region.{Region}
+use Rattle.vt_disk.specs.Region.{Inside}
+use Rattle.vt_isect.specs.Layout.{head_place, IsPlaceOf}
+use Rattle.vt_isect.specs.Merging.{Merges}
+use Rattle.vt_isect.specs.Sound.{Known, IsSoundSection}
+use Rattle.vt_isect.specs.Agreement.{KnownAgrees}
+use Rattle.vt_model.specs.History.{History}
+use Rattle.vt_model.specs.Places.{Setup, bucket_of}
+
+-- of these entries, how many belong to buckets behind this one
+abbrev pub later : (total bucket : ℕ) → List Entry → ℕ
+later total bucket entries =
+    count_by (λ entry. nat_lt bucket (bucket_of total entry.key.score.0)) entries
+
+-- How many device calls what is under way makes at most: six for each bucket and four for the head,
+-- and no more buckets come than there are entries for them.
+abbrev pub most_calls : {D : Type 0} → Phase → SectionState D → ℕ
+most_calls Rest t = 0
+most_calls ReadSelector t = 6 * later t.head.total t.bucket (entries_of t) + 10
+most_calls (ReadFrame s) t = 6 * later t.head.total t.bucket (entries_of t) + 9
+most_calls ChangeBucket t =
+    6 * later t.head.total t.bucket (entries_of t) + 8 - calls_made t.bucket_twin
+most_calls ChangeHead t = 4 - calls_made t.head_twin
+
+abbrev pub calls_left : {D : Type 0} → SectionState D → ℕ
+calls_left t = most_calls t.phase t
+
+-- these fields stay in every step
+pub record IsOfSection {D : Type 0} (old new : SectionState D) : Type 0 where
+  pub buckets : new.buckets ≡ old.buckets
+  pub name : new.name ≡ old.name
+  pub entries : new.entries ≡ old.entries
+
+-- nothing is under way any more, and this is the head
+pub record EndsWith {D : Type 0} (head : Head) (old new : SectionState D) : Type 0 where
+  pub section : IsOfSection old new
+  pub head_is : new.head ≡ head
+  pub next_is : new.next ≡ head
+  pub phase : new.phase ≡ Rest
+  pub calls : new.calls ≡ one_more old.calls
+  pub stopped : new.stopped ≡ None
+
+-- the same is under way
+pub record GoesOn {D : Type 0} (old new : SectionState D) : Type 0 where
+  pub section : IsOfSection old new
+  pub head_is : new.head ≡ old.head
+  pub next_is : new.next ≡ old.next
+  pub calls : new.calls ≡ one_more old.calls
+
+-- Of the buckets of these entries, the next one from this number on is under way or, where there
+-- is none, the head.
+abbrev pub BeginsFrom : {D : Type 0} → (from : ℕ) → SectionState D → Type 0
+BeginsFrom from t =
+    ((t.phase ≡ ReadSelector) × (from ≤ t.bucket)
+    × ((entry : Entry) × Contains (entries_of t) entry × (bucket_number t entry ≡ t.bucket))
+    × ((entry : Entry) → Contains (entries_of t) entry → from ≤ bucket_number t entry
+    → t.bucket ≤ bucket_number t entry))
+    ⊎ ((t.phase ≡ ChangeHead) × (calls_made t.head_twin ≡ 0)
+    × ((entry : Entry) → Contains (entries_of t) entry → bucket_number t entry < from))
+
+-- What the next call does after this one: a bucket's selector is read, then its current frame, and
+-- the four calls of its change follow; behind the last bucket come those of the head.
+abbrev pub NextPhase : {D : Type 0} → Phase → (old new : SectionState D) → Type 0
+NextPhase Rest old new = ⊥
+NextPhase ReadSelector old new =
+    ((s : ℕ) × (new.phase ≡ ReadFrame s)) × (new.bucket ≡ old.bucket)
+NextPhase (ReadFrame s) old new =
+    (new.phase ≡ ChangeBucket) × (calls_made new.bucket_twin ≡ 0) × (new.bucket ≡ old.bucket)
+NextPhase ChangeBucket old new =
+    ((calls_made old.bucket_twin ≢ 3) × (new.phase ≡ ChangeBucket)
+    × (calls_made new.bucket_twin ≡ calls_made old.bucket_twin + 1) × (new.bucket ≡ old.bucket))
+    ⊎ ((calls_made old.bucket_twin ≡ 3) × BeginsFrom (old.bucket + 1) new)
+NextPhase ChangeHead old new =
+    (calls_made old.head_twin ≢ 3) × (new.phase ≡ ChangeHead)
+    × (calls_made new.head_twin ≡ calls_made old.head_twin + 1)
+
+-- the next call reads
+abbrev pub IsRead : Phase → Type 0
+IsRead Rest = ⊥
+IsRead ReadSelector = Unit {0}
+IsRead (ReadFrame s) = Unit {0}
+IsRead ChangeBucket = ⊥
+IsRead ChangeHead = ⊥
+
+-- what the next call may write: the place of the bucket under way, or that of the head
+abbrev pub MayWrite : {D : Type 0} → Phase → SectionState D → (i : ℕ) → Type 0
+MayWrite Rest t i = ⊥
+MayWrite ReadSelector t i = ⊥
+MayWrite (ReadFrame s) t i = ⊥
+MayWrite ChangeBucket t i =
+    (region : Region) × IsPlaceOf (t.bucket - t.head.first) region × Inside region i
+MayWrite ChangeHead t i = Inside head_place i
+
+-- A fault in a read ends the writeback. One in a write or sync stops the section at that call.
+abbrev pub EndsOrStops : {D : Type 0} → (old new : SectionState D) → Type 0
+EndsOrStops old new =
+    (IsRead old.phase × EndsWith old.head old new)
+    ⊎ (¬ IsRead old.phase × GoesOn old new × (new.phase ≡ old.phase)
+    × (new.bucket ≡ old.bucket) × (new.stopped ≡ Some old.calls))
+
+-- what `advance` makes of a section
+abbrev pub Advances : {D : Type 0} → Result Step ShardErr → (old new : SectionState D) → Type 0
+Advances (Ok More) old new = GoesOn old new × (new.stopped ≡ None) × NextPhase old.phase old new
+Advances (Ok Done) old new =
+    (old.phase ≡ ChangeHead) × (calls_made old.head_twin ≡ 3) × EndsWith old.next old new
+Advances (Err Fault) old new = EndsOrStops old new
+Advances (Err (Damaged bucket want found)) old new =
+    ((s : ℕ) × (old.phase ≡ ReadFrame s)) × EndsWith old.head old new
+Advances (Err (Stopped n)) old new = (old.stopped ≡ Some n) × (new ≡ old)
+
+-- a fault comes only where the count of faults rises, and it rises only then
+abbrev pub CountsFaultOf : {T : Type 0} → Result T ShardErr → (old new : ℕ) → Type 0
+CountsFaultOf (Ok value) old new = new ≡ old
+CountsFaultOf (Err Fault) old new = HasRisen old new
+CountsFaultOf (Err (Damaged bucket want found)) old new = new ≡ old
+CountsFaultOf (Err (Stopped n)) old new = new ≡ old
+
+-- the last call of the change of bucket n, where it succeeds
+abbrev pub Completes : {D : Type 0} → Result Step ShardErr → SectionState D → (n : ℕ) → Type 0
+Completes result old n = (result ≡ Ok More) × (old.phase ≡ ChangeBucket)
+    × (calls_made old.bucket_twin ≡ 3) × (n ≡ old.bucket)
+
+-- What is known after a step, while the section has the same buckets: the bucket that it completed
+-- has the group in it, and each other one what it had.
+pub record Follows {D : Type 0} (result : Result Step ShardErr) (old new : SectionState D)
+    (known knows : Known) : Type 0 where
+  pub kept : (n : ℕ) → new.head.first ≡ old.head.first → ¬ Completes result old n
+      → knows n ≡ known n
+  pub merged : (n : ℕ) (entries : List Entry) → new.head.first ≡ old.head.first
+      → Completes result old n → known n ≡ Some entries
+      → (merged : List Entry) × (knows n ≡ Some merged) × Merges entries (IsOfGroup old) merged
+
+-- The disk stays sound for the section, and what is known goes on to agree with each history that
+-- it agreed with.
+abbrev pub Keeps : {D : Type 0} → Result Step ShardErr → (old new : SectionState D)
+    → (read : List ℕ) → (images : List ℕ → Type 0)
+    → (reads : List ℕ) → (after : List ℕ → Type 0) → Type 0
+Keeps result old new read images reads after = (known : Known)
+    → IsSoundSection old known read images
+    → (knows : Known) × Follows result old new known knows × IsSoundSection new knows reads after
+    × ((score : List ℕ → List ℕ) (c : Setup) (h : History)
+    → KnownAgrees score c h old known → KnownAgrees score c h new knows)

@@ -1,0 +1,92 @@
+//! The head of a section, and its frame.
+
+ghost use Rattle.std.specs.Prelude.{◌≡◌, ◌+◌, ◌++◌, ◌≤◌, ℕ, None, Some, codes, length, take, IfOk, IfErr, MatchResult};
+ghost use Rattle.byteorder.specs.Endian.{big_bytes};
+ghost use Rattle.vt_isect.specs.Faults.{first_bad, CountsFault, NamesItsCause};
+ghost use Rattle.vt_isect.specs.Head.{IsHead, IsHeadFrame, encoded, spelled};
+
+use crate::FRAME_LEN;
+use crate::bad::{Field, SectBad};
+use vt_fields::{put, put_u8, put_u16, put_u32, put_u64, u16_at, u32_at, u64_at};
+
+/// How many bytes a name has, with the zeros that fill it up.
+pub const NAME_LEN: usize = 64;
+
+/// What a section's head says.
+#[derive(Clone, Copy, Debug, PartialEq, Eq)]
+pub struct Head {
+    /// 0 where it is formatted, 1 where it is in use, 2 where it is being built.
+    pub state: u8,
+    /// The number of its first bucket, over all sections.
+    pub first: u32,
+    /// How many buckets it has.
+    pub count: u32,
+    /// How many buckets all sections have.
+    pub total: u32,
+    /// How many blocks of the log surely have their entries in the index: each block below it that
+    /// belongs to this section has.
+    pub mark: u64,
+}
+
+/// The name and the head of a frame of 8,192 bytes, on a disk of this length.
+pub fn decode_head(frame: &[u8], len: u64) -> Result<([u8; NAME_LEN], Head), SectBad>
+    requires whole { length frame.now ≡ 8192 }
+    requires room { 41472 ≤ len }
+    ensures spelling { IfOk result (λ it. IsHeadFrame it.0 it.1 frame.now) }
+    ensures name { IfOk result (λ it. length it.0 ≡ 64) }
+    ensures refused { MatchResult result (λ _. first_bad len frame.now ≡ None)
+        (λ bad. first_bad len frame.now ≡ Some bad) }
+    ensures differs { IfErr result (NamesItsCause len) }
+    ensures cause { (faults : ℕ) → IfErr result (λ bad. CountsFault bad faults faults) }
+{
+    if frame[..4] != b"VSEC"[..] {
+        return Err(SectBad::NotFormatted);
+    }
+    let version = u16_at(frame, 4);
+    if version != 1 {
+        return Err(SectBad::Torn {
+            field: Field::Version,
+            found: u64::from(version),
+            want: 1,
+        });
+    }
+    let mut name = [0; NAME_LEN];
+    name.copy_from_slice(&frame[7..71]);
+    let head = Head {
+        state: frame[6],
+        first: u32_at(frame, 71),
+        count: u32_at(frame, 75),
+        total: u32_at(frame, 79),
+        mark: u64_at(frame, 83),
+    };
+    Ok((name, head))
+}
+
+/// Writes the frame of this name and head.
+pub fn encode_head(name: &[u8; NAME_LEN], head: &Head, frame: &mut [u8])
+    requires whole { length frame.old ≡ 8192 }
+    requires name { length name.now ≡ 64 }
+    ensures written { frame.new ≡ encoded name.now head.now }
+    ensures fits { IsHead head.now }
+{
+    let at = put_fields(name, head, frame);
+    frame[at..].fill(0);
+}
+
+/// Writes the fields of a head, and gives the place behind them.
+fn put_fields(name: &[u8; NAME_LEN], head: &Head, frame: &mut [u8]) -> usize
+    requires whole { length frame.old ≡ 8192 }
+    requires name { length name.now ≡ 64 }
+    ensures written { take 91 frame.new ≡ spelled name.now head.now }
+    ensures end { result ≡ 91 }
+    ensures fits { IsHead head.now }
+{
+    let at = put(frame, 0, b"VSEC");
+    let at = put_u16(frame, at, 1);
+    let at = put_u8(frame, at, head.state);
+    let at = put(frame, at, name);
+    let at = put_u32(frame, at, head.first);
+    let at = put_u32(frame, at, head.count);
+    let at = put_u32(frame, at, head.total);
+    put_u64(frame, at, head.mark)
+}

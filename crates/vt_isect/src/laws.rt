@@ -1,0 +1,85 @@
+//! What the layers above lean on between the calls of a section.
+
+ghost use Rattle.std.specs.Prelude.{◌≡◌, ◌≢◌, ◌⊎◌, ℕ, List, [], IsTrue, None, Some};
+ghost use Rattle.std.specs.List.{AllPairs};
+ghost use Rattle.vt_disk.specs.Disk.{AreAmong};
+ghost use Rattle.vt_model.specs.History.{History};
+ghost use Rattle.vt_model.specs.Legal.{HasOtherKey};
+ghost use Rattle.vt_model.specs.Places.{Setup, bucket_count};
+ghost use Rattle.vt_twin.specs.Frames.{current_frame};
+ghost use Rattle.vt_isect.specs.declared.head.Head.{Head};
+ghost use Rattle.vt_isect.specs.declared.phase.Phase.TheVariants.{Rest, ChangeHead};
+ghost use Rattle.vt_isect.specs.Agreement.{KnownAgrees, LeavesAgreeing};
+ghost use Rattle.vt_isect.specs.Head.{IsHeadFrame};
+ghost use Rattle.vt_isect.specs.Layout.{head_place, InRange, IsSection};
+ghost use Rattle.vt_isect.specs.Section.{SectionState, IsAtRest};
+ghost use Rattle.vt_isect.specs.Sound.{Known, IsWhole, IsSoundSection, LeavesSection, nothing_known};
+ghost use Rattle.vt_base.specs.declared.place.Entry.{Entry};
+
+use vt_disk::Disk;
+
+/// Between two calls a crash leaves a section: with the head or, while that changes, the next one,
+/// and with the entries that are known or, in the bucket that changes, these with its new ones. In
+/// state 1 it agrees with each history with which what is known does. Whatever is known, its head
+/// is one of the two.
+pub fn images_agree<D: Disk>()
+    ensures crash { (t : SectionState D) (known : Known)
+        → IsSoundSection t known (D.bytes t.disk) (D.images t.disk)
+        → IsWhole t known → t.next.first ≡ t.head.first
+        → (file : List ℕ) → D.images t.disk file → LeavesSection t known file }
+    ensures agrees { (score : List ℕ → List ℕ) (c : Setup) (h : History)
+        (t : SectionState D) (known : Known)
+        → IsSoundSection t known (D.bytes t.disk) (D.images t.disk)
+        → KnownAgrees score c h t known → (file : List ℕ) → D.images t.disk file
+        → LeavesAgreeing score c h t known file }
+    ensures head { (t : SectionState D) (known : Known)
+        → IsSoundSection t known (D.bytes t.disk) (D.images t.disk)
+        → (file : List ℕ) → D.images t.disk file → (head : Head)
+        × ((head ≡ t.head) ⊎ ((t.phase ≡ ChangeHead) × (head ≡ t.next)))
+        × IsHeadFrame t.name head (current_frame head_place 8192 file) }
+{}
+
+/// A disk stays sound for a section by a read or a sync, and where less is known. Where each bucket
+/// was cleared while the mark doesn't count, what is known agrees with any history.
+pub fn soundness_is_kept<D: Disk>()
+    ensures read_or_sync { (t : SectionState D) (known : Known) (before after : D)
+        → D.bytes after ≡ D.bytes before → AreAmong (D.images after) (D.images before)
+        → IsSoundSection t known (D.bytes before) (D.images before)
+        → IsSoundSection (record t { disk = after }) known (D.bytes after) (D.images after) }
+    ensures idle { (t : SectionState D) (known : Known) → IsAtRest t
+        → IsSoundSection t known (D.bytes t.disk) (D.images t.disk)
+        → IsSoundSection (record t { entries = None }) known (D.bytes t.disk) (D.images t.disk) }
+    ensures forget { (t : SectionState D) (known knows : Known)
+        → ((n : ℕ) (entries : List Entry) → knows n ≡ Some entries → known n ≡ Some entries)
+        → IsSoundSection t known (D.bytes t.disk) (D.images t.disk)
+        → IsSoundSection t knows (D.bytes t.disk) (D.images t.disk) }
+    ensures cleared { (score : List ℕ → List ℕ) (c : Setup) (h : History)
+        (t : SectionState D) (known : Known)
+        → AllPairs (HasOtherKey score) h → t.head.total ≡ bucket_count c
+        → IsAtRest t → t.next ≡ t.head → t.head.state ≢ 1
+        → ((n : ℕ) → InRange t.head t.buckets n → known n ≡ Some [])
+        → KnownAgrees score c h t known }
+{}
+
+/// What is known goes on to agree with a history whatever becomes of the disk, and when the entries
+/// of the last writeback are handed back.
+pub fn agreement_is_kept<D: Disk>()
+    ensures disk { (score : List ℕ → List ℕ) (c : Setup) (h : History)
+        (t : SectionState D) (known : Known) (disk : D)
+        → KnownAgrees score c h t known → KnownAgrees score c h (record t { disk = disk }) known }
+    ensures idle { (score : List ℕ → List ℕ) (c : Setup) (h : History)
+        (t : SectionState D) (known : Known) → IsAtRest t
+        → KnownAgrees score c h t known
+        → KnownAgrees score c h (record t { entries = None }) known }
+{}
+
+/// A file is one section at most: it has one name and one head, and the entries of each bucket.
+pub fn sections_are_told_apart()
+    ensures head { (name other : List ℕ) (head its : Head) (frame : List ℕ)
+        → IsHeadFrame name head frame → IsHeadFrame other its frame
+        → (name ≡ other) × (head ≡ its) }
+    ensures entries { (name other : List ℕ) (head its : Head) (buckets : ℕ)
+        (entries others : ℕ → List Entry) (file : List ℕ)
+        → IsSection name head buckets entries file → IsSection other its buckets others file
+        → (n : ℕ) → InRange head buckets n → entries n ≡ others n }
+{}

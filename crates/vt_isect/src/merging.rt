@@ -1,0 +1,195 @@
+//! Putting the entries of a writeback into a bucket.
+
+ghost use Rattle.std.specs.Prelude.{◌≡◌, ◌≢◌, ◌⊎◌, ◌↔◌, ℕ, ◌+◌, ◌%◌, ◌<◌, ◌≤◌, List, length, IsTrue, IsOkAnd, IfOk, IfErr, OnOk, IfSome, MatchOption, Some, Err};
+ghost use Rattle.std.specs.List.{Contains};
+ghost use Rattle.std.specs.Option.{ForSome};
+ghost use Rattle.vt_base.specs.declared.place.Entry.{Entry};
+ghost use Rattle.vt_bucket.specs.Buckets.{number_of, entries_of};
+ghost use Rattle.vt_bucket.specs.Frame.{IsFrame};
+ghost use Rattle.vt_bucket.specs.Faults.{FaultIs};
+ghost use Rattle.vt_disk.specs.Disk.{AreAmong, IsOneMore};
+ghost use Rattle.vt_model.specs.Places.{bucket_of};
+ghost use Rattle.vt_twin.specs.Frames.{HasRoom, frame_of};
+ghost use Rattle.vt_isect.specs.Faults.{damage_of};
+ghost use Rattle.vt_isect.specs.Merging.{Merges, IsOf, HasKey, HasKeys, IsAbsent, Joined, IsMerged, IsFaulty, IsDamage};
+ghost use Rattle.vt_isect.specs.Writeback.{CountsFaultOf};
+
+use crate::bad::ShardErr;
+use crate::place::bucket_number;
+use vt_base::{Entry, FieldValue, Key};
+use vt_bucket::{Bucket, BucketBad, Full, ROOM, decode};
+use vt_disk::{Disk, Region};
+
+/// The bucket of a frame.
+pub fn decode_bucket(frame: &[u8], number: u32) -> Result<Bucket, ShardErr>
+    requires { length frame.now ≡ 8192 }
+    ensures number { IfOk result (λ bucket. number_of bucket ≡ number) }
+    ensures found { IfOk result (λ bucket. IsFrame number (entries_of bucket) frame.now) }
+    ensures all_are_read { (entries : List Entry) → IsFrame number entries frame.now
+        → IsOkAnd result (λ bucket. entries_of bucket ≡ entries) }
+    ensures refused { IfErr result (IsFaulty number frame.now) }
+{
+    match decode(frame, number) {
+        Ok(bucket) => Ok(bucket),
+        Err(bad) => Err(damage(number, bad)),
+    }
+}
+
+/// What a fault of a bucket's frame is told as.
+fn damage(bucket: u32, bad: BucketBad) -> ShardErr
+    ensures { result ≡ damage_of bucket bad }
+{
+    let (want, found) = match bad {
+        BucketBad::Magic(found) => (FieldValue::Magic(*b"VBKT"), FieldValue::Magic(found)),
+        BucketBad::Number(found) => (number(bucket), number(found)),
+        BucketBad::Count(found) => (number(ROOM as u32), number(u32::from(found))),
+        BucketBad::Order { entry, count } => (number(u32::from(count)), number(u32::from(entry))),
+    };
+    ShardErr::Damaged {
+        bucket,
+        want,
+        found,
+    }
+}
+
+fn number(value: u32) -> FieldValue
+    ensures { result ≡ FieldValue.Number value }
+{
+    FieldValue::Number(u128::from(value))
+}
+
+/// The least number of a bucket, from this one on, that has one of the entries.
+pub fn next_bucket(entries: &[Entry], total: u32, from: u64) -> Option<u32>
+    ensures found { IfSome result (λ bucket. (from ≤ bucket)
+        × ((entry : Entry) × Contains entries.now entry
+        × (bucket_of total entry.key.score.0 ≡ bucket))) }
+    ensures least { (entry : Entry) → Contains entries.now entry
+        → from ≤ bucket_of total entry.key.score.0
+        → MatchOption result ⊥ (λ bucket. bucket ≤ bucket_of total entry.key.score.0) }
+{
+    let mut least = None;
+    for entry in entries {
+        let bucket = bucket_number(total, &entry.key.score);
+        if u64::from(bucket) >= from {
+            least = Some(lesser(least, bucket));
+        }
+    }
+    least
+}
+
+/// The lesser of two numbers, or the one that there is.
+fn lesser(least: Option<u32>, bucket: u32) -> u32
+    ensures one { (result ≡ bucket) ⊎ (least ≡ Some result) }
+    ensures least { ForSome least (λ other. result ≤ other) }
+    ensures most { result ≤ bucket }
+{
+    match least {
+        Some(least) if least < bucket => least,
+        _ => bucket,
+    }
+}
+
+/// Reads the current frame of a bucket, which a selector with this first byte names, and makes of
+/// it one with those of the entries, too, that belong to the bucket.
+pub fn read_merged<D: Disk>(
+    disk: &mut D,
+    place: Region,
+    selector: u8,
+    number: u32,
+    total: u32,
+    entries: &[Entry],
+    frame: &mut [u8],
+) -> Result<(), ShardErr>
+    requires whole { length frame.old ≡ 8192 }
+    requires room { HasRoom place 8192 (D.size disk.old) }
+    ensures merged { OnOk result ((read : List ℕ)
+        × IsMerged total number entries.now read frame.new
+        × (IsTrue D.tells → read ≡ frame_of place 8192 (selector % 2) (D.bytes disk.old))) }
+    ensures damaged { IfErr result (λ bad. bad ≢ ShardErr.Fault → (read : List ℕ)
+        × IsDamage total number entries.now read bad
+        × (IsTrue D.tells → read ≡ frame_of place 8192 (selector % 2) (D.bytes disk.old))) }
+    ensures bytes { D.bytes disk.new ≡ D.bytes disk.old }
+    ensures images { AreAmong (D.images disk.new) (D.images disk.old) }
+    ensures size { D.size disk.new ≡ D.size disk.old }
+    ensures calls { IsTrue D.tells → IsOneMore (D.calls disk.old) (D.calls disk.new) }
+    ensures faults { CountsFaultOf result (D.faults disk.old) (D.faults disk.new) }
+    ensures stopped { (n : ℕ) → ¬ (result ≡ Err (ShardErr.Stopped n)) }
+{
+    place.read_at(disk, 8192 * u64::from(selector % 2), frame)?;
+    merge_frame(frame, number, total, entries)
+}
+
+/// Makes of a bucket's frame one with those of the entries, too, that belong to the bucket.
+fn merge_frame(frame: &mut [u8], number: u32, total: u32, entries: &[Entry]) -> Result<(), ShardErr>
+    requires { length frame.old ≡ 8192 }
+    ensures merged { OnOk result (IsMerged total number entries.now frame.old frame.new) }
+    ensures damaged { IfErr result (IsDamage total number entries.now frame.old) }
+{
+    let mut bucket = decode_bucket(frame, number)?;
+    match merge(&mut bucket, total, entries) {
+        Ok(()) => {
+            bucket.encode(frame);
+            Ok(())
+        }
+        Err(found) => Err(ShardErr::Damaged {
+            bucket: number,
+            want: FieldValue::Number(ROOM as u128),
+            found: FieldValue::Number(found),
+        }),
+    }
+}
+
+/// Puts those of the entries into a bucket that belong to it. Where it has no room for them, gives
+/// the count that it would have.
+fn merge(bucket: &mut Bucket, total: u32, entries: &[Entry]) -> Result<(), u128>
+    ensures merged { OnOk result (Merges (entries_of bucket.old)
+        (IsOf total (number_of bucket.old) entries.now) (entries_of bucket.new)) }
+    ensures number { number_of bucket.new ≡ number_of bucket.old }
+    ensures full { IfErr result (λ found. (263 < found) × HasKeys (Joined (entries_of bucket.old)
+        (IsOf total (number_of bucket.old) entries.now)) found) }
+{
+    for i in 0..entries.len() {
+        let entry = entries[i];
+        if bucket_number(total, &entry.key.score) == bucket.number()
+            && let Err(Full) = bucket.with(entry)
+        {
+            return Err(ROOM as u128 + count_absent(bucket, total, &entries[i..]));
+        }
+    }
+    Ok(())
+}
+
+/// How many keys that belong to a bucket these entries have, and it lacks.
+fn count_absent(bucket: &Bucket, total: u32, entries: &[Entry]) -> u128
+    ensures keys { HasKeys (IsAbsent (entries_of bucket.now)
+        (IsOf total (number_of bucket.now) entries.now)) result }
+    ensures most { result ≤ length entries.now }
+{
+    let mut absent = 0;
+    for i in 0..entries.len() {
+        if is_absent(bucket, total, &entries[i].key) && !has_key(&entries[..i], &entries[i].key) {
+            absent += 1;
+        }
+    }
+    absent
+}
+
+/// Whether a key belongs to a bucket that lacks it.
+fn is_absent(bucket: &Bucket, total: u32, key: &Key) -> bool
+    ensures { IsTrue result ↔ (bucket_of total key.now.score.0 ≡ number_of bucket.now)
+        × ¬ HasKey (Contains (entries_of bucket.now)) key.now }
+{
+    bucket_number(total, &key.score) == bucket.number() && bucket.find(key).is_none()
+}
+
+/// Whether one of the entries has this key.
+fn has_key(entries: &[Entry], key: &Key) -> bool
+    ensures { IsTrue result ↔ HasKey (Contains entries.now) key.now }
+{
+    for entry in entries {
+        if entry.key == *key {
+            return true;
+        }
+    }
+    false
+}

@@ -1,0 +1,177 @@
+//! Finding the section of a disk.
+
+ghost use Rattle.std.specs.Prelude.{◌≡◌, ◌+◌, ◌-◌, ◌^◌, ◌<◌, ◌≤◌, min, ℕ, List, None, IsTrue, IfOk, IfErr, OnOk, MatchResult, length};
+ghost use Rattle.vt_base.specs.Faults.{HasCause};
+ghost use Rattle.vt_base.specs.declared.place.Entry.{Entry};
+ghost use Rattle.vt_bucket.specs.Frame.{IsFrame};
+ghost use Rattle.vt_disk.specs.Disk.{AreAmong, Only};
+ghost use Rattle.vt_disk.specs.declared.region.Region.{Region};
+ghost use Rattle.vt_model.specs.History.{History};
+ghost use Rattle.vt_model.specs.Places.{Setup};
+ghost use Rattle.vt_twin.specs.Frames.{current_frame};
+ghost use Rattle.vt_twin.specs.Sound.{IsSound};
+ghost use Rattle.vt_twin.specs.Twin.{fresh};
+ghost use Rattle.vt_isect.specs.Agreement.{AgreesWith, KnownAgrees};
+ghost use Rattle.vt_isect.specs.Faults.{first_bad, RefusesMount, NamesItsCause, CountsFault};
+ghost use Rattle.vt_isect.specs.Head.{IsHeadFrame};
+ghost use Rattle.vt_isect.specs.Layout.{head_place, IsPlaceOf, InRange, IsSection, buckets_in};
+ghost use Rattle.vt_isect.specs.Section.{mounted, disk_after};
+ghost use Rattle.vt_isect.specs.Sound.{Known, all_known, IsSoundSection};
+
+use crate::bad::SectBad;
+use crate::head::{Head, NAME_LEN, decode_head};
+use crate::phase::Phase;
+use crate::place::{buckets_in, head_place};
+use crate::section::Section;
+use crate::{FRAME_LEN, LEAST_LEN};
+use std::alloc::Global;
+use vt_base::Failed;
+use vt_disk::Disk;
+use vt_twin::Twin;
+
+/// Finds the section of a disk: syncs, and reads its head. A refusal hands the disk back. What the
+/// head says of its state, its place among the sections and its mark is for the caller to judge.
+///
+/// It takes the memory of two frames, one for the head and one for a bucket.
+pub fn mount<D: Disk>(alloc: Global, mut disk: D) -> Result<Section<D>, (SectBad, D)>
+    // It finds the head that is there, and is at rest.
+    ensures head { IfOk result (λ it. IsTrue D.tells
+        → IsHeadFrame it.name it.head (current_frame head_place 8192 (D.bytes disk))) }
+    ensures fresh { IfOk result (λ it. it
+        ≡ mounted it.disk (buckets_in (D.size disk)) it.name it.head it.head_twin.current) }
+
+    // The disk is sound for it, whatever is known of the buckets that are read.
+    ensures sound { (known : Known) → IfOk result (λ it. IsTrue D.tells
+        → ((n : ℕ) (region : Region) (entries : List Entry) → InRange it.head it.buckets n
+        → IsPlaceOf (n - it.head.first) region → known n ≡ Some entries
+        → IsFrame n entries (current_frame region 8192 (D.bytes disk)))
+        → IsSoundSection it known (D.bytes it.disk) (D.images it.disk)) }
+
+    // Where the bytes are a section that agrees with a history, so does what is known.
+    ensures agrees { (score : List ℕ → List ℕ) (c : Setup) (h : History)
+        (entries : ℕ → List Entry) → IfOk result (λ it. IsTrue D.tells
+        → IsSection it.name it.head it.buckets entries (D.bytes disk)
+        → AgreesWith score c h it.buckets it.head entries
+        → IsSoundSection it (all_known entries) (D.bytes it.disk) (D.images it.disk)
+        × KnownAgrees score c h it (all_known entries)) }
+
+    ensures settled { IfOk result (λ it. IsTrue D.tells
+        → Only (D.bytes it.disk) (D.images it.disk)) }
+    ensures refused { IfErr result (λ refusal. IsTrue D.tells
+        → RefusesMount (D.size disk) (current_frame head_place 8192 (D.bytes disk)) refusal.0) }
+    ensures accepted { IfOk result (λ _. IsTrue D.tells
+        → first_bad (D.size disk) (current_frame head_place 8192 (D.bytes disk)) ≡ None) }
+
+    // So much is known of a disk that doesn't tell what it holds, too.
+    ensures differs { IfErr result (λ refusal. NamesItsCause (D.size disk) refusal.0) }
+
+    // It syncs and makes two reads, and changes nothing.
+    ensures untouched { D.size disk < 41472 → disk_after result ≡ disk }
+    ensures calls { IfOk result (λ it. IsTrue D.tells
+        → D.calls it.disk ≡ min (D.calls disk + 3) (2 ^ 64 - 1)) }
+    ensures most_calls { IsTrue D.tells → D.calls (disk_after result) ≤ D.calls disk + 3 }
+    ensures bytes { D.bytes (disk_after result) ≡ D.bytes disk }
+    ensures images { AreAmong (D.images (disk_after result)) (D.images disk) }
+    ensures size { D.size (disk_after result) ≡ D.size disk }
+    ensures cause { MatchResult result (λ it. D.faults it.disk ≡ D.faults disk)
+        (λ refusal. CountsFault refusal.0 (D.faults disk) (D.faults refusal.1)) }
+{
+    match open(alloc, &mut disk) {
+        Ok(opened) => {
+            let buckets = buckets_in(disk.len());
+            Ok(Section::new(disk, buckets, opened))
+        }
+        Err(bad) => Err((bad, disk)),
+    }
+}
+
+/// What mounting makes and finds.
+#[derive(Drop)]
+pub struct Opened {
+    pub twin: Twin,
+    pub name: [u8; NAME_LEN],
+    pub head: Head,
+    /// The frame of the head.
+    pub head_frame: Vec<u8>,
+    /// Room for the frame of a bucket.
+    pub bucket_frame: Vec<u8>,
+}
+
+/// Syncs, and reads the head.
+fn open<D: Disk>(alloc: Global, disk: &mut D) -> Result<Opened, SectBad>
+    ensures head { IfOk result (λ it. IsTrue D.tells
+        → IsHeadFrame it.name it.head (current_frame head_place 8192 (D.bytes disk.old))) }
+    ensures twin { IfOk result (λ it. it.twin ≡ fresh 8192 it.twin.current) }
+    ensures sound { IfOk result (λ it. IsTrue D.tells
+        → IsSound it.twin head_place (current_frame head_place 8192 (D.bytes disk.old))
+        (D.bytes disk.new) (D.images disk.new)) }
+    ensures frames { IfOk result (λ it. (length it.head_frame.items ≡ 8192)
+        × (length it.bucket_frame.items ≡ 8192)) }
+    ensures name { IfOk result (λ it. length it.name ≡ 64) }
+    ensures room { OnOk result (41472 ≤ D.size disk.old) }
+    ensures settled { OnOk result (IsTrue D.tells → Only (D.bytes disk.new) (D.images disk.new)) }
+    ensures accepted { OnOk result (IsTrue D.tells
+        → first_bad (D.size disk.old) (current_frame head_place 8192 (D.bytes disk.old)) ≡ None) }
+    ensures refused { IfErr result (λ bad. IsTrue D.tells
+        → RefusesMount (D.size disk.old) (current_frame head_place 8192 (D.bytes disk.old)) bad) }
+    ensures differs { IfErr result (NamesItsCause (D.size disk.old)) }
+    ensures untouched { D.size disk.old < 41472 → disk.new ≡ disk.old }
+    ensures calls { OnOk result (IsTrue D.tells
+        → D.calls disk.new ≡ min (D.calls disk.old + 3) (2 ^ 64 - 1)) }
+    ensures most_calls { IsTrue D.tells → D.calls disk.new ≤ D.calls disk.old + 3 }
+    ensures bytes { D.bytes disk.new ≡ D.bytes disk.old }
+    ensures images { AreAmong (D.images disk.new) (D.images disk.old) }
+    ensures size { D.size disk.new ≡ D.size disk.old }
+    ensures cause { MatchResult result (λ _. D.faults disk.new ≡ D.faults disk.old)
+        (λ bad. CountsFault bad (D.faults disk.old) (D.faults disk.new)) }
+{
+    let len = disk.len();
+    if len < LEAST_LEN {
+        return Err(SectBad::TooSmall {
+            len,
+            need: LEAST_LEN,
+        });
+    }
+    let mut head_frame = vec![in alloc; 0; FRAME_LEN]?;
+    let bucket_frame = vec![in alloc; 0; FRAME_LEN]?;
+    let twin = read_head(disk, &mut head_frame)?;
+    match decode_head(&head_frame, len) {
+        Ok(found) => {
+            let (name, head) = found;
+            Ok(Opened {
+                twin,
+                name,
+                head,
+                head_frame,
+                bucket_frame,
+            })
+        }
+        Err(bad) => Err(bad),
+    }
+}
+
+/// Syncs, and reads the current frame of the head.
+fn read_head<D: Disk>(disk: &mut D, frame: &mut [u8]) -> Result<Twin, Failed>
+    requires room { 41472 ≤ D.size disk.old }
+    requires whole { length frame.old ≡ 8192 }
+    ensures read { OnOk result (IsTrue D.tells
+        → frame.new ≡ current_frame head_place 8192 (D.bytes disk.old)) }
+    ensures twin { IfOk result (λ twin. twin ≡ fresh 8192 twin.current) }
+    ensures sound { IfOk result (λ twin. IsTrue D.tells
+        → IsSound twin head_place (current_frame head_place 8192 (D.bytes disk.old))
+        (D.bytes disk.new) (D.images disk.new)) }
+    ensures settled { OnOk result (IsTrue D.tells → Only (D.bytes disk.new) (D.images disk.new)) }
+    ensures bytes { D.bytes disk.new ≡ D.bytes disk.old }
+    ensures images { AreAmong (D.images disk.new) (D.images disk.old) }
+    ensures size { D.size disk.new ≡ D.size disk.old }
+    ensures calls { IsTrue D.tells
+        → OnOk result (D.calls disk.new ≡ min (D.calls disk.old + 3) (2 ^ 64 - 1)) }
+    ensures most_calls { IsTrue D.tells → D.calls disk.new ≤ D.calls disk.old + 3 }
+    ensures cause { HasCause result (D.faults disk.old) (D.faults disk.new) }
+{
+    let place = head_place();
+    let twin = vt_twin::mount(disk, place, FRAME_LEN as u64)?;
+    let start = FRAME_LEN as u64 * u64::from(twin.current());
+    place.read_at(disk, start, frame)?;
+    Ok(twin)
+}

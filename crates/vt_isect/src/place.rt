@@ -1,0 +1,53 @@
+//! Where the buckets of a section stand.
+
+ghost use Rattle.std.specs.Prelude.{◌≡◌, ◌+◌, ◌*◌, ◌^◌, ◌<◌, ◌≤◌, ℕ};
+ghost use Rattle.vt_model.specs.Places.{bucket_of};
+ghost use Rattle.vt_twin.specs.Frames.{HasRoom};
+ghost use Rattle.vt_isect.specs.Layout.{head_place, IsPlaceOf, buckets_in};
+
+use vt_base::Score;
+use vt_disk::Region;
+
+/// How many bytes the head has: two frames and a block.
+const HEAD_LEN: u64 = 24_576;
+
+/// How many bytes a bucket has: two frames and a sector.
+const BUCKET_LEN: u64 = 16_896;
+
+/// How many buckets a section of this length has.
+pub fn buckets_in(len: u64) -> u32
+    ensures count { result ≡ buckets_in len }
+    ensures room { 24576 ≤ len → 24576 + 16896 * result ≤ len }
+{
+    let count = len.saturating_sub(HEAD_LEN) / BUCKET_LEN;
+    count.min(u64::from(u32::MAX)) as u32
+}
+
+/// The place of the head.
+pub fn head_place() -> Region
+    ensures { result ≡ head_place }
+{
+    Region {
+        start: 0,
+        len: HEAD_LEN,
+    }
+}
+
+/// The place of a bucket, which is counted from 0 in its section.
+pub fn bucket_place(bucket: u32) -> Region
+    ensures place { IsPlaceOf bucket result }
+    ensures room { (size : ℕ) → 24576 + 16896 * bucket + 16896 ≤ size → HasRoom result 8192 size }
+{
+    Region {
+        start: HEAD_LEN + BUCKET_LEN * u64::from(bucket),
+        len: BUCKET_LEN,
+    }
+}
+
+/// The number of a score's bucket, of so many.
+pub fn bucket_number(total: u32, score: &Score) -> u32
+    ensures { result ≡ bucket_of total score.now.0 }
+{
+    let [a, b, c, d, ..] = score.0;
+    (u64::from(u32::from_be_bytes([a, b, c, d])) * u64::from(total) / 4_294_967_296) as u32
+}

@@ -1,0 +1,439 @@
+//! A section that is mounted.
+
+ghost use Rattle.std.specs.Prelude.{◌≡◌, ◌≢◌, ◌↔◌, ◌+◌, ◌-◌, ◌*◌, ◌^◌, ◌<◌, ◌≤◌, min, ℕ, List, [], length, IsTrue, IsSome, IfOk, IfErr, OnOk, None, Some, Ok, Err, is_some};
+ghost use Rattle.std.specs.List.{Contains};
+ghost use Rattle.vt_base.specs.Faults.{HasCause};
+ghost use Rattle.vt_base.specs.declared.place.Entry.{Entry};
+ghost use Rattle.vt_bucket.specs.Buckets.{number_of, entries_of as entries_in};
+ghost use Rattle.vt_bucket.specs.Frame.{IsFrame};
+ghost use Rattle.vt_disk.specs.Disk.{AreAmong, SameBut, Only};
+ghost use Rattle.vt_disk.specs.Region.{ChangesWithin, Inside};
+ghost use Rattle.vt_disk.specs.declared.region.Region.{Region};
+ghost use Rattle.vt_model.specs.History.{History};
+ghost use Rattle.vt_model.specs.Places.{Setup};
+ghost use Rattle.vt_twin.specs.Frames.{current_frame, named_number};
+ghost use Rattle.vt_twin.specs.Twin.{fresh, calls_made};
+ghost use Rattle.vt_isect.specs.Agreement.{KnownAgrees, IsCovered, IsOfBlock, NoOthers};
+ghost use Rattle.vt_isect.specs.Head.{IsHeadFrame};
+ghost use Rattle.vt_isect.specs.Layout.{IsPlaceOf, InRange};
+ghost use Rattle.vt_isect.specs.Merging.{IsFaulty};
+
+use crate::FRAME_LEN;
+use crate::bad::ShardErr;
+use crate::entries::Entries;
+use crate::head::{Head, NAME_LEN};
+use crate::merging::decode_bucket;
+use crate::mounting::Opened;
+use crate::phase::Phase;
+use crate::place::{bucket_number, bucket_place};
+use std::marker::Model;
+use std::sync::ledger::Ledger;
+use vt_base::{Entry, Failed};
+use vt_bucket::Bucket;
+use vt_disk::Disk;
+use vt_steps::Steps;
+use vt_twin::Twin;
+
+/// An index section on its disk: a head, and buckets of entries by their scores.
+///
+/// A writeback puts entries into their buckets and then raises the head's mark, by `begin_file` and
+/// one `advance` for each device call.
+#[derive(Drop)]
+pub struct Section<D: Disk> {
+    pub(crate) disk: D,
+    pub(crate) buckets: u32,
+    pub(crate) name: [u8; NAME_LEN],
+    pub(crate) head: Head,
+    /// The head that it gets by what is under way.
+    pub(crate) next: Head,
+    pub(crate) phase: Phase,
+    pub(crate) entries: Option<Entries>,
+    /// The number of the bucket under way, over all sections.
+    pub(crate) bucket: u32,
+    pub(crate) head_twin: Twin,
+    pub(crate) bucket_twin: Twin,
+    /// The buffers of the frames, but where a change has them.
+    pub(crate) head_frame: Option<Vec<u8>>,
+    pub(crate) bucket_frame: Option<Vec<u8>>,
+    pub(crate) calls: u64,
+    pub(crate) stopped: Option<u64>,
+}
+
+impl<D: Disk> Model for Section<D> {
+    ghost use Rattle.std.specs.Option.{option_map};
+    ghost use Rattle.vt_isect.specs.Section.{SectionState, IsWell};
+
+    ghost Value = { SectionState D };
+
+    ghost view = { λ s. record {
+      disk = s.disk;
+      buckets = s.buckets;
+      name = s.name;
+      head = s.head;
+      next = s.next;
+      phase = s.phase;
+      entries = s.entries;
+      bucket = s.bucket;
+      head_twin = s.head_twin;
+      bucket_twin = s.bucket_twin;
+      calls = s.calls;
+      stopped = s.stopped;
+    } };
+
+    ghost invariant = { λ s. IsWell (D.size s.disk)
+        (record {
+          disk = s.disk;
+          buckets = s.buckets;
+          name = s.name;
+          head = s.head;
+          next = s.next;
+          phase = s.phase;
+          entries = s.entries;
+          bucket = s.bucket;
+          head_twin = s.head_twin;
+          bucket_twin = s.bucket_twin;
+          calls = s.calls;
+          stopped = s.stopped;
+        })
+        (option_map (λ frame. frame.items) s.head_frame)
+        (option_map (λ frame. frame.items) s.bucket_frame) };
+}
+
+impl<D: Disk> Section<D> {
+    ghost use Rattle.vt_isect.specs.declared.phase.Phase.TheVariants.{Rest, ReadSelector, ChangeBucket, ChangeHead};
+    ghost use Rattle.vt_isect.specs.Section.{SectionState, AreInRange, IsAtRest, IsChanging, IsTodo, bucket_under_way, entries_of, mounted, HasBucket};
+    ghost use Rattle.vt_isect.specs.Sound.{Known, IsReadFrom, IsSoundSection, with_bucket};
+    ghost use Rattle.vt_isect.specs.Writeback.{CountsFaultOf, BeginsFrom, calls_left};
+
+    /// A section as it was found.
+    pub(crate) fn new(disk: D, buckets: u32, opened: Opened) -> Self
+        requires room { 24576 + 16896 * buckets ≤ D.size disk }
+        requires name { length opened.name ≡ 64 }
+        requires head_frame { length opened.head_frame.items ≡ 8192 }
+        requires bucket_frame { length opened.bucket_frame.items ≡ 8192 }
+        requires twin { opened.twin ≡ fresh 8192 opened.twin.current }
+        ensures { result ≡ mounted disk buckets opened.name opened.head opened.twin.current }
+    {
+        let Opened {
+            twin,
+            name,
+            head,
+            head_frame,
+            bucket_frame,
+        } = opened;
+        Section {
+            disk,
+            buckets,
+            name,
+            head,
+            next: head,
+            phase: Phase::Rest,
+            entries: None,
+            bucket: 0,
+            head_twin: twin,
+            bucket_twin: Twin::resume(FRAME_LEN as u64, 0),
+            head_frame: Some(head_frame),
+            bucket_frame: Some(bucket_frame),
+            calls: 0,
+            stopped: None,
+        }
+    }
+
+    /// What its head says.
+    pub fn head(&self) -> Head
+        ensures { result ≡ self.now.head }
+    {
+        self.head
+    }
+
+    /// How many blocks of the log surely have their entries in the index: each block below it that
+    /// belongs to this section has its entry.
+    pub fn mark(&self) -> u64
+        ensures { result ≡ self.now.head.mark }
+    {
+        self.head.mark
+    }
+
+    /// How many buckets it has. They are numbered from its head's `first` on.
+    pub fn buckets(&self) -> u32
+        ensures { result ≡ self.now.buckets }
+    {
+        self.buckets
+    }
+
+    /// Whether it has the bucket of this number, over all sections.
+    pub fn has_bucket(&self, number: u32) -> bool
+        ensures { IsTrue result ↔ InRange self.now.head self.now.buckets number }
+    {
+        number >= self.head.first
+            && u64::from(number) < u64::from(self.head.first) + u64::from(self.buckets)
+    }
+
+    /// Whether it has the buckets of these entries.
+    pub fn has_buckets(&self, entries: &[Entry]) -> bool
+        ensures { IsTrue result ↔ AreInRange self.now.head self.now.buckets entries.now }
+    {
+        for entry in entries {
+            if !self.has_bucket(bucket_number(self.head.total, &entry.key.score)) {
+                return false;
+            }
+        }
+        true
+    }
+
+    /// Whether a writeback or a change of the head is under way. One that was stopped stays so.
+    pub fn is_changing(&self) -> bool
+        ensures under_way { IsTrue result ↔ ¬ IsAtRest self.now }
+        ensures left { IsTrue result ↔ (0 < calls_left self.now) }
+    {
+        self.phase != Phase::Rest
+    }
+
+    /// The number of the bucket that a writeback is putting entries into, if there is one. Those
+    /// of lower numbers have theirs.
+    pub fn bucket_under_way(&self) -> Option<u32>
+        ensures { result ≡ bucket_under_way self.now.phase self.now.bucket }
+    {
+        match self.phase {
+            Phase::ReadSelector | Phase::ReadFrame(_) | Phase::ChangeBucket => Some(self.bucket),
+            Phase::Rest | Phase::ChangeHead => None,
+        }
+    }
+
+    /// The number of the device call that stopped it, if one did.
+    pub fn stopped(&self) -> Option<u64>
+        ensures { result ≡ self.now.stopped }
+    {
+        self.stopped
+    }
+
+    /// Gives the disk back.
+    pub fn into_devices(self) -> D
+        ensures { result ≡ self.disk }
+    {
+        self.disk
+    }
+
+    /// The entries of a bucket, by its number over all sections.
+    ///
+    /// It reads the bucket's selector and then the frame that this names, and no other. While a
+    /// bucket is being changed it gives what the bucket had before.
+    pub fn bucket<L: Ledger>(
+        &mut self,
+        number: u32,
+        steps: &mut Steps<L>,
+    ) -> Result<Bucket, ShardErr>
+        requires { InRange self.old.head self.old.buckets number }
+
+        // It gives exactly what is known of the bucket, and where something is known it finds no
+        // damage.
+        ensures found { (known : Known) (entries : List Entry) → IfOk result (λ bucket.
+            IsTrue D.tells
+            → IsSoundSection self.old known (D.bytes self.old.disk) (D.images self.old.disk)
+            → known number ≡ Some entries → entries_in bucket ≡ entries) }
+        ensures undamaged { (known : Known) (entries : List Entry) → IsTrue D.tells
+            → IsSoundSection self.old known (D.bytes self.old.disk) (D.images self.old.disk)
+            → known number ≡ Some entries → IfErr result (λ bad. bad ≡ ShardErr.Fault) }
+
+        // Else too it gives what the frame that it reads spells, and damage is a fault of that.
+        ensures number { IfOk result (λ bucket. number_of bucket ≡ number) }
+        ensures spelled { IfOk result (λ bucket. (frame : List ℕ)
+            × IsFrame number (entries_in bucket) frame
+            × ((region : Region) → IsTrue D.tells
+            → IsPlaceOf (number - self.old.head.first) region
+            → IsReadFrom self.old number region (D.bytes self.old.disk) frame)) }
+        ensures damaged { IfErr result (λ bad. bad ≢ ShardErr.Fault → (frame : List ℕ)
+            × IsFaulty number frame bad
+            × ((region : Region) → IsTrue D.tells
+            → IsPlaceOf (number - self.old.head.first) region
+            → IsReadFrom self.old number region (D.bytes self.old.disk) frame)) }
+        ensures faults { CountsFaultOf result (D.faults self.old.disk) (D.faults self.new.disk) }
+
+        // It changes nothing, and reads one bucket frame at most.
+        ensures same { self.new ≡ record self.old { disk = self.new.disk } }
+        ensures bytes { D.bytes self.new.disk ≡ D.bytes self.old.disk }
+        ensures images { AreAmong (D.images self.new.disk) (D.images self.old.disk) }
+        ensures size { D.size self.new.disk ≡ D.size self.old.disk }
+        ensures cost { OnOk result (steps.new ≡ steps.old + 1) }
+        ensures cost_of_damage { IfErr result (λ bad. bad ≢ ShardErr.Fault
+            → steps.new ≡ steps.old + 1) }
+        ensures least_cost { steps.old ≤ steps.new }
+        ensures most_cost { steps.new ≤ steps.old + 1 }
+        ensures most_calls { IsTrue D.tells
+            → D.calls self.new.disk ≤ D.calls self.old.disk + 2 }
+    {
+        let place = bucket_place(number - self.head.first);
+        let current = self.current_frame(number)?;
+        let mut frame = [0; FRAME_LEN];
+        steps.tick();
+        place.read_at(
+            &mut self.disk,
+            FRAME_LEN as u64 * u64::from(current),
+            &mut frame,
+        )?;
+        decode_bucket(&frame, number)
+    }
+
+    /// Takes in entries that are to be written to their buckets, and the mark that the head gets
+    /// behind them. It makes no device call. The entries need no order; of two with one key one is
+    /// kept.
+    pub fn begin_file(&mut self, entries: Entries, mark: u64)
+        requires rest { IsAtRest self.old }
+        requires in_range { AreInRange self.old.head self.old.buckets entries }
+        ensures begins { BeginsFrom 0 self.new }
+        ensures left { calls_left self.new ≤ 6 * length entries + 4 }
+        ensures entries { self.new.entries ≡ Some entries }
+        ensures next { self.new.next ≡ record self.old.head { mark = mark } }
+        ensures same { self.new ≡ record self.old {
+          next = self.new.next;
+          phase = self.new.phase;
+          entries = self.new.entries;
+          bucket = self.new.bucket;
+          head_twin = self.new.head_twin;
+        } }
+        ensures sound { (known : Known) → IsTrue D.tells
+            → IsSoundSection self.old known (D.bytes self.old.disk) (D.images self.old.disk)
+            → IsSoundSection self.new known (D.bytes self.old.disk) (D.images self.old.disk) }
+
+        // What is known goes on to agree with a history where each entry is that of a block, and
+        // each block below the mark is in its bucket or among the entries.
+        ensures agrees { (score : List ℕ → List ℕ) (c : Setup) (h : History) (known : Known)
+            → KnownAgrees score c h self.old known
+            → ((entry : Entry) → Contains entries entry → IsOfBlock score c h entry)
+            → (self.old.head.state ≡ 1
+            → IsCovered score c h self.old known (Contains entries) mark)
+            → KnownAgrees score c h self.new known }
+    {
+        self.next = Head { mark, ..self.head };
+        self.entries = Some(entries);
+        self.go_on(0);
+    }
+
+    /// Begins to change the head: `advance` makes the four device calls. The count of buckets
+    /// becomes what the section has.
+    pub fn begin_head(&mut self, state: u8, first: u32, total: u32, mark: u64)
+        requires rest { IsAtRest self.old }
+        ensures begins { (self.new.phase ≡ ChangeHead) × (calls_made self.new.head_twin ≡ 0) }
+        ensures left { calls_left self.new ≡ 4 }
+        ensures next { self.new.next ≡ record {
+          state = state;
+          first = first;
+          count = self.old.buckets;
+          total = total;
+          mark = mark;
+        } }
+        ensures same { self.new ≡ record self.old {
+          next = self.new.next;
+          phase = self.new.phase;
+          entries = None;
+          head_twin = self.new.head_twin;
+        } }
+        ensures sound { (known : Known) → IsTrue D.tells
+            → IsSoundSection self.old known (D.bytes self.old.disk) (D.images self.old.disk)
+            → IsSoundSection self.new known (D.bytes self.old.disk) (D.images self.old.disk) }
+        ensures agrees { (score : List ℕ → List ℕ) (c : Setup) (h : History) (known : Known)
+            → KnownAgrees score c h self.old known
+            → first ≡ self.old.head.first → total ≡ self.old.head.total
+            → (state ≡ 1 → IsCovered score c h self.old known NoOthers mark)
+            → KnownAgrees score c h self.new known }
+    {
+        self.next = Head {
+            state,
+            first,
+            count: self.buckets,
+            total,
+            mark,
+        };
+        self.entries = None;
+        self.write_head();
+    }
+
+    /// Formats a bucket without entries, by its number over all sections. A call that fails can be
+    /// made again.
+    pub fn clear(&mut self, number: u32) -> Result<(), ShardErr>
+        requires rest { IsAtRest self.old }
+        requires in_range { InRange self.old.head self.old.buckets number }
+
+        // From then on each crash leaves it without entries.
+        ensures empty { OnOk result (IsTrue D.tells
+            → (c : List ℕ) (region : Region) → D.images self.new.disk c
+            → IsPlaceOf (number - self.old.head.first) region
+            → IsFrame number [] (current_frame region 8192 c)) }
+        ensures settled { OnOk result (IsTrue D.tells
+            → Only (D.bytes self.new.disk) (D.images self.new.disk)) }
+        ensures cleared { (known : Known) → OnOk result (IsTrue D.tells
+            → IsSoundSection self.old known (D.bytes self.old.disk) (D.images self.old.disk)
+            → IsSoundSection self.new (with_bucket number (Some []) known)
+            (D.bytes self.new.disk) (D.images self.new.disk)) }
+
+        // Whatever the answer, the others and the head stay.
+        ensures others { (known : Known) → IsTrue D.tells
+            → IsSoundSection self.old known (D.bytes self.old.disk) (D.images self.old.disk)
+            → IsSoundSection self.new (with_bucket number None known)
+            (D.bytes self.new.disk) (D.images self.new.disk) }
+
+        // While the mark doesn't count, what is known goes on to agree with a history.
+        ensures agrees { (score : List ℕ → List ℕ) (c : Setup) (h : History) (known : Known)
+            → KnownAgrees score c h self.old known
+            → self.old.head.state ≢ 1 → self.old.next ≡ self.old.head
+            → KnownAgrees score c h self.new (with_bucket number (Some []) known) }
+
+        ensures same { self.new ≡ record self.old { disk = self.new.disk } }
+        ensures images { (region : Region) → IsPlaceOf (number - self.old.head.first) region
+            → ChangesWithin region (D.images self.old.disk) (D.images self.new.disk) }
+        ensures bytes { (region : Region) → IsPlaceOf (number - self.old.head.first) region
+            → IsTrue D.tells → SameBut (Inside region)
+            (D.bytes self.old.disk) (D.bytes self.new.disk) }
+        ensures size { D.size self.new.disk ≡ D.size self.old.disk }
+        ensures most_calls { IsTrue D.tells
+            → D.calls self.new.disk ≤ D.calls self.old.disk + 3 }
+        ensures refused { IfErr result (λ bad. bad ≡ ShardErr.Fault) }
+        ensures faults { CountsFaultOf result (D.faults self.old.disk) (D.faults self.new.disk) }
+    {
+        let place = bucket_place(number - self.head.first);
+        let mut frame = [0; FRAME_LEN];
+        Bucket::new(number).encode(&mut frame);
+        vt_twin::format(&mut self.disk, place, &frame)?;
+        Ok(())
+    }
+
+    /// Hands back the entries of the last writeback, once, where there is one. While one is under
+    /// way there are none.
+    pub fn idle(&mut self) -> Option<Entries>
+        ensures rest { IsAtRest self.old
+            → (result ≡ self.old.entries) × (self.new ≡ record self.old { entries = None }) }
+        ensures under_way { ¬ IsAtRest self.old → (result ≡ None) × (self.new ≡ self.old) }
+    {
+        if self.is_changing() {
+            return None;
+        }
+        self.entries.take()
+    }
+
+    /// The number of the current frame of a bucket. While that is being changed, it is the one that
+    /// was current before.
+    fn current_frame(&mut self, number: u32) -> Result<u8, Failed>
+        requires { InRange self.old.head self.old.buckets number }
+        ensures bound { IfOk result (λ current. current < 2) }
+        ensures changing { IfOk result (λ current. IsChanging self.old number
+            → current ≡ self.old.bucket_twin.current) }
+        ensures named { IfOk result (λ current. IsTrue D.tells → ¬ IsChanging self.old number
+            → (region : Region) → IsPlaceOf (number - self.old.head.first) region
+            → current ≡ named_number region 8192 (D.bytes self.old.disk)) }
+        ensures same { self.new ≡ record self.old { disk = self.new.disk } }
+        ensures bytes { D.bytes self.new.disk ≡ D.bytes self.old.disk }
+        ensures images { AreAmong (D.images self.new.disk) (D.images self.old.disk) }
+        ensures size { D.size self.new.disk ≡ D.size self.old.disk }
+        ensures most_calls { IsTrue D.tells
+            → D.calls self.new.disk ≤ D.calls self.old.disk + 1 }
+        ensures cause { HasCause result (D.faults self.old.disk) (D.faults self.new.disk) }
+    {
+        if self.phase == Phase::ChangeBucket && self.bucket == number {
+            return Ok(self.bucket_twin.current());
+        }
+        let mut selector = [0];
+        let place = bucket_place(number - self.head.first);
+        place.read_at(&mut self.disk, 2 * FRAME_LEN as u64, &mut selector)?;
+        Ok(selector[0] % 2)
+    }
+}

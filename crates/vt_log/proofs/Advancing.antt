@@ -1,0 +1,85 @@
+-- A call of `advance`, from its two steps.
+use Rattle.std.proofs.Common.{◌≡◌, ◌≢◌, ⊎_elim, ℕ, ◌+◌, ◌<◌, ◌≤◌, List, [], ◌∷◌, length, get_or, refl, sym, ◌∙◌, ap, subst, arith, Some, None, Ok, Err, Result, drop}
+use Rattle.std.specs.Prelude.{IsFalse, slice_get}
+use Rattle.std.proofs.lemmas.Bool.{cases_eq}
+use Rattle.std.proofs.lemmas.Option.{slice_get_within, slice_get_cases}
+use Rattle.vt_base.specs.declared.place.Place.{Place}
+use Rattle.vt_disk.specs.declared.region.Region.{Region}
+use Rattle.vt_twin.specs.Twin.{one_more}
+use Rattle.vt_clump.specs.declared.packed.Packed.{Packed}
+use Rattle.vt_model.specs.History.{History}
+use Rattle.vt_part.specs.declared.layout.ArenaRegion.{ArenaRegion}
+use Rattle.vt_arena.specs.Arena.{is_committing, calls_made, commit_calls}
+use Rattle.vt_log.specs.declared.bad.Progress.{Progress}
+use Rattle.vt_log.specs.declared.bad.Progress.TheVariants.{Idle, Step, Durable}
+use Rattle.vt_log.specs.declared.bad.LogErr.{LogErr}
+use Rattle.vt_log.specs.declared.bad.LogErr.TheVariants.{Fault, Stopped}
+use Rattle.vt_log.specs.Answers.{Advances, MakesCall, EndsCommit}
+use Rattle.vt_log.specs.Committing.{Prepares, MakesOrEnds}
+use Rattle.vt_log.specs.declared.queue.Waiting.{Waiting}
+use Rattle.vt_log.specs.Log.{LogState, queued, disk_in_use, filled_as}
+use Rattle.vt_log.specs.Sound.{IsAt, AreWithinCall, StandForPrefix}
+use Rattle.vt_log.specs.Whole.{IsOnDisk, IsWhole, Fill, turned_to}
+use Rattle.vt_log.proofs.Fillings.{fits_within, turned_arena}
+use Rattle.vt_log.proofs.Memory.{at_slice}
+use Rattle.vt_log.proofs.Owing.{none_made}
+
+makes_call : {D : Type 0} (old m new : LogState D) → Prepares old m → MakesCall m new → MakesCall old new
+makes_call {D = D} old m new prep it = record {
+  calls = it.calls ∙ ap (λ (l : LogState D). one_more l.calls) prep.same;
+  heads = it.heads ∙ ap (λ (l : LogState D). l.heads) prep.same;
+  durable = it.durable ∙ ap (λ (l : LogState D). l.durable) prep.same;
+  packed = it.packed ∙ prep.packed;
+  places = it.places ∙ prep.places;
+}
+
+pub advances : {D : Type 0} (old m new : LogState D) (result : Result Progress LogErr) → Prepares old m → MakesOrEnds result m new
+    → ((n : ℕ) → result ≡ Ok (Durable n) → calls_made m.arena + 1 ≡ commit_calls m.arena) → Advances result old new
+advances old m new (Ok Idle) prep it last = absurd it
+advances old m new (Ok Step) prep it last = (makes_call old m new prep it.0, it.1, omega (arith, it.2, prep.owed_is))
+advances {D = D} old m new (Ok (Durable n)) prep it last = (ended, it.1, it.2, omega (arith, it.3, prep.owed_is))
+  where
+    staged : length m.arena.staged ≡ length old.arena.staged
+    staged = ⊎_elim (λ (same : m ≡ old). ap (λ (l : LogState D). length l.arena.staged) same)
+        (λ (rest : IsFalse (is_committing m.arena)). absurd (omega (arith, none_made m.arena rest, last n refl))) prep.begun
+
+    ended : EndsCommit (length old.arena.staged) old new
+    ended = subst (λ (k : ℕ). EndsCommit k old new) staged (record {
+      calls = it.0.calls ∙ ap (λ (l : LogState D). one_more l.calls) prep.same;
+      heads = λ i other. it.0.heads i (λ same. other (same ∙ ap (λ (l : LogState D). l.committing) prep.same)) ∙ ap (λ (l : LogState D). slice_get l.heads i) prep.same;
+      durable = it.0.durable ∙ ap (λ (l : LogState D). l.durable + length m.arena.staged) prep.same;
+      packed = it.0.packed ∙ ap (λ (ps : List Packed). drop (length m.arena.staged) ps) prep.packed;
+      places = it.0.places ∙ ap (λ (ps : List Place). drop (length m.arena.staged) ps) prep.places;
+    })
+advances {D = D} old m new (Err Fault) prep it last = (makes_call old m new prep it.0, it.1 ∙ ap (λ (l : LogState D). Some l.calls) prep.same)
+advances old m new (Err (Stopped n)) prep it last = absurd it
+
+pub stand_as_prepared : {D : Type 0} (score_of : List ℕ → List ℕ) (old m : LogState D) (files : List (List ℕ)) (h : History) → Prepares old m → StandForPrefix score_of m files h → StandForPrefix score_of old files h
+stand_as_prepared {D = D} score_of old m files h prep it = subst (λ (k : LogState D). StandForPrefix score_of k files h) prep.same it
+
+pub at_as_prepared : {D : Type 0} (old m : LogState D) (r : ArenaRegion) (region : Region) (disk : D) → Prepares old m → IsAt old old.committing r region disk → IsAt m m.committing r region disk
+at_as_prepared {D = D} old m r region disk prep at = subst (λ (k : LogState D). IsAt k k.committing r region disk) (sym prep.same) (record { arena = at.arena; region_is = at.region_is; disk_is = at.disk_is })
+
+pub within_as_prepared : {D : Type 0} (images : D → List ℕ → Type 0) (old m : LogState D) (ds : List D) (files : List (List ℕ)) → Prepares old m → AreWithinCall images old.disks ds files → AreWithinCall images m.disks ds files
+within_as_prepared {D = D} images old m ds files prep left = subst (λ (k : LogState D). AreWithinCall images k.disks ds files) (sym prep.same) left
+
+-- where something is queued, an arena is committed in, and its disk is there
+pub committing_there : {D : Type 0} (size : D → ℕ) (l : LogState D) → IsWhole size l → 0 < queued l → l.committing < length l.layout
+committing_there size l whole some = ⊎_elim
+    (λ (past : l.committing ≡ length l.layout). absurd (at l.queue.waiting whole.queue (omega (arith, some, whole.places, ap (λ (ps : List Packed). length ps) (whole.none past).0)) past))
+    (λ (other : l.committing ≢ length l.layout). let most = whole.committing in omega (arith, most, other))
+    (cases_eq l.committing (length l.layout))
+  where
+    at : (ws : List Waiting) → Fill l.layout l.heads (filled_as l.committing l.arena.next) ws l.filling → 0 < length ws → l.committing ≡ length l.layout → ⊥
+    at [] fill more past = omega (arith, more)
+    at (w ∷ ws) fill more past =
+        let there = fits_within l.layout (turned_to l.heads w.arena (filled_as l.committing l.arena.next)) w.packed.len fill.2 in
+        omega (arith, past, fill.0, slice_get_within l.layout _ there.0 there.1, turned_arena l.heads w.arena (filled_as l.committing l.arena.next))
+
+pub in_use : {D : Type 0} (size : D → ℕ) (l : LogState D) → IsWhole size l → 0 < queued l → disk_in_use l < length l.disks
+in_use size l whole some = ⊎_elim
+    (λ (it : (x : ArenaRegion) × (l.committing < length l.layout) × (slice_get l.layout l.committing ≡ Some x) × (get_or l.layout l.committing x ≡ x)).
+    let on = at_slice (IsOnDisk size l.disks) l.layout l.committing it.0 whole.regions it.2 in
+    rw it.2 (slice_get_within l.disks it.0.part on.disk on.has))
+    (λ (past : (length l.layout ≤ l.committing) × (slice_get l.layout l.committing ≡ None)). absurd (omega (arith, past.0, committing_there size l whole some)))
+    (slice_get_cases l.layout l.committing).1

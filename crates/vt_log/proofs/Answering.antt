@@ -1,0 +1,64 @@
+-- What a read answers.
+use Rattle.std.proofs.Common.{◌≡◌, ◌≢◌, ◌⊎◌, ⊎_elim, inl, inr, ℕ, ◌<◌, ◌≤◌, List, drop, sym, ◌∙◌, ap, subst, arith, Ok, Err, Result, IfOk, IfErr, MatchResult}
+use Rattle.std.proofs.lemmas.Bool.{cases_lt}
+use Rattle.vt_base.specs.declared.key.Key.{Key}
+use Rattle.vt_base.specs.declared.place.Place.{Place}
+use Rattle.vt_clump.specs.declared.packed.Packed.{Packed}
+use Rattle.vt_clump.specs.declared.reading.Clump.{Clump}
+use Rattle.vt_clump.specs.Spelling.{stored_in}
+use Rattle.vt_arena.specs.declared.bad.ReadBad.{ReadBad}
+use Rattle.vt_arena.specs.declared.bad.ReadBad.TheVariants.{Fault, Damaged, NoMemory}
+use Rattle.vt_arena.specs.Reading.{ReadsAs as ReadsClump}
+use Rattle.vt_log.specs.Queue.{IsFirstAt}
+use Rattle.vt_log.specs.Reading.{IsOther, IsDamagedBy, GivesPacked, ReadsAs}
+
+-- a clump with the key that was asked for is not damaged by its key
+pub no_other : (key : Key) (kind : ℕ) (score : List ℕ) (bad : ReadBad) → kind ≡ key.kind → score ≡ key.score.0 → IsDamagedBy key kind score bad → ⊥
+no_other key kind score Fault k s other = other
+no_other key kind score NoMemory k s other = other
+no_other key kind score (Damaged want found) k s other = ⊎_elim
+    (λ (it : (kind ≢ key.kind) × _ × _). it.0 k)
+    (λ (it : (kind ≡ key.kind) × (score ≢ key.score.0) × _ × _). it.1 s)
+    other
+
+pub queued_gives : (key : Key) (p : Packed) (result : Result (List ℕ) ReadBad) → IfOk result (λ _. (p.kind ≡ key.kind) × (p.score ≡ key.score))
+    → IfOk result (λ block. block ≡ drop 38 p.bytes) → IfErr result (λ bad. (bad ≡ NoMemory) ⊎ IsDamagedBy key p.kind p.score.0 bad) → GivesPacked key p result
+queued_gives key p (Ok block) same is other = (same.0, same.1, is)
+queued_gives key p (Err Fault) same is other = ⊎_elim (λ (e : Fault ≡ NoMemory). absurd (cc)) (λ (no : ⊥). no) other
+queued_gives key p (Err NoMemory) same is other = tt
+queued_gives key p (Err (Damaged want found)) same is other = ⊎_elim (λ (e : Damaged want found ≡ NoMemory). absurd (cc)) (λ (it : IsOther key p.kind p.score.0 want found). it) other
+
+pub queued_block : (key : Key) (p : Packed) (block : List ℕ) (result : Result (List ℕ) ReadBad) → p.kind ≡ key.kind → p.score.0 ≡ key.score.0 → drop 38 p.bytes ≡ block
+    → IfOk result (λ b. b ≡ drop 38 p.bytes) → IfErr result (λ bad. (bad ≡ NoMemory) ⊎ IsDamagedBy key p.kind p.score.0 bad)
+    → MatchResult result (λ b. b ≡ block) (λ bad. (bad ≡ Fault) ⊎ (bad ≡ NoMemory))
+queued_block key p block (Ok b) k s whole is other = is ∙ whole
+queued_block key p block (Err bad) k s whole is other = ⊎_elim (λ (e : bad ≡ NoMemory). inr e) (λ (it : IsDamagedBy key p.kind p.score.0 bad). absurd (no_other key p.kind p.score.0 bad k s it)) other
+
+-- where no clump is read
+pub unread : (score_of : List ℕ → List ℕ) (key : Key) (bytes : List ℕ) (bad : ReadBad) → ReadsClump score_of bytes (Err bad) → ReadsAs score_of key bytes (Err bad)
+unread score_of key bytes Fault reads = tt
+unread score_of key bytes NoMemory reads = tt
+unread score_of key bytes (Damaged want found) reads = inl reads
+
+-- where the clump that is read has that key, and where it has another
+pub reads_block : (score_of : List ℕ → List ℕ) (key : Key) (bytes : List ℕ) (clump : Clump) → ReadsClump score_of bytes (Ok clump) → clump.kind ≡ key.kind → clump.score ≡ key.score
+    → ReadsAs score_of key bytes (Ok clump.bytes)
+reads_block score_of key bytes clump reads kind score =
+    (reads.0, (sym reads.1.kind ∙ kind, sym reads.1.score ∙ ap (λ (s : _). s.0) score, reads.1.bytes))
+
+pub reads_other : (score_of : List ℕ → List ℕ) (key : Key) (bytes : List ℕ) (clump : Clump) (bad : ReadBad) → ReadsClump score_of bytes (Ok clump) → IsDamagedBy key clump.kind clump.score.0 bad
+    → ReadsAs score_of key bytes (Err bad)
+reads_other score_of key bytes clump Fault reads other = tt
+reads_other score_of key bytes clump NoMemory reads other = tt
+reads_other score_of key bytes clump (Damaged want found) reads other =
+    inr (reads.0, subst (λ (kind : ℕ). IsOther key kind (stored_in bytes).score want found) reads.1.kind (subst (λ (score : List ℕ). IsOther key clump.kind score want found) reads.1.score other))
+
+-- one place alone is the first of these
+pub first_once : (places : List Place) (place : Place) (i j : ℕ) → IsFirstAt places place i → IsFirstAt places place j → i ≡ j
+first_once places place i j here there = ⊎_elim
+    (λ (less : i < j). absurd (there.first i less here.at))
+    (λ (rest : j ≤ i). ⊎_elim
+    (λ (less : j < i). absurd (here.first j less there.at))
+    (λ (same : i ≤ j). omega (arith, rest, same))
+    (cases_lt j i))
+    (cases_lt i j)

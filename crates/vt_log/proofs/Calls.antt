@@ -1,0 +1,267 @@
+-- What a device call of a commit leaves of a log.
+use Rattle.std.proofs.Common.{◌≡◌, ◌≢◌, ◌⊎◌, ⊎_elim, ℕ, ◌+◌, ◌^◌, ◌<◌, ◌≤◌, Bool, true, false, cond, List, ◌++◌, get_or, map, set, refl, sym, ◌∙◌, ap, subst, arith, Some, None, Option, inl, inr}
+use Rattle.std.specs.Prelude.{AllPairs, slice_get, nat_lt}
+use Rattle.std.specs.Coded.{le_prop}
+use Rattle.std.proofs.Math.Dec.{leb}
+use Rattle.std.proofs.lemmas.Bool.{cases_eq}
+use Rattle.std.proofs.lemmas.Bool.Decides.{leb_tells}
+use Rattle.std.proofs.lemmas.List.{length-set}
+use Rattle.std.proofs.lemmas.List.Elements.{All-weaker}
+use Rattle.std.proofs.lemmas.Option.{slice_get_within, get_or_from_slice_get, same_Some}
+use Rattle.vt_disk.specs.declared.region.Region.{Region}
+use Rattle.vt_disk.specs.Disk.{SameBut, WithinCall}
+use Rattle.vt_disk.specs.Region.{Inside, ChangesWithin, region_bytes}
+use Rattle.vt_disk.proofs.Bytes.{part_same}
+use Rattle.vt_twin.specs.Frames.{named_number}
+use Rattle.vt_twin.specs.Twin.{TwinState, after_fault as twin_after_fault}
+use Rattle.vt_clump.specs.Clumps.{stored_of}
+use Rattle.vt_clump.specs.declared.packed.Packed.{Packed}
+use Rattle.vt_model.specs.History.{History}
+use Rattle.vt_part.specs.declared.layout.ArenaRegion.{ArenaRegion}
+use Rattle.vt_part.specs.Laws.{IsBefore}
+use Rattle.vt_arena.specs.declared.TheConstants.{FRAME_LEN}
+use Rattle.vt_arena.specs.declared.head.ArenaHead.{ArenaHead}
+use Rattle.vt_arena.specs.Arena.{ArenaState, next_content, pieces, after_step, after_piece, after_head, after_fault, stopped_at_call, changing}
+use Rattle.vt_arena.specs.Layout.{Content, IsArena}
+use Rattle.vt_arena.specs.Sound.{IsSettled, IsSound as IsSoundArena, GivesOldOrNext}
+use Rattle.vt_arena.proofs.Fresh.{settled_elsewhere}
+use Rattle.vt_arena.proofs.Regions.{arena_in_region, named_in_region}
+use Rattle.vt_log.specs.Committing.{IsReady}
+use Rattle.vt_log.specs.Log.{LogState}
+use Rattle.vt_log.specs.Logs.{accepted}
+use Rattle.vt_log.specs.Queue.{waiting_block}
+use Rattle.vt_log.specs.Sound.{IsAt, IsSound, AreWithinCall, StandForPrefix}
+use Rattle.vt_log.specs.Whole.{IsOnDisk, IsWhole}
+use Rattle.vt_log.proofs.Images.{region_long, number_is, stand_for_prefix, moment_stands}
+use Rattle.vt_log.proofs.Memory.{slice_get_other, slice_get_set_same, slice_get_set_other}
+
+-- two regions of the same bytes are one
+made : (s l : ℕ) → s + l < 2 ^ 64 → Region
+made s l h = record { start = s; len = l; in_range = h }
+
+made_once : (s l : ℕ) (g h : s + l < 2 ^ 64) → made s l g ≡ made s l h
+unfolding made
+made_once s l g h = ap (made s l) (le_prop g h)
+
+pub same_region : (p q : Region) → p.start ≡ q.start → p.len ≡ q.len → p ≡ q
+unfolding made
+same_region p q s l =
+    subst (λ (t : ℕ). (k : t + q.len < 2 ^ 64) → p ≡ made t q.len k) s
+    (subst (λ (m : ℕ). (k : p.start + m < 2 ^ 64) → p ≡ made p.start m k) l
+    (λ k. made_once p.start p.len p.in_range k)) q.in_range
+
+-- what the calls of a commit leave of an arena but the last
+pub record KeepsArena (a b : ArenaState) : Type 0 where
+  pub len : b.len ≡ a.len
+  pub number : b.number ≡ a.number
+  pub head : b.head ≡ a.head
+  pub next : b.next ≡ a.next
+  pub staged : b.staged ≡ a.staged
+
+pub step_keeps : (a : ArenaState) → KeepsArena a (after_step a) × ((after_step a).stopped ≡ a.stopped)
+step_keeps a = at (nat_lt a.written (pieces a))
+  where
+    at : (b : Bool) → KeepsArena a (cond b (after_piece a) (after_head a)) × ((cond b (after_piece a) (after_head a)).stopped ≡ a.stopped)
+    at true = (record { len = refl; number = refl; head = refl; next = refl; staged = refl }, refl)
+    at false = (record { len = refl; number = refl; head = refl; next = refl; staged = refl }, refl)
+
+pub fault_keeps : (a : ArenaState) → KeepsArena a (after_fault a)
+fault_keeps a = at (nat_lt a.written (pieces a)) (twin_after_fault (changing a))
+  where
+    at : (b : Bool) (t : TwinState) → KeepsArena a (cond b (stopped_at_call a) (record (stopped_at_call a) { twin = t }))
+    at true t = record { len = refl; number = refl; head = refl; next = refl; staged = refl }
+    at false t = record { len = refl; number = refl; head = refl; next = refl; staged = refl }
+
+-- the regions stay on their disks
+pub on_disk_set : {D : Type 0} (size : D → ℕ) (ds : List D) (i : ℕ) (d e : D) (r : ArenaRegion) → slice_get ds i ≡ Some d → size e ≡ size d → IsOnDisk size ds r → IsOnDisk size (set ds i e) r
+on_disk_set size ds i d e r at same on = ⊎_elim
+    (λ (here : r.part ≡ i).
+    let disk : d ≡ on.disk = same_Some d on.disk (sym at ∙ sym (ap (slice_get ds) here) ∙ on.has) in
+    record {
+      disk = e;
+      has = ap (slice_get (set ds i e)) here ∙ slice_get_set_same ds i e (slice_get_within ds i d at);
+      within = omega (arith, on.within, same, ap size disk);
+      small = on.small;
+      aligned = on.aligned;
+      len = on.len;
+    })
+    (λ (other : r.part ≢ i). record {
+      disk = on.disk;
+      has = slice_get_set_other ds i r.part e other ∙ on.has;
+      within = on.within;
+      small = on.small;
+      aligned = on.aligned;
+      len = on.len;
+    })
+    (cases_eq r.part i)
+
+-- a log in memory stays whole by a call that ends no commit
+pub call_whole : {D : Type 0} (size : D → ℕ) (l : LogState D) (i : ℕ) (d e : D) (b : ArenaState) (calls : ℕ) (stopped : Option ℕ) → IsWhole size l → IsReady l → KeepsArena l.arena b
+    → (stopped ≡ None → b.stopped ≡ None) → slice_get l.disks i ≡ Some d → size e ≡ size d
+    → IsWhole size (record l { disks = set l.disks i e; arena = b; calls = calls; stopped = stopped })
+call_whole size l i d e b calls stopped whole ready keeps runs at same = record {
+  many_disks = length-set l.disks i e ∙ whole.many_disks;
+  layout = whole.layout;
+  regions = All-weaker (IsOnDisk size l.disks) (IsOnDisk size (set l.disks i e)) (λ r on. on_disk_set size l.disks i d e r at same on) l.layout whole.regions;
+  apart = whole.apart;
+  few = whole.few;
+  many = whole.many;
+  heads = whole.heads;
+  unsealed = whole.unsealed;
+  base = whole.base;
+  committing = whole.committing;
+  arena = λ r found here has. let it = whole.arena r found here has in record { len = keeps.len ∙ it.len; number = keeps.number ∙ it.number; head = keeps.head ∙ it.head };
+  none = λ past. let it = whole.none past in (keeps.staged ∙ it.0, ap (λ head. head.sealed) keeps.next ∙ it.1);
+  number = ap (λ (head : ArenaHead). head.number) keeps.next ∙ whole.number ∙ sym keeps.number;
+  clumps = rw (keeps.next, keeps.head, keeps.staged) whole.clumps;
+  runs = runs;
+  some = λ committing none. ap (λ head. head.sealed) keeps.next ∙ ready (sym keeps.staged ∙ none);
+  way = λ sealed. whole.way (sym (ap (λ head. head.sealed) keeps.next) ∙ sealed);
+  queue = rw keeps.next whole.queue;
+  places = rw keeps.staged whole.places;
+  most = whole.most;
+  durable = whole.durable;
+}
+
+-- two arenas' regions on one disk are apart
+pub apart_at : (layout : List ArenaRegion) (i j : ℕ) (r q : ArenaRegion) → AllPairs IsBefore layout → i ≢ j → slice_get layout i ≡ Some r → slice_get layout j ≡ Some q → r.part ≡ q.part
+    → (r.at + r.len ≤ q.at) ⊎ (q.at + q.len ≤ r.at)
+apart_at layout i j r q pairs other at_i at_j part = ⊎_elim
+    (λ (t : (leb i j ≡ true) × (i ≤ j)).
+    let lt : i < j = omega (arith, t.1, other) in
+    let before : IsBefore r q = pair i j r q lt at_i at_j in
+    ⊎_elim (λ (h : r.part < q.part). absurd (omega (arith, h, part))) (λ (h : (r.part ≡ q.part) × (r.at + r.len ≤ q.at)). inl h.1) before)
+    (λ (t : (leb i j ≡ false) × (j < i)).
+    let before : IsBefore q r = pair j i q r t.1 at_j at_i in
+    ⊎_elim (λ (h : q.part < r.part). absurd (omega (arith, h, part))) (λ (h : (q.part ≡ r.part) × (q.at + q.len ≤ r.at)). inr h.1) before)
+    (leb_tells i j)
+  where
+    pair : (i j : ℕ) (r q : ArenaRegion) → i < j → slice_get layout i ≡ Some r → slice_get layout j ≡ Some q → IsBefore r q
+    pair i j r q lt at_i at_j =
+        subst (λ (x : ArenaRegion). IsBefore x q) (get_or_from_slice_get layout i r r at_i)
+        (subst (λ (y : ArenaRegion). IsBefore (get_or layout i r) y) (get_or_from_slice_get layout j q r at_j) (pairs i j r lt (slice_get_within layout j q at_j)))
+
+-- what a call of this arena's commit does to its disk: only its region changes
+pub record ChangesRegion {D : Type 0} (bytes : D → List ℕ) (images : D → List ℕ → Type 0) (size : D → ℕ) (region : Region) (before after : D) : Type 0 where
+  pub size_is : size after ≡ size before
+  pub images_are : ChangesWithin region (images before) (images after)
+  pub bytes_are : SameBut (Inside region) (bytes before) (bytes after)
+
+-- Any other arena stays what it is: settled, with the same bytes and the same selector.
+pub record StaysAt {D : Type 0} (score_of : List ℕ → List ℕ) (bytes : D → List ℕ) (images : D → List ℕ → Type 0) (region : Region) (before after : D) : Type 0 where
+  pub settled : IsSettled region (bytes before) (images before) → IsSettled region (bytes after) (images after)
+  pub arena : (number : ℕ) (a : Content) → IsArena score_of region number a (bytes before) → IsArena score_of region number a (bytes after)
+  pub selector : named_number region FRAME_LEN (bytes after) ≡ named_number region FRAME_LEN (bytes before)
+
+pub others_stay : {D : Type 0} (score_of : List ℕ → List ℕ) (bytes : D → List ℕ) (images : D → List ℕ → Type 0) (size : D → ℕ) (l : LogState D) (r : ArenaRegion) (region : Region) (d e : D)
+    → IsWhole size l → IsAt l l.committing r region d → ChangesRegion bytes images size region d e
+    → (i : ℕ) (q : ArenaRegion) (other : Region) (before after : D) → i ≢ l.committing → IsAt l i q other before → slice_get (set l.disks r.part e) q.part ≡ Some after
+    → StaysAt score_of bytes images other before after
+others_stay {D = D} score_of bytes images size l r region d e whole at changes i q other before after not_this there_at now = ⊎_elim
+    (λ (same : q.part ≡ r.part).
+    let was : d ≡ before = same_Some d before (sym at.disk_is ∙ sym (ap (slice_get l.disks) same) ∙ there_at.disk_is) in
+    let is : e ≡ after = same_Some e after (sym (slice_get_set_same l.disks r.part e (slice_get_within l.disks r.part d at.disk_is)) ∙ sym (ap (slice_get (set l.disks r.part e)) same) ∙ now) in
+    let gap = apart_at l.layout i l.committing q r whole.apart not_this there_at.arena at.arena same in
+    let clear : (k : ℕ) → Inside region k → ¬ Inside other k = λ k inside there. ⊎_elim
+    (λ (h : q.at + q.len ≤ r.at). omega (arith, h, inside.0, there.1, at.region_is.start, there_at.region_is.start, there_at.region_is.len))
+    (λ (h : r.at + r.len ≤ q.at). omega (arith, h, inside.1, there.0, at.region_is.start, at.region_is.len, there_at.region_is.start)) gap in
+    let long : 24576 ≤ other.len = region_long size l i q other before whole there_at in
+    let stay : region_bytes other (bytes e) ≡ region_bytes other (bytes d) =
+    part_same (Inside region) other.start other.len (bytes d) (bytes e) changes.bytes_are (λ k above below inside. clear k inside (above, below)) in
+    subst (λ (x : D). StaysAt score_of bytes images other x after) was (subst (λ (x : D). StaysAt score_of bytes images other d x) is (record {
+      settled = settled_elsewhere other region (bytes d) (bytes e) (images d) (images e) clear changes.bytes_are changes.images_are;
+      arena = λ number a. arena_in_region score_of other number a (bytes d) (bytes e) long stay;
+      selector = named_in_region other (bytes d) (bytes e) long stay;
+    })))
+    (λ (different : q.part ≢ r.part).
+    let same : before ≡ after = same_Some before after (sym there_at.disk_is ∙ sym (slice_get_set_other l.disks r.part q.part e different) ∙ now) in
+    subst (λ (x : D). StaysAt score_of bytes images other before x) same (record { settled = λ h. h; arena = λ number a h. h; selector = refl }))
+    (cases_eq q.part r.part)
+
+-- the disk of an arena was one before
+pub at_before : {D : Type 0} (l k : LogState D) (i : ℕ) (q : ArenaRegion) (other : Region) (after : D) (part : ℕ) (e : D) → k.layout ≡ l.layout → k.disks ≡ set l.disks part e
+    → IsAt k i q other after → (before : D) × IsAt l i q other before × (slice_get (set l.disks part e) q.part ≡ Some after)
+at_before l k i q other after part e layout disks at =
+    let now : slice_get (set l.disks part e) q.part ≡ Some after = sym (ap (λ ds. slice_get ds q.part) disks) ∙ at.disk_is in
+    let was = slice_get_other l.disks (set l.disks part e) q.part after (length-set l.disks part e) now in
+    (was.0, record { arena = sym (ap (λ rs. slice_get rs i) layout) ∙ at.arena; region_is = at.region_is; disk_is = was.1 }, now)
+
+-- a disk stays sound by a call that ends no commit
+pub call_sound : {D : Type 0} (score_of : List ℕ → List ℕ) (bytes : D → List ℕ) (images : D → List ℕ → Type 0) (size : D → ℕ) (l : LogState D) (h : History)
+    (r : ArenaRegion) (region : Region) (d e : D) (b : ArenaState) (calls : ℕ) (stopped : Option ℕ) → (sound : IsSound score_of bytes images size l h) → IsReady l → KeepsArena l.arena b
+    → (stopped ≡ None → b.stopped ≡ None) → IsAt l l.committing r region d → ChangesRegion bytes images size region d e
+    → ((a : Content) → slice_get sound.contents l.committing ≡ Some a → IsSoundArena score_of b region a (bytes e) (images e))
+    → IsSound score_of bytes images size (record l { disks = set l.disks r.part e; arena = b; calls = calls; stopped = stopped }) h
+call_sound {D = D} score_of bytes images size l h r region d e b calls stopped sound ready keeps runs at changes stays = record {
+  whole = call_whole size l r.part d e b calls stopped sound.whole ready keeps runs at.disk_is changes.size_is;
+  contents = sound.contents;
+  many = sound.many;
+  split = sound.split;
+  current = λ q other disk a there_at has.
+      let r_is : r ≡ q = same_Some r q (sym at.arena ∙ there_at.arena) in
+      let part : q.part ≡ r.part = ap (λ (x : ArenaRegion). x.part) (sym r_is) in
+      let disk_is : e ≡ disk = same_Some e disk (sym (slice_get_set_same l.disks r.part e (slice_get_within l.disks r.part d at.disk_is)) ∙ sym (ap (slice_get (set l.disks r.part e)) part) ∙ there_at.disk_is) in
+      let region_is : region ≡ other = same_region region other
+      (at.region_is.start ∙ ap (λ (x : ArenaRegion). x.at) r_is ∙ sym there_at.region_is.start) (at.region_is.len ∙ ap (λ (x : ArenaRegion). x.len) r_is ∙ sym there_at.region_is.len) in
+      subst (λ (x : Region). IsSoundArena score_of b x a (bytes disk) (images disk)) region_is (subst (λ (x : D). IsSoundArena score_of b region a (bytes x) (images x)) disk_is (stays a has));
+  others = λ i q other disk a not_this there_at has.
+      let was = at_before l _ i q other disk r.part e refl refl there_at in
+      let rest = sound.others i q other was.0 a not_this was.1 has in
+      let stay = others_stay score_of bytes images size l r region d e sound.whole at changes i q other was.0 disk not_this was.1 was.2 in
+      (stay.settled rest.0, stay.arena q.number a rest.1);
+  heads = sound.heads;
+  selectors = λ i q other disk found behind there_at has.
+      let was = at_before l _ i q other disk r.part e refl refl there_at in
+      let stay = others_stay score_of bytes images size l r region d e sound.whole at changes i q other was.0 disk (λ same. omega (arith, behind, same)) was.1 was.2 in
+      sound.selectors i q other was.0 found behind was.1 has ∙ sym stay.selector;
+  committed = sound.committed;
+  queued = sound.queued ∙ sym (ap (λ (ps : List Packed). map (accepted l.committing) (map stored_of ps) ++ map waiting_block l.queue.waiting) keeps.staged);
+  front = sound.front;
+  packed = sound.packed;
+  places = sound.places;
+  filling = sound.filling;
+  last = sound.last;
+  arenas = sound.arenas;
+}
+
+-- A crash at any moment of a call leaves disks that stand for a prefix.
+pub call_stands : {D : Type 0} (score_of : List ℕ → List ℕ) (bytes : D → List ℕ) (images : D → List ℕ → Type 0) (size : D → ℕ) (l : LogState D) (h : History)
+    (r : ArenaRegion) (region : Region) (d e : D) (Began : Type 0) (files : List (List ℕ)) → (sound : IsSound score_of bytes images size l h)
+    → IsAt l l.committing r region d → ChangesRegion bytes images size region d e
+    → ((a : Content) → slice_get sound.contents l.committing ≡ Some a → (c : List ℕ) → WithinCall (images d) (images e) c
+    → GivesOldOrNext Began score_of region l.arena.number a (next_content l.arena a) c)
+    → AreWithinCall images l.disks (set l.disks r.part e) files → StandForPrefix score_of l files h
+call_stands {D = D} score_of bytes images size l h r region d e Began files sound at changes crashes left =
+    stand_for_prefix score_of bytes images size l h files sound left.many
+    (λ q other disk a file there_at has of.
+    let r_is : r ≡ q = same_Some r q (sym at.arena ∙ there_at.arena) in
+    let d_is : d ≡ disk = same_Some d disk (sym at.disk_is ∙ ap (λ (x : ArenaRegion). slice_get l.disks x.part) r_is ∙ there_at.disk_is) in
+    let region_is : region ≡ other = same_region region other
+    (at.region_is.start ∙ ap (λ (x : ArenaRegion). x.at) r_is ∙ sym there_at.region_is.start) (at.region_is.len ∙ ap (λ (x : ArenaRegion). x.len) r_is ∙ sym there_at.region_is.len) in
+    let number : l.arena.number ≡ q.number = number_is size l q sound.whole there_at.arena in
+    let moment : WithinCall (images d) (images e) file = left.each r.part d e file at.disk_is (slice_get_set_same l.disks r.part e (slice_get_within l.disks r.part d at.disk_is))
+    (ap (λ (x : ArenaRegion). slice_get files x.part) r_is ∙ of) in
+    ⊎_elim
+    (λ (old : IsArena score_of region l.arena.number a file).
+    inl (subst (λ (x : Region). IsArena score_of x q.number a file) region_is (subst (λ (n : ℕ). IsArena score_of region n a file) number old)))
+    (λ (next : Began × IsArena score_of region l.arena.number (next_content l.arena a) file).
+    inr (subst (λ (x : Region). IsArena score_of x q.number (next_content l.arena a) file) region_is (subst (λ (n : ℕ). IsArena score_of region n (next_content l.arena a) file) number next.1)))
+    (crashes a has file moment))
+    (λ i q other disk a file not_this there_at has of.
+    let after = slice_get_other (set l.disks r.part e) l.disks q.part disk (sym (length-set l.disks r.part e)) there_at.disk_is in
+    let stay = others_stay score_of bytes images size l r region d e sound.whole at changes i q other disk after.0 not_this there_at after.1 in
+    let rest = sound.others i q other disk a not_this there_at has in
+    let long : 24576 ≤ other.len = region_long size l i q other disk sound.whole there_at in
+    ⊎_elim
+    (λ (was : images disk file). arena_in_region score_of other q.number a (bytes disk) file long (rest.0 file was) rest.1)
+    (λ (is : images after.0 file). arena_in_region score_of other q.number a (bytes after.0) file long (stay.settled rest.0 file is) (stay.arena q.number a rest.1))
+    (left.each q.part disk after.0 file there_at.disk_is after.1 of))
+
+-- and where no call is made
+pub rest_stands : {D : Type 0} (score_of : List ℕ → List ℕ) (bytes : D → List ℕ) (images : D → List ℕ → Type 0) (size : D → ℕ) (l : LogState D) (h : History)
+    (files : List (List ℕ)) (ds : List D) → IsSound score_of bytes images size l h → ds ≡ l.disks → AreWithinCall images l.disks ds files → StandForPrefix score_of l files h
+rest_stands score_of bytes images size l h files ds sound same left =
+    moment_stands score_of bytes images size l h files sound (record {
+      many = left.many;
+      each = λ i disk file at of. ⊎_elim (λ (was : images disk file). was) (λ (is : images disk file). is) (left.each i disk disk file at (ap (λ xs. slice_get xs i) same ∙ at) of);
+    })

@@ -1,0 +1,465 @@
+-- Partitions that are read, and what is found of their arenas.
+use Rattle.std.proofs.Common.{◌≡◌, ◌≢◌, ⊎_elim, ℕ, zero, suc, ◌+◌, ◌*◌, ◌%◌, ◌<◌, ◌≤◌, ◌==◌, ◌||◌, Bool, true, false, cond, List, [], ◌∷◌, ◌++◌, length, get_or, map, set, take, drop, refl, sym, ◌∙◌, ap, subst, arith, append_assoc, append-nil, take-append-drop, Some, None, Option, option_map, Ok, Err, Result, IsTrue}
+use Rattle.std.specs.Prelude.{All, slice_get, slice_index, sum_by, not, OnOk}
+use Rattle.std.proofs.lemmas.Bool.{cases_eq}
+use Rattle.std.proofs.lemmas.List.{length-map, length_push, map-append, drop_more, drop_all, map_more, length-take-le}
+use Rattle.std.proofs.lemmas.Option.{slice_get_within, slice_get-get_or, slice_get-map, same_Some, get_or_from_slice_get}
+use Rattle.vt_base.specs.Faults.{HasRisen}
+use Rattle.vt_disk.specs.declared.region.Region.{Region}
+use Rattle.vt_disk.specs.Disk.{AreAmong, Only, part as part_of}
+use Rattle.vt_twin.specs.Frames.{named_number}
+use Rattle.vt_part.specs.declared.bad.PartBad.{PartBad}
+use Rattle.vt_part.specs.declared.layout.ArenaRegion.{ArenaRegion}
+use Rattle.vt_part.specs.declared.part.Part.{Part}
+use Rattle.vt_part.specs.Parts.{disk_of}
+use Rattle.vt_arena.specs.declared.TheConstants.{FRAME_LEN, FIELDS_LEN}
+use Rattle.vt_arena.specs.declared.bad.ArenaBad.{ArenaBad}
+use Rattle.vt_arena.specs.declared.bad.ArenaBad.TheVariants.{Fault as ArenaFault, NotFormatted, Torn, NoMemory as ArenaNoMemory}
+use Rattle.vt_arena.specs.declared.bad.Field.TheVariants.{Sealed}
+use Rattle.vt_arena.specs.declared.head.ArenaHead.{ArenaHead}
+use Rattle.vt_arena.specs.declared.head.Found.{Found}
+use Rattle.vt_arena.specs.Arena.{ArenaState, fresh_arena}
+use Rattle.vt_arena.specs.Faults.{first_bad as first_bad_in, Finds, CanStand, CountsFault as ArenaCountsFault}
+use Rattle.vt_arena.specs.Heads.{fields_of, flag_of, sealed_in, clumps_in}
+use Rattle.vt_arena.specs.Layout.{Content, IsArena, fields_at, head_of}
+use Rattle.vt_arena.specs.Places.{IsArenaLen}
+use Rattle.vt_log.specs.declared.bad.LogBad.{LogBad}
+use Rattle.vt_log.specs.declared.bad.LogBad.TheVariants.{Part as PartRefused, Arena, Order, Fault, NoMemory}
+use Rattle.vt_log.specs.Answers.{HoldTheSame}
+use Rattle.vt_log.specs.Faults.{AreFields, CountsFault, OneHasRisen, bad_arena, first_of_two, out_of_order, first_bad}
+use Rattle.vt_log.specs.Log.{disks_of}
+use Rattle.vt_log.specs.Logs.{IsRegionOf}
+use Rattle.vt_log.specs.Mounting.{AreRead, AreFieldsAt, FindsNext, refused_by, IsFound, AreFound, RefusesArenas, ArePassed, IsRoomFor}
+use Rattle.vt_log.specs.Whole.{IsOnDisk}
+use Rattle.vt_log.proofs.Calls.{same_region}
+use Rattle.vt_log.proofs.Disks.{map_same, parts_disks, parts_tables, calls_set, hold_set, risen_set}
+use Rattle.vt_log.proofs.Memory.{slice_get_other, at_slice, slice_get_left, slice_get_right, slice_get_set_same, slice_get_set_other}
+
+-- lists of one image have one length, and one image of the elements at a place
+pub map_long : {X Y : Type 0} (f : X → Y) (xs ys : List X) → map f ys ≡ map f xs → length ys ≡ length xs
+map_long {Y = Y} f xs ys same = sym (length-map ys f) ∙ ap (λ (zs : List Y). length zs) same ∙ length-map xs f
+
+pub map_there : {X Y : Type 0} (f : X → Y) (xs ys : List X) (i : ℕ) (x y : X) → map f ys ≡ map f xs → slice_get xs i ≡ Some x → slice_get ys i ≡ Some y → f y ≡ f x
+map_there {Y = Y} f xs ys i x y same at_x at_y =
+    same_Some (f y) (f x) (sym (slice_get-map f ys i ∙ ap (option_map f) at_y) ∙ ap (λ (zs : List Y). slice_get zs i) same ∙ slice_get-map f xs i ∙ ap (option_map f) at_x)
+
+pub on_ok : {T E P : Type 0} (r : Result T E) → P → OnOk r P
+on_ok (Ok t) p = p
+on_ok (Err e) p = tt
+
+-- ---- room
+
+pub room_there : (layout : List ArenaRegion) (heads : List Found) (arena : ℕ) (r : ArenaRegion) (found : Found) (a : ArenaState) → slice_get layout arena ≡ Some r → slice_get heads arena ≡ Some found
+    → a ≡ fresh_arena r.len (found.selector % 2) found.head → IsRoomFor layout heads arena a
+room_there layout heads arena r found a at_r at_found fresh = record {
+  len = r.len;
+  current = found.selector % 2;
+  head = found.head;
+  fresh = fresh;
+  there = λ q other at_q at_other.
+      let r_is : r ≡ q = same_Some r q (sym at_r ∙ at_q) in
+      let found_is : found ≡ other = same_Some found other (sym at_found ∙ at_other) in
+      (ap (λ (x : ArenaRegion). x.len) r_is, ap (λ (x : Found). x.selector % 2) found_is, ap (λ (x : Found). x.head) found_is);
+  past = λ past. absurd (omega (arith, past, slice_get_within layout arena r at_r));
+}
+
+pub room_past : (layout : List ArenaRegion) (heads : List Found) (arena len current : ℕ) (head : ArenaHead) (a : ArenaState) → length layout ≤ arena
+    → (head.sealed ≡ false) × (head.used ≡ 0) × (head.clumps ≡ 0) → a ≡ fresh_arena len current head → IsRoomFor layout heads arena a
+room_past layout heads arena len current head a past none fresh = record {
+  len = len;
+  current = current;
+  head = head;
+  fresh = fresh;
+  there = λ r found at_r at_found. absurd (omega (arith, past, slice_get_within layout arena r at_r));
+  past = λ _. none;
+}
+
+-- ---- partitions that are read
+
+module _ {D : Type 0} (tells : Bool) (bytes : D → List ℕ) (images : D → List ℕ → Type 0) (size calls : D → ℕ) where
+  pub hold_refl : (ds : List D) → HoldTheSame bytes images size ds ds
+  hold_refl ds = record {
+    bytes_are = refl;
+    sizes_are = refl;
+    images_are = λ i before after was is.
+        let same : before ≡ after = same_Some before after (sym was ∙ is) in
+        λ c left. subst (λ (d : D). images d c) (sym same) left;
+  }
+
+  pub hold_then : (ds es fs : List D) → HoldTheSame bytes images size ds es → HoldTheSame bytes images size es fs → HoldTheSame bytes images size ds fs
+  hold_then ds es fs one two = record {
+    bytes_are = two.bytes_are ∙ one.bytes_are;
+    sizes_are = two.sizes_are ∙ one.sizes_are;
+    images_are = λ i before after was is.
+        let mid = slice_get_other es ds i before (sym (map_long size ds es one.sizes_are)) was in
+        λ c left. one.images_are i before mid.0 was mid.1 c (two.images_are i mid.0 after mid.1 is c left);
+  }
+
+  pub read_refl : (ps : List (Part D)) → AreRead tells bytes images size calls 0 ps ps
+  read_refl ps = record { tables = refl; disks = hold_refl (disks_of ps); calls_most = λ told. omega arith }
+
+  pub read_then : (m n k : ℕ) (ps qs rs : List (Part D)) → m + n ≤ k → AreRead tells bytes images size calls m ps qs → AreRead tells bytes images size calls n qs rs
+      → AreRead tells bytes images size calls k ps rs
+  read_then m n k ps qs rs most one two = record {
+    tables = two.tables ∙ one.tables;
+    disks = hold_then (disks_of ps) (disks_of qs) (disks_of rs) one.disks two.disks;
+    calls_most = λ told. omega (arith, most, one.calls_most told, two.calls_most told);
+  }
+
+  pub read_more : (m k : ℕ) (ps qs : List (Part D)) → m ≤ k → AreRead tells bytes images size calls m ps qs → AreRead tells bytes images size calls k ps qs
+  read_more m k ps qs most read = record { tables = read.tables; disks = read.disks; calls_most = λ told. omega (arith, most, read.calls_most told) }
+
+  -- one disk is read or synced
+  pub read_set : (n i : ℕ) (ps : List (Part D)) (p : Part D) (d : D) → slice_get ps i ≡ Some p → bytes d ≡ bytes (disk_of p) → AreAmong (images d) (images (disk_of p)) → size d ≡ size (disk_of p)
+      → (IsTrue tells → calls d ≤ calls (disk_of p) + n) → AreRead tells bytes images size calls n ps (set ps i (record p { disk = d }))
+  read_set n i ps p d at same_bytes among same_size most =
+      let was : slice_get (disks_of ps) i ≡ Some (disk_of p) = slice_get-map (λ (part : Part D). disk_of part) ps i ∙ rw at in
+      let is = parts_disks ps i p d in
+      record {
+        tables = parts_tables ps i p d at;
+        disks = subst (λ (ds : List D). HoldTheSame bytes images size (disks_of ps) ds) (sym is) (hold_set bytes images size (disks_of ps) i (disk_of p) d was same_bytes among same_size);
+        calls_most = λ told. subst (λ (ds : List D). sum_by calls ds ≤ sum_by calls (disks_of ps) + n) (sym is) (calls_set calls (disks_of ps) i (disk_of p) d n was (most told));
+      }
+
+  -- what is settled stays settled
+  pub settled_held : (ds es : List D) → HoldTheSame bytes images size ds es → All (λ disk. Only (bytes disk) (images disk)) ds → All (λ disk. Only (bytes disk) (images disk)) es
+  settled_held ds es hold settled i d within =
+      let e : D = get_or es i d in
+      let at : slice_get es i ≡ Some e = slice_get-get_or es i d within in
+      let was = slice_get_other ds es i e (map_long size ds es hold.sizes_are) at in
+      λ c left. at_slice (λ disk. Only (bytes disk) (images disk)) ds i was.0 settled was.1 c (hold.images_are i was.0 e was.1 at c left) ∙ sym (map_there bytes ds es i was.0 e hold.bytes_are was.1 at)
+
+  -- each disk that was synced is settled
+  pub settled_more : (ps : List (Part D)) (i : ℕ) (p : Part D) (d : D) → slice_get ps i ≡ Some p → Only (bytes d) (images d)
+      → ((k : ℕ) (e : D) → k < i → slice_get (disks_of ps) k ≡ Some e → Only (bytes e) (images e))
+      → (k : ℕ) (e : D) → k < i + 1 → slice_get (disks_of (set ps i (record p { disk = d }))) k ≡ Some e → Only (bytes e) (images e)
+  settled_more ps i p d at settled before k e less is =
+      let there : slice_get (set (disks_of ps) i d) k ≡ Some e = ap (λ (ds : List D). slice_get ds k) (sym (parts_disks ps i p d)) ∙ is in
+      ⊎_elim
+      (λ (here : k ≡ i).
+      let within : i < length (disks_of ps) = omega (arith, slice_get_within ps i p at, length-map ps (λ (part : Part D). disk_of part)) in
+      let same : d ≡ e = same_Some d e (sym (slice_get_set_same (disks_of ps) i d within) ∙ sym (ap (slice_get (set (disks_of ps) i d)) here) ∙ there) in
+      subst (λ (x : D). Only (bytes x) (images x)) same settled)
+      (λ (other : k ≢ i). before k e (omega (arith, less, other)) (sym (slice_get_set_other (disks_of ps) i k d other) ∙ there))
+      (cases_eq k i)
+
+  pub settled_all : (ds : List D) (n : ℕ) → length ds ≤ n → ((k : ℕ) (e : D) → k < n → slice_get ds k ≡ Some e → Only (bytes e) (images e))
+      → All (λ disk. Only (bytes disk) (images disk)) ds
+  settled_all ds n many settled k d within = settled k (get_or ds k d) (omega (arith, many, within)) (slice_get-get_or ds k d within)
+
+-- ---- one arena
+
+-- the partition of a region is there, with its disk
+pub record IsPartOf {D : Type 0} (size : D → ℕ) (ps : List (Part D)) (r : ArenaRegion) : Type 0 where
+  pub below : r.part < length ps
+  pub part_is : (p : Part D) → slice_get ps r.part ≡ Some p → (r.at + r.len ≤ size (disk_of p))
+
+disk_at : {D : Type 0} (ps : List (Part D)) (i : ℕ) (p : Part D) (d : D) → slice_get ps i ≡ Some p → slice_get (disks_of ps) i ≡ Some d → disk_of p ≡ d
+disk_at {D = D} ps i p d at is =
+    same_Some (disk_of p) d (sym (slice_get-map (λ (part : Part D). disk_of part) ps i ∙ ap (option_map (λ (part : Part D). disk_of part)) at) ∙ is)
+
+pub part_of_region : {D : Type 0} (size : D → ℕ) (ps : List (Part D)) (r : ArenaRegion) → IsOnDisk size (disks_of ps) r → IsPartOf size ps r
+part_of_region {D = D} size ps r on = record {
+  below = omega (arith, slice_get_within (disks_of ps) r.part on.disk on.has, length-map ps (λ (part : Part D). disk_of part));
+  part_is = λ p at. omega (arith, on.within, ap size (disk_at ps r.part p on.disk at on.has));
+}
+
+-- the file of a partition
+file_at : {D : Type 0} (bytes : D → List ℕ) (ps : List (Part D)) (i : ℕ) (p : Part D) (file : List ℕ) → slice_get ps i ≡ Some p → slice_get (map bytes (disks_of ps)) i ≡ Some file → bytes (disk_of p) ≡ file
+file_at {D = D} bytes ps i p file at is =
+    same_Some (bytes (disk_of p)) file (sym (slice_get-map bytes (disks_of ps) i ∙ ap (option_map bytes) (slice_get-map (λ (part : Part D). disk_of part) ps i ∙ ap (option_map (λ (part : Part D). disk_of part)) at)) ∙ is)
+
+pub fields_for : {D : Type 0} (bytes : D → List ℕ) (ps : List (Part D)) (r : ArenaRegion) (p : Part D) (region : Region) (fields : List ℕ) → slice_get ps r.part ≡ Some p
+    → fields ≡ fields_at region (bytes (disk_of p)) → IsRegionOf r region → AreFieldsAt (map bytes (disks_of ps)) r fields
+fields_for bytes ps r p region fields at is place other file other_place file_is =
+    is
+    ∙ ap (fields_at region) (file_at bytes ps r.part p file at file_is)
+    ∙ ap (λ (x : Region). fields_at x file) (same_region region other (place.start ∙ sym other_place.start) (place.len ∙ sym other_place.len))
+
+-- what finding it gives
+pub found_for : {D : Type 0} (tells : Bool) (bytes : D → List ℕ) (ps : List (Part D)) (r : ArenaRegion) (p : Part D) (region : Region) (found : Found) → slice_get ps r.part ≡ Some p
+    → CanStand r.number r.len found.head
+    → (IsTrue tells → found.selector % 2 ≡ named_number region FRAME_LEN (bytes (disk_of p)))
+    → ((score_of : List ℕ → List ℕ) (a : Content) → IsTrue tells → IsArena score_of region r.number a (bytes (disk_of p)) → found.head ≡ head_of score_of r.number a)
+    → IsRegionOf r region → (disk : D) → slice_get (disks_of ps) r.part ≡ Some disk → IsFound tells r (bytes disk) found
+found_for {D = D} tells bytes ps r p region found at stands selector head place disk is =
+    subst (λ (d : D). IsFound tells r (bytes d) found) (disk_at ps r.part p disk at is) (record {
+      stands = stands;
+      selector = λ other told other_place. selector told ∙ ap (λ (x : Region). named_number x FRAME_LEN (bytes (disk_of p))) (same other other_place);
+      head = λ score_of other a told other_place arena.
+          head score_of a told (subst (λ (x : Region). IsArena score_of x r.number a (bytes (disk_of p))) (sym (same other other_place)) arena);
+    })
+  where
+    same : (other : Region) → IsRegionOf r other → region ≡ other
+    same other other_place = same_region region other (place.start ∙ sym other_place.start) (place.len ∙ sym other_place.len)
+
+pub finds_ok : (arena : ℕ) (r : ArenaRegion) (fields : List ℕ) (found : Found) → Finds r.number r.len fields (Ok found) → FindsNext false arena r fields (Ok found)
+finds_ok arena r fields found is = (ap (λ (o : Option ArenaBad). bad_arena false arena o fields) is.0, is.1)
+
+pub finds_err : (arena : ℕ) (r : ArenaRegion) (fields : List ℕ) (bad : ArenaBad) → Finds r.number r.len fields (Err bad) → FindsNext false arena r fields (Err (refused_by arena bad))
+finds_err arena r fields ArenaFault is = tt
+finds_err arena r fields NotFormatted is = ap (λ (o : Option ArenaBad). bad_arena false arena o fields) is
+finds_err arena r fields (Torn field found want) is = ap (λ (o : Option ArenaBad). bad_arena false arena o fields) is
+finds_err arena r fields ArenaNoMemory is = absurd is
+
+-- the counts of faults
+pub same_counts : {D : Type 0} (f : D → ℕ) (ps : List (Part D)) (i : ℕ) (p : Part D) (d : D) → slice_get ps i ≡ Some p → f d ≡ f (disk_of p)
+    → map f (disks_of (set ps i (record p { disk = d }))) ≡ map f (disks_of ps)
+same_counts {D = D} f ps i p d at same =
+    ap (map f) (parts_disks ps i p d)
+    ∙ map_same f (disks_of ps) i (disk_of p) d (slice_get-map (λ (part : Part D). disk_of part) ps i ∙ ap (option_map (λ (part : Part D). disk_of part)) at) same
+
+pub risen_counts : {D : Type 0} (f : D → ℕ) (ps : List (Part D)) (i : ℕ) (p : Part D) (d : D) → slice_get ps i ≡ Some p → HasRisen (f (disk_of p)) (f d)
+    → OneHasRisen (map f (disks_of ps)) (map f (disks_of (set ps i (record p { disk = d }))))
+risen_counts {D = D} f ps i p d at risen =
+    subst (λ (ds : List D). OneHasRisen (map f (disks_of ps)) (map f ds)) (sym (parts_disks ps i p d))
+    (risen_set f (disks_of ps) i (disk_of p) d (slice_get-map (λ (part : Part D). disk_of part) ps i ∙ ap (option_map (λ (part : Part D). disk_of part)) at) risen).0
+
+pub refused_counts : {D : Type 0} (f : D → ℕ) (ps : List (Part D)) (i arena : ℕ) (p : Part D) (d : D) (bad : ArenaBad) → slice_get ps i ≡ Some p → ArenaCountsFault bad (f (disk_of p)) (f d)
+    → CountsFault (refused_by arena bad) (map f (disks_of ps)) (map f (disks_of (set ps i (record p { disk = d }))))
+refused_counts f ps i arena p d ArenaFault at cause = risen_counts f ps i p d at cause
+refused_counts f ps i arena p d NotFormatted at cause = same_counts f ps i p d at cause
+refused_counts f ps i arena p d (Torn field found want) at cause = same_counts f ps i p d at cause
+refused_counts f ps i arena p d ArenaNoMemory at cause = same_counts f ps i p d at cause
+
+-- ---- its place in the order
+
+behind_same : (behind : Bool) (arena : ℕ) (o : Option ArenaBad) (fields : List ℕ) (bad : LogBad) → bad_arena false arena o fields ≡ Some bad → bad_arena behind arena o fields ≡ Some bad
+behind_same behind arena (Some it) fields bad is = is
+behind_same behind arena None fields bad is = absurd (cc)
+
+-- an arena that can't be mounted is told of before its place is looked at
+pub next_refused : (behind : Bool) (arena : ℕ) (r : ArenaRegion) (fields : List ℕ) (bad : LogBad) → FindsNext false arena r fields (Err bad) → FindsNext behind arena r fields (Err bad)
+next_refused behind arena r fields (PartRefused bad) is = is
+next_refused behind arena r fields (Arena i bad) is = behind_same behind arena (first_bad_in r.number r.len fields) fields (Arena i bad) is
+next_refused behind arena r fields (Order i clumps) is = behind_same behind arena (first_bad_in r.number r.len fields) fields (Order i clumps) is
+next_refused behind arena r fields Fault is = tt
+next_refused behind arena r fields NoMemory is = is
+
+behind_open : (arena : ℕ) (o : Option ArenaBad) (fields : List ℕ) → bad_arena false arena o fields ≡ None → bad_arena true arena o fields ≡ out_of_order arena fields
+behind_open arena (Some it) fields is = absurd (cc)
+behind_open arena None fields is = refl
+
+pub order_passes : (arena : ℕ) (r : ArenaRegion) (fields : List ℕ) (found : Found) → FindsNext false arena r fields (Ok found) → out_of_order arena (fields_of found.head) ≡ None
+    → FindsNext true arena r fields (Ok found)
+order_passes arena r fields found is none =
+    (behind_open arena (first_bad_in r.number r.len fields) fields is.0 ∙ ap (out_of_order arena) (sym is.1) ∙ none, is.1)
+
+never_part : (arena clumps : ℕ) (none unsealed : Bool) (it : ArenaBad) (bad : PartBad) → cond none (cond unsealed None (Some (Arena arena it))) (Some (Order arena clumps)) ≡ Some (PartRefused bad) → ⊥
+never_part arena clumps true true it bad is = cc
+never_part arena clumps true false it bad is = cc
+never_part arena clumps false unsealed it bad is = cc
+
+never_memory : (arena clumps : ℕ) (none unsealed : Bool) (it : ArenaBad) → cond none (cond unsealed None (Some (Arena arena it))) (Some (Order arena clumps)) ≡ Some NoMemory → ⊥
+never_memory arena clumps true true it is = cc
+never_memory arena clumps true false it is = cc
+never_memory arena clumps false unsealed it is = cc
+
+pub order_refused : (arena : ℕ) (r : ArenaRegion) (fields : List ℕ) (found : Found) (bad : LogBad) → FindsNext false arena r fields (Ok found) → out_of_order arena (fields_of found.head) ≡ Some bad
+    → FindsNext true arena r fields (Err bad)
+order_refused arena r fields found (PartRefused bad) is order =
+    absurd (never_part arena (clumps_in (fields_of found.head)) (clumps_in (fields_of found.head) == 0) (sealed_in (fields_of found.head) == 0) (Torn Sealed 1 0) bad order)
+order_refused arena r fields found (Arena i bad) is order =
+    behind_open arena (first_bad_in r.number r.len fields) fields is.0 ∙ ap (out_of_order arena) (sym is.1) ∙ order
+order_refused arena r fields found (Order i clumps) is order =
+    behind_open arena (first_bad_in r.number r.len fields) fields is.0 ∙ ap (out_of_order arena) (sym is.1) ∙ order
+order_refused arena r fields found Fault is order = tt
+order_refused arena r fields found NoMemory is order =
+    absurd (never_memory arena (clumps_in (fields_of found.head)) (clumps_in (fields_of found.head) == 0) (sealed_in (fields_of found.head) == 0) (Torn Sealed 1 0) order)
+
+-- ---- all arenas
+
+-- the fields of an arena's current head, where its partition's file is there
+abbrev pub fields_there : (files : List (List ℕ)) → ArenaRegion → List ℕ
+fields_there files r =
+    let file = get_or files r.part [] in
+    take FIELDS_LEN (part_of (r.at + FRAME_LEN * (slice_index file (r.at + 2 * FRAME_LEN) % 2)) FRAME_LEN file)
+
+there_is : (files : List (List ℕ)) (r : ArenaRegion) (region : Region) (file : List ℕ) → IsRegionOf r region → slice_get files r.part ≡ Some file → fields_there files r ≡ fields_at region file
+there_is files r region file place is =
+    ap (λ (file : List ℕ). take FIELDS_LEN (part_of (r.at + FRAME_LEN * (slice_index file (r.at + 2 * FRAME_LEN) % 2)) FRAME_LEN file)) (get_or_from_slice_get files r.part file [] is)
+    ∙ ap (λ (start : ℕ). take FIELDS_LEN (part_of (start + FRAME_LEN * (slice_index file (start + 2 * FRAME_LEN) % 2)) FRAME_LEN file)) (sym place.start)
+
+pub fields_are : (files : List (List ℕ)) (layout : List ArenaRegion) → AreFields layout files (map (fields_there files) layout)
+fields_are files layout = record {
+  many = length-map layout (fields_there files);
+  each = λ i r region file at place is.
+      slice_get-map (fields_there files) layout i ∙ ap (option_map (fields_there files)) at ∙ ap (λ (l : List ℕ). Some l) (there_is files r region file place is);
+}
+
+pub fields_one : {D : Type 0} (bytes : D → List ℕ) (size : D → ℕ) (ds : List D) (r : ArenaRegion) (fields : List ℕ) → IsOnDisk size ds r → AreFieldsAt (map bytes ds) r fields
+    → fields ≡ fields_there (map bytes ds) r
+fields_one bytes size ds r fields on are =
+    let region : Region = record { start = r.at; len = r.len; in_range = on.small } in
+    let place : IsRegionOf r region = record { start = refl; len = refl } in
+    let is : slice_get (map bytes ds) r.part ≡ Some (bytes on.disk) = slice_get-map bytes ds r.part ∙ ap (option_map bytes) on.has in
+    are region (bytes on.disk) place is ∙ sym (there_is (map bytes ds) r region (bytes on.disk) place is)
+
+-- the fields of the heads that were found
+abbrev pub fields_of_all : List Found → List (List ℕ)
+fields_of_all heads = map (λ found. fields_of found.head) heads
+
+-- the arenas up to this one pass, and an unsealed one is among them exactly if `behind` says so:
+-- what is refused is what the rest refuses
+abbrev pub Passes : List ArenaRegion → (heads : List Found) → (behind : Bool) → (i : ℕ) → Type 0
+Passes layout heads behind i =
+    (rest : List (List ℕ)) → first_bad false 0 layout (fields_of_all heads ++ rest) ≡ first_bad behind i (drop i layout) rest
+
+drop_at : {X : Type 0} (xs : List X) (i : ℕ) (x : X) → slice_get xs i ≡ Some x → drop i xs ≡ x ∷ drop (i + 1) xs
+drop_at {X = X} xs i x at = drop_more xs i x (slice_get_within xs i x at) ∙ ap (λ (y : X). y ∷ drop (i + 1) xs) (get_or_from_slice_get xs i x x at)
+
+-- one more, with what is read of its sealing
+flag_is_none : (b : Bool) → (flag_of b == 0) ≡ not b
+flag_is_none true = refl
+flag_is_none false = refl
+
+at_step : (behind : Bool) (i : ℕ) (r : ArenaRegion) (rest : List ArenaRegion) (f : List ℕ) (fs : List (List ℕ)) → bad_arena behind i (first_bad_in r.number r.len f) f ≡ None
+    → first_bad behind i (r ∷ rest) (f ∷ fs) ≡ first_bad (behind || sealed_in f == 0) (i + 1) rest fs
+at_step behind i r rest f fs none = ap (λ (o : Option LogBad). first_of_two o (first_bad (behind || sealed_in f == 0) (i + 1) rest fs)) none
+
+at_stop : (behind : Bool) (i : ℕ) (r : ArenaRegion) (rest : List ArenaRegion) (f : List ℕ) (fs : List (List ℕ)) (bad : LogBad) → bad_arena behind i (first_bad_in r.number r.len f) f ≡ Some bad
+    → first_bad behind i (r ∷ rest) (f ∷ fs) ≡ Some bad
+at_stop behind i r rest f fs bad is = ap (λ (o : Option LogBad). first_of_two o (first_bad (behind || sealed_in f == 0) (i + 1) rest fs)) is
+
+pub passes_more : (layout : List ArenaRegion) (heads : List Found) (behind next : Bool) (i : ℕ) (r : ArenaRegion) (found : Found) → Passes layout heads behind i → slice_get layout i ≡ Some r
+    → bad_arena behind i (first_bad_in r.number r.len (fields_of found.head)) (fields_of found.head) ≡ None
+    → next ≡ (behind || not found.head.sealed) → Passes layout (heads ++ found ∷ []) next (i + 1)
+passes_more layout heads behind next i r found passes at none next_is rest =
+    let f : List ℕ = fields_of found.head in
+    let spelled : fields_of_all (heads ++ found ∷ []) ++ rest ≡ fields_of_all heads ++ f ∷ rest =
+    ap (λ (l : List (List ℕ)). l ++ rest) (map-append (λ (x : Found). fields_of x.head) heads (found ∷ [])) ∙ append_assoc (fields_of_all heads) (f ∷ []) rest in
+    ap (first_bad false 0 layout) spelled
+    ∙ passes (f ∷ rest)
+    ∙ ap (λ (rs : List ArenaRegion). first_bad behind i rs (f ∷ rest)) (drop_at layout i r at)
+    ∙ at_step behind i r (drop (i + 1) layout) f rest none
+    ∙ ap (λ (b : Bool). first_bad b (i + 1) (drop (i + 1) layout) rest) (ap (λ (b : Bool). behind || b) (flag_is_none found.head.sealed) ∙ sym next_is)
+
+pub passes_stop : (layout : List ArenaRegion) (heads : List Found) (behind : Bool) (i : ℕ) (r : ArenaRegion) (f : List ℕ) (rest : List (List ℕ)) (bad : LogBad) → Passes layout heads behind i → slice_get layout i ≡ Some r
+    → bad_arena behind i (first_bad_in r.number r.len f) f ≡ Some bad → first_bad false 0 layout (fields_of_all heads ++ f ∷ rest) ≡ Some bad
+passes_stop layout heads behind i r f rest bad passes at is =
+    passes (f ∷ rest)
+    ∙ ap (λ (rs : List ArenaRegion). first_bad behind i rs (f ∷ rest)) (drop_at layout i r at)
+    ∙ at_stop behind i r (drop (i + 1) layout) f rest bad is
+
+-- all pass
+pub passes_all : (layout : List ArenaRegion) (heads : List Found) (behind : Bool) (i : ℕ) → Passes layout heads behind i → length layout ≤ i → ArePassed layout (fields_of_all heads) heads
+passes_all layout heads behind i passes past = record {
+  passed = ap (first_bad false 0 layout) (sym (append-nil (fields_of_all heads))) ∙ passes [] ∙ ap (λ (rs : List ArenaRegion). first_bad behind i rs []) (drop_all i layout past);
+  heads_are = refl;
+}
+
+-- the next one is refused
+pub stops : {D : Type 0} (tells : Bool) (bytes : D → List ℕ) (size : D → ℕ) (ds : List D) (layout : List ArenaRegion) (heads : List Found) (behind : Bool) (i : ℕ) (r : ArenaRegion) (bad : LogBad)
+    → All (IsOnDisk size ds) layout → Passes layout heads behind i → (IsTrue tells → fields_of_all heads ≡ map (fields_there (map bytes ds)) (take i layout))
+    → slice_get layout i ≡ Some r
+    → (fields : List ℕ) × (IsTrue tells → AreFieldsAt (map bytes ds) r fields) × FindsNext behind i r fields (Err bad)
+    → (fields : List (List ℕ)) × (IsTrue tells → AreFields layout (map bytes ds) fields) × RefusesArenas layout fields bad
+stops {D = D} tells bytes size ds layout heads behind i r bad regions passes so_far at answer =
+    let rest : List (List ℕ) = map (fields_there (map bytes ds)) (drop (i + 1) layout) in (
+      fields_of_all heads ++ answer.0 ∷ rest,
+      λ told. subst (AreFields layout (map bytes ds)) (sym (whole told)) (fields_are (map bytes ds) layout),
+      refuses bad answer.2,
+    )
+  where
+    on : IsOnDisk size ds r
+    on = at_slice (IsOnDisk size ds) layout i r regions at
+
+    whole : (told : IsTrue tells) → fields_of_all heads ++ answer.0 ∷ map (fields_there (map bytes ds)) (drop (i + 1) layout) ≡ map (fields_there (map bytes ds)) layout
+    whole told =
+        (λ j. so_far told j ++ fields_one bytes size ds r answer.0 on (answer.1 told) j ∷ map (fields_there (map bytes ds)) (drop (i + 1) layout))
+        ∙ sym (map-append (fields_there (map bytes ds)) (take i layout) (r ∷ drop (i + 1) layout))
+        ∙ ap (λ (rs : List ArenaRegion). map (fields_there (map bytes ds)) (take i layout ++ rs)) (sym (drop_at layout i r at))
+        ∙ ap (map (fields_there (map bytes ds))) (take-append-drop i layout)
+
+    refuses : (bad : LogBad) → FindsNext behind i r answer.0 (Err bad) → RefusesArenas layout (fields_of_all heads ++ answer.0 ∷ map (fields_there (map bytes ds)) (drop (i + 1) layout)) bad
+    refuses (PartRefused it) is = is
+    refuses (Arena j it) is = passes_stop layout heads behind i r answer.0 _ (Arena j it) passes at is
+    refuses (Order j clumps) is = passes_stop layout heads behind i r answer.0 _ (Order j clumps) passes at is
+    refuses Fault is = tt
+    refuses NoMemory is = absurd is
+
+-- and what is found of them
+pub found_more : (tells : Bool) (layout : List ArenaRegion) (files : List (List ℕ)) (heads : List Found) (i : ℕ) (r : ArenaRegion) (found : Found) → AreFound tells (take i layout) files heads → slice_get layout i ≡ Some r
+    → ((file : List ℕ) → slice_get files r.part ≡ Some file → IsFound tells r file found) → AreFound tells (take (i + 1) layout) files (heads ++ found ∷ [])
+found_more tells layout files heads i r found are at finds = record {
+  many = length_push heads found ∙ omega (arith, are.many, length-take-le i layout (omega (arith, within)), length-take-le (i + 1) layout (omega (arith, within)));
+  each = λ k q file other at_q file_is at_other.
+      let below = slice_get_within (take (i + 1) layout) k q at_q in
+      ⊎_elim
+      (λ (here : k ≡ length heads).
+      let same_q : r ≡ q = same_Some r q (sym at
+      ∙ ap (slice_get layout) (let e : i ≡ k = omega (arith, here, many) in e) ∙ in_all k q at_q) in
+      let same_found : found ≡ other = same_Some found other (sym (slice_get_right heads (found ∷ []) 0) ∙ ap (slice_get (heads ++ found ∷ [])) (omega (arith, here)) ∙ at_other) in
+      subst (λ (x : Found). IsFound tells q file x) same_found
+      (subst (λ (x : ArenaRegion). IsFound tells x file found) same_q (finds file (ap (λ (x : ArenaRegion). slice_get files x.part) same_q ∙ file_is))))
+      (λ (other_place : k ≢ length heads).
+      let before : k < i = omega (arith, other_place, many, below, length-take-le (i + 1) layout (omega (arith, within))) in
+      are.each k q file other (take_there layout i k q before (in_all k q at_q)) file_is
+      (sym (slice_get_left heads (found ∷ []) k (omega (arith, before, many))) ∙ at_other))
+      (cases_eq k (length heads));
+}
+  where
+    within : i < length layout
+    within = slice_get_within layout i r at
+
+    many : length heads ≡ i
+    many = are.many ∙ length-take-le i layout (omega (arith, within))
+
+    take_there : (rs : List ArenaRegion) (n k : ℕ) (q : ArenaRegion) → k < n → slice_get rs k ≡ Some q → slice_get (take n rs) k ≡ Some q
+    take_there [] n k q less is = absurd (cc)
+    take_there (x ∷ rs) zero k q less is = absurd (omega (arith, less))
+    take_there (x ∷ rs) (suc n) zero q less is = is
+    take_there (x ∷ rs) (suc n) (suc k) q less is = take_there rs n k q (omega (arith, less)) is
+
+    from_take : (rs : List ArenaRegion) (n k : ℕ) (q : ArenaRegion) → slice_get (take n rs) k ≡ Some q → slice_get rs k ≡ Some q
+    from_take [] zero k q is = is
+    from_take [] (suc n) k q is = is
+    from_take (x ∷ rs) zero k q is = absurd (cc)
+    from_take (x ∷ rs) (suc n) zero q is = is
+    from_take (x ∷ rs) (suc n) (suc k) q is = from_take rs n k q is
+
+    in_all : (k : ℕ) (q : ArenaRegion) → slice_get (take (i + 1) layout) k ≡ Some q → slice_get layout k ≡ Some q
+    in_all k q is = from_take layout (i + 1) k q is
+
+pub found_none : (tells : Bool) (layout : List ArenaRegion) (files : List (List ℕ)) (heads : List Found) → heads ≡ [] → AreFound tells (take 0 layout) files heads
+found_none tells layout files heads none = subst (AreFound tells (take 0 layout) files) (sym none) (record {
+  many = refl;
+  each = λ i r file found at file_is at_found. absurd (cc);
+})
+
+-- a region is still there
+pub on_held : {D : Type 0} (bytes : D → List ℕ) (images : D → List ℕ → Type 0) (size : D → ℕ) (ds es : List D) (r : ArenaRegion) → HoldTheSame bytes images size ds es → IsOnDisk size ds r → IsOnDisk size es r
+on_held bytes images size ds es r hold on =
+    let now = slice_get_other es ds r.part on.disk (sym (map_long size ds es hold.sizes_are)) on.has in record {
+      disk = now.0;
+      has = now.1;
+      within = omega (arith, on.within, map_there size ds es r.part on.disk now.0 hold.sizes_are on.has now.1);
+      small = on.small;
+      aligned = on.aligned;
+      len = on.len;
+    }
+
+-- what is found is told by the file
+pub found_file : {D : Type 0} (tells : Bool) (bytes : D → List ℕ) (ds : List D) (files : List (List ℕ)) (r : ArenaRegion) (found : Found) → map bytes ds ≡ files
+    → ((disk : D) → slice_get ds r.part ≡ Some disk → IsFound tells r (bytes disk) found) → (file : List ℕ) → slice_get files r.part ≡ Some file → IsFound tells r file found
+found_file {D = D} tells bytes ds files r found same finds file at =
+    let disk = slice_get_other ds files r.part file (ap (λ (fs : List (List ℕ)). length fs) (sym same) ∙ length-map ds bytes) at in
+    let is : bytes disk.0 ≡ file = same_Some (bytes disk.0) file (sym (slice_get-map bytes ds r.part ∙ ap (option_map bytes) disk.1) ∙ ap (λ (fs : List (List ℕ)). slice_get fs r.part) same ∙ at) in
+    subst (λ (f : List ℕ). IsFound tells r f found) is (finds disk.0 disk.1)
+
+pub fields_more : {D : Type 0} (bytes : D → List ℕ) (size : D → ℕ) (ds : List D) (layout : List ArenaRegion) (heads : List Found) (i : ℕ) (r : ArenaRegion) (found : Found) → All (IsOnDisk size ds) layout
+    → slice_get layout i ≡ Some r → AreFieldsAt (map bytes ds) r (fields_of found.head) → fields_of_all heads ≡ map (fields_there (map bytes ds)) (take i layout)
+    → fields_of_all (heads ++ found ∷ []) ≡ map (fields_there (map bytes ds)) (take (i + 1) layout)
+fields_more bytes size ds layout heads i r found regions at are so_far =
+    map-append (λ (x : Found). fields_of x.head) heads (found ∷ [])
+    ∙ (λ j. so_far j ++ fields_one bytes size ds r (fields_of found.head) (at_slice (IsOnDisk size ds) layout i r regions at) are j ∷ [])
+    ∙ ap (λ (q : ArenaRegion). map (fields_there (map bytes ds)) (take i layout) ++ fields_there (map bytes ds) q ∷ []) (sym (get_or_from_slice_get layout i r r at))
+    ∙ sym (map_more (fields_there (map bytes ds)) layout i r (slice_get_within layout i r at))
+
+-- a head that was found can stand in its region
+pub found_stands : {D : Type 0} (tells : Bool) (bytes : D → List ℕ) (size : D → ℕ) (ds : List D) (rs : List ArenaRegion) (heads : List Found) (i : ℕ) (r : ArenaRegion) (found : Found)
+    → All (IsOnDisk size ds) rs → AreFound tells rs (map bytes ds) heads → slice_get rs i ≡ Some r → slice_get heads i ≡ Some found
+    → IsArenaLen r.len × CanStand r.number r.len found.head
+found_stands {D = D} tells bytes size ds rs heads i r found regions are at at_found =
+    let on = at_slice (IsOnDisk size ds) rs i r regions at in
+    (on.len, (are.each i r (bytes on.disk) found at (slice_get-map bytes ds r.part ∙ ap (option_map bytes) on.has) at_found).stands)

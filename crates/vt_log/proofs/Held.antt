@@ -1,0 +1,197 @@
+-- A disk that is read, and not written.
+use Rattle.std.proofs.Common.{◌≡◌, ℕ, ◌<◌, List, length, get_or, map, set, sym, ◌∙◌, ap, subst, arith, Some, option_map}
+use Rattle.std.specs.Prelude.{slice_get}
+use Rattle.std.proofs.lemmas.List.{length-map}
+use Rattle.std.proofs.lemmas.List.Elements.{All-weaker}
+use Rattle.std.proofs.lemmas.Option.{slice_get_within, slice_get-map, slice_get-get_or, same_Some}
+use Rattle.vt_disk.specs.declared.region.Region.{Region}
+use Rattle.vt_disk.specs.Disk.{AreAmong}
+use Rattle.vt_disk.specs.Region.{region_bytes}
+use Rattle.vt_twin.specs.Frames.{named_number}
+use Rattle.vt_model.specs.History.{History}
+use Rattle.vt_part.specs.declared.layout.ArenaRegion.{ArenaRegion}
+use Rattle.vt_arena.specs.declared.TheConstants.{FRAME_LEN}
+use Rattle.vt_arena.specs.Arena.{ArenaState}
+use Rattle.vt_arena.specs.Layout.{Content, IsArena}
+use Rattle.vt_arena.specs.Sound.{IsSound as IsSoundArena}
+use Rattle.vt_log.specs.Answers.{HoldTheSame}
+use Rattle.vt_log.specs.Log.{LogState}
+use Rattle.vt_log.specs.Sound.{IsAt, IsSound}
+use Rattle.vt_log.specs.Whole.{IsOnDisk, IsWhole}
+use Rattle.vt_part.specs.declared.part.Part.{Part}
+use Rattle.vt_part.specs.Parts.{disk_of, tables_of}
+use Rattle.vt_log.proofs.Disks.{parts_disks, parts_tables, hold_set}
+use Rattle.vt_log.proofs.Memory.{slice_get_other, at_slice}
+
+-- an arena stays sound where the images are among those that there were
+pub among_arena : (score_of : List ℕ → List ℕ) (a : ArenaState) (region : Region) (old : Content) (read : List ℕ) (before after : List ℕ → Type 0) → AreAmong after before
+    → IsSoundArena score_of a region old read before → IsSoundArena score_of a region old read after
+among_arena score_of a region old read before after among sound = record {
+  len = sound.len;
+  frame_len = sound.frame_len;
+  head = sound.head;
+  next = sound.next;
+  chain = sound.chain;
+  packed = sound.packed;
+  content = sound.content;
+  next_content_is = sound.next_content_is;
+  begun = sound.begun;
+  frame = sound.frame;
+  twin = record {
+    number = sound.twin.number;
+    kept = λ c left. sound.twin.kept c (among c left);
+    named = λ waits c left. sound.twin.named waits c (among c left);
+    written = sound.twin.written;
+    synced = λ made c left. sound.twin.synced made c (among c left);
+    selected = sound.twin.selected;
+  };
+  fields = sound.fields;
+  kept = λ c left. sound.kept c (among c left);
+  written = sound.written;
+  synced = λ made c left. sound.synced made c (among c left);
+}
+
+-- one function of the elements at a place
+map_at : {X Y : Type 0} (f : X → Y) (xs ys : List X) (i : ℕ) (x y : X) → map f ys ≡ map f xs → slice_get xs i ≡ Some x → slice_get ys i ≡ Some y → f y ≡ f x
+map_at {Y = Y} f xs ys i x y same at_x at_y =
+    same_Some (f y) (f x) (sym (slice_get-map f ys i ∙ ap (option_map f) at_y) ∙ ap (λ (zs : List Y). slice_get zs i) same ∙ slice_get-map f xs i ∙ ap (option_map f) at_x)
+
+map_long : {X Y : Type 0} (f : X → Y) (xs ys : List X) → map f ys ≡ map f xs → length ys ≡ length xs
+map_long {Y = Y} f xs ys same = sym (length-map ys f) ∙ ap (λ (zs : List Y). length zs) same ∙ length-map xs f
+
+-- a log stays whole and sound where its disks hold the same
+pub hold_whole : {D : Type 0} (bytes : D → List ℕ) (images : D → List ℕ → Type 0) (size : D → ℕ) (l : LogState D) (ds : List D) → IsWhole size l → HoldTheSame bytes images size l.disks ds
+    → IsWhole size (record l { disks = ds })
+hold_whole bytes images size l ds whole hold = record {
+  many_disks = map_long size l.disks ds hold.sizes_are ∙ whole.many_disks;
+  layout = whole.layout;
+  regions = All-weaker (IsOnDisk size l.disks) (IsOnDisk size ds) (λ r on.
+      let now = slice_get_other ds l.disks r.part on.disk (sym (map_long size l.disks ds hold.sizes_are)) on.has in
+      record {
+        disk = now.0;
+        has = now.1;
+        within = omega (arith, on.within, map_at size l.disks ds r.part on.disk now.0 hold.sizes_are on.has now.1);
+        small = on.small;
+        aligned = on.aligned;
+        len = on.len;
+      }) l.layout whole.regions;
+  apart = whole.apart;
+  few = whole.few;
+  many = whole.many;
+  heads = whole.heads;
+  unsealed = whole.unsealed;
+  base = whole.base;
+  committing = whole.committing;
+  arena = whole.arena;
+  none = whole.none;
+  number = whole.number;
+  clumps = whole.clumps;
+  runs = whole.runs;
+  some = whole.some;
+  way = whole.way;
+  queue = whole.queue;
+  places = whole.places;
+  most = whole.most;
+  durable = whole.durable;
+}
+
+was_at : {D : Type 0} (l : LogState D) (ds : List D) (i : ℕ) (r : ArenaRegion) (region : Region) (disk : D) → length ds ≡ length l.disks → IsAt (record l { disks = ds }) i r region disk
+    → (before : D) × IsAt l i r region before
+was_at l ds i r region disk many at =
+    let was = slice_get_other l.disks ds r.part disk many at.disk_is in
+    (was.0, record { arena = at.arena; region_is = at.region_is; disk_is = was.1 })
+
+pub hold_sound : {D : Type 0} (score_of : List ℕ → List ℕ) (bytes : D → List ℕ) (images : D → List ℕ → Type 0) (size : D → ℕ) (l : LogState D) (ds : List D) (h : History)
+    → HoldTheSame bytes images size l.disks ds → IsSound score_of bytes images size l h → IsSound score_of bytes images size (record l { disks = ds }) h
+hold_sound {D = D} score_of bytes images size l ds h hold sound = record {
+  whole = hold_whole bytes images size l ds sound.whole hold;
+  contents = sound.contents;
+  many = sound.many;
+  split = sound.split;
+  current = λ r region disk a at has.
+      let was = was_at l ds l.committing r region disk many at in
+      let same : bytes disk ≡ bytes was.0 = map_at bytes l.disks ds r.part was.0 disk hold.bytes_are was.1.disk_is at.disk_is in
+      subst (λ (b : List ℕ). IsSoundArena score_of l.arena region a b (images disk)) (sym same)
+      (among_arena score_of l.arena region a (bytes was.0) (images was.0) (images disk) (hold.images_are r.part was.0 disk was.1.disk_is at.disk_is) (sound.current r region was.0 a was.1 has));
+  others = λ i r region disk a other at has.
+      let was = was_at l ds i r region disk many at in
+      let same : bytes disk ≡ bytes was.0 = map_at bytes l.disks ds r.part was.0 disk hold.bytes_are was.1.disk_is at.disk_is in
+      let rests = sound.others i r region was.0 a other was.1 has in (
+        λ c left. rests.0 c (hold.images_are r.part was.0 disk was.1.disk_is at.disk_is c left) ∙ sym (ap (region_bytes region) same),
+        subst (λ (b : List ℕ). IsArena score_of region r.number a b) (sym same) rests.1,
+      );
+  heads = sound.heads;
+  selectors = λ i r region disk found behind at has.
+      let was = was_at l ds i r region disk many at in
+      let same : bytes disk ≡ bytes was.0 = map_at bytes l.disks ds r.part was.0 disk hold.bytes_are was.1.disk_is at.disk_is in
+      sound.selectors i r region was.0 found behind was.1 has ∙ sym (ap (named_number region FRAME_LEN) same);
+  committed = sound.committed;
+  queued = sound.queued;
+  front = sound.front;
+  packed = sound.packed;
+  places = sound.places;
+  filling = sound.filling;
+  last = sound.last;
+  arenas = sound.arenas;
+}
+  where
+    many : length ds ≡ length l.disks
+    many = map_long size l.disks ds hold.sizes_are
+
+-- the log with this disk in a partition
+abbrev pub with_disk : {D : Type 0} → List (Part D) → ℕ → Part D → D → LogState D → LogState D
+with_disk ps i p d l = record l {
+  disks = map (λ part. disk_of part) (set ps i (record p { disk = d }));
+  tables = tables_of (set ps i (record p { disk = d }));
+}
+
+-- what a read leaves of a log that has these partitions
+pub record IsReadOnly {D : Type 0} (score_of : List ℕ → List ℕ) (bytes : D → List ℕ) (images : D → List ℕ → Type 0) (size : D → ℕ) (i : ℕ) (old d : D) (m k : LogState D) : Type 0 where
+  pub same : k ≡ record m { disks = k.disks }
+  pub disks_are : k.disks ≡ set m.disks i d
+  pub was : slice_get m.disks i ≡ Some old
+  pub hold : HoldTheSame bytes images size m.disks k.disks
+  pub whole : IsWhole size m → IsWhole size k
+  pub sound : (h : History) → IsSound score_of bytes images size m h → IsSound score_of bytes images size k h
+
+pub read_only : {D : Type 0} (score_of : List ℕ → List ℕ) (bytes : D → List ℕ) (images : D → List ℕ → Type 0) (size : D → ℕ) (ps : List (Part D)) (i : ℕ) (p : Part D) (d : D) (l m : LogState D)
+    → l ≡ m → l.disks ≡ map (λ part. disk_of part) ps → l.tables ≡ tables_of ps → slice_get ps i ≡ Some p
+    → bytes d ≡ bytes (disk_of p) → AreAmong (images d) (images (disk_of p)) → size d ≡ size (disk_of p)
+    → IsReadOnly score_of bytes images size i (disk_of p) d m (with_disk ps i p d l)
+read_only {D = D} score_of bytes images size ps i p d l m view disks tables at same_bytes among same_size =
+    record { same = same; disks_are = disks_are; was = was; hold = hold; whole = whole; sound = sound }
+  where
+    k : LogState D
+    k = with_disk ps i p d l
+
+    same_tables : tables_of (set ps i (record p { disk = d })) ≡ l.tables
+    same_tables = parts_tables ps i p d at ∙ sym tables
+
+    mine : with_disk ps i p d l ≡ record l { disks = map (λ (part : Part D). disk_of part) (set ps i (record p { disk = d })) }
+    mine = λ j. record l { disks = map (λ (part : Part D). disk_of part) (set ps i (record p { disk = d })); tables = same_tables j }
+
+    same : with_disk ps i p d l ≡ record m { disks = map (λ (part : Part D). disk_of part) (set ps i (record p { disk = d })) }
+    same = mine ∙ ap (λ (x : LogState D). record x { disks = map (λ (part : Part D). disk_of part) (set ps i (record p { disk = d })) }) view
+
+    disks_are : map (λ (part : Part D). disk_of part) (set ps i (record p { disk = d })) ≡ set m.disks i d
+    disks_are = parts_disks ps i p d ∙ ap (λ (ds : List D). set ds i d) (sym disks ∙ ap (λ (x : LogState D). x.disks) view)
+
+    was : slice_get m.disks i ≡ Some (disk_of p)
+    was = ap (λ (x : LogState D). slice_get x.disks i) (sym view) ∙ ap (λ (ds : List D). slice_get ds i) disks ∙ slice_get-map (λ (part : Part D). disk_of part) ps i ∙ ap (option_map (λ (part : Part D). disk_of part)) at
+
+    hold : HoldTheSame bytes images size m.disks (map (λ (part : Part D). disk_of part) (set ps i (record p { disk = d })))
+    hold = subst (λ (ds : List D). HoldTheSame bytes images size m.disks ds) (sym disks_are) (hold_set bytes images size m.disks i (disk_of p) d was same_bytes among same_size)
+
+    whole : IsWhole size m → IsWhole size (with_disk ps i p d l)
+    whole is = subst (IsWhole size) (sym same) (hold_whole bytes images size m _ is hold)
+
+    sound : (h : History) → IsSound score_of bytes images size m h → IsSound score_of bytes images size (with_disk ps i p d l) h
+    sound h is = subst (λ (x : LogState D). IsSound score_of bytes images size x h) (sym same) (hold_sound score_of bytes images size m _ h hold is)
+
+-- a partition is there for each arena
+pub part_there : {D : Type 0} (size : D → ℕ) (ps : List (Part D)) (l : LogState D) (arena : ℕ) (r dr : ArenaRegion) → IsWhole size l → l.disks ≡ map (λ part. disk_of part) ps → arena < length l.layout
+    → r ≡ get_or l.layout arena dr → r.part < length ps
+part_there {D = D} size ps l arena r dr whole disks within r_is =
+    let on = at_slice (IsOnDisk size l.disks) l.layout arena (get_or l.layout arena dr) whole.regions (slice_get-get_or l.layout arena dr within) in
+    let below = slice_get_within l.disks _ on.disk on.has in
+    omega (arith, below, ap (λ (ds : List D). length ds) disks, length-map ps (λ (part : Part D). disk_of part), ap (λ (x : ArenaRegion). x.part) r_is)

@@ -1,0 +1,636 @@
+-- What one device call of a commit makes of a log, for each of its answers.
+use Rattle.std.proofs.Common.{◌≡◌, ℕ, ◌+◌, ◌%◌, ◌<◌, ◌≤◌, Bool, true, false, List, [], ◌++◌, length, get_or, drop, map, set, refl, sym, ◌∙◌, ap, subst, arith, Some, None, Option, option_map, Ok, Err, Result}
+use Rattle.std.specs.Prelude.{slice_get, IsTrue, sum_by}
+use Rattle.std.specs.Option.{option_map_or}
+use Rattle.std.proofs.lemmas.List.{drop_at, length-set}
+use Rattle.std.proofs.lemmas.Option.{slice_get_within, slice_get-map, slice_get-get_or, slice_get_read, same_Some}
+use Rattle.vt_base.specs.Faults.{HasRisen}
+use Rattle.vt_disk.specs.declared.region.Region.{Region}
+use Rattle.vt_disk.specs.Disk.{SameBut, WithinCall, Only, IsOneMore}
+use Rattle.vt_disk.specs.Region.{Inside, ChangesWithin, region_bytes}
+use Rattle.vt_twin.specs.declared.step.Step.{Step}
+use Rattle.vt_twin.specs.declared.step.Step.TheVariants.{More, Done}
+use Rattle.vt_twin.specs.declared.step.TwinErr.{TwinErr}
+use Rattle.vt_twin.specs.declared.step.TwinErr.TheVariants.{Fault as TwinFault, Stopped as TwinStopped}
+use Rattle.vt_twin.specs.Twin.{CountsFault, one_more}
+use Rattle.vt_clump.specs.declared.packed.Packed.{Packed}
+use Rattle.vt_model.specs.History.{History}
+use Rattle.vt_part.specs.declared.layout.ArenaRegion.{ArenaRegion}
+use Rattle.vt_part.specs.declared.part.Part.{Part}
+use Rattle.vt_part.specs.Parts.{disk_of, tables_of}
+use Rattle.vt_arena.specs.declared.head.ArenaHead.{ArenaHead}
+use Rattle.vt_arena.specs.declared.head.Found.{Found}
+use Rattle.vt_arena.specs.Arena.{ArenaState, Advances, next_content, content_after, calls_made, commit_calls, fresh_arena}
+use Rattle.vt_arena.specs.Layout.{Content, IsArena}
+use Rattle.vt_arena.specs.Places.{IsArenaLen, directory_room, arena_room}
+use Rattle.vt_arena.specs.Sound.{IsSound as IsSoundArena, GivesOldOrNext}
+use Rattle.vt_log.specs.declared.bad.Progress.{Progress}
+use Rattle.vt_log.specs.declared.bad.Progress.TheVariants.{Step as StepMade, Durable}
+use Rattle.vt_log.specs.declared.bad.LogErr.{LogErr}
+use Rattle.vt_log.specs.declared.bad.LogErr.TheVariants.{Fault, Stopped}
+use Rattle.vt_log.specs.declared.log.Log.TheInside.{Inside as InLog}
+use Rattle.vt_log.specs.declared.queue.Waiting.{Waiting}
+use Rattle.vt_log.specs.Answers.{MakesCall, EndsCommit, Spares}
+use Rattle.vt_log.specs.Committing.{IsReady, MakesOrEnds}
+use Rattle.vt_log.specs.Faults.{CountsFaultAt}
+use Rattle.vt_log.specs.Log.{LogState, queued, packed_of, disk_in_use}
+use Rattle.vt_log.specs.Logs.{IsRegionOf}
+use Rattle.vt_log.specs.Sound.{IsAt, IsSound, AreWithinCall, StandForPrefix}
+use Rattle.vt_log.specs.Queue.{QueueState}
+use Rattle.vt_log.specs.Whole.{IsOnDisk, IsWhole}
+use Rattle.vt_log.proofs.Advancing.{committing_there}
+use Rattle.vt_log.proofs.Calls.{KeepsArena, ChangesRegion, step_keeps, fault_keeps, call_whole, call_sound, call_stands, same_region}
+use Rattle.vt_log.proofs.Disks.{map_same, spares_set, calls_set, risen_set, parts_disks, parts_tables}
+use Rattle.vt_log.proofs.Endings.{EndsArena, last_ends, ended, ended_whole, ended_sound, turned, turned_whole, turned_sound, IsEnding, next_there}
+use Rattle.vt_log.proofs.Held.{with_disk, part_there}
+use Rattle.vt_log.proofs.Memory.{slice_get_other, at_slice, slice_get_set_same, slice_get_set_other}
+use Rattle.vt_log.proofs.Owing.{step_made, call_owed, ended_owed, turned_owed}
+
+-- what a call of an arena's commit tells
+pub record IsAdvanced {D : Type 0} (score_of : List ℕ → List ℕ) (bytes : D → List ℕ) (images : D → List ℕ → Type 0) (size calls_of faults_of : D → ℕ) (tells : Bool)
+    (a : ArenaState) (region : Region) (d e : D) (b : ArenaState) (step : Result Step TwinErr) : Type 0 where
+  pub sound : (old : Content) → IsTrue tells → IsSoundArena score_of a region old (bytes d) (images d) → IsSoundArena score_of b region (content_after step a old) (bytes e) (images e)
+  pub crash : (old : Content) → IsTrue tells → IsSoundArena score_of a region old (bytes d) (images d) → (c : List ℕ) → WithinCall (images d) (images e) c
+      → GivesOldOrNext (commit_calls a ≤ calls_made a + 2) score_of region a.number old (next_content a old) c
+  pub last : (old : Content) → IsTrue tells → IsSoundArena score_of a region old (bytes d) (images d) → step ≡ Ok Done → (c : List ℕ) → images e c → IsArena score_of region a.number (next_content a old) c
+  pub settled : IsTrue tells → step ≡ Ok Done → Only (bytes e) (images e)
+  pub steps : Advances step a b
+  pub left : calls_made a < commit_calls a
+  pub done : step ≡ Ok Done → calls_made a + 1 ≡ commit_calls a
+  pub stopped : (n : ℕ) → step ≡ Err (TwinStopped n) → a.stopped ≡ Some n
+  pub faults_are : CountsFault step (faults_of d) (faults_of e)
+  pub calls_are : IsTrue tells → a.stopped ≡ None → IsOneMore (calls_of d) (calls_of e)
+  pub images_are : ChangesWithin region (images d) (images e)
+  pub bytes_are : IsTrue tells → SameBut (Inside region) (bytes d) (bytes e)
+  pub size_is : size e ≡ size d
+
+-- what is known once the device call was made
+pub record IsCalled {D : Type 0} (score_of : List ℕ → List ℕ) (bytes : D → List ℕ) (images : D → List ℕ → Type 0) (size calls_of faults_of : D → ℕ) (tells : Bool)
+    (l : LogState D) (r : ArenaRegion) (region : Region) (d e : D) (b : ArenaState) (step : Result Step TwinErr) : Type 0 where
+  pub whole : IsWhole size l
+  pub runs : l.stopped ≡ None
+  pub ready : IsReady l
+  pub at : IsAt l l.committing r region d
+  pub made : IsAdvanced score_of bytes images size calls_of faults_of tells l.arena region d e b step
+
+-- what the clauses say of it
+pub record IsMade {D : Type 0} (score_of : List ℕ → List ℕ) (bytes : D → List ℕ) (images : D → List ℕ → Type 0) (size calls_of faults_of : D → ℕ) (tells : Bool)
+    (l k : LogState D) (result : Result Progress LogErr) : Type 0 where
+  pub whole : IsWhole size k
+  pub sound : (h : History) → IsTrue tells → IsSound score_of bytes images size l h → IsSound score_of bytes images size k h
+  pub crash : (h : History) → IsTrue tells → IsSound score_of bytes images size l h → (files : List (List ℕ)) → AreWithinCall images l.disks k.disks files → StandForPrefix score_of l files h
+  pub makes : MakesOrEnds result l k
+  pub last : (n : ℕ) → result ≡ Ok (Durable n) → calls_made l.arena + 1 ≡ commit_calls l.arena
+  pub kept : (k.layout ≡ l.layout) × (k.tables ≡ l.tables) × (k.base ≡ l.base) × (k.filling ≡ l.filling)
+  pub spares : Spares (disk_in_use l) l.disks k.disks
+  pub in_use : disk_in_use l < length l.disks
+  pub within : (q : ArenaRegion) (other : Region) (before after : D) → IsAt l l.committing q other before → slice_get k.disks q.part ≡ Some after
+      → ChangesWithin other (images before) (images after) × (IsTrue tells → SameBut (Inside other) (bytes before) (bytes after))
+  pub sizes : map size k.disks ≡ map size l.disks
+  pub calls_are : IsTrue tells → sum_by calls_of k.disks ≤ sum_by calls_of l.disks + 1
+  pub cause : CountsFaultAt (disk_in_use l) result (map faults_of l.disks) (map faults_of k.disks)
+
+-- ---- the disks
+
+-- the count of one disk's faults
+abbrev CountsOne : Result Progress LogErr → (old new : ℕ) → Type 0
+CountsOne (Ok progress) old new = new ≡ old
+CountsOne (Err Fault) old new = HasRisen old new
+CountsOne (Err (Stopped n)) old new = new ≡ old
+
+cause_at : {D : Type 0} (f : D → ℕ) (ds : List D) (i : ℕ) (d e : D) (result : Result Progress LogErr) → slice_get ds i ≡ Some d → CountsOne result (f d) (f e)
+    → CountsFaultAt i result (map f ds) (map f (set ds i e))
+cause_at f ds i d e (Ok progress) at cause = map_same f ds i d e at cause
+cause_at f ds i d e (Err Fault) at cause = risen_set f ds i d e at cause
+cause_at f ds i d e (Err (Stopped n)) at cause = map_same f ds i d e at cause
+
+use_is : {D : Type 0} (l : LogState D) (r : ArenaRegion) → slice_get l.layout l.committing ≡ Some r → disk_in_use l ≡ r.part
+use_is l r at = ap (λ (o : Option ArenaRegion). option_map_or (λ (x : ArenaRegion). x.part) o 0) at
+
+-- what a call of the disk of the arena's partition does to the disks
+record IsOneCall {D : Type 0} (bytes : D → List ℕ) (images : D → List ℕ → Type 0) (size calls_of faults_of : D → ℕ) (tells : Bool) (l : LogState D) (ds : List D) (result : Result Progress LogErr) : Type 0 where
+  spares : Spares (disk_in_use l) l.disks ds
+  in_use : disk_in_use l < length l.disks
+  within : (q : ArenaRegion) (other : Region) (before after : D) → IsAt l l.committing q other before → slice_get ds q.part ≡ Some after
+      → ChangesWithin other (images before) (images after) × (IsTrue tells → SameBut (Inside other) (bytes before) (bytes after))
+  sizes : map size ds ≡ map size l.disks
+  calls_are : IsTrue tells → sum_by calls_of ds ≤ sum_by calls_of l.disks + 1
+  cause : CountsFaultAt (disk_in_use l) result (map faults_of l.disks) (map faults_of ds)
+
+one_call : {D : Type 0} (score_of : List ℕ → List ℕ) (bytes : D → List ℕ) (images : D → List ℕ → Type 0) (size calls_of faults_of : D → ℕ) (tells : Bool)
+    (l : LogState D) (r : ArenaRegion) (region : Region) (d e : D) (b : ArenaState) (step : Result Step TwinErr) (result : Result Progress LogErr)
+    → IsCalled score_of bytes images size calls_of faults_of tells l r region d e b step → CountsOne result (faults_of d) (faults_of e)
+    → IsOneCall bytes images size calls_of faults_of tells l (set l.disks r.part e) result
+one_call {D = D} score_of bytes images size calls_of faults_of tells l r region d e b step result it cause = record {
+  spares = subst (λ (n : ℕ). Spares n l.disks (set l.disks r.part e)) (sym used) (spares_set l.disks r.part e);
+  in_use = omega (arith, used, slice_get_within l.disks r.part d it.at.disk_is);
+  within = within;
+  sizes = map_same size l.disks r.part d e it.at.disk_is it.made.size_is;
+  calls_are = λ told. calls_set calls_of l.disks r.part d e 1 it.at.disk_is (omega (arith, it.made.calls_are told (it.whole.runs it.runs)));
+  cause = subst (λ (n : ℕ). CountsFaultAt n result (map faults_of l.disks) (map faults_of (set l.disks r.part e))) (sym used) (cause_at faults_of l.disks r.part d e result it.at.disk_is cause);
+}
+  where
+    used : disk_in_use l ≡ r.part
+    used = use_is l r it.at.arena
+
+    within : (q : ArenaRegion) (other : Region) (before after : D) → IsAt l l.committing q other before → slice_get (set l.disks r.part e) q.part ≡ Some after
+        → ChangesWithin other (images before) (images after) × (IsTrue tells → SameBut (Inside other) (bytes before) (bytes after))
+    within q other before after there_at now =
+        let r_is : r ≡ q = same_Some r q (sym it.at.arena ∙ there_at.arena) in
+        let d_is : d ≡ before = same_Some d before (sym it.at.disk_is ∙ ap (λ (x : ArenaRegion). slice_get l.disks x.part) r_is ∙ there_at.disk_is) in
+        let e_is : e ≡ after = same_Some e after (sym (slice_get_set_same l.disks r.part e (slice_get_within l.disks r.part d it.at.disk_is)) ∙ ap (λ (x : ArenaRegion). slice_get (set l.disks r.part e) x.part) r_is ∙ now) in
+        let region_is : region ≡ other = same_region region other
+        (it.at.region_is.start ∙ ap (λ (x : ArenaRegion). x.at) r_is ∙ sym there_at.region_is.start) (it.at.region_is.len ∙ ap (λ (x : ArenaRegion). x.len) r_is ∙ sym there_at.region_is.len) in
+        subst (λ (x : Region). ChangesWithin x (images before) (images after) × (IsTrue tells → SameBut (Inside x) (bytes before) (bytes after))) region_is
+        (subst (λ (x : D). ChangesWithin region (images before) (images x) × (IsTrue tells → SameBut (Inside region) (bytes before) (bytes x))) e_is
+        (subst (λ (x : D). ChangesWithin region (images x) (images e) × (IsTrue tells → SameBut (Inside region) (bytes x) (bytes e))) d_is (it.made.images_are, it.made.bytes_are)))
+
+changes : {D : Type 0} (score_of : List ℕ → List ℕ) (bytes : D → List ℕ) (images : D → List ℕ → Type 0) (size calls_of faults_of : D → ℕ) (tells : Bool)
+    (l : LogState D) (r : ArenaRegion) (region : Region) (d e : D) (b : ArenaState) (step : Result Step TwinErr)
+    → IsCalled score_of bytes images size calls_of faults_of tells l r region d e b step → IsTrue tells → ChangesRegion bytes images size region d e
+changes score_of bytes images size calls_of faults_of tells l r region d e b step it told = record { size_is = it.made.size_is; images_are = it.made.images_are; bytes_are = it.made.bytes_are told }
+
+-- a crash at any moment of the call
+stands : {D : Type 0} (score_of : List ℕ → List ℕ) (bytes : D → List ℕ) (images : D → List ℕ → Type 0) (size calls_of faults_of : D → ℕ) (tells : Bool)
+    (l : LogState D) (r : ArenaRegion) (region : Region) (d e : D) (b : ArenaState) (step : Result Step TwinErr)
+    → IsCalled score_of bytes images size calls_of faults_of tells l r region d e b step
+    → (h : History) → IsTrue tells → IsSound score_of bytes images size l h → (files : List (List ℕ)) → AreWithinCall images l.disks (set l.disks r.part e) files → StandForPrefix score_of l files h
+stands score_of bytes images size calls_of faults_of tells l r region d e b step it h told sound files left =
+    call_stands score_of bytes images size l h r region d e (commit_calls l.arena ≤ calls_made l.arena + 2) files sound it.at (changes score_of bytes images size calls_of faults_of tells l r region d e b step it told)
+    (λ a has c moment. it.made.crash a told (sound.current r region d a it.at has) c moment) left
+
+-- ---- a call that ends no commit
+
+abbrev called : {D : Type 0} → LogState D → (part : ℕ) → (e : D) → (b : ArenaState) → (calls : ℕ) → (stopped : Option ℕ) → LogState D
+called l part e b calls stopped = record l { disks = set l.disks part e; arena = b; calls = calls; stopped = stopped }
+
+makes_call : {D : Type 0} (l : LogState D) (part : ℕ) (e : D) (b : ArenaState) (stopped : Option ℕ) → KeepsArena l.arena b → MakesCall l (called l part e b (one_more l.calls) stopped)
+makes_call l part e b stopped keeps = record {
+  calls = refl;
+  heads = refl;
+  durable = refl;
+  packed = ap (λ (ps : List Packed). ps ++ map (λ (w : Waiting). w.packed) l.queue.waiting) keeps.staged;
+  places = refl;
+}
+
+-- its last call isn't made yet
+pub more_made : {D : Type 0} (score_of : List ℕ → List ℕ) (bytes : D → List ℕ) (images : D → List ℕ → Type 0) (size calls_of faults_of : D → ℕ) (tells : Bool)
+    (l : LogState D) (r : ArenaRegion) (region : Region) (d e : D) (b : ArenaState)
+    → IsCalled score_of bytes images size calls_of faults_of tells l r region d e b (Ok More)
+    → IsMade score_of bytes images size calls_of faults_of tells l (called l r.part e b (one_more l.calls) l.stopped) (Ok StepMade)
+more_made score_of bytes images size calls_of faults_of tells l r region d e b it = record {
+  whole = call_whole size l r.part d e b (one_more l.calls) l.stopped it.whole it.ready keeps runs it.at.disk_is it.made.size_is;
+  sound = λ h told sound. call_sound score_of bytes images size l h r region d e b (one_more l.calls) l.stopped sound it.ready keeps runs it.at
+      (changes score_of bytes images size calls_of faults_of tells l r region d e b (Ok More) it told) (λ a has. it.made.sound a told (sound.current r region d a it.at has));
+  crash = stands score_of bytes images size calls_of faults_of tells l r region d e b (Ok More) it;
+  makes = (makes_call l r.part e b l.stopped keeps, it.runs, call_owed l b (set l.disks r.part e) (one_more l.calls) l.stopped keeps.staged keeps.next it.ready made it.made.left);
+  last = λ n is. absurd (cc);
+  kept = (refl, refl, refl, refl);
+  spares = one.spares;
+  in_use = one.in_use;
+  within = one.within;
+  sizes = one.sizes;
+  calls_are = one.calls_are;
+  cause = one.cause;
+}
+  where
+    one : IsOneCall bytes images size calls_of faults_of tells l (set l.disks r.part e) (Ok StepMade)
+    one = one_call score_of bytes images size calls_of faults_of tells l r region d e b (Ok More) (Ok StepMade) it it.made.faults_are
+
+    keeps : KeepsArena l.arena b
+    keeps = subst (λ (x : ArenaState). KeepsArena l.arena x) (sym it.made.steps) (step_keeps l.arena).0
+
+    runs : l.stopped ≡ None → b.stopped ≡ None
+    runs none = ap (λ (x : ArenaState). x.stopped) it.made.steps ∙ (step_keeps l.arena).1 ∙ it.whole.runs none
+
+    made : calls_made b ≡ calls_made l.arena + 1
+    made = ap (λ (x : ArenaState). calls_made x) it.made.steps ∙ step_made l.arena
+
+-- it failed
+pub fault_made : {D : Type 0} (score_of : List ℕ → List ℕ) (bytes : D → List ℕ) (images : D → List ℕ → Type 0) (size calls_of faults_of : D → ℕ) (tells : Bool)
+    (l : LogState D) (r : ArenaRegion) (region : Region) (d e : D) (b : ArenaState) (err : TwinErr)
+    → IsCalled score_of bytes images size calls_of faults_of tells l r region d e b (Err err)
+    → IsMade score_of bytes images size calls_of faults_of tells l (called l r.part e b (one_more l.calls) (Some l.calls)) (Err Fault)
+fault_made score_of bytes images size calls_of faults_of tells l r region d e b (TwinStopped n) it = absurd (let off = it.made.stopped n refl in let on = it.whole.runs it.runs in cc)
+fault_made score_of bytes images size calls_of faults_of tells l r region d e b TwinFault it = record {
+  whole = call_whole size l r.part d e b (one_more l.calls) (Some l.calls) it.whole it.ready keeps runs it.at.disk_is it.made.size_is;
+  sound = λ h told sound. call_sound score_of bytes images size l h r region d e b (one_more l.calls) (Some l.calls) sound it.ready keeps runs it.at
+      (changes score_of bytes images size calls_of faults_of tells l r region d e b (Err TwinFault) it told) (λ a has. it.made.sound a told (sound.current r region d a it.at has));
+  crash = stands score_of bytes images size calls_of faults_of tells l r region d e b (Err TwinFault) it;
+  makes = (makes_call l r.part e b (Some l.calls) keeps, refl);
+  last = λ n is. absurd (cc);
+  kept = (refl, refl, refl, refl);
+  spares = one.spares;
+  in_use = one.in_use;
+  within = one.within;
+  sizes = one.sizes;
+  calls_are = one.calls_are;
+  cause = one.cause;
+}
+  where
+    one : IsOneCall bytes images size calls_of faults_of tells l (set l.disks r.part e) (Err Fault)
+    one = one_call score_of bytes images size calls_of faults_of tells l r region d e b (Err TwinFault) (Err Fault) it it.made.faults_are
+
+    keeps : KeepsArena l.arena b
+    keeps = subst (λ (x : ArenaState). KeepsArena l.arena x) (sym it.made.steps) (fault_keeps l.arena)
+
+    runs : Some l.calls ≡ None → b.stopped ≡ None
+    runs none = absurd (cc)
+
+-- ---- one that ends a commit
+
+-- what else is known where the last call was made
+pub record IsLast {D : Type 0} (l : LogState D) (r : ArenaRegion) (found : Found) (b : ArenaState) : Type 0 where
+  pub has : slice_get l.heads l.committing ≡ Some found
+  pub fit : b.head.used + directory_room b.head.clumps ≤ arena_room r.len
+
+content_there : {D : Type 0} (score_of : List ℕ → List ℕ) (bytes : D → List ℕ) (images : D → List ℕ → Type 0) (size : D → ℕ) (l : LogState D) (h : History) (r : ArenaRegion)
+    → (sound : IsSound score_of bytes images size l h) → slice_get l.layout l.committing ≡ Some r → (a : Content) × (slice_get sound.contents l.committing ≡ Some a)
+content_there score_of bytes images size l h r sound at = slice_get_other sound.contents l.layout l.committing r (sym sound.many) at
+
+ends_arena : {D : Type 0} (score_of : List ℕ → List ℕ) (bytes : D → List ℕ) (images : D → List ℕ → Type 0) (size calls_of faults_of : D → ℕ) (tells : Bool)
+    (l : LogState D) (r : ArenaRegion) (region : Region) (d e : D) (b : ArenaState)
+    → IsCalled score_of bytes images size calls_of faults_of tells l r region d e b (Ok Done) → EndsArena l.arena b
+ends_arena score_of bytes images size calls_of faults_of tells l r region d e b it =
+    subst (λ (x : ArenaState). EndsArena l.arena x) (sym it.made.steps) (last_ends l.arena (it.whole.runs it.runs))
+
+is_ending : {D : Type 0} (score_of : List ℕ → List ℕ) (bytes : D → List ℕ) (images : D → List ℕ → Type 0) (size calls_of faults_of : D → ℕ) (tells : Bool)
+    (l : LogState D) (r : ArenaRegion) (found : Found) (region : Region) (d e : D) (b : ArenaState)
+    → IsCalled score_of bytes images size calls_of faults_of tells l r region d e b (Ok Done) → IsLast l r found b → IsTrue tells
+    → IsEnding score_of bytes images size l r found region d e b
+is_ending score_of bytes images size calls_of faults_of tells l r found region d e b it last told = record {
+  ends = ends_arena score_of bytes images size calls_of faults_of tells l r region d e b it;
+  has = last.has;
+  at = it.at;
+  changes = changes score_of bytes images size calls_of faults_of tells l r region d e b (Ok Done) it told;
+  fit = last.fit;
+}
+
+-- the blocks leave the queue
+ends_commit : {D : Type 0} (l : LogState D) (part : ℕ) (e : D) (found : Found) (b : ArenaState) (m : LogState D)
+    → m.calls ≡ one_more l.calls → m.heads ≡ set l.heads l.committing (record found { head = b.head }) → m.durable ≡ l.durable + length l.arena.staged
+    → m.arena.staged ≡ [] → m.queue.waiting ≡ l.queue.waiting → m.queue.places ≡ drop (length l.arena.staged) l.queue.places → EndsCommit (length l.arena.staged) l m
+ends_commit l part e found b m calls heads durable staged waiting places = record {
+  calls = calls;
+  heads = λ i other. ap (λ (fs : List Found). slice_get fs i) heads ∙ slice_get_set_other l.heads l.committing i (record found { head = b.head }) other;
+  durable = durable;
+  packed = packed;
+  places = places;
+}
+  where
+    packed : packed_of m ≡ drop (length l.arena.staged) (packed_of l)
+    packed =
+        let gone : packed_of m ≡ map (λ (w : Waiting). w.packed) l.queue.waiting = λ j. staged j ++ map (λ (w : Waiting). w.packed) (waiting j) in
+        gone ∙ sym (drop_at l.arena.staged (map (λ (w : Waiting). w.packed) l.queue.waiting) (length l.arena.staged) refl)
+
+-- and the arena isn't sealed
+pub ended_made : {D : Type 0} (score_of : List ℕ → List ℕ) (bytes : D → List ℕ) (images : D → List ℕ → Type 0) (size calls_of faults_of : D → ℕ) (tells : Bool)
+    (l : LogState D) (r : ArenaRegion) (found : Found) (region : Region) (d e : D) (b : ArenaState)
+    → IsCalled score_of bytes images size calls_of faults_of tells l r region d e b (Ok Done) → IsLast l r found b → b.next.sealed ≡ false
+    → IsMade score_of bytes images size calls_of faults_of tells l (ended l r.part e found b (one_more l.calls)) (Ok (Durable (l.durable + length l.arena.staged)))
+ended_made {D = D} score_of bytes images size calls_of faults_of tells l r found region d e b it last no_seal = record {
+  whole = ended_whole size l r found d e b (one_more l.calls) it.whole ends unsealed it.at.arena last.has last.fit it.at.disk_is it.made.size_is;
+  sound = λ h told sound.
+      let content = content_there score_of bytes images size l h r sound it.at.arena in
+      ended_sound score_of bytes images size l h r found region d e b (one_more l.calls) content.0 sound
+      (is_ending score_of bytes images size calls_of faults_of tells l r found region d e b it last told) unsealed content.1
+      (it.made.sound content.0 told (sound.current r region d content.0 it.at content.1));
+  crash = stands score_of bytes images size calls_of faults_of tells l r region d e b (Ok Done) it;
+  makes = (
+    ends_commit l r.part e found b m refl refl refl ends.staged refl refl,
+    refl,
+    it.runs,
+    ended_owed l m ends.staged (ap (λ (h : ArenaHead). h.sealed) ends.next ∙ unsealed) refl unsealed refl it.ready it.made.left,
+  );
+  last = λ n is. it.made.done refl;
+  kept = (refl, refl, refl, refl);
+  spares = one.spares;
+  in_use = one.in_use;
+  within = one.within;
+  sizes = one.sizes;
+  calls_are = one.calls_are;
+  cause = one.cause;
+}
+  where
+    m : LogState D
+    m = ended l r.part e found b (one_more l.calls)
+
+    one : IsOneCall bytes images size calls_of faults_of tells l (set l.disks r.part e) (Ok (Durable (l.durable + length l.arena.staged)))
+    one = one_call score_of bytes images size calls_of faults_of tells l r region d e b (Ok Done) (Ok (Durable (l.durable + length l.arena.staged))) it it.made.faults_are
+
+    ends : EndsArena l.arena b
+    ends = ends_arena score_of bytes images size calls_of faults_of tells l r region d e b it
+
+    unsealed : l.arena.next.sealed ≡ false
+    unsealed = sym (ap (λ (h : ArenaHead). h.sealed) ends.next) ∙ no_seal
+
+-- or it is, and the next one is turned to
+pub turned_made : {D : Type 0} (score_of : List ℕ → List ℕ) (bytes : D → List ℕ) (images : D → List ℕ → Type 0) (size calls_of faults_of : D → ℕ) (tells : Bool)
+    (l : LogState D) (r q : ArenaRegion) (found next : Found) (region : Region) (d e : D) (b : ArenaState) (len : ℕ)
+    → ((disk : D) → IsTrue tells → images disk (bytes disk)) → IsCalled score_of bytes images size calls_of faults_of tells l r region d e b (Ok Done) → IsLast l r found b
+    → b.next.sealed ≡ true → slice_get l.layout (l.committing + 1) ≡ Some q → slice_get l.heads (l.committing + 1) ≡ Some next → len ≡ q.len
+    → IsMade score_of bytes images size calls_of faults_of tells l (turned l r.part e found b (one_more l.calls) len next) (Ok (Durable (l.durable + length l.arena.staged)))
+turned_made {D = D} score_of bytes images size calls_of faults_of tells l r q found next region d e b len read it last seals next_here next_has len_is = record {
+  whole = turned_whole size l r q found next d e b (one_more l.calls) len it.whole ends sealed it.at.arena last.has last.fit it.at.disk_is it.made.size_is next_here next_has len_is;
+  sound = λ h told sound.
+      let content = content_there score_of bytes images size l h r sound it.at.arena in
+      let was = sound.current r region d content.0 it.at content.1 in
+      turned_sound score_of bytes images size l h r q found next region d e b (one_more l.calls) len content.0 sound
+      (is_ending score_of bytes images size calls_of faults_of tells l r found region d e b it last told) sealed content.1 next_here next_has len_is
+      (record {
+        sound = it.made.sound content.0 told was;
+        settled = λ c left. ap (region_bytes region) (it.made.settled told refl c left);
+        arena = subst (λ (n : ℕ). IsArena score_of region n (next_content l.arena content.0) (bytes e)) (sym ends.number) (it.made.last content.0 told was refl (bytes e) (read e told));
+      });
+  crash = stands score_of bytes images size calls_of faults_of tells l r region d e b (Ok Done) it;
+  makes = (
+    ends_commit l r.part e found b m refl refl refl refl refl refl,
+    refl,
+    it.runs,
+    turned_owed l m refl (it.whole.unsealed (l.committing + 1) next (omega arith) next_has) refl sealed (it.whole.way sealed) it.made.left,
+  );
+  last = λ n is. it.made.done refl;
+  kept = (refl, refl, refl, refl);
+  spares = one.spares;
+  in_use = one.in_use;
+  within = one.within;
+  sizes = one.sizes;
+  calls_are = one.calls_are;
+  cause = one.cause;
+}
+  where
+    m : LogState D
+    m = turned l r.part e found b (one_more l.calls) len next
+
+    one : IsOneCall bytes images size calls_of faults_of tells l (set l.disks r.part e) (Ok (Durable (l.durable + length l.arena.staged)))
+    one = one_call score_of bytes images size calls_of faults_of tells l r region d e b (Ok Done) (Ok (Durable (l.durable + length l.arena.staged))) it it.made.faults_are
+
+    ends : EndsArena l.arena b
+    ends = ends_arena score_of bytes images size calls_of faults_of tells l r region d e b it
+
+    sealed : l.arena.next.sealed ≡ true
+    sealed = sym (ap (λ (h : ArenaHead). h.sealed) ends.next) ∙ seals
+
+-- ---- the log as its partitions have it
+
+-- with another disk in one of them
+parts_state : {D : Type 0} (ps : List (Part D)) (i : ℕ) (p : Part D) (e : D) (v : LogState D) → v.disks ≡ map (λ part. disk_of part) ps → v.tables ≡ tables_of ps → slice_get ps i ≡ Some p
+    → with_disk ps i p e v ≡ record v { disks = set v.disks i e }
+parts_state {D = D} ps i p e v disks tables at =
+    let ds : map (λ (part : Part D). disk_of part) (set ps i (record p { disk = e })) ≡ set v.disks i e = parts_disks ps i p e ∙ ap (λ (xs : List D). set xs i e) (sym disks) in
+    let ts : tables_of (set ps i (record p { disk = e })) ≡ v.tables = parts_tables ps i p e at ∙ sym tables in
+    λ j. record v { disks = ds j; tables = ts j }
+
+-- the log as its calls see it
+abbrev pub seen : {D S : Type 0} → InLog D S → LogState D
+seen l = record {
+  disks = map (λ part. disk_of part) l.parts.items;
+  tables = tables_of l.parts.items;
+  layout = l.layout;
+  heads = l.heads.items;
+  base = l.base;
+  committing = l.committing;
+  arena = l.arena;
+  queue = l.queue;
+  filling = l.filling;
+  durable = l.durable;
+  calls = l.calls;
+  stopped = l.stopped;
+}
+
+-- the region of an arena, as an index reads it
+abbrev pub region_at : List ArenaRegion → ℕ → ArenaRegion
+region_at rs i = get_or rs i (record { part = 0; number = 0; at = 0; len = 0 })
+
+-- the partitions' disks, and the one of an arena's partition
+pub record AreParts {D : Type 0} (ps : List (Part D)) (i : ℕ) (p : Part D) (v : LogState D) : Type 0 where
+  pub disks : v.disks ≡ map (λ part. disk_of part) ps
+  pub tables : v.tables ≡ tables_of ps
+  pub at : slice_get ps i ≡ Some p
+
+-- the arena that is committed in, and its place on the disk of a partition, as the log has them in memory
+pub record IsThere {D : Type 0} (size : D → ℕ) (ps : List (Part D)) (p : Part D) (v m : LogState D) (r : ArenaRegion) (region : Region) : Type 0 where
+  pub view : v ≡ m
+  pub whole : IsWhole size v
+  pub runs : v.stopped ≡ None
+  pub ready : IsReady v
+  pub at : IsAt v v.committing r region (disk_of p)
+  pub parts : AreParts ps r.part p v
+
+pub arena_there : {D : Type 0} (size : D → ℕ) (ps : List (Part D)) (p : Part D) (v m : LogState D) (rs : List ArenaRegion) (r : ArenaRegion) (region : Region)
+    → v ≡ m → IsWhole size v → v.disks ≡ map (λ part. disk_of part) ps → v.tables ≡ tables_of ps → m.stopped ≡ None → 0 < queued m → IsReady m
+    → rs ≡ v.layout → r ≡ region_at rs v.committing → IsRegionOf r region → p ≡ get_or ps r.part p → IsThere size ps p v m r region
+arena_there {D = D} size ps p v m rs r region view whole disks tables runs some ready layout r_is region_is p_is = record {
+  view = view;
+  whole = whole;
+  runs = ap (λ (x : LogState D). x.stopped) view ∙ runs;
+  ready = subst (λ (x : LogState D). IsReady x) (sym view) ready;
+  at = record { arena = here; region_is = region_is; disk_is = disk };
+  parts = record { disks = disks; tables = tables; at = at };
+}
+  where
+    within : v.committing < length v.layout
+    within = committing_there size v whole (subst (λ (x : LogState D). 0 < queued x) (sym view) some)
+
+    same : r ≡ region_at v.layout v.committing
+    same = r_is ∙ ap (λ (xs : List ArenaRegion). region_at xs v.committing) layout
+
+    here : slice_get v.layout v.committing ≡ Some r
+    here = slice_get-get_or v.layout v.committing (region_at [] 0) within ∙ ap (λ (x : ArenaRegion). Some x) (sym same)
+
+    at : slice_get ps r.part ≡ Some p
+    at = slice_get_read ps (length ps) r.part p refl (part_there size ps v v.committing r (region_at [] 0) whole disks within same) p_is
+
+    disk : slice_get v.disks r.part ≡ Some (disk_of p)
+    disk = ap (λ (ds : List D). slice_get ds r.part) disks ∙ slice_get-map (λ (part : Part D). disk_of part) ps r.part ∙ ap (option_map (λ (part : Part D). disk_of part)) at
+
+-- its region is as long as the arena in memory
+pub same_len : {D : Type 0} (size : D → ℕ) (v m : LogState D) (rs : List ArenaRegion) (r : ArenaRegion) → v ≡ m → IsWhole size v → 0 < queued m → rs ≡ v.layout → r ≡ region_at rs v.committing
+    → r.len ≡ v.arena.len
+same_len {D = D} size v m rs r view whole some layout r_is =
+    let within : v.committing < length v.layout = committing_there size v whole (subst (λ (x : LogState D). 0 < queued x) (sym view) some) in
+    let here : slice_get v.layout v.committing ≡ Some r =
+    slice_get-get_or v.layout v.committing (region_at [] 0) within ∙ ap (λ (x : ArenaRegion). Some x) (sym (r_is ∙ ap (λ (xs : List ArenaRegion). region_at xs v.committing) layout)) in
+    let found = slice_get_other v.heads v.layout v.committing r (sym whole.many) here in
+    sym (whole.arena r found.0 here found.1).len
+
+-- and its head is the one that the log has
+pub last_call : {D : Type 0} {size : D → ℕ} {ps : List (Part D)} {p : Part D} {v m : LogState D} {r : ArenaRegion} {region : Region} {found : Found} {head : ArenaHead} {b : ArenaState}
+    → IsThere size ps p v m r region → found ≡ get_or v.heads v.committing found → head ≡ b.head → b.len ≡ v.arena.len
+    → head.used + directory_room head.clumps ≤ arena_room b.len → IsLast v r found b
+last_call {v = v} {r = r} {found = found} {head = head} {b = b} it found_is head_is len fit =
+    let other = slice_get_other v.heads v.layout v.committing r (sym it.whole.many) it.at.arena in
+    let within : v.committing < length v.heads = slice_get_within v.heads v.committing other.0 other.1 in
+    let long : b.len ≡ r.len = len ∙ (it.whole.arena r other.0 it.at.arena other.1).len in
+    record {
+      has = slice_get_read v.heads (length v.heads) v.committing found refl within found_is;
+      fit = subst (λ (n : ℕ). b.head.used + directory_room b.head.clumps ≤ arena_room n) long
+          (subst (λ (h : ArenaHead). h.used + directory_room h.clumps ≤ arena_room b.len) head_is fit);
+    }
+
+-- where it seals, the next arena is there, and may be turned to
+pub record IsNextArena {D : Type 0} (v : LogState D) (q : ArenaRegion) (next : Found) : Type 0 where
+  pub here : slice_get v.layout (v.committing + 1) ≡ Some q
+  pub has : slice_get v.heads (v.committing + 1) ≡ Some next
+  pub len : IsArenaLen q.len
+  pub fit : next.head.used + directory_room next.head.clumps ≤ arena_room q.len
+
+pub seals_too : (a b : ArenaState) (step : Step) → Advances (Ok step) a b → step ≡ Done → b.next.sealed ≡ true → a.next.sealed ≡ true
+seals_too a b step it done seals =
+    let steps : Advances (Ok Done) a b = subst (λ (s : Step). Advances (Ok s) a b) done it in
+    sym (ap (λ (x : ArenaState). x.next.sealed) steps) ∙ seals
+
+pub next_arena_there : {D : Type 0} (size : D → ℕ) (v : LogState D) (rs : List ArenaRegion) (q : ArenaRegion) (x next : Found) → IsWhole size v → v.arena.next.sealed ≡ true
+    → rs ≡ v.layout → q ≡ region_at rs (v.committing + 1) → next ≡ get_or (set v.heads v.committing x) (v.committing + 1) next → IsNextArena v q next
+next_arena_there {D = D} size v rs q x next whole seals layout q_is next_is = record {
+  here = here;
+  has = has;
+  len = (at_slice (IsOnDisk size v.disks) v.layout (v.committing + 1) q whole.regions here).len;
+  fit = (whole.heads (v.committing + 1) q next here has).fit;
+}
+  where
+    below : v.committing + 1 < length v.layout
+    below = next_there size v whole seals
+
+    here : slice_get v.layout (v.committing + 1) ≡ Some q
+    here = slice_get-get_or v.layout (v.committing + 1) (region_at [] 0) below ∙ ap (λ (r : ArenaRegion). Some r) (sym (q_is ∙ ap (λ (xs : List ArenaRegion). region_at xs (v.committing + 1)) layout))
+
+    inside : v.committing + 1 < length (set v.heads v.committing x)
+    inside = omega (arith, below, whole.many, length-set v.heads v.committing x)
+
+    has : slice_get v.heads (v.committing + 1) ≡ Some next
+    has = sym (slice_get_set_other v.heads v.committing (v.committing + 1) x (λ same. omega (arith, same)))
+        ∙ slice_get_read (set v.heads v.committing x) (length (set v.heads v.committing x)) (v.committing + 1) next refl inside next_is
+
+-- and what is known once its call was made
+pub record IsCalledIn {D : Type 0} (score_of : List ℕ → List ℕ) (bytes : D → List ℕ) (images : D → List ℕ → Type 0) (size calls_of faults_of : D → ℕ) (tells : Bool)
+    (ps : List (Part D)) (p : Part D) (v m : LogState D) (r : ArenaRegion) (e : D) (b : ArenaState) (step : Result Step TwinErr) : Type 0 where
+  pub region : Region
+  pub made : IsAdvanced score_of bytes images size calls_of faults_of tells v.arena region (disk_of p) e b step
+  pub there : IsThere size ps p v m r region
+
+called_in : {D : Type 0} (score_of : List ℕ → List ℕ) (bytes : D → List ℕ) (images : D → List ℕ → Type 0) (size calls_of faults_of : D → ℕ) (tells : Bool)
+    (ps : List (Part D)) (p : Part D) (v m : LogState D) (r : ArenaRegion) (e : D) (b : ArenaState) (step : Result Step TwinErr)
+    → (it : IsCalledIn score_of bytes images size calls_of faults_of tells ps p v m r e b step) → IsCalled score_of bytes images size calls_of faults_of tells v r it.region (disk_of p) e b step
+called_in score_of bytes images size calls_of faults_of tells ps p v m r e b step it =
+    record { whole = it.there.whole; runs = it.there.runs; ready = it.there.ready; at = it.there.at; made = it.made }
+
+pub more_in_parts : {D : Type 0} {score_of : List ℕ → List ℕ} {bytes : D → List ℕ} {images : D → List ℕ → Type 0} {size calls_of faults_of : D → ℕ} {tells : Bool}
+    {ps : List (Part D)} {p : Part D} {v m : LogState D} {r : ArenaRegion} {e : D} {b : ArenaState} {step : Step} {calls : ℕ}
+    → IsCalledIn score_of bytes images size calls_of faults_of tells ps p v m r e b (Ok step) → step ≡ More → calls ≡ one_more v.calls
+    → IsMade score_of bytes images size calls_of faults_of tells m (with_disk ps r.part p e (record v { arena = b; calls = calls })) (Ok StepMade)
+more_in_parts {D = D} {score_of = score_of} {bytes = bytes} {images = images} {size = size} {calls_of = calls_of} {faults_of = faults_of} {tells = tells}
+    {ps = ps} {p = p} {v = v} {m = m} {r = r} {e = e} {b = b} {step = step} {calls = calls} it more is =
+    subst (λ (x : LogState D). IsMade score_of bytes images size calls_of faults_of tells x (with_disk ps r.part p e (record v { arena = b; calls = calls })) (Ok StepMade)) made.there.view
+    (subst (λ (x : LogState D). IsMade score_of bytes images size calls_of faults_of tells v x (Ok StepMade)) (sym state)
+    (more_made score_of bytes images size calls_of faults_of tells v r made.region (disk_of p) e b (called_in score_of bytes images size calls_of faults_of tells ps p v m r e b (Ok More) made)))
+  where
+    made : IsCalledIn score_of bytes images size calls_of faults_of tells ps p v m r e b (Ok More)
+    made = subst (λ (s : Step). IsCalledIn score_of bytes images size calls_of faults_of tells ps p v m r e b (Ok s)) more it
+
+    are : AreParts ps r.part p v
+    are = made.there.parts
+
+    state : with_disk ps r.part p e (record v { arena = b; calls = calls }) ≡ called v r.part e b (one_more v.calls) v.stopped
+    state =
+        let same : record v { disks = set v.disks r.part e; arena = b; calls = calls } ≡ called v r.part e b (one_more v.calls) v.stopped =
+        λ j. record v { disks = set v.disks r.part e; arena = b; calls = is j } in
+        parts_state ps r.part p e (record v { arena = b; calls = calls }) are.disks are.tables are.at ∙ same
+
+pub fault_in_parts : {D : Type 0} {score_of : List ℕ → List ℕ} {bytes : D → List ℕ} {images : D → List ℕ → Type 0} {size calls_of faults_of : D → ℕ} {tells : Bool}
+    {ps : List (Part D)} {p : Part D} {v m : LogState D} {r : ArenaRegion} {e : D} {b : ArenaState} {err : TwinErr} {calls : ℕ}
+    → IsCalledIn score_of bytes images size calls_of faults_of tells ps p v m r e b (Err err) → calls ≡ one_more v.calls
+    → IsMade score_of bytes images size calls_of faults_of tells m (with_disk ps r.part p e (record v { arena = b; calls = calls; stopped = Some v.calls })) (Err Fault)
+fault_in_parts {D = D} {score_of = score_of} {bytes = bytes} {images = images} {size = size} {calls_of = calls_of} {faults_of = faults_of} {tells = tells}
+    {ps = ps} {p = p} {v = v} {m = m} {r = r} {e = e} {b = b} {err = err} {calls = calls} made is =
+    subst (λ (x : LogState D). IsMade score_of bytes images size calls_of faults_of tells x (with_disk ps r.part p e (record v { arena = b; calls = calls; stopped = Some v.calls })) (Err Fault)) made.there.view
+    (subst (λ (x : LogState D). IsMade score_of bytes images size calls_of faults_of tells v x (Err Fault)) (sym state)
+    (fault_made score_of bytes images size calls_of faults_of tells v r made.region (disk_of p) e b err (called_in score_of bytes images size calls_of faults_of tells ps p v m r e b (Err err) made)))
+  where
+    are : AreParts ps r.part p v
+    are = made.there.parts
+
+    state : with_disk ps r.part p e (record v { arena = b; calls = calls; stopped = Some v.calls }) ≡ called v r.part e b (one_more v.calls) (Some v.calls)
+    state =
+        let same : record v { disks = set v.disks r.part e; arena = b; calls = calls; stopped = Some v.calls } ≡ called v r.part e b (one_more v.calls) (Some v.calls) =
+        λ j. record v { disks = set v.disks r.part e; arena = b; calls = is j; stopped = Some v.calls } in
+        parts_state ps r.part p e (record v { arena = b; calls = calls; stopped = Some v.calls }) are.disks are.tables are.at ∙ same
+
+-- how the blocks of a commit leave the log's memory
+pub record Settles {D : Type 0} (v : LogState D) (found : Found) (b : ArenaState) (heads : List Found) (queue : QueueState) (durable calls : ℕ) : Type 0 where
+  pub heads_are : heads ≡ set v.heads v.committing (record found { head = b.head })
+  pub waiting : queue.waiting ≡ v.queue.waiting
+  pub places : queue.places ≡ drop (length v.arena.staged) v.queue.places
+  pub durable_is : durable ≡ v.durable + length v.arena.staged
+  pub calls_is : calls ≡ one_more v.calls
+
+pub ended_in_parts : {D : Type 0} {score_of : List ℕ → List ℕ} {bytes : D → List ℕ} {images : D → List ℕ → Type 0} {size calls_of faults_of : D → ℕ} {tells : Bool}
+    {ps : List (Part D)} {p : Part D} {v m : LogState D} {r : ArenaRegion} {found : Found} {e : D} {b : ArenaState} {step : Step} {heads : List Found} {queue : QueueState} {durable calls : ℕ}
+    → IsCalledIn score_of bytes images size calls_of faults_of tells ps p v m r e b (Ok step) → step ≡ Done → IsLast v r found b → Settles v found b heads queue durable calls → b.next.sealed ≡ false
+    → IsMade score_of bytes images size calls_of faults_of tells m (with_disk ps r.part p e (record v { heads = heads; arena = b; queue = queue; durable = durable; calls = calls })) (Ok (Durable durable))
+ended_in_parts {D = D} {score_of = score_of} {bytes = bytes} {images = images} {size = size} {calls_of = calls_of} {faults_of = faults_of} {tells = tells}
+    {ps = ps} {p = p} {v = v} {m = m} {r = r} {found = found} {e = e} {b = b} {step = step} {heads = heads} {queue = queue} {durable = durable} {calls = calls} it done last settles no_seal =
+    subst (λ (x : LogState D). IsMade score_of bytes images size calls_of faults_of tells x k (Ok (Durable durable))) made.there.view
+    (subst (λ (x : LogState D). IsMade score_of bytes images size calls_of faults_of tells v x (Ok (Durable durable))) (sym state)
+    (subst (λ (n : ℕ). IsMade score_of bytes images size calls_of faults_of tells v (ended v r.part e found b (one_more v.calls)) (Ok (Durable n))) (sym settles.durable_is)
+    (ended_made score_of bytes images size calls_of faults_of tells v r found made.region (disk_of p) e b (called_in score_of bytes images size calls_of faults_of tells ps p v m r e b (Ok Done) made) last no_seal)))
+  where
+    made : IsCalledIn score_of bytes images size calls_of faults_of tells ps p v m r e b (Ok Done)
+    made = subst (λ (s : Step). IsCalledIn score_of bytes images size calls_of faults_of tells ps p v m r e b (Ok s)) done it
+
+    are : AreParts ps r.part p v
+    are = made.there.parts
+
+    k : LogState D
+    k = with_disk ps r.part p e (record v { heads = heads; arena = b; queue = queue; durable = durable; calls = calls })
+
+    state : with_disk ps r.part p e (record v { heads = heads; arena = b; queue = queue; durable = durable; calls = calls }) ≡ ended v r.part e found b (one_more v.calls)
+    state =
+        let same : record v { disks = set v.disks r.part e; heads = heads; arena = b; queue = queue; durable = durable; calls = calls } ≡ ended v r.part e found b (one_more v.calls) =
+        λ j. record v {
+          disks = set v.disks r.part e;
+          heads = settles.heads_are j;
+          arena = b;
+          queue = record { waiting = settles.waiting j; places = settles.places j };
+          durable = settles.durable_is j;
+          calls = settles.calls_is j;
+        } in
+        parts_state ps r.part p e (record v { heads = heads; arena = b; queue = queue; durable = durable; calls = calls }) are.disks are.tables are.at ∙ same
+
+pub turned_in_parts : {D : Type 0} {score_of : List ℕ → List ℕ} {bytes : D → List ℕ} {images : D → List ℕ → Type 0} {size calls_of faults_of : D → ℕ} {tells : Bool}
+    {ps : List (Part D)} {p : Part D} {v m : LogState D} {r q : ArenaRegion} {found next : Found} {e : D} {b turn : ArenaState} {step : Step} {heads : List Found} {queue : QueueState} {durable calls : ℕ}
+    → ((disk : D) → IsTrue tells → images disk (bytes disk)) → IsCalledIn score_of bytes images size calls_of faults_of tells ps p v m r e b (Ok step) → step ≡ Done → IsLast v r found b
+    → Settles v found b heads queue durable calls → b.next.sealed ≡ true → IsNextArena v q next → turn ≡ fresh_arena q.len (next.selector % 2) next.head
+    → IsMade score_of bytes images size calls_of faults_of tells m
+    (with_disk ps r.part p e (record v { heads = heads; committing = v.committing + 1; arena = turn; queue = queue; durable = durable; calls = calls })) (Ok (Durable durable))
+turned_in_parts {D = D} {score_of = score_of} {bytes = bytes} {images = images} {size = size} {calls_of = calls_of} {faults_of = faults_of} {tells = tells}
+    {ps = ps} {p = p} {v = v} {m = m} {r = r} {q = q} {found = found} {next = next} {e = e} {b = b} {turn = turn} {step = step} {heads = heads} {queue = queue} {durable = durable} {calls = calls}
+    read it done last settles seals is_next turn_is =
+    subst (λ (x : LogState D). IsMade score_of bytes images size calls_of faults_of tells x k (Ok (Durable durable))) made.there.view
+    (subst (λ (x : LogState D). IsMade score_of bytes images size calls_of faults_of tells v x (Ok (Durable durable))) (sym state)
+    (subst (λ (n : ℕ). IsMade score_of bytes images size calls_of faults_of tells v (turned v r.part e found b (one_more v.calls) q.len next) (Ok (Durable n))) (sym settles.durable_is)
+    (turned_made score_of bytes images size calls_of faults_of tells v r q found next made.region (disk_of p) e b q.len read (called_in score_of bytes images size calls_of faults_of tells ps p v m r e b (Ok Done) made) last seals is_next.here is_next.has refl)))
+  where
+    made : IsCalledIn score_of bytes images size calls_of faults_of tells ps p v m r e b (Ok Done)
+    made = subst (λ (s : Step). IsCalledIn score_of bytes images size calls_of faults_of tells ps p v m r e b (Ok s)) done it
+
+    are : AreParts ps r.part p v
+    are = made.there.parts
+
+    k : LogState D
+    k = with_disk ps r.part p e (record v { heads = heads; committing = v.committing + 1; arena = turn; queue = queue; durable = durable; calls = calls })
+
+    state : with_disk ps r.part p e (record v { heads = heads; committing = v.committing + 1; arena = turn; queue = queue; durable = durable; calls = calls }) ≡ turned v r.part e found b (one_more v.calls) q.len next
+    state =
+        let same : record v { disks = set v.disks r.part e; heads = heads; committing = v.committing + 1; arena = turn; queue = queue; durable = durable; calls = calls }
+        ≡ turned v r.part e found b (one_more v.calls) q.len next =
+        λ j. record v {
+          disks = set v.disks r.part e;
+          heads = settles.heads_are j;
+          committing = v.committing + 1;
+          arena = turn_is j;
+          queue = record { waiting = settles.waiting j; places = settles.places j };
+          durable = settles.durable_is j;
+          calls = settles.calls_is j;
+        } in
+        parts_state ps r.part p e (record v { heads = heads; committing = v.committing + 1; arena = turn; queue = queue; durable = durable; calls = calls }) are.disks are.tables are.at ∙ same

@@ -1,0 +1,86 @@
+-- What a log in memory keeps says of its numbers.
+use Rattle.std.proofs.Common.{◌≡◌, ℕ, zero, suc, ◌+◌, ◌-◌, ◌^◌, ◌<◌, ◌≤◌, List, [], ◌∷◌, ◌++◌, length, get_or, take, drop, refl, ◌∙◌, ap, subst, arith, Some, set}
+use Rattle.std.specs.Prelude.{All, slice_get}
+use Rattle.std.proofs.lemmas.Option.{slice_get_within, slice_get-get_or, get_or_from_slice_get}
+use Rattle.std.proofs.lemmas.List.Elements.{All-get_or}
+use Rattle.std.proofs.lemmas.List.{get_or-drop, get_or-take, length-take, length-drop}
+use Rattle.std.proofs.lemmas.List.Sums.{sum_by-le}
+use Rattle.vt_arena.specs.declared.head.Found.{Found}
+use Rattle.vt_log.specs.Log.{LogState}
+use Rattle.vt_log.specs.Whole.{IsOnDisk, IsWhole}
+
+-- lists of one length have elements at the same places
+pub slice_get_other : {X Y : Type 0} (xs : List X) (ys : List Y) (i : ℕ) (y : Y) → length ys ≡ length xs → slice_get ys i ≡ Some y → (x : X) × (slice_get xs i ≡ Some x)
+slice_get_other [] (y ∷ ys) i z many at = absurd (cc)
+slice_get_other [] [] i z many at = absurd (cc)
+slice_get_other (x ∷ xs) [] i z many at = absurd (cc)
+slice_get_other (x ∷ xs) (y ∷ ys) zero z many at = (x, refl)
+slice_get_other (x ∷ xs) (y ∷ ys) (suc i) z many at = slice_get_other xs ys i z (omega (arith, many)) at
+
+-- what holds of each element
+pub at_slice : {X : Type 0} (P : X → Type 0) (xs : List X) (i : ℕ) (x : X) → All P xs → slice_get xs i ≡ Some x → P x
+at_slice P xs i x all at =
+    subst P (get_or_from_slice_get xs i x x at) (All-get_or P xs i x (slice_get_within xs i x at) all)
+
+-- an arena's head has few clumps, and few bytes of them
+pub head_small : {D : Type 0} (size : D → ℕ) (l : LogState D) (i : ℕ) (found : Found) → IsWhole size l → slice_get l.heads i ≡ Some found
+    → (found.head.clumps ≤ 42949672) × (found.head.used ≤ 2 ^ 30)
+head_small size l i found whole at =
+    let r = slice_get_other l.layout l.heads i found whole.many at in
+    let on = at_slice (IsOnDisk size l.disks) l.layout i r.0 whole.regions r.1 in
+    let fit = (whole.heads i r.0 found r.1 at).fit in
+    (omega (arith, fit, on.len.1), omega (arith, fit, on.len.1))
+
+-- so that all of them have few
+pub durable_small : {D : Type 0} (size : D → ℕ) (l : LogState D) → IsWhole size l → l.durable ≤ 184467440000000000
+durable_small size l whole =
+    let most = sum_by-le (λ (found : Found). found.head.clumps) 42949672 l.heads
+    (λ i d below. (head_small size l i _ whole (slice_get-get_or l.heads i d below)).0) in
+    let e = whole.durable in
+    let few = whole.few in
+    let many = whole.many in
+    omega (arith, most, e, few, many)
+
+-- what holds of each element behind the first ones
+pub at_drop : {X : Type 0} (P : X → Type 0) (n : ℕ) (xs : List X) (i : ℕ) (x : X) → All P (drop n xs) → n ≤ i → slice_get xs i ≡ Some x → P x
+at_drop P n xs i x all behind at =
+    let below = slice_get_within xs i x at in
+    subst P (get_or-drop n xs (i - n) x ∙ ap (λ (k : ℕ). get_or xs k x) (omega (arith, behind)) ∙ get_or_from_slice_get xs i x x at)
+    (All-get_or P (drop n xs) (i - n) x (omega (arith, below, behind, length-drop n xs)) all)
+
+-- and among the first ones
+pub at_take : {X : Type 0} (P : X → Type 0) (n : ℕ) (xs : List X) (i : ℕ) (x : X) → All P (take n xs) → i < n → slice_get xs i ≡ Some x → P x
+at_take P n xs i x all before at =
+    let below = slice_get_within xs i x at in
+    subst P (get_or-take n xs i x before ∙ get_or_from_slice_get xs i x x at)
+    (All-get_or P (take n xs) i x (omega (arith, below, before, length-take n xs)) all)
+
+-- the elements of two lists, one behind the other
+pub slice_get_left : {X : Type 0} (xs ys : List X) (i : ℕ) → i < length xs → slice_get (xs ++ ys) i ≡ slice_get xs i
+slice_get_left [] ys i below = absurd (omega (arith, below))
+slice_get_left (x ∷ xs) ys zero below = refl
+slice_get_left (x ∷ xs) ys (suc i) below = slice_get_left xs ys i (omega (arith, below))
+
+pub slice_get_right : {X : Type 0} (xs ys : List X) (i : ℕ) → slice_get (xs ++ ys) (length xs + i) ≡ slice_get ys i
+slice_get_right [] ys i = ap (slice_get ys) (omega arith)
+slice_get_right (x ∷ xs) ys i =
+    let e : suc (length xs) + i ≡ suc (length xs + i) = omega arith in
+    ap (slice_get (x ∷ xs ++ ys)) e ∙ slice_get_right xs ys i
+
+-- a list with another element at one place
+pub slice_get_set_same : {X : Type 0} (xs : List X) (i : ℕ) (y : X) → i < length xs → slice_get (set xs i y) i ≡ Some y
+slice_get_set_same [] i y below = absurd (omega (arith, below))
+slice_get_set_same (x ∷ xs) zero y below = refl
+slice_get_set_same (x ∷ xs) (suc i) y below = slice_get_set_same xs i y (omega (arith, below))
+
+pub slice_get_set_other : {X : Type 0} (xs : List X) (i j : ℕ) (y : X) → (j ≡ i → ⊥) → slice_get (set xs i y) j ≡ slice_get xs j
+slice_get_set_other [] i j y other = refl
+slice_get_set_other (x ∷ xs) zero zero y other = absurd (other refl)
+slice_get_set_other (x ∷ xs) zero (suc j) y other = refl
+slice_get_set_other (x ∷ xs) (suc i) zero y other = refl
+slice_get_set_other (x ∷ xs) (suc i) (suc j) y other = slice_get_set_other xs i j y (λ same. other (ap (λ (k : ℕ). suc k) same))
+
+pub slice_get_drop : {X : Type 0} (n i : ℕ) (xs : List X) → slice_get (drop n xs) i ≡ slice_get xs (n + i)
+slice_get_drop zero i xs = ap (slice_get xs) (let e : i ≡ 0 + i = omega arith in e)
+slice_get_drop (suc n) i [] = refl
+slice_get_drop (suc n) i (x ∷ xs) = slice_get_drop n i xs ∙ ap (slice_get (x ∷ xs)) (let e : suc (n + i) ≡ suc n + i = omega arith in e)

@@ -1,0 +1,601 @@
+-- A log that was found.
+use Rattle.std.proofs.Common.{◌≡◌, ◌≢◌, ◌⊎◌, ⊎_elim, inl, inr, ℕ, zero, suc, ◌+◌, ◌^◌, ◌<◌, ◌≤◌, ◌==◌, ◌||◌, Bool, true, false, cond, List, [], ◌∷◌, ◌++◌, length, get_or, map, take, drop, refl, sym, ◌∙◌, ap, subst, arith, append-nil, length-append, Some, None, Option, option_map, IsTrue}
+use Rattle.std.specs.Prelude.{All, AllPairs, MatchBool, slice_get, sum_by, filter}
+use Rattle.std.proofs.lemmas.Bool.Decides.{nat_tests, eqb_tells}
+use Rattle.std.proofs.lemmas.List.{length-map, take_all, drop_all}
+use Rattle.std.proofs.lemmas.List.Elements.{All-weaker, All-nil, All-cons, All-head, All-tail, All-append, All-map}
+use Rattle.std.proofs.lemmas.List.Sums.{sum_by-cons}
+use Rattle.std.proofs.lemmas.Option.{slice_get-map, slice_get_cases, same_Some}
+use Rattle.vt_disk.specs.declared.region.Region.{Region}
+use Rattle.vt_disk.specs.Disk.{Only, IsAligned}
+use Rattle.vt_disk.specs.Region.{region_bytes}
+use Rattle.vt_clump.specs.Clumps.{stored_of}
+use Rattle.vt_clump.specs.Spelling.{Stored}
+use Rattle.vt_model.specs.History.{Accepted, History}
+use Rattle.vt_model.specs.Places.{lengths_in}
+use Rattle.vt_model.proofs.Prefixes.{lengths_in-append}
+use Rattle.vt_part.specs.declared.bad.PartBad.TheVariants.{Fault as PartFault, TooSmall, NotFormatted as PartNotFormatted, Torn as PartTorn, DuplicateName, NoMemory as PartNoMemory}
+use Rattle.vt_part.specs.declared.layout.ArenaRegion.{ArenaRegion}
+use Rattle.vt_part.specs.declared.part.Part.{Part}
+use Rattle.vt_part.specs.Laws.{IsArena as IsArenaOfTable, IsBefore}
+use Rattle.vt_part.specs.Layout.{AreDistinct, layout_of}
+use Rattle.vt_part.specs.Parts.{disk_of, table_of, tables_of}
+use Rattle.vt_part.specs.Table.{Table, IsTable, start_of, end_of, is_arena_size}
+use Rattle.vt_part.proofs.Layouts.{arenas_are_aligned, arenas_follow, layouts_have_arenas, layouts_have_lengths, layouts_are_in_order}
+use Rattle.vt_arena.specs.declared.bad.ArenaBad.{ArenaBad}
+use Rattle.vt_arena.specs.declared.bad.ArenaBad.TheVariants.{Torn}
+use Rattle.vt_arena.specs.declared.bad.Field.TheVariants.{Sealed}
+use Rattle.vt_arena.specs.declared.head.ArenaHead.{ArenaHead}
+use Rattle.vt_arena.specs.declared.head.Found.{Found}
+use Rattle.vt_arena.specs.Arena.{ArenaState, fresh_arena}
+use Rattle.vt_arena.specs.Faults.{first_bad as first_bad_in, CanStand}
+use Rattle.vt_arena.specs.Heads.{fields_of, flag_of, sealed_in, clumps_in}
+use Rattle.vt_arena.specs.Layout.{Content, IsContent, IsArena, head_of}
+use Rattle.vt_arena.specs.Places.{IsArenaLen, block_room, lengths_of}
+use Rattle.vt_arena.specs.Sound.{IsSettled, IsSound as IsSoundArena}
+use Rattle.vt_arena.proofs.Finding.{arena_passes}
+use Rattle.vt_arena.proofs.Fresh.{fresh_sound}
+use Rattle.vt_arena.proofs.Unique.{read_clumps}
+use Rattle.vt_log.specs.declared.bad.LogBad.{LogBad}
+use Rattle.vt_log.specs.declared.bad.LogBad.TheVariants.{Part as PartRefused, Arena, Order, Fault, NoMemory}
+use Rattle.vt_log.specs.Answers.{HoldTheSame}
+use Rattle.vt_log.specs.Faults.{AreFields, RefusesMount, IsMountedBy, bad_arena, first_of_two, first_bad}
+use Rattle.vt_log.specs.Log.{LogState, IsMounted, disks_of, filled_as, found_filling}
+use Rattle.vt_log.specs.Logs.{accepted, blocks_from, IsSealed, IsUntouched, InOrder, IsRegionOf, IsLog, arena_count}
+use Rattle.vt_log.specs.Mounting.{AreRead, AreFound, ArePassed, IsFound, IsFirstOpen, IsRoomFor, found_log}
+use Rattle.vt_log.specs.Sound.{IsAt, IsSplit, IsFilledBy, IsSound}
+use Rattle.vt_log.specs.Whole.{IsOnDisk, IsWhole}
+use Rattle.vt_log.proofs.Calls.{same_region}
+use Rattle.vt_log.proofs.Contents.{split_order, blocks_arenas, last_arena_le}
+use Rattle.vt_log.proofs.Finding.{fields_of_all, on_held}
+use Rattle.vt_log.proofs.Memory.{slice_get_other, at_slice}
+
+-- ---- the regions
+
+pub arena_len : (n : ℕ) → IsTrue (is_arena_size n) → IsArenaLen n
+arena_len n is =
+    let least : 32768 ≤ n = grind (arith, nat_tests) in
+    let most : n ≤ 1073741824 = grind (arith, nat_tests) in
+    (least, most)
+
+-- each arena lies on its partition's disk, which has room for all of them
+pub regions_on : {D : Type 0} (size : D → ℕ) → ((d : D) → size d < 2 ^ 64) → (ps : List (Part D)) → All (λ part. end_of (table_of part) ≤ size (disk_of part)) ps
+    → All (IsOnDisk size (disks_of ps)) (layout_of (tables_of ps))
+regions_on {D = D} size fits ps rooms =
+    All-weaker (IsArenaOfTable (tables_of ps)) (IsOnDisk size (disks_of ps)) here (layout_of (tables_of ps)) (layouts_have_arenas (tables_of ps))
+  where
+    here : (r : ArenaRegion) → IsArenaOfTable (tables_of ps) r → IsOnDisk size (disks_of ps) r
+    here r is =
+        let t : Table = is.0 in
+        let p = slice_get_other ps (tables_of ps) r.part t (length-map ps (λ (part : Part D). table_of part)) is.1 in
+        let table_is : table_of p.0 ≡ t = same_Some (table_of p.0) t (sym (slice_get-map (λ (part : Part D). table_of part) ps r.part ∙ ap (option_map (λ (part : Part D). table_of part)) p.1) ∙ is.1) in
+        let allowed : IsTable t = subst IsTable table_is p.0.head.allowed in
+        let at : r.at ≡ start_of t r.number = ap (λ (x : ArenaRegion). x.at) is.3 in
+        let len : r.len ≡ t.arena_size = ap (λ (x : ArenaRegion). x.len) is.3 in
+        let inside : start_of t r.number + t.arena_size ≤ end_of t = arenas_follow t r.number t.count is.2 in
+        let room : end_of t ≤ size (disk_of p.0) = subst (λ (u : Table). end_of u ≤ size (disk_of p.0)) table_is (at_slice (λ (part : Part D). end_of (table_of part) ≤ size (disk_of part)) ps r.part p.0 rooms p.1) in
+        let within : r.at + r.len ≤ size (disk_of p.0) = omega (arith, at, len, inside, room) in
+        record {
+          disk = disk_of p.0;
+          has = slice_get-map (λ (part : Part D). disk_of part) ps r.part ∙ ap (option_map (λ (part : Part D). disk_of part)) p.1;
+          within = within;
+          small = omega (arith, within, fits (disk_of p.0));
+          aligned = subst IsAligned (sym at) (arenas_are_aligned t r.number allowed).0;
+          len = subst IsArenaLen (sym len) (arena_len t.arena_size allowed.arena_size);
+        }
+
+-- an arena's number is small
+pub numbers_small : {D : Type 0} (ps : List (Part D)) → All (λ r. r.number < 2 ^ 32) (layout_of (tables_of ps))
+numbers_small {D = D} ps =
+    All-weaker (IsArenaOfTable (tables_of ps)) (λ (r : ArenaRegion). r.number < 2 ^ 32) here (layout_of (tables_of ps)) (layouts_have_arenas (tables_of ps))
+  where
+    here : (r : ArenaRegion) → IsArenaOfTable (tables_of ps) r → r.number < 2 ^ 32
+    here r is =
+        let t : Table = is.0 in
+        let p = slice_get_other ps (tables_of ps) r.part t (length-map ps (λ (part : Part D). table_of part)) is.1 in
+        let table_is : table_of p.0 ≡ t = same_Some (table_of p.0) t (sym (slice_get-map (λ (part : Part D). table_of part) ps r.part ∙ ap (option_map (λ (part : Part D). table_of part)) p.1) ∙ is.1) in
+        let allowed : IsTable t = subst IsTable table_is p.0.head.allowed in
+        omega (arith, is.2, allowed.count)
+
+-- ---- in memory
+
+two_none : (a b : Option LogBad) → first_of_two a b ≡ None → (a ≡ None) × (b ≡ None)
+two_none None b is = (refl, is)
+two_none (Some bad) b is = absurd (cc)
+
+order_none : (arena clumps : ℕ) (none unsealed : Bool) (it : ArenaBad) → cond none (cond unsealed None (Some (Arena arena it))) (Some (Order arena clumps)) ≡ None → unsealed ≡ true
+order_none arena clumps true true it is = refl
+order_none arena clumps true false it is = absurd (cc)
+order_none arena clumps false unsealed it is = absurd (cc)
+
+flag_zero : (b : Bool) → (flag_of b == 0) ≡ true → b ≡ false
+flag_zero true is = cc
+flag_zero false is = refl
+
+zero_flag : (b : Bool) → b ≡ false → (flag_of b == 0) ≡ true
+zero_flag true is = cc
+zero_flag false is = refl
+
+behind_none : (i : ℕ) (o : Option ArenaBad) (h : ArenaHead) → bad_arena true i o (fields_of h) ≡ None → h.sealed ≡ false
+behind_none i (Some bad) h is = absurd (cc)
+behind_none i None h is = flag_zero h.sealed (order_none i (clumps_in (fields_of h)) (clumps_in (fields_of h) == 0) (sealed_in (fields_of h) == 0) _ is)
+
+-- behind an unsealed arena none is sealed
+open_behind : (behind : Bool) (i : ℕ) (layout : List ArenaRegion) (heads : List Found) → behind ≡ true → length heads ≡ length layout → first_bad behind i layout (fields_of_all heads) ≡ None
+    → (k : ℕ) (found : Found) → slice_get heads k ≡ Some found → found.head.sealed ≡ false
+open_behind behind i layout [] is many none k found at = absurd (cc)
+open_behind behind i [] (h ∷ hs) is many none k found at = absurd (omega (arith, many))
+open_behind behind i (r ∷ rs) (h ∷ hs) is many none zero found at =
+    let both = two_none (bad_arena behind i (first_bad_in r.number r.len (fields_of h.head)) (fields_of h.head)) _ none in
+    let same : h ≡ found = same_Some h found at in
+    subst (λ (x : Found). x.head.sealed ≡ false) same
+    (behind_none i (first_bad_in r.number r.len (fields_of h.head)) h.head (subst (λ (b : Bool). bad_arena b i (first_bad_in r.number r.len (fields_of h.head)) (fields_of h.head) ≡ None) is both.0))
+open_behind behind i (r ∷ rs) (h ∷ hs) is many none (suc k) found at =
+    let both = two_none (bad_arena behind i (first_bad_in r.number r.len (fields_of h.head)) (fields_of h.head)) _ none in
+    open_behind (behind || sealed_in (fields_of h.head) == 0) (i + 1) rs hs (ap (λ (b : Bool). b || sealed_in (fields_of h.head) == 0) is) (omega (arith, many)) both.1 k found at
+
+first_rest : (h : Found) (hs : List Found) (base : ℕ) → IsFirstOpen (h ∷ hs) (suc base) → IsFirstOpen hs base
+first_rest h hs base first = record {
+  before = All-tail (λ (found : Found). found.head.sealed ≡ true) h (take base hs) first.before;
+  at = λ found at. first.at found at;
+  most = omega (arith, first.most);
+}
+
+or_true : (a b : Bool) → b ≡ true → (a || b) ≡ true
+or_true true b is = refl
+or_true false b is = is
+
+-- from the first unsealed arena on none is sealed
+unsealed_from : (behind : Bool) (i : ℕ) (layout : List ArenaRegion) (heads : List Found) (base : ℕ) → length heads ≡ length layout → first_bad behind i layout (fields_of_all heads) ≡ None → IsFirstOpen heads base
+    → (k : ℕ) (found : Found) → base ≤ k → slice_get heads k ≡ Some found → found.head.sealed ≡ false
+unsealed_from behind i layout [] base many none first k found least at = absurd (cc)
+unsealed_from behind i [] (h ∷ hs) base many none first k found least at = absurd (omega (arith, many))
+unsealed_from behind i (r ∷ rs) (h ∷ hs) zero many none first zero found least at = first.at found at
+unsealed_from behind i (r ∷ rs) (h ∷ hs) zero many none first (suc k) found least at =
+    let both = two_none (bad_arena behind i (first_bad_in r.number r.len (fields_of h.head)) (fields_of h.head)) _ none in
+    open_behind (behind || sealed_in (fields_of h.head) == 0) (i + 1) rs hs (or_true behind (sealed_in (fields_of h.head) == 0) (zero_flag h.head.sealed (first.at h refl))) (omega (arith, many)) both.1 k found at
+unsealed_from behind i (r ∷ rs) (h ∷ hs) (suc base) many none first zero found least at = absurd (omega (arith, least))
+unsealed_from behind i (r ∷ rs) (h ∷ hs) (suc base) many none first (suc k) found least at =
+    let both = two_none (bad_arena behind i (first_bad_in r.number r.len (fields_of h.head)) (fields_of h.head)) _ none in
+    unsealed_from (behind || sealed_in (fields_of h.head) == 0) (i + 1) rs hs base (omega (arith, many)) both.1 (first_rest h hs base first) k found (omega (arith, least)) at
+
+-- what is known of a log that was found
+pub record IsFoundLog {D : Type 0} (tells : Bool) (bytes : D → List ℕ) (size : D → ℕ) (disks : List D) (tables : List Table) (layout : List ArenaRegion) (files : List (List ℕ)) (fields : List (List ℕ))
+    (heads : List Found) (base : ℕ) (arena : ArenaState) : Type 0 where
+  pub many_disks : length disks ≡ length tables
+  pub layout_is : layout ≡ layout_of tables
+  pub regions : All (IsOnDisk size disks) layout
+  pub few : length layout < 2 ^ 32
+  pub files_are : map bytes disks ≡ files
+  pub found : AreFound tells layout files heads
+  pub passed : ArePassed layout fields heads
+  pub first : IsFirstOpen heads base
+  pub room : IsRoomFor layout heads base arena
+
+module _ {D : Type 0} (tells : Bool) (bytes : D → List ℕ) (size : D → ℕ) (disks : List D) (tables : List Table) (layout : List ArenaRegion) (files : List (List ℕ)) (fields : List (List ℕ))
+    (heads : List Found) (base : ℕ) (arena : ArenaState) (is : IsFoundLog tells bytes size disks tables layout files fields heads base arena) where
+  file_of : (r : ArenaRegion) → IsOnDisk size disks r → (file : List ℕ) × (slice_get files r.part ≡ Some file)
+  file_of r on = (bytes on.disk, ap (λ (fs : List (List ℕ)). slice_get fs r.part) (sym is.files_are) ∙ slice_get-map bytes disks r.part ∙ ap (option_map bytes) on.has)
+
+  it_stands : (i : ℕ) (r : ArenaRegion) (found : Found) → slice_get layout i ≡ Some r → slice_get heads i ≡ Some found → CanStand r.number r.len found.head
+  it_stands i r found at at_found =
+      let file = file_of r (at_slice (IsOnDisk size disks) layout i r is.regions at) in
+      (is.found.each i r file.0 found at file.1 at_found).stands
+
+  -- the arena in memory has an unsealed head
+  room_open : is.room.head.sealed ≡ false
+  room_open = ⊎_elim
+      (λ (it : (x : Found) × (base < length heads) × (slice_get heads base ≡ Some x) × (get_or heads base x ≡ x)).
+      let r = slice_get_other layout heads base it.0 is.found.many it.2 in
+      ap (λ (h : ArenaHead). h.sealed) (is.room.there r.0 it.0 r.1 it.2).2 ∙ is.first.at it.0 it.2)
+      (λ (past : (length heads ≤ base) × (slice_get heads base ≡ None)). (is.room.past (omega (arith, past.0, is.found.many))).0)
+      (slice_get_cases heads base).1
+
+  pub found_whole : IsWhole size (found_log disks tables layout heads base arena)
+  found_whole = subst (λ (a : ArenaState). IsWhole size (found_log disks tables layout heads base a)) (sym is.room.fresh) (record {
+    many_disks = is.many_disks;
+    layout = is.layout_is;
+    regions = is.regions;
+    apart = subst (AllPairs IsBefore) (sym is.layout_is) (layouts_are_in_order tables);
+    few = is.few;
+    many = is.found.many;
+    heads = λ i r found at at_found.
+        let stands = it_stands i r found at at_found in
+        record { number = stands.number_is; fit = stands.fit };
+    unsealed = unsealed_from false 0 layout heads base is.found.many (ap (first_bad false 0 layout) is.passed.heads_are ∙ is.passed.passed) is.first;
+    base = omega arith;
+    committing = omega (arith, is.first.most, is.found.many);
+    arena = λ r found at at_found.
+        let it = is.room.there r found at at_found in
+        let stands = it_stands base r found at at_found in
+        record { len = it.0; number = ap (λ (h : ArenaHead). h.number) it.2 ∙ stands.number_is; head = it.2 };
+    none = λ past. (refl, room_open);
+    number = refl;
+    clumps = omega arith;
+    runs = λ _. refl;
+    some = λ committing none. absurd (cc);
+    way = λ sealed. absurd (cc (sealed, room_open));
+    queue = refl;
+    places = refl;
+    most = omega arith;
+    durable = refl;
+  })
+
+  pub mounted_by : IsMountedBy layout fields (found_log disks tables layout heads base arena)
+  mounted_by = record {
+    passed = is.passed.passed;
+    heads = is.passed.heads_are;
+    before = is.first.before;
+    base = is.first.at;
+    most = omega (arith, is.first.most, is.found.many);
+  }
+
+  pub filling_is : filled_as base arena.head ≡ found_filling heads base
+  filling_is = ap (λ (a : ArenaState). filled_as base a.head) is.room.fresh ∙ ⊎_elim
+      (λ (it : (x : Found) × (base < length heads) × (slice_get heads base ≡ Some x) × (get_or heads base x ≡ x)).
+      let r = slice_get_other layout heads base it.0 is.found.many it.2 in
+      rw it.2 (ap (filled_as base) (is.room.there r.0 it.0 r.1 it.2).2))
+      (λ (past : (length heads ≤ base) × (slice_get heads base ≡ None)).
+      let none = is.room.past (omega (arith, past.0, is.found.many)) in
+      rw past.1 (λ j. record { arena = base; used = none.1 j; clumps = none.2 j }))
+      (slice_get_cases heads base).1
+
+-- ---- what the disks hold
+
+-- each block is in one of the arenas
+blocks_within : (k : ℕ) (contents : List Content) → All (λ e. (k ≤ e.arena) × (e.arena < k + length contents)) (blocks_from k contents)
+blocks_within k [] = All-nil (λ (e : Accepted). (k ≤ e.arena) × (e.arena < k + 0))
+blocks_within k (a ∷ rest) =
+    All-append (λ (e : Accepted). (k ≤ e.arena) × (e.arena < k + length (a ∷ rest))) (map (accepted k) a.stored) (blocks_from (k + 1) rest)
+    (All-map (λ (e : Accepted). (k ≤ e.arena) × (e.arena < k + length (a ∷ rest))) (accepted k) a.stored (λ i s below. (omega arith, omega arith)))
+    (All-weaker (λ (e : Accepted). (k + 1 ≤ e.arena) × (e.arena < k + 1 + length rest)) (λ (e : Accepted). (k ≤ e.arena) × (e.arena < k + length (a ∷ rest)))
+    (λ e at. (omega (arith, at.0), omega (arith, at.1))) (blocks_from (k + 1) rest) (blocks_within (k + 1) rest))
+
+lengths_other : (a : ℕ) (h : History) → All (λ e. e.arena ≢ a) h → lengths_in a h ≡ []
+lengths_other a [] all = refl
+lengths_other a (e ∷ h) all =
+    let rest : List Accepted = filter (λ (e : Accepted). e.arena == a) h in
+    let other : (e.arena == a) ≡ false = ⊎_elim (λ (t : ((e.arena == a) ≡ true) × (e.arena ≡ a)). absurd (All-head (λ (e : Accepted). e.arena ≢ a) e h all t.1))
+    (λ (t : ((e.arena == a) ≡ false) × (e.arena ≢ a)). t.0) (eqb_tells e.arena a) in
+    ap (λ (b : Bool). map (λ (e : Accepted). length e.block.bytes) (cond b (e ∷ rest) rest)) other
+    ∙ lengths_other a h (All-tail (λ (e : Accepted). e.arena ≢ a) e h all)
+
+lengths_here : (k : ℕ) (stored : List Stored) → lengths_in k (map (accepted k) stored) ≡ lengths_of stored
+lengths_here k [] = refl
+lengths_here k (s ∷ stored) =
+    let rest : List Accepted = filter (λ (e : Accepted). e.arena == k) (map (accepted k) stored) in
+    let here : (k == k) ≡ true = ⊎_elim (λ (t : ((k == k) ≡ true) × (k ≡ k)). t.0) (λ (t : ((k == k) ≡ false) × (k ≢ k)). absurd (t.1 refl)) (eqb_tells k k) in
+    ap (λ (b : Bool). map (λ (e : Accepted). length e.block.bytes) (cond b (accepted k s ∷ rest) rest)) here
+    ∙ ap (λ (ls : List ℕ). length s.block ∷ ls) (lengths_here k stored)
+
+-- the blocks of one arena
+lengths_at : (k i : ℕ) (contents : List Content) (a : Content) → slice_get contents i ≡ Some a → lengths_in (k + i) (blocks_from k contents) ≡ lengths_of a.stored
+lengths_at k i [] a at = absurd (cc)
+lengths_at k zero (x ∷ rest) a at =
+    let same : x ≡ a = same_Some x a at in
+    ap (λ (j : ℕ). lengths_in j (map (accepted k) x.stored ++ blocks_from (k + 1) rest)) (let e : k + 0 ≡ k = omega arith in e)
+    ∙ lengths_in-append k (map (accepted k) x.stored) (blocks_from (k + 1) rest)
+    ∙ (λ j. lengths_here k x.stored j ++ lengths_other k (blocks_from (k + 1) rest)
+    (All-weaker (λ (e : Accepted). (k + 1 ≤ e.arena) × (e.arena < k + 1 + length rest)) (λ (e : Accepted). e.arena ≢ k) (λ e at is. absurd (omega (arith, at.0, is))) (blocks_from (k + 1) rest) (blocks_within (k + 1) rest)) j)
+    ∙ append-nil (lengths_of x.stored)
+    ∙ ap (λ (c : Content). lengths_of c.stored) same
+lengths_at k (suc i) (x ∷ rest) a at =
+    lengths_in-append (k + suc i) (map (accepted k) x.stored) (blocks_from (k + 1) rest)
+    ∙ (λ j. lengths_other (k + suc i) (map (accepted k) x.stored) (All-map (λ (e : Accepted). e.arena ≢ k + suc i) (accepted k) x.stored (λ n s below is. absurd (omega (arith, is)))) j
+    ++ lengths_in (k + suc i) (blocks_from (k + 1) rest))
+    ∙ ap (λ (j : ℕ). lengths_in j (blocks_from (k + 1) rest)) (let e : k + suc i ≡ k + 1 + i = omega arith in e)
+    ∙ lengths_at (k + 1) i rest a at
+
+lengths_past : (i : ℕ) (contents : List Content) → length contents ≤ i → lengths_in i (blocks_from 0 contents) ≡ []
+lengths_past i contents past =
+    lengths_other i (blocks_from 0 contents)
+    (All-weaker (λ (e : Accepted). (0 ≤ e.arena) × (e.arena < 0 + length contents)) (λ (e : Accepted). e.arena ≢ i) (λ e at is. absurd (omega (arith, at.1, is, past))) (blocks_from 0 contents) (blocks_within 0 contents))
+
+-- how many blocks there are
+blocks_count : (k : ℕ) (contents : List Content) (heads : List Found) → length heads ≡ length contents
+    → ((i : ℕ) (found : Found) (a : Content) → slice_get heads i ≡ Some found → slice_get contents i ≡ Some a → found.head.clumps ≡ length a.stored)
+    → sum_by (λ found. found.head.clumps) heads ≡ length (blocks_from k contents)
+blocks_count k [] [] many same = refl
+blocks_count k [] (h ∷ hs) many same = absurd (omega (arith, many))
+blocks_count k (a ∷ rest) [] many same = absurd (omega (arith, many))
+blocks_count k (a ∷ rest) (h ∷ hs) many same =
+    sum_by-cons (λ (found : Found). found.head.clumps) h hs
+    ∙ (λ j. (same 0 h a refl refl ∙ sym (length-map a.stored (accepted k))) j + blocks_count (k + 1) rest hs (omega (arith, many)) (λ i found b at has. same (suc i) found b at has) j)
+    ∙ sym (length-append (map (accepted k) a.stored) (blocks_from (k + 1) rest))
+
+-- the arenas before the first unsealed one
+sealed_before : (base : ℕ) (contents : List Content) (heads : List Found) → length heads ≡ length contents
+    → ((i : ℕ) (found : Found) (a : Content) → slice_get heads i ≡ Some found → slice_get contents i ≡ Some a → found.head.sealed ≡ a.sealed)
+    → All (λ found. found.head.sealed ≡ true) (take base heads) → All IsSealed (take base contents)
+sealed_before zero contents heads many same all = All-nil IsSealed
+sealed_before (suc base) [] heads many same all = All-nil IsSealed
+sealed_before (suc base) (a ∷ rest) [] many same all = absurd (omega (arith, many))
+sealed_before (suc base) (a ∷ rest) (h ∷ hs) many same all =
+    All-cons IsSealed a (take base rest) (sym (same 0 h a refl refl) ∙ All-head (λ (found : Found). found.head.sealed ≡ true) h (take base hs) all)
+    (sealed_before base rest hs (omega (arith, many)) (λ i found b at has. same (suc i) found b at has) (All-tail (λ (found : Found). found.head.sealed ≡ true) h (take base hs) all))
+
+-- and those behind it
+order_behind : (c : ℕ) (contents : List Content) → InOrder contents → All IsSealed (take c contents) → ((a : Content) → slice_get contents c ≡ Some a → a.sealed ≡ false) → All IsUntouched (drop (c + 1) contents)
+order_behind c [] order sealed unsealed = subst (All IsUntouched) (sym (drop_all (c + 1) [] (omega arith))) (All-nil IsUntouched)
+order_behind zero (a ∷ rest) order sealed unsealed = subst (λ (b : Bool). MatchBool b (InOrder rest) (All IsUntouched rest)) (unsealed a refl) order
+order_behind (suc c) (a ∷ rest) order sealed unsealed =
+    let is : a.sealed ≡ true = All-head IsSealed a (take c rest) sealed in
+    subst (All IsUntouched) (ap (λ (k : ℕ). drop k (a ∷ rest)) (let e : suc (c + 1) ≡ suc c + 1 = omega arith in e))
+    (order_behind c rest (subst (λ (b : Bool). MatchBool b (InOrder rest) (All IsUntouched rest)) is order) (All-tail IsSealed a (take c rest) sealed) (λ b at. unsealed b at))
+
+-- the log that is there is found
+pub record IsFoundSound {D : Type 0} (score_of : List ℕ → List ℕ) (bytes : D → List ℕ) (images : D → List ℕ → Type 0) (size : D → ℕ) (l : LogState D) (h : History) (base : ℕ) : Type 0 where
+  pub sound : IsSound score_of bytes images size l h
+  pub base_is : l.base ≡ base
+  pub durable_is : l.durable ≡ length h
+
+module _ {D : Type 0} (tells : Bool) (bytes : D → List ℕ) (images : D → List ℕ → Type 0) (size : D → ℕ) (disks : List D) (tables : List Table) (layout : List ArenaRegion) (files : List (List ℕ)) (fields : List (List ℕ))
+    (heads : List Found) (base : ℕ) (arena : ArenaState) (is : IsFoundLog tells bytes size disks tables layout files fields heads base arena) (score_of : List ℕ → List ℕ) (h : History) (first : ℕ)
+    (told : IsTrue tells) (settled : All (λ disk. Only (bytes disk) (images disk)) disks) (log : IsLog score_of layout files h first) where
+  abbrev l : LogState D
+  l = found_log disks tables layout heads base arena
+
+  arena_at : (i : ℕ) (r : ArenaRegion) (region : Region) (disk : D) (a : Content) → slice_get layout i ≡ Some r → IsRegionOf r region → slice_get disks r.part ≡ Some disk → slice_get log.contents i ≡ Some a
+      → IsArena score_of region r.number a (bytes disk)
+  arena_at i r region disk a at place disk_is has =
+      let x = log.arenas.each i r a at has in
+      let file : x.0 ≡ bytes disk = same_Some x.0 (bytes disk) (sym x.1 ∙ ap (λ (fs : List (List ℕ)). slice_get fs r.part) (sym is.files_are) ∙ slice_get-map bytes disks r.part ∙ ap (option_map bytes) disk_is) in
+      subst (λ (f : List ℕ). IsArena score_of region r.number a f) file
+      (subst (λ (z : Region). IsArena score_of z r.number a x.0) (same_region x.2.region region (x.2.place.start ∙ sym place.start) (x.2.place.len ∙ sym place.len)) x.2.arena)
+
+  settled_at : (i : ℕ) (disk : D) (region : Region) → slice_get disks i ≡ Some disk → IsSettled region (bytes disk) (images disk)
+  settled_at i disk region at c left = ap (λ (f : List ℕ). region_bytes region f) (at_slice (λ (d : D). Only (bytes d) (images d)) disks i disk settled at c left)
+
+  found_at : (i : ℕ) (r : ArenaRegion) (disk : D) (found : Found) → slice_get layout i ≡ Some r → slice_get disks r.part ≡ Some disk → slice_get heads i ≡ Some found → IsFound tells r (bytes disk) found
+  found_at i r disk found at disk_is at_found =
+      is.found.each i r (bytes disk) found at (ap (λ (fs : List (List ℕ)). slice_get fs r.part) (sym is.files_are) ∙ slice_get-map bytes disks r.part ∙ ap (option_map bytes) disk_is) at_found
+
+  head_at : (i : ℕ) (r : ArenaRegion) (found : Found) (a : Content) → slice_get layout i ≡ Some r → slice_get heads i ≡ Some found → slice_get log.contents i ≡ Some a → found.head ≡ head_of score_of r.number a
+  head_at i r found a at at_found has =
+      let on = at_slice (IsOnDisk size disks) layout i r is.regions at in
+      let region : Region = record { start = r.at; len = r.len; in_range = on.small } in
+      let place : IsRegionOf r region = record { start = refl; len = refl } in
+      (found_at i r on.disk found at on.has at_found).head score_of region a told place (arena_at i r region on.disk a at place on.has has)
+
+  many : length heads ≡ length log.contents
+  many = is.found.many ∙ sym log.arenas.many
+
+  same_sealed : (i : ℕ) (found : Found) (a : Content) → slice_get heads i ≡ Some found → slice_get log.contents i ≡ Some a → found.head.sealed ≡ a.sealed
+  same_sealed i found a at has =
+      let r = slice_get_other layout heads i found is.found.many at in
+      ap (λ (h : ArenaHead). h.sealed) (head_at i r.0 found a r.1 at has)
+
+  same_clumps : (i : ℕ) (found : Found) (a : Content) → slice_get heads i ≡ Some found → slice_get log.contents i ≡ Some a → found.head.clumps ≡ length a.stored
+  same_clumps i found a at has =
+      let r = slice_get_other layout heads i found is.found.many at in
+      ap (λ (h : ArenaHead). h.clumps) (head_at i r.0 found a r.1 at has)
+
+  current_open : (a : Content) → slice_get log.contents base ≡ Some a → a.sealed ≡ false
+  current_open a has =
+      let found = slice_get_other heads log.contents base a (sym many) has in
+      sym (same_sealed base found.0 a found.1 has) ∙ is.first.at found.0 found.1
+
+  split : IsSplit base log.contents
+  split =
+      let before = sealed_before base log.contents heads many same_sealed is.first.before in
+      record { before = before; current = current_open; behind = order_behind base log.contents log.order before current_open }
+
+  within : base ≤ length log.contents
+  within = omega (arith, is.first.most, many)
+
+  first_is : base ≡ first
+  first_is = sym (split_order base log.contents split within).1 ∙ sym log.base_is
+
+  count : sum_by (λ found. found.head.clumps) heads ≡ length h
+  count = blocks_count 0 log.contents heads many same_clumps ∙ ap (λ (q : History). length q) (sym log.history)
+
+  all_up_to : All (λ e. e.arena ≤ base) h
+  all_up_to = subst (All (λ (e : Accepted). e.arena ≤ base)) (sym log.history)
+      (All-weaker (λ (e : Accepted). e.arena ≤ 0 + base) (λ (e : Accepted). e.arena ≤ base) (λ e least. omega (arith, least)) (blocks_from 0 log.contents) (blocks_arenas 0 base log.contents split.behind))
+
+  -- the room is that of the first unsealed arena
+  current_sound : (r : ArenaRegion) (region : Region) (disk : D) (a : Content) → IsAt l base r region disk → slice_get log.contents base ≡ Some a → IsSoundArena score_of arena region a (bytes disk) (images disk)
+  current_sound r region disk a at has =
+      let found = slice_get_other heads layout base r (sym is.found.many) at.arena in
+      let it = is.room.there r found.0 at.arena found.1 in
+      let own = found_at base r disk found.0 at.arena at.disk_is found.1 in
+      let on = at_slice (IsOnDisk size disks) layout base r is.regions at.arena in
+      let disk_is : on.disk ≡ disk = same_Some on.disk disk (sym on.has ∙ at.disk_is) in
+      let len_is : is.room.len ≡ region.len = it.0 ∙ sym at.region_is.len in
+      let stand : CanStand r.number region.len is.room.head =
+      subst (λ (h : ArenaHead). CanStand r.number region.len h) (sym it.2) (subst (λ (n : ℕ). CanStand r.number n found.0.head) (sym at.region_is.len) own.stands) in
+      subst (λ (x : ArenaState). IsSoundArena score_of x region a (bytes disk) (images disk)) (sym is.room.fresh)
+      (subst (λ (n : ℕ). IsSoundArena score_of (fresh_arena n is.room.current is.room.head) region a (bytes disk) (images disk)) (sym len_is)
+      (fresh_sound score_of region (size disk) r.number is.room.current a is.room.head (bytes disk) (images disk)
+      (record {
+        within = omega (arith, on.within, at.region_is.start, at.region_is.len, ap size disk_is);
+        aligned = subst IsAligned (sym at.region_is.start) on.aligned;
+        len = subst IsArenaLen (sym at.region_is.len) on.len;
+      })
+      (settled_at r.part disk region at.disk_is) (arena_at base r region disk a at.arena at.region_is at.disk_is has)
+      (it.1 ∙ own.selector region told at.region_is) (it.2 ∙ head_at base r found.0 a at.arena found.1 has) stand))
+
+  filled : IsFilledBy (lengths_in base h) (filled_as base arena.head)
+  filled = subst (λ (x : ArenaState). IsFilledBy (lengths_in base h) (filled_as base x.head)) (sym is.room.fresh) (⊎_elim
+      (λ (it : (a : Content) × (base < length log.contents) × (slice_get log.contents base ≡ Some a) × (get_or log.contents base a ≡ a)).
+      let found = slice_get_other heads log.contents base it.0 (sym many) it.2 in
+      let r = slice_get_other layout heads base found.0 is.found.many found.1 in
+      let head : is.room.head ≡ head_of score_of r.0.number it.0 = (is.room.there r.0 found.0 r.1 found.1).2 ∙ head_at base r.0 found.0 it.0 r.1 found.1 it.2 in
+      let lengths : lengths_in base h ≡ lengths_of it.0.stored = ap (lengths_in base) log.history ∙ ap (λ (j : ℕ). lengths_in j (blocks_from 0 log.contents)) (let e : base ≡ 0 + base = omega arith in e) ∙ lengths_at 0 base log.contents it.0 it.2 in
+      record {
+        used = ap (λ (x : ArenaHead). x.used) head ∙ ap (λ (ls : List ℕ). sum_by block_room ls) (sym lengths);
+        clumps = ap (λ (x : ArenaHead). x.clumps) head ∙ sym (length-map it.0.stored (λ (s : Stored). length s.block)) ∙ ap (λ (ls : List ℕ). length ls) (sym lengths);
+      })
+      (λ (past : (length log.contents ≤ base) × (slice_get log.contents base ≡ None)).
+      let none = is.room.past (omega (arith, past.0, log.arenas.many)) in
+      let lengths : lengths_in base h ≡ [] = ap (lengths_in base) log.history ∙ lengths_past base log.contents past.0 in
+      record {
+        used = none.1 ∙ ap (λ (ls : List ℕ). sum_by block_room ls) (sym lengths);
+        clumps = none.2 ∙ ap (λ (ls : List ℕ). length ls) (sym lengths);
+      })
+      (slice_get_cases log.contents base).1)
+
+  pub found_sound : IsFoundSound score_of bytes images size (found_log disks tables layout heads base arena) h first
+  found_sound = record {
+    sound = record {
+      whole = found_whole tells bytes size disks tables layout files fields heads base arena is;
+      contents = log.contents;
+      many = log.arenas.many;
+      split = split;
+      current = current_sound;
+      others = λ i r region disk a other at has. (settled_at r.part disk region at.disk_is, arena_at i r region disk a at.arena at.region_is at.disk_is has);
+      heads = head_at;
+      selectors = λ i r region disk found behind at at_found. (found_at i r disk found at.arena at.disk_is at_found).selector region told at.region_is;
+      committed = take_all (sum_by (λ found. found.head.clumps) heads) h (omega (arith, count)) ∙ log.history;
+      queued = drop_all (sum_by (λ found. found.head.clumps) heads) h (omega (arith, count)) ∙ sym (ap (λ (x : ArenaState). map (accepted base) (map stored_of x.staged) ++ []) is.room.fresh);
+      front = omega (arith, count);
+      packed = All-nil _;
+      places = λ i place at. absurd (cc);
+      filling = filled;
+      last = omega (arith, last_arena_le base 0 h (omega arith) all_up_to);
+      arenas = all_up_to;
+    };
+    base_is = first_is;
+    durable_is = count;
+  }
+
+-- ---- no test fails on a log
+
+-- what the fields of an arena tell, where it holds this
+record AreOf (r : ArenaRegion) (f : List ℕ) (a : Content) : Type 0 where
+  pub passes : first_bad_in r.number r.len f ≡ None
+  pub sealed : sealed_in f ≡ flag_of a.sealed
+  pub clumps : clumps_in f ≡ length a.stored
+
+no_order : (k : ℕ) (o : Option ArenaBad) (f : List ℕ) → o ≡ None → clumps_in f ≡ 0 → sealed_in f ≡ 0 → bad_arena true k o f ≡ None
+no_order k o f none clumps sealed =
+    ap (λ (o : Option ArenaBad). bad_arena true k o f) none
+    ∙ ap (λ (n : ℕ). cond (n == 0) (cond (sealed_in f == 0) None (Some (Arena k (Torn Sealed 1 0)))) (Some (Order k n))) clumps
+    ∙ ap (λ (n : ℕ). cond (n == 0) None (Some (Arena k (Torn Sealed 1 0)))) sealed
+
+passes_behind : (behind : Bool) (k : ℕ) (layout : List ArenaRegion) (fields : List (List ℕ)) (contents : List Content) → behind ≡ true → length contents ≡ length layout → length fields ≡ length layout
+    → ((i : ℕ) (r : ArenaRegion) (f : List ℕ) (a : Content) → slice_get layout i ≡ Some r → slice_get fields i ≡ Some f → slice_get contents i ≡ Some a → AreOf r f a)
+    → All IsUntouched contents → first_bad behind k layout fields ≡ None
+passes_behind behind k [] fields contents is many many_fields each untouched = refl
+passes_behind behind k (r ∷ rs) [] contents is many many_fields each untouched = refl
+passes_behind behind k (r ∷ rs) (f ∷ fs) [] is many many_fields each untouched = absurd (omega (arith, many))
+passes_behind behind k (r ∷ rs) (f ∷ fs) (a ∷ rest) is many many_fields each untouched =
+    let of = each 0 r f a refl refl refl in
+    let first = All-head IsUntouched a rest untouched in
+    let none : bad_arena behind k (first_bad_in r.number r.len f) f ≡ None =
+    ap (λ (b : Bool). bad_arena b k (first_bad_in r.number r.len f) f) is
+    ∙ no_order k (first_bad_in r.number r.len f) f of.passes (of.clumps ∙ ap (λ (ss : List Stored). length ss) first.1) (of.sealed ∙ ap flag_of first.0) in
+    ap (λ (o : Option LogBad). first_of_two o (first_bad (behind || sealed_in f == 0) (k + 1) rs fs)) none
+    ∙ passes_behind (behind || sealed_in f == 0) (k + 1) rs fs rest (ap (λ (b : Bool). b || sealed_in f == 0) is) (omega (arith, many)) (omega (arith, many_fields))
+    (λ i q g b at at_f has. each (suc i) q g b at at_f has) (All-tail IsUntouched a rest untouched)
+
+passes_order : (behind : Bool) (k : ℕ) (layout : List ArenaRegion) (fields : List (List ℕ)) (contents : List Content) → behind ≡ false → length contents ≡ length layout → length fields ≡ length layout
+    → ((i : ℕ) (r : ArenaRegion) (f : List ℕ) (a : Content) → slice_get layout i ≡ Some r → slice_get fields i ≡ Some f → slice_get contents i ≡ Some a → AreOf r f a)
+    → InOrder contents → first_bad behind k layout fields ≡ None
+passes_order behind k [] fields contents is many many_fields each order = refl
+passes_order behind k (r ∷ rs) [] contents is many many_fields each order = refl
+passes_order behind k (r ∷ rs) (f ∷ fs) [] is many many_fields each order = absurd (omega (arith, many))
+passes_order behind k (r ∷ rs) (f ∷ fs) (a ∷ rest) is many many_fields each order =
+    ap (λ (o : Option LogBad). first_of_two o (first_bad (behind || sealed_in f == 0) (k + 1) rs fs)) none
+    ∙ next a.sealed refl (λ shut sealed. passes_order (behind || sealed_in f == 0) (k + 1) rs fs rest shut (omega (arith, many)) (omega (arith, many_fields))
+    (λ i q g b at at_f has. each (suc i) q g b at at_f has) (subst (λ (b : Bool). MatchBool b (InOrder rest) (All IsUntouched rest)) sealed order))
+  where
+    of : AreOf r f a
+    of = each 0 r f a refl refl refl
+
+    none : bad_arena behind k (first_bad_in r.number r.len f) f ≡ None
+    none = ap (λ (b : Bool). bad_arena b k (first_bad_in r.number r.len f) f) is ∙ ap (λ (o : Option ArenaBad). bad_arena false k o f) of.passes
+
+    flag : (b : Bool) → a.sealed ≡ b → (behind || sealed_in f == 0) ≡ (flag_of b == 0)
+    flag b sealed = ap (λ (x : Bool). x || sealed_in f == 0) is ∙ ap (λ (n : ℕ). n == 0) (of.sealed ∙ ap flag_of sealed)
+
+    next : (b : Bool) → a.sealed ≡ b → ((behind || sealed_in f == 0) ≡ false → a.sealed ≡ true → first_bad (behind || sealed_in f == 0) (k + 1) rs fs ≡ None)
+        → first_bad (behind || sealed_in f == 0) (k + 1) rs fs ≡ None
+    next true sealed goes_on = goes_on (flag true sealed) sealed
+    next false sealed goes_on = passes_behind (behind || sealed_in f == 0) (k + 1) rs fs rest (flag false sealed) (omega (arith, many)) (omega (arith, many_fields))
+        (λ i q g b at at_f has. each (suc i) q g b at at_f has) (subst (λ (b : Bool). MatchBool b (InOrder rest) (All IsUntouched rest)) sealed order)
+
+pub log_passes : {D : Type 0} (bytes : D → List ℕ) (size : D → ℕ) (disks : List D) (layout : List ArenaRegion) (fields : List (List ℕ)) (score_of : List ℕ → List ℕ) (h : History) (base : ℕ)
+    → All (IsOnDisk size disks) layout → All (λ r. r.number < 2 ^ 32) layout → AreFields layout (map bytes disks) fields → IsLog score_of layout (map bytes disks) h base → first_bad false 0 layout fields ≡ None
+log_passes {D = D} bytes size disks layout fields score_of h base regions numbers are log =
+    passes_order false 0 layout fields log.contents refl log.arenas.many are.many each log.order
+  where
+    each : (i : ℕ) (r : ArenaRegion) (f : List ℕ) (a : Content) → slice_get layout i ≡ Some r → slice_get fields i ≡ Some f → slice_get log.contents i ≡ Some a → AreOf r f a
+    each i r f a at at_f has =
+        let on = at_slice (IsOnDisk size disks) layout i r regions at in
+        let number : r.number < 2 ^ 32 = at_slice (λ (r : ArenaRegion). r.number < 2 ^ 32) layout i r numbers at in
+        let x = log.arenas.each i r a at has in
+        let fields_is : f ≡ fields_of (head_of score_of r.number a) = same_Some f (fields_of (head_of score_of r.number a)) (sym at_f ∙ are.each i r x.2.region x.0 at x.2.place x.1 ∙ ap (λ (l : List ℕ). Some l) x.2.arena.head) in
+        let content : IsContent score_of r.len a = subst (λ (n : ℕ). IsContent score_of n a) x.2.place.len x.2.arena.content in
+        record {
+          passes = ap (first_bad_in r.number r.len) fields_is ∙ arena_passes score_of r.len r.number a number on.len.1 content;
+          sealed = ap sealed_in fields_is;
+          clumps = ap clumps_in fields_is ∙ read_clumps score_of r.len r.number on.len.1 a content;
+        }
+
+-- so that a log isn't refused but for a fault or want of memory
+pub not_refused : (names : List (List ℕ)) (layout : List ArenaRegion) (fields : List (List ℕ)) (bad : LogBad) → AreDistinct names → first_bad false 0 layout fields ≡ None → RefusesMount names layout fields bad
+    → (bad ≡ Fault) ⊎ (bad ≡ NoMemory)
+not_refused names layout fields (PartRefused (DuplicateName i j)) distinct passes refused = absurd (distinct i j refused.namesakes)
+not_refused names layout fields (PartRefused PartFault) distinct passes refused = absurd refused
+not_refused names layout fields (PartRefused (TooSmall len need)) distinct passes refused = absurd refused
+not_refused names layout fields (PartRefused PartNotFormatted) distinct passes refused = absurd refused
+not_refused names layout fields (PartRefused (PartTorn field found want)) distinct passes refused = absurd refused
+not_refused names layout fields (PartRefused PartNoMemory) distinct passes refused = absurd refused
+not_refused names layout fields (Arena i bad) distinct passes refused = let is : first_bad false 0 layout fields ≡ Some (Arena i bad) = refused.1 in absurd (cc (is, passes))
+not_refused names layout fields (Order i clumps) distinct passes refused = let is : first_bad false 0 layout fields ≡ Some (Order i clumps) = refused.1 in absurd (cc (is, passes))
+not_refused names layout fields Fault distinct passes refused = inl refl
+not_refused names layout fields NoMemory distinct passes refused = inr refl
+
+-- what mounting finds, as the partitions are afterwards
+pub found_of : {D : Type 0} (tells : Bool) (bytes : D → List ℕ) (images : D → List ℕ → Type 0) (size calls : D → ℕ) (fits : (d : D) → size d < 2 ^ 64) (most : ℕ) (items old new : List (Part D))
+    (fields : List (List ℕ)) (layout : List ArenaRegion) (heads : List Found) (base : ℕ) (arena : ArenaState) → old ≡ items → All (λ part. end_of (table_of part) ≤ size (disk_of part)) items → arena_count (tables_of items) < 2 ^ 32
+    → AreRead tells bytes images size calls most old new → layout ≡ layout_of (tables_of old) → AreFound tells (layout_of (tables_of old)) (map bytes (disks_of old)) heads
+    → ArePassed (layout_of (tables_of old)) fields heads → IsFirstOpen heads base → IsRoomFor (layout_of (tables_of old)) heads base arena
+    → IsFoundLog tells bytes size (disks_of new) (tables_of new) layout (map bytes (disks_of items)) fields heads base arena
+found_of {D = D} tells bytes images size calls fits most items old new fields layout heads base arena same rooms few read layout_is found passed first room =
+    let tables : layout ≡ layout_of (tables_of new) = layout_is ∙ ap layout_of (sym read.tables) in
+    let items_layout : layout_of (tables_of items) ≡ layout = ap (λ (ps : List (Part D)). layout_of (tables_of ps)) (sym same) ∙ sym layout_is in
+    let hold : HoldTheSame bytes images size (disks_of items) (disks_of new) = subst (λ (ps : List (Part D)). HoldTheSame bytes images size (disks_of ps) (disks_of new)) same read.disks in
+    record {
+      many_disks = length-map new (λ (part : Part D). disk_of part) ∙ sym (length-map new (λ (part : Part D). table_of part));
+      layout_is = tables;
+      regions = subst (All (IsOnDisk size (disks_of new))) items_layout
+          (All-weaker (IsOnDisk size (disks_of items)) (IsOnDisk size (disks_of new)) (λ r on. on_held bytes images size (disks_of items) (disks_of new) r hold on)
+          (layout_of (tables_of items)) (regions_on size fits items rooms));
+      few = omega (arith, few, layouts_have_lengths (tables_of items), ap (λ (rs : List ArenaRegion). length rs) items_layout);
+      files_are = hold.bytes_are;
+      found = subst (λ (ps : List (Part D)). AreFound tells layout (map bytes (disks_of ps)) heads) same (subst (λ (rs : List ArenaRegion). AreFound tells rs (map bytes (disks_of old)) heads) (sym layout_is) found);
+      passed = subst (λ (rs : List ArenaRegion). ArePassed rs fields heads) (sym layout_is) passed;
+      first = first;
+      room = subst (λ (rs : List ArenaRegion). IsRoomFor rs heads base arena) (sym layout_is) room;
+    }
+
+-- a list that was lent whole is what it was given back as
+pub given_back : {X : Type 0} (n : ℕ) (new old : List X) → length new ≡ n → length old ≡ n → take n (new ++ drop (length new) old) ≡ new
+given_back {X = X} n new old many many_old =
+    ap (λ (xs : List X). take n (new ++ xs)) (drop_all (length new) old (omega (arith, many, many_old)))
+    ∙ ap (take n) (append-nil new)
+    ∙ take_all n new (omega (arith, many))
+
+pub mount_sound : {D : Type 0} (tells : Bool) (bytes : D → List ℕ) (images : D → List ℕ → Type 0) (size : D → ℕ) (items : List (Part D)) (l : LogState D) (disks : List D) (tables : List Table)
+    (fields : List (List ℕ)) (layout : List ArenaRegion) (heads : List Found) (base : ℕ) (arena : ArenaState) (score_of : List ℕ → List ℕ) (h : History) (first : ℕ)
+    → IsFoundLog tells bytes size disks tables layout (map bytes (disks_of items)) fields heads base arena → l ≡ found_log disks tables layout heads base arena
+    → layout ≡ layout_of (tables_of items) → IsTrue tells → All (λ disk. Only (bytes disk) (images disk)) disks → IsLog score_of (layout_of (tables_of items)) (map bytes (disks_of items)) h first
+    → IsSound score_of bytes images size l h × (l.base ≡ first) × (l.durable ≡ length h)
+mount_sound {D = D} tells bytes images size items l disks tables fields layout heads base arena score_of h first is l_is layout_is told settled log =
+    let own : IsLog score_of layout (map bytes (disks_of items)) h first = subst (λ (rs : List ArenaRegion). IsLog score_of rs (map bytes (disks_of items)) h first) (sym layout_is) log in
+    let it = found_sound tells bytes images size disks tables layout (map bytes (disks_of items)) fields heads base arena is score_of h first told settled own in
+    subst (λ (x : LogState D). IsSound score_of bytes images size x h × (x.base ≡ first) × (x.durable ≡ length h)) (sym l_is) (it.sound, it.base_is, it.durable_is)
+
+pub mount_is : {D : Type 0} (tells : Bool) (bytes : D → List ℕ) (size : D → ℕ) (l : LogState D) (disks : List D) (tables : List Table) (files fields : List (List ℕ)) (layout : List ArenaRegion) (heads : List Found) (base : ℕ)
+    (arena : ArenaState) → IsFoundLog tells bytes size disks tables layout files fields heads base arena → l ≡ found_log disks tables layout heads base arena → IsMounted l
+mount_is {D = D} tells bytes size l disks tables files fields layout heads base arena is l_is =
+    subst IsMounted (sym l_is) (record {
+      committing = refl;
+      queue = refl;
+      filling = filling_is tells bytes size disks tables layout files fields heads base arena is;
+      durable = refl;
+      calls = refl;
+      stopped = refl;
+    })

@@ -1,0 +1,253 @@
+-- Staging a block that waits, and asking for a seal.
+use Rattle.std.proofs.Common.{◌≡◌, ◌≢◌, ⊎_elim, ℕ, suc, ◌+◌, ◌<◌, ◌≤◌, ◌==◌, Bool, true, false, cond, List, [], ◌∷◌, ◌++◌, length, map, refl, sym, ◌∙◌, ap, subst, arith, append_assoc}
+use Rattle.std.specs.Prelude.{All, slice_index, IsTrue, IsFalse}
+use Rattle.std.proofs.lemmas.Bool.Decides.{eqb_tells}
+use Rattle.std.proofs.lemmas.List.{map-append, length_push, get_or-map}
+use Rattle.std.proofs.lemmas.List.Elements.{All-head, All-tail}
+use Rattle.std.proofs.lemmas.Option.{slice_get_within, get_or_from_slice_get}
+use Rattle.vt_disk.specs.declared.region.Region.{Region}
+use Rattle.vt_base.specs.declared.place.Place.{Place}
+use Rattle.vt_clump.specs.declared.packed.Packed.{Packed}
+use Rattle.vt_clump.specs.Clumps.{IsPacked, stored_of}
+use Rattle.vt_clump.specs.Spelling.{Stored}
+use Rattle.vt_model.specs.History.{History}
+use Rattle.vt_part.specs.declared.layout.ArenaRegion.{ArenaRegion}
+use Rattle.vt_arena.specs.declared.head.ArenaHead.{ArenaHead}
+use Rattle.vt_arena.specs.declared.head.Found.{Found}
+use Rattle.vt_arena.specs.Arena.{ArenaState, added_by, fits, is_committing, with_staged, with_seal}
+use Rattle.vt_arena.specs.Layout.{Content}
+use Rattle.vt_arena.specs.Sound.{IsSound as IsSoundArena}
+use Rattle.vt_arena.proofs.Staging.{stage_sound, resting}
+use Rattle.vt_log.specs.declared.filling.Filling.{Filling}
+use Rattle.vt_log.specs.declared.queue.Waiting.{Waiting}
+use Rattle.vt_log.specs.Log.{LogState, filled_as, found_filling, fits_in, with_room_taken}
+use Rattle.vt_log.specs.Logs.{accepted}
+use Rattle.vt_log.specs.Queue.{QueueState, WaitsFor, waiting_block}
+use Rattle.vt_log.specs.Sound.{IsSound}
+use Rattle.vt_log.specs.Whole.{IsWhole, Fill, turned_to}
+use Rattle.vt_log.proofs.Fillings.{fits_within, turned_arena}
+use Rattle.vt_log.proofs.Memory.{slice_get_other}
+
+-- the log with the block staged that waits longest, and these left to wait
+abbrev pub with_next_staged : {D : Type 0} → (score_of : List ℕ → List ℕ) → Packed → List Waiting → LogState D → LogState D
+with_next_staged score_of p ws l = record l {
+  arena = with_staged score_of p l.arena;
+  queue = record { waiting = ws; places = l.queue.places };
+}
+
+-- what is turned to is what is filled
+pub turned_same : (heads : List Found) (arena : ℕ) (f : Filling) → arena ≡ f.arena → turned_to heads arena f ≡ f
+turned_same heads arena f same = ⊎_elim
+    (λ (t : ((arena == f.arena) ≡ true) × (arena ≡ f.arena)). ap (λ (b : Bool). cond b f (found_filling heads arena)) t.0)
+    (λ (t : ((arena == f.arena) ≡ false) × (arena ≢ f.arena)). absurd (t.1 same)) (eqb_tells arena f.arena)
+
+-- the block fits the arena in memory
+pub waiting_fits : {D : Type 0} (size : D → ℕ) (l : LogState D) (w : Waiting) (ws : List Waiting) → IsWhole size l
+    → l.queue.waiting ≡ w ∷ ws → w.arena ≡ l.committing → IsTrue (fits l.arena w.packed.len)
+waiting_fits size l w ws whole is arena =
+    let fill = subst (λ (q : List Waiting). Fill l.layout l.heads (filled_as l.committing l.arena.next) q l.filling) is whole.queue in
+    let same = turned_same l.heads w.arena (filled_as l.committing l.arena.next) arena in
+    let fit : IsTrue (fits_in l.layout (filled_as l.committing l.arena.next) w.packed.len) = subst (λ (f : Filling). IsTrue (fits_in l.layout f w.packed.len)) same fill.2 in
+    let there = fits_within l.layout (filled_as l.committing l.arena.next) w.packed.len fit in
+    let found = slice_get_other l.heads l.layout l.committing there.0 (sym whole.many) there.1 in
+    let len : slice_index (map (λ (r : ArenaRegion). r.len) l.layout) l.committing ≡ l.arena.len =
+    get_or-map (λ (r : ArenaRegion). r.len) l.layout l.committing there.0 0 (slice_get_within l.layout l.committing there.0 there.1)
+    ∙ ap (λ (r : ArenaRegion). r.len) (get_or_from_slice_get l.layout l.committing there.0 there.0 there.1)
+    ∙ sym (whole.arena there.0 found.0 there.1 found.1).len in
+    rw (← len) fit
+
+-- a log in memory stays whole
+pub stage_whole : {D : Type 0} (score_of : List ℕ → List ℕ) (size : D → ℕ) (l : LogState D) (w : Waiting) (ws : List Waiting) → IsWhole size l
+    → IsFalse (is_committing l.arena) → l.queue.waiting ≡ w ∷ ws → w.arena ≡ l.committing → IsWhole size (with_next_staged score_of w.packed ws l)
+stage_whole score_of size l w ws whole rest is arena =
+    let from : Filling = filled_as l.committing l.arena.next in
+    let fill = subst (λ (q : List Waiting). Fill l.layout l.heads from q l.filling) is whole.queue in
+    let same : turned_to l.heads w.arena from ≡ from = turned_same l.heads w.arena from arena in
+    let there = fits_within l.layout (turned_to l.heads w.arena from) w.packed.len fill.2 in
+    let below = slice_get_within l.layout _ there.0 there.1 in
+    let there_arena = turned_arena l.heads w.arena from in
+    let long : length l.queue.waiting ≡ suc (length ws) = ap (λ (q : List Waiting). length q) is in
+    record {
+      many_disks = whole.many_disks;
+      layout = whole.layout;
+      regions = whole.regions;
+      apart = whole.apart;
+      few = whole.few;
+      many = whole.many;
+      heads = whole.heads;
+      unsealed = whole.unsealed;
+      base = whole.base;
+      committing = whole.committing;
+      arena = λ r found at has. let it = whole.arena r found at has in record { len = it.len; number = it.number; head = it.head };
+      none = λ past. absurd (omega (arith, past, below, there_arena, arena));
+      number = whole.number;
+      clumps = omega (arith, whole.clumps, length_push l.arena.staged w.packed);
+      runs = whole.runs;
+      some = λ committing. absurd (cc);
+      way = λ sealed. absurd (other (subst (WaitsFor (l.committing + 1)) is (whole.way sealed)));
+      queue = subst (λ (f : Filling). Fill l.layout l.heads (with_room_taken w.packed.len f) ws l.filling) same fill.3;
+      places = omega (arith, whole.places, long, length_push l.arena.staged w.packed);
+      most = whole.most;
+      durable = whole.durable;
+    }
+  where
+    other : WaitsFor (l.committing + 1) (w ∷ ws) → ⊥
+    other waits = omega (arith, waits, arena)
+
+-- and the disks sound
+pub stage_log_sound : {D : Type 0} (score_of : List ℕ → List ℕ) (bytes : D → List ℕ) (images : D → List ℕ → Type 0) (size : D → ℕ) (l : LogState D) (h : History) (w : Waiting) (ws : List Waiting)
+    → ((block : List ℕ) → length (score_of block) ≡ 20) → IsSound score_of bytes images size l h
+    → IsFalse (is_committing l.arena) → l.queue.waiting ≡ w ∷ ws → w.arena ≡ l.committing → IsSound score_of bytes images size (with_next_staged score_of w.packed ws l) h
+stage_log_sound score_of bytes images size l h w ws scores sound rest is arena = record {
+  whole = stage_whole score_of size l w ws sound.whole rest is arena;
+  contents = sound.contents;
+  many = sound.many;
+  split = sound.split;
+  current = λ r region disk a at has. stage_sound score_of l.arena w.packed region a (bytes disk) (images disk) scores (waiting_fits size l w ws sound.whole is arena) rest well
+      (sound.current r region disk a (record { arena = at.arena; region_is = at.region_is; disk_is = at.disk_is }) has);
+  others = λ i r region disk a other at has. sound.others i r region disk a other (record { arena = at.arena; region_is = at.region_is; disk_is = at.disk_is }) has;
+  heads = sound.heads;
+  selectors = λ i r region disk found behind at has. sound.selectors i r region disk found behind (record { arena = at.arena; region_is = at.region_is; disk_is = at.disk_is }) has;
+  committed = sound.committed;
+  queued = sound.queued ∙ ap (λ (q : List Waiting). map (accepted l.committing) (added_by l.arena) ++ map waiting_block q) is ∙ sym moved;
+  front = sound.front;
+  packed = All-tail (λ (w : Waiting). IsPacked score_of w.packed) w ws packed;
+  places = sound.places;
+  filling = sound.filling;
+  last = sound.last;
+  arenas = sound.arenas;
+}
+  where
+    packed : All (λ (w : Waiting). IsPacked score_of w.packed) (w ∷ ws)
+    packed = subst (All (λ (w : Waiting). IsPacked score_of w.packed)) is sound.packed
+
+    well : IsPacked score_of w.packed
+    well = All-head (λ (w : Waiting). IsPacked score_of w.packed) w ws packed
+
+    moved : map (accepted l.committing) (map stored_of (l.arena.staged ++ w.packed ∷ [])) ++ map waiting_block ws ≡ map (accepted l.committing) (added_by l.arena) ++ (waiting_block w ∷ map waiting_block ws)
+    moved = ap (λ (q : List Stored). map (accepted l.committing) q ++ map waiting_block ws) (map-append stored_of l.arena.staged (w.packed ∷ []))
+        ∙ ap (λ (q : History). q ++ map waiting_block ws) (map-append (accepted l.committing) (added_by l.arena) (stored_of w.packed ∷ []))
+        ∙ append_assoc (map (accepted l.committing) (added_by l.arena)) (accepted l.committing (stored_of w.packed) ∷ []) (map waiting_block ws)
+        ∙ ap (λ (k : ℕ). map (accepted l.committing) (added_by l.arena) ++ (accepted k (stored_of w.packed) ∷ map waiting_block ws)) (sym arena)
+
+-- the same of a queue that was changed, and of a log that is known by its fields
+same_queue : (q : QueueState) (places : List Place) → q.places ≡ places → record { waiting = q.waiting; places = places } ≡ q
+same_queue q places same = λ i. record { waiting = q.waiting; places = sym same i }
+
+pub staged_whole : {D : Type 0} (score_of : List ℕ → List ℕ) (size : D → ℕ) (l m : LogState D) (p : Packed) (q : QueueState) → l ≡ m → IsWhole size l → IsFalse (is_committing m.arena)
+    → l.queue.waiting ≡ record { arena = l.committing; packed = p } ∷ q.waiting → q.places ≡ l.queue.places
+    → IsWhole size (record l { arena = with_staged score_of p l.arena; queue = q })
+staged_whole {D = D} score_of size l m p q view whole rest is places =
+    subst (λ (r : QueueState). IsWhole size (record l { arena = with_staged score_of p l.arena; queue = r })) (same_queue q l.queue.places places)
+    (stage_whole score_of size l (record { arena = l.committing; packed = p }) q.waiting whole (subst (λ (k : LogState D). IsFalse (is_committing k.arena)) (sym view) rest) is refl)
+
+pub staged_fits : {D : Type 0} (size : D → ℕ) (l : LogState D) (p : Packed) (q : QueueState) → IsWhole size l
+    → l.queue.waiting ≡ record { arena = l.committing; packed = p } ∷ q.waiting → IsTrue (fits l.arena p.len)
+staged_fits size l p q whole is = waiting_fits size l (record { arena = l.committing; packed = p }) q.waiting whole is refl
+
+pub staged_sound : {D : Type 0} (score_of : List ℕ → List ℕ) (bytes : D → List ℕ) (images : D → List ℕ → Type 0) (size : D → ℕ) (l m : LogState D) (h : History) (p : Packed) (q : QueueState) → l ≡ m
+    → ((block : List ℕ) → length (score_of block) ≡ 20) → IsSound score_of bytes images size m h → IsFalse (is_committing m.arena)
+    → l.queue.waiting ≡ record { arena = l.committing; packed = p } ∷ q.waiting → q.places ≡ l.queue.places
+    → IsSound score_of bytes images size (record l { arena = with_staged score_of p l.arena; queue = q }) h
+staged_sound {D = D} score_of bytes images size l m h p q view scores sound rest is places =
+    subst (λ (r : QueueState). IsSound score_of bytes images size (record l { arena = with_staged score_of p l.arena; queue = r }) h) (same_queue q l.queue.places places)
+    (stage_log_sound score_of bytes images size l h (record { arena = l.committing; packed = p }) q.waiting scores (subst (λ (k : LogState D). IsSound score_of bytes images size k h) (sym view) sound)
+    (subst (λ (k : LogState D). IsFalse (is_committing k.arena)) (sym view) rest) is refl)
+
+-- asking for a seal
+pub waits_for_next : {D : Type 0} (size : D → ℕ) (l : LogState D) (w : Waiting) (ws : List Waiting) → IsWhole size l → l.queue.waiting ≡ w ∷ ws
+    → ¬ WaitsFor l.committing l.queue.waiting → (w.arena ≡ l.committing + 1) × (l.committing + 1 < length l.layout)
+waits_for_next size l w ws whole is other =
+    let from : Filling = filled_as l.committing l.arena.next in
+    let fill = subst (λ (q : List Waiting). Fill l.layout l.heads from q l.filling) is whole.queue in
+    let not_this : w.arena ≢ l.committing = λ same. other (subst (WaitsFor l.committing) (sym is) same) in
+    let there = fits_within l.layout (turned_to l.heads w.arena from) w.packed.len fill.2 in
+    let below = slice_get_within l.layout _ there.0 there.1 in
+    let there_arena = turned_arena l.heads w.arena from in
+    let least : l.committing ≤ w.arena = fill.0 in
+    let most : w.arena ≤ l.committing + 1 = fill.1 in
+    (omega (arith, least, most, not_this), omega (arith, least, most, not_this, below, there_arena))
+
+pub seal_whole : {D : Type 0} (size : D → ℕ) (l m : LogState D) → l ≡ m → IsWhole size l → IsFalse (is_committing m.arena) → 0 < length l.queue.waiting
+    → ¬ WaitsFor l.committing l.queue.waiting → IsWhole size (record l { arena = with_seal l.arena })
+seal_whole {D = D} size l m view whole rest some other = at l.queue.waiting refl
+  where
+    rests : IsFalse (is_committing l.arena)
+    rests = subst (λ (k : LogState D). IsFalse (is_committing k.arena)) (sym view) rest
+
+    at : (ws : List Waiting) → l.queue.waiting ≡ ws → IsWhole size (record l { arena = with_seal l.arena })
+    at [] is = absurd (omega (arith, some, ap (λ (q : List Waiting). length q) is))
+    at (w ∷ ws) is =
+        let next = waits_for_next size l w ws whole is other in
+        record {
+          many_disks = whole.many_disks;
+          layout = whole.layout;
+          regions = whole.regions;
+          apart = whole.apart;
+          few = whole.few;
+          many = whole.many;
+          heads = whole.heads;
+          unsealed = whole.unsealed;
+          base = whole.base;
+          committing = whole.committing;
+          arena = λ r found at has. let it = whole.arena r found at has in record { len = it.len; number = it.number; head = it.head };
+          none = λ past. absurd (omega (arith, past, next.1));
+          number = whole.number;
+          clumps = whole.clumps;
+          runs = whole.runs;
+          some = λ committing none. refl;
+          way = λ sealed. subst (WaitsFor (l.committing + 1)) (sym is) next.0;
+          queue = whole.queue;
+          places = whole.places;
+          most = whole.most;
+          durable = whole.durable;
+        }
+
+-- the arena is sound with the seal asked for, as between two commits
+seal_arena : (score_of : List ℕ → List ℕ) (a : ArenaState) (region : Region) (old : Content) (read : List ℕ) (images : List ℕ → Type 0) → IsFalse (is_committing a)
+    → IsSoundArena score_of a region old read images → IsSoundArena score_of (with_seal a) region old read images
+seal_arena score_of a region old read images rest sound =
+    let rests = resting a rest in
+    record {
+      len = sound.len;
+      frame_len = sound.frame_len;
+      head = sound.head;
+      next = ap (λ (head : ArenaHead). record head { sealed = Bool.true }) sound.next;
+      chain = sound.chain;
+      packed = sound.packed;
+      content = sound.content;
+      next_content_is = record { stored = sound.next_content_is.stored; fit = sound.next_content_is.fit };
+      begun = λ some. absurd (cc);
+      frame = sound.frame;
+      twin = sound.twin;
+      fields = sound.fields;
+      kept = sound.kept;
+      written = record { clumps = sound.written.clumps; directory = sound.written.directory };
+      synced = λ made c left. let h = sound.synced made c left in record { clumps = h.clumps; directory = h.directory };
+    }
+
+pub seal_sound : {D : Type 0} (score_of : List ℕ → List ℕ) (bytes : D → List ℕ) (images : D → List ℕ → Type 0) (size : D → ℕ) (l m : LogState D) (h : History) → l ≡ m
+    → IsSound score_of bytes images size m h → IsFalse (is_committing m.arena) → 0 < length l.queue.waiting
+    → ¬ WaitsFor l.committing l.queue.waiting → IsSound score_of bytes images size (record l { arena = with_seal l.arena }) h
+seal_sound {D = D} score_of bytes images size l m h view of_view rest some other = record {
+  whole = seal_whole size l m view sound.whole rest some other;
+  contents = sound.contents;
+  many = sound.many;
+  split = sound.split;
+  current = λ r region disk a at has. seal_arena score_of l.arena region a (bytes disk) (images disk) (subst (λ (k : LogState D). IsFalse (is_committing k.arena)) (sym view) rest)
+      (sound.current r region disk a (record { arena = at.arena; region_is = at.region_is; disk_is = at.disk_is }) has);
+  others = λ i r region disk a other at has. sound.others i r region disk a other (record { arena = at.arena; region_is = at.region_is; disk_is = at.disk_is }) has;
+  heads = sound.heads;
+  selectors = λ i r region disk found behind at has. sound.selectors i r region disk found behind (record { arena = at.arena; region_is = at.region_is; disk_is = at.disk_is }) has;
+  committed = sound.committed;
+  queued = sound.queued;
+  front = sound.front;
+  packed = sound.packed;
+  places = sound.places;
+  filling = sound.filling;
+  last = sound.last;
+  arenas = sound.arenas;
+}
+  where
+    sound : IsSound score_of bytes images size l h
+    sound = subst (λ (k : LogState D). IsSound score_of bytes images size k h) (sym view) of_view

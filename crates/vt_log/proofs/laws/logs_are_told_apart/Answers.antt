@@ -1,0 +1,5 @@
+use Rattle.vt_log.proofs.Once.{one_log}
+use Rattle.vt_log.proofs.laws.logs_are_told_apart.Goals as goal
+
+pub returns : goal.returns
+returns c = one_log

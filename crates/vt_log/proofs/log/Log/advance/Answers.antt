@@ -1,0 +1,30 @@
+-- A commit is staged, and one of its calls is made.
+use Rattle.std.proofs.Common.{refl, subst}
+use Rattle.vt_log.specs.Whole.{IsWhole}
+use Rattle.vt_log.proofs.Advancing.{advances, stand_as_prepared, at_as_prepared, within_as_prepared, in_use}
+use Rattle.vt_log.proofs.Calls.{rest_stands}
+use Rattle.vt_log.proofs.log.Log.advance.Goals as goal
+
+pub returns-in-Some-clause-crash : goal.returns-in-Some-clause-crash
+returns-in-Some-clause-crash g c h tells sound files left = rest_stands _ _ _ _ c.args.self.now h files _ sound refl left
+
+pub returns-in-Some-clause-in_use : goal.returns-in-Some-clause-in_use
+returns-in-Some-clause-in_use g c some = in_use _ c.args.self.now (subst (IsWhole _) c.self.view_is c.self.invariant) some
+
+pub returns-then-is_empty-clause-crash : goal.returns-then-is_empty-clause-crash
+returns-then-is_empty-clause-crash g c h tells sound files left = rest_stands _ _ _ _ c.args.self.now h files _ sound refl left
+
+pub returns-clause-sound : goal.returns-clause-sound
+returns-clause-sound g c h tells sound = c.make_call.ensures.sound h tells (c.prepare.ensures.sound h sound)
+
+pub returns-clause-crash : goal.returns-clause-crash
+returns-clause-crash g c h tells sound files left =
+    stand_as_prepared _ c.args.self.now c.prepare.new.self files h c.prepare.ensures.prepares
+    (c.make_call.ensures.crash h tells (c.prepare.ensures.sound h sound) files (within_as_prepared _ c.args.self.now c.prepare.new.self _ files c.prepare.ensures.prepares left))
+
+pub returns-clause-advances : goal.returns-clause-advances
+returns-clause-advances g c = advances c.args.self.now c.prepare.new.self c.make_call.new.self c.make_call.result c.prepare.ensures.prepares c.make_call.ensures.makes c.make_call.ensures.last
+
+pub returns-clause-within : goal.returns-clause-within
+returns-clause-within g c r region before after at now =
+    c.make_call.ensures.within r region before after (at_as_prepared c.args.self.now c.prepare.new.self r region before c.prepare.ensures.prepares at) now

@@ -1,0 +1,25 @@
+-- What fits is small, since a region is.
+use Rattle.std.proofs.Common.{◌≡◌, sym, ◌∙◌, subst, ap, refl}
+use Rattle.std.proofs.lemmas.Option.{slice_get_read}
+use Rattle.vt_log.specs.Whole.{IsWhole}
+use Rattle.vt_log.specs.Log.{LogState}
+use Rattle.vt_log.proofs.Fillings.{fits_small, next_none}
+use Rattle.vt_log.proofs.log.Log.next_filling.Goals as goal
+
+pub returns-then-fits-clause-small : goal.returns-then-fits-clause-small
+returns-then-fits-clause-small g c =
+    fits_small _ _ c.self.inside.filling c.args.n (subst (IsWhole _) c.self.view_is c.self.invariant) (sym c.fits.ensures ∙ c.if-fits.true)
+
+pub returns-then-fits-2-clause-small : goal.returns-then-fits-2-clause-small
+returns-then-fits-2-clause-small g c =
+    fits_small _ _ c.of-next.result c.args.n (subst (IsWhole _) c.self.view_is c.self.invariant) (sym c.fits-2.ensures ∙ c.if-fits-2.true)
+
+pub returns-else-fits-2-clause-next : goal.returns-else-fits-2-clause-next
+returns-else-fits-2-clause-next g c =
+    let index = c.in_ok-arena.ensures in
+    let read = c.in_ok-found.ensures in
+    let heads : c.deref.result.now ≡ c.args.self.now.heads = c.deref.ensures.value ∙ ap (λ (l : LogState _). l.heads) c.self.view_is in
+    sym (next_none c.args.self.now c.self.inside.filling c.of-next.result c.args.n c.in_ok-arena.arena c.in_ok-found.found.now
+    (sym (ap (λ (l : LogState _). l.filling) c.self.view_is)) (sym index.1) (sym c.fits.ensures ∙ c.if-fits.false)
+    (rw (← heads) (slice_get_read _ _ _ _ refl read.lookup.3.0 read.lookup.1))
+    c.of-next.ensures (sym c.fits-2.ensures ∙ c.if-fits-2.false))

@@ -1,0 +1,17 @@
+use Rattle.std.proofs.Common.{length}
+use Rattle.vt_model.specs.History.{History}
+use Rattle.vt_log.specs.Committing.{Stages}
+use Rattle.vt_log.specs.Sound.{IsSound}
+use Rattle.vt_log.proofs.log.Log.stage_all.Given as goal
+
+-- some blocks are staged
+abbrev pub invariant-loop : goal.invariant-loop
+invariant-loop g l = record {
+  stages : Stages l.fn.self l.self;
+  sound : (h : History) → IsSound g.S.Scorer.score_of g.D.Disk.bytes g.D.Disk.images g.D.Disk.size l.fn.self h
+      → IsSound g.S.Scorer.score_of g.D.Disk.bytes g.D.Disk.images g.D.Disk.size l.self h;
+}
+
+-- fewer wait
+abbrev pub decreases-loop : goal.decreases-loop
+decreases-loop g l = length l.self.queue.waiting

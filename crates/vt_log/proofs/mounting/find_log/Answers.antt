@@ -1,0 +1,71 @@
+-- The disks are synced, and the arenas found.
+use Rattle.std.proofs.Common.{◌+◌, ◌*◌, List, length, map, sym, ap, subst, arith}
+use Rattle.std.specs.Prelude.{All}
+use Rattle.std.proofs.lemmas.List.Elements.{All-weaker}
+use Rattle.std.proofs.lemmas.Result.{err_from_is_err_and}
+use Rattle.vt_part.specs.declared.layout.ArenaRegion.{ArenaRegion}
+use Rattle.vt_part.specs.Layout.{layout_of}
+use Rattle.vt_part.specs.Parts.{tables_of}
+use Rattle.vt_part.proofs.Layouts.{layouts_have_lengths}
+use Rattle.vt_log.specs.Log.{disks_of}
+use Rattle.vt_log.specs.Logs.{arena_count}
+use Rattle.vt_log.specs.Whole.{IsOnDisk}
+use Rattle.vt_log.proofs.Finding.{read_then, on_held, fields_there, fields_are, settled_held, found_stands, on_ok}
+use Rattle.vt_log.proofs.Mounted.{regions_on}
+use Rattle.vt_log.proofs.mounting.find_log.Goals as goal
+
+pub returns-in_err-layout-clause-answer : goal.returns-in_err-layout-clause-answer
+returns-in_err-layout-clause-answer g c =
+    let layout = layout_of (tables_of c.args.parts.now) in
+    let files = map g.D.Disk.bytes (disks_of c.args.parts.now) in
+    let e = err_from_is_err_and c.from_residual.result c.from_residual.ensures.1 in
+    (map (fields_there files) layout, λ told. fields_are files layout, rw (e.1, e.2) (c.in_err-layout.ensures.refused layout (map (fields_there files) layout)))
+
+pub returns-in_err-sync_all-clause-answer : goal.returns-in_err-sync_all-clause-answer
+returns-in_err-sync_all-clause-answer g c =
+    let layout = layout_of (tables_of c.args.parts.now) in
+    let files = map g.D.Disk.bytes (disks_of c.args.parts.now) in
+    let e = err_from_is_err_and c.from_residual-in_err-sync_all.result c.from_residual-in_err-sync_all.ensures.1 in
+    (map (fields_there files) layout, λ told. fields_are files layout, rw (e.1, e.2, c.in_err-sync_all.ensures.fault) c.in_ok-layout.ensures.distinct)
+
+pub find_all-requires-clause-few : goal.find_all-requires-clause-few
+find_all-requires-clause-few g c =
+    omega (arith, ap (λ (rs : List ArenaRegion). length rs) c.in_ok-layout.ensures.listed, layouts_have_lengths (tables_of c.args.parts.now), c.requires.few)
+
+pub find_all-requires-clause-regions : goal.find_all-requires-clause-regions
+find_all-requires-clause-regions g c =
+    subst (All (IsOnDisk g.D.Disk.size (disks_of c.sync_all.new.parts))) (sym c.in_ok-layout.ensures.listed)
+    (All-weaker (IsOnDisk g.D.Disk.size (disks_of c.args.parts.now)) (IsOnDisk g.D.Disk.size (disks_of c.sync_all.new.parts))
+    (λ r on. on_held g.D.Disk.bytes g.D.Disk.images g.D.Disk.size (disks_of c.args.parts.now) (disks_of c.sync_all.new.parts) r c.sync_all.ensures.read.disks on)
+    (layout_of (tables_of c.args.parts.now)) (regions_on g.D.Disk.size g.met.D.Disk.size_fits c.args.parts.now c.requires.rooms))
+
+pub returns-in_err-heads-clause-read : goal.returns-in_err-heads-clause-read
+returns-in_err-heads-clause-read g c =
+    read_then g.D.Disk.tells g.D.Disk.bytes g.D.Disk.images g.D.Disk.size g.D.Disk.calls (length c.args.parts.now) (2 * length c.in_ok-layout.layout) (length c.args.parts.now + 2 * arena_count (tables_of c.args.parts.now))
+    c.args.parts.now c.sync_all.new.parts c.find_all.new.parts
+    (omega (arith, ap (λ (rs : List ArenaRegion). length rs) c.in_ok-layout.ensures.listed, layouts_have_lengths (tables_of c.args.parts.now))) c.sync_all.ensures.read c.find_all.ensures.read
+
+pub make_room-requires-clause-few : goal.make_room-requires-clause-few
+make_room-requires-clause-few g c =
+    omega (arith, ap (λ (rs : List ArenaRegion). length rs) c.in_ok-layout.ensures.listed, layouts_have_lengths (tables_of c.args.parts.now), c.requires.few)
+
+pub make_room-requires-clause-heads : goal.make_room-requires-clause-heads
+make_room-requires-clause-heads g c i r found at at_found =
+    found_stands g.D.Disk.tells g.D.Disk.bytes g.D.Disk.size (disks_of c.sync_all.new.parts) c.in_ok-layout.layout c.in_ok-heads.heads.items i r found
+    (subst (All (IsOnDisk g.D.Disk.size (disks_of c.sync_all.new.parts))) (sym c.in_ok-layout.ensures.listed)
+    (All-weaker (IsOnDisk g.D.Disk.size (disks_of c.args.parts.now)) (IsOnDisk g.D.Disk.size (disks_of c.sync_all.new.parts))
+    (λ r on. on_held g.D.Disk.bytes g.D.Disk.images g.D.Disk.size (disks_of c.args.parts.now) (disks_of c.sync_all.new.parts) r c.sync_all.ensures.read.disks on)
+    (layout_of (tables_of c.args.parts.now)) (regions_on g.D.Disk.size g.met.D.Disk.size_fits c.args.parts.now c.requires.rooms)))
+    c.in_ok-heads.ensures.found at at_found
+
+pub returns-clause-settled : goal.returns-clause-settled
+returns-clause-settled g c =
+    on_ok c.make_room.result (λ told.
+    settled_held g.D.Disk.tells g.D.Disk.bytes g.D.Disk.images g.D.Disk.size g.D.Disk.calls (disks_of c.sync_all.new.parts) (disks_of c.find_all.new.parts) c.find_all.ensures.read.disks
+    (c.in_ok-sync_all.ensures.settled told))
+
+pub returns-clause-read : goal.returns-clause-read
+returns-clause-read g c =
+    read_then g.D.Disk.tells g.D.Disk.bytes g.D.Disk.images g.D.Disk.size g.D.Disk.calls (length c.args.parts.now) (2 * length c.in_ok-layout.layout) (length c.args.parts.now + 2 * arena_count (tables_of c.args.parts.now))
+    c.args.parts.now c.sync_all.new.parts c.find_all.new.parts
+    (omega (arith, ap (λ (rs : List ArenaRegion). length rs) c.in_ok-layout.ensures.listed, layouts_have_lengths (tables_of c.args.parts.now))) c.sync_all.ensures.read c.find_all.ensures.read

@@ -1,0 +1,42 @@
+-- One more head is written.
+use Rattle.std.proofs.Common.{◌≡◌, ◌≤◌, ◌∙◌, ap, arith}
+use Rattle.vt_disk.proofs.Bytes.{same_wider}
+use Rattle.vt_part.specs.Parts.{disk_of, table_of}
+use Rattle.vt_part.specs.Table.{Table, start_of, end_of}
+use Rattle.vt_arena.specs.Layout.{InHead}
+use Rattle.vt_log.proofs.Formatted.{region_fits, head_behind, changes_wider, keeps_then, empty_more, empty_whole}
+use Rattle.vt_log.proofs.mounting.format_part.Goals as goal
+
+pub format-requires : goal.format-requires
+format-requires g c =
+    region_fits _ (table_of c.loop-arena.part) c.loop-arena.arena c.region-region.result c.region-region.ensures.table
+    (omega (arith, ap (λ (t : Table). t.count) c.loop-arena.invariant.table, c.count-arena-end.ensures.count)) c.region-region.ensures.start c.region-region.ensures.len
+    (omega (arith, ap end_of c.loop-arena.invariant.table, c.loop-arena.invariant.size, c.requires))
+
+pub loop-arena-preserved : goal.loop-arena-preserved
+loop-arena-preserved g c =
+    let t = table_of c.args.part.now in
+    let was = c.loop-arena.part in
+    let start : c.region-region.result.start ≡ start_of t c.loop-arena.arena = c.region-region.ensures.start ∙ ap (λ (u : Table). start_of u c.loop-arena.arena) c.loop-arena.invariant.table in
+    let len : c.region-region.result.len ≡ t.arena_size = c.region-region.ensures.len ∙ ap (λ (u : Table). u.arena_size) c.loop-arena.invariant.table in
+    let behind = head_behind t c.loop-arena.arena c.region-region.result start in
+    record {
+      table = c.loop-arena.invariant.table;
+      empty = λ told. empty_more t c.loop-arena.arena c.region-region.result (g.D.Disk.images (disk_of was)) (g.D.Disk.images c.format.new.disk) c.count-arena-end.ensures.table start len
+          (c.loop-arena.invariant.empty told) c.format.ensures.images (λ score_of. c.in_ok-format.ensures.empty score_of told);
+      settled = λ told some. c.in_ok-format.ensures.settled told;
+      stays = keeps_then g.D.Disk.tells g.D.Disk.bytes g.D.Disk.images (disk_of c.args.part.now) (disk_of was) c.format.new.disk c.loop-arena.invariant.stays (
+        λ told. same_wider (InHead c.region-region.result) (λ p. 8192 ≤ p) behind (g.D.Disk.bytes (disk_of was)) (g.D.Disk.bytes c.format.new.disk) (c.format.ensures.bytes told),
+        changes_wider (InHead c.region-region.result) (λ p. 8192 ≤ p) (g.D.Disk.images (disk_of was)) (g.D.Disk.images c.format.new.disk) behind c.format.ensures.images,
+      );
+      size = c.format.ensures.size ∙ c.loop-arena.invariant.size;
+      calls = λ told. omega (arith, c.format.ensures.most_calls told, c.loop-arena.invariant.calls told);
+      faults = c.in_ok-format.ensures.cause ∙ c.loop-arena.invariant.faults;
+    }
+
+pub returns-clause-empty : goal.returns-clause-empty
+returns-clause-empty g c told = record {
+  arenas = empty_whole (table_of c.args.part.now) (table_of c.loop-arena.part) c.loop-arena.arena (g.D.Disk.images (disk_of c.loop-arena.part)) c.loop-arena.invariant.table
+      (omega (arith, ap (λ (t : Table). t.count) c.loop-arena.invariant.table, c.count-arena-end.ensures.count)) (c.loop-arena.invariant.empty told);
+  settled = c.loop-arena.invariant.settled told (omega (arith, c.count-arena-end.ensures.count, c.count-arena-end.ensures.table.some));
+}

@@ -1,0 +1,92 @@
+-- What the calls of a log answer.
+use Rattle.std.specs.Prelude.{◌≡◌, ◌≢◌, ℕ, ◌+◌, ◌<◌, Some, None, Result, Ok, Err, List, [], ◌∷◌, ◌++◌, length, map, drop, slice_get}
+use Rattle.vt_base.specs.declared.place.Place.{Place}
+use Rattle.vt_clump.specs.declared.packed.Packed.{Packed}
+use Rattle.vt_clump.specs.Clumps.{stored_of}
+use Rattle.vt_disk.specs.Disk.{AreAmong}
+use Rattle.vt_twin.specs.Twin.{one_more}
+use Rattle.vt_model.specs.declared.TheConstants.{HEAD_LEN}
+use Rattle.vt_model.specs.History.{History}
+use Rattle.vt_model.specs.Places.{next_arena, place_of}
+use Rattle.vt_log.specs.declared.bad.Full.{Full}
+use Rattle.vt_log.specs.declared.bad.Progress.{Progress}
+use Rattle.vt_log.specs.declared.bad.Progress.TheVariants.{Idle, Step, Durable}
+use Rattle.vt_log.specs.declared.bad.LogErr.{LogErr}
+use Rattle.vt_log.specs.declared.bad.LogErr.TheVariants.{Fault, Stopped}
+use Rattle.vt_log.specs.declared.filling.Filling.{Filling}
+use Rattle.vt_log.specs.Log.{LogState, setup_of, queued, packed_of, next_filling, with_room_taken}
+use Rattle.vt_log.specs.Logs.{accepted}
+use Rattle.vt_log.specs.Owed.{owed}
+use Rattle.vt_log.specs.Queue.{with_block, spot_of}
+use Rattle.vt_log.specs.Sound.{IsSound}
+
+-- The block is added behind the history, in the next arena that has room, at the place where it
+-- then stands; where none has room nothing changes.
+abbrev pub Appends : {D : Type 0} → (score_of : List ℕ → List ℕ) → (bytes : D → List ℕ)
+    → (images : D → List ℕ → Type 0) → (size : D → ℕ) → (old new : LogState D) → History → Packed
+    → Result Place Full → Type 0
+Appends score_of bytes images size old new h packed (Ok place) =
+    let longer : History = h ++ accepted place.arena (stored_of packed) ∷ [] in
+    (next_arena (setup_of old) h packed.len ≡ Some place.arena)
+    × (place_of (setup_of old) longer (length h) ≡ Some (spot_of place))
+    × IsSound score_of bytes images size new longer
+Appends score_of bytes images size old new h packed (Err full) =
+    next_arena (setup_of old) h packed.len ≡ None
+
+-- what it makes of a log: the block goes to the arena that has room, behind what fills that
+pub record TakesIn {D : Type 0} (packed : Packed) (place : Place) (old new : LogState D)
+    : Type 0 where
+  pub filling : Filling
+  pub next : next_filling old packed.len ≡ Some filling
+  pub arena : place.arena ≡ filling.arena
+  pub offset : place.offset ≡ HEAD_LEN + filling.used
+  pub new_is : new ≡ record old {
+    queue = with_block (record { arena = place.arena; packed = packed }) place old.queue;
+    filling = with_room_taken packed.len filling;
+  }
+
+abbrev pub TakesOrRefuses : {D : Type 0} → Packed → (old new : LogState D) → Result Place Full
+    → Type 0
+TakesOrRefuses packed old new (Ok place) = TakesIn packed place old new
+TakesOrRefuses packed old new (Err full) =
+    (next_filling old packed.len ≡ None) × (new ≡ old)
+
+-- a device call was made that ended no commit; the queue is what it was
+pub record MakesCall {D : Type 0} (old new : LogState D) : Type 0 where
+  pub calls : new.calls ≡ one_more old.calls
+  pub heads : new.heads ≡ old.heads
+  pub durable : new.durable ≡ old.durable
+  pub packed : packed_of new ≡ packed_of old
+  pub places : new.queue.places ≡ old.queue.places
+
+-- one was made that ended a commit of so many blocks: they leave the queue, and one head changes
+pub record EndsCommit {D : Type 0} (blocks : ℕ) (old new : LogState D) : Type 0 where
+  pub calls : new.calls ≡ one_more old.calls
+  pub heads : (i : ℕ) → i ≢ old.committing → slice_get new.heads i ≡ slice_get old.heads i
+  pub durable : new.durable ≡ old.durable + blocks
+  pub packed : packed_of new ≡ drop blocks (packed_of old)
+  pub places : new.queue.places ≡ drop blocks old.queue.places
+
+-- what a call of `advance` leaves
+abbrev pub Advances : {D : Type 0} → Result Progress LogErr → (old new : LogState D) → Type 0
+Advances (Ok Idle) old new = (queued old ≡ 0) × (new ≡ old)
+Advances (Ok Step) old new =
+    MakesCall old new × (new.stopped ≡ None) × (owed new < owed old)
+Advances (Ok (Durable n)) old new =
+    EndsCommit (length old.arena.staged) old new × (new.durable ≡ n) × (new.stopped ≡ None)
+    × (owed new < owed old)
+Advances (Err Fault) old new = MakesCall old new × (new.stopped ≡ Some old.calls)
+Advances (Err (Stopped n)) old new = (old.stopped ≡ Some n) × (new ≡ old)
+
+-- every disk but that of this partition is the same
+pub record Spares {D : Type 0} (part : ℕ) (old new : List D) : Type 0 where
+  pub many : length new ≡ length old
+  pub others : (i : ℕ) → i ≢ part → slice_get new i ≡ slice_get old i
+
+-- the disks hold what they held, and a crash leaves no more of them
+pub record HoldTheSame {D : Type 0} (bytes : D → List ℕ) (images : D → List ℕ → Type 0)
+    (size : D → ℕ) (old new : List D) : Type 0 where
+  pub bytes_are : map bytes new ≡ map bytes old
+  pub sizes_are : map size new ≡ map size old
+  pub images_are : (i : ℕ) (before after : D) → slice_get old i ≡ Some before
+      → slice_get new i ≡ Some after → AreAmong (images after) (images before)

@@ -1,0 +1,44 @@
+-- The steps of a commit, between its calls.
+use Rattle.std.specs.Prelude.{◌≡◌, ◌⊎◌, ◌<◌, ◌≤◌, Bool, IsFalse, [], Some, None, Result, Ok, Err, length}
+use Rattle.vt_arena.specs.Arena.{is_committing}
+use Rattle.vt_log.specs.declared.bad.Progress.{Progress}
+use Rattle.vt_log.specs.declared.bad.Progress.TheVariants.{Idle, Step, Durable}
+use Rattle.vt_log.specs.declared.bad.LogErr.{LogErr}
+use Rattle.vt_log.specs.declared.bad.LogErr.TheVariants.{Fault, Stopped}
+use Rattle.vt_log.specs.Answers.{MakesCall, EndsCommit}
+use Rattle.vt_log.specs.Log.{LogState, packed_of}
+use Rattle.vt_log.specs.Owed.{owed}
+
+-- some of the blocks that wait are staged, and nothing else changes; between two commits
+pub record Stages {D : Type 0} (old new : LogState D) : Type 0 where
+  pub same : new ≡ record old { arena = new.arena; queue = new.queue }
+  pub places : new.queue.places ≡ old.queue.places
+  pub packed : packed_of new ≡ packed_of old
+  pub rest : IsFalse (is_committing new.arena)
+  pub sealed : new.arena.next.sealed ≡ old.arena.next.sealed
+  pub more : (new ≡ old) ⊎ (length old.arena.staged < length new.arena.staged)
+
+-- a commit is staged that adds a block or seals
+abbrev pub IsReady : {D : Type 0} → LogState D → Type 0
+IsReady l = l.arena.staged ≡ [] → l.arena.next.sealed ≡ Bool.true
+
+-- A commit is staged or under way: all that waits for the arena is staged or, where a call of the
+-- commit was made, the log is what it was.
+pub record Prepares {D : Type 0} (old new : LogState D) : Type 0 where
+  pub same : new ≡ record old { arena = new.arena; queue = new.queue }
+  pub places : new.queue.places ≡ old.queue.places
+  pub packed : packed_of new ≡ packed_of old
+  pub ready : IsReady new
+  pub owed_is : owed new ≤ owed old
+  pub begun : (new ≡ old) ⊎ IsFalse (is_committing new.arena)
+
+-- what a device call makes of a log
+abbrev pub MakesOrEnds : {D : Type 0} → Result Progress LogErr → (old new : LogState D) → Type 0
+MakesOrEnds (Ok Idle) old new = ⊥
+MakesOrEnds (Ok Step) old new =
+    MakesCall old new × (new.stopped ≡ None) × (owed new < owed old)
+MakesOrEnds (Ok (Durable n)) old new =
+    EndsCommit (length old.arena.staged) old new × (new.durable ≡ n) × (new.stopped ≡ None)
+    × (owed new < owed old)
+MakesOrEnds (Err Fault) old new = MakesCall old new × (new.stopped ≡ Some old.calls)
+MakesOrEnds (Err (Stopped n)) old new = ⊥

@@ -1,0 +1,108 @@
+-- Why a log can't be mounted, and counts of failed calls of several disks.
+use Rattle.std.specs.Prelude.{◌≡◌, ◌≢◌, ◌==◌, ◌||◌, ℕ, ◌+◌, ◌<◌, ◌≤◌, All, Bool, if◌then◌else◌, Option, Some, None, List, [], ◌∷◌, length, slice_get, map, take, slice_index, Result, Ok, Err}
+use Rattle.vt_base.specs.Faults.{HasRisen}
+use Rattle.vt_disk.specs.declared.region.Region.{Region}
+use Rattle.vt_part.specs.declared.layout.ArenaRegion.{ArenaRegion}
+use Rattle.vt_part.specs.declared.bad.PartBad.TheVariants.{Fault as PartFault, TooSmall, NotFormatted as PartNotFormatted, Torn as PartTorn, DuplicateName, NoMemory as PartNoMemory}
+use Rattle.vt_part.specs.Layout.{AreFirstNamesakes, AreDistinct}
+use Rattle.vt_arena.specs.declared.bad.ArenaBad.{ArenaBad}
+use Rattle.vt_arena.specs.declared.bad.ArenaBad.TheVariants.{Torn}
+use Rattle.vt_arena.specs.declared.head.Found.{Found}
+use Rattle.vt_arena.specs.declared.bad.Field.TheVariants.{Sealed}
+use Rattle.vt_arena.specs.Faults.{first_bad as first_bad_in}
+use Rattle.vt_arena.specs.Heads.{fields_of, sealed_in, clumps_in}
+use Rattle.vt_arena.specs.Layout.{fields_at}
+use Rattle.vt_log.specs.declared.bad.LogBad.{LogBad}
+use Rattle.vt_log.specs.declared.bad.LogBad.TheVariants.{Part, Arena, Order, Fault, NoMemory}
+use Rattle.vt_log.specs.declared.bad.Progress.{Progress}
+use Rattle.vt_log.specs.declared.bad.LogErr.{LogErr}
+use Rattle.vt_log.specs.declared.bad.LogErr.TheVariants.{Fault as LogFault, Stopped}
+use Rattle.vt_log.specs.Log.{LogState}
+use Rattle.vt_log.specs.Logs.{IsRegionOf}
+
+-- the fields of each arena's current head, as the files have them
+pub record AreFields (layout : List ArenaRegion) (files : List (List ℕ)) (fields : List (List ℕ))
+    : Type 0 where
+  pub many : length fields ≡ length layout
+  pub each : (i : ℕ) (r : ArenaRegion) (region : Region) (file : List ℕ)
+      → slice_get layout i ≡ Some r → IsRegionOf r region → slice_get files r.part ≡ Some file
+      → slice_get fields i ≡ Some (fields_at region file)
+
+-- why arena i, with these fields, can't stand behind an unsealed one
+abbrev pub out_of_order : (i : ℕ) → (fields : List ℕ) → Option LogBad
+out_of_order i fields =
+    if clumps_in fields == 0
+    then (if sealed_in fields == 0 then None else Some (Arena i (Torn Sealed 1 0)))
+    else Some (Order i (clumps_in fields))
+
+-- why it can't be mounted; `behind` is whether an unsealed one stands before it
+abbrev pub bad_arena : (behind : Bool) (i : ℕ) → Option ArenaBad → (fields : List ℕ)
+    → Option LogBad
+bad_arena behind i (Some bad) fields = Some (Arena i bad)
+bad_arena behind i None fields = if behind then out_of_order i fields else None
+
+-- the first of two that is one
+abbrev pub first_of_two : Option LogBad → Option LogBad → Option LogBad
+first_of_two (Some bad) other = Some bad
+first_of_two None other = other
+
+-- the first cause that arenas from number i on give
+abbrev pub first_bad : (behind : Bool) (i : ℕ) → List ArenaRegion → (fields : List (List ℕ))
+    → Option LogBad
+first_bad behind i [] fields = None
+first_bad behind i (r ∷ rest) [] = None
+first_bad behind i (r ∷ rest) (f ∷ fields) =
+    first_of_two (bad_arena behind i (first_bad_in r.number r.len f) f)
+    (first_bad (behind || sealed_in f == 0) (i + 1) rest fields)
+
+-- Mounting is refused for two partitions of one name or, where there are none, by the first arena
+-- that can't stand. A fault needs neither, and memory may run out before the arenas are read.
+abbrev pub RefusesMount : (names : List (List ℕ)) → List ArenaRegion → (fields : List (List ℕ))
+    → LogBad → Type 0
+RefusesMount names layout fields (Part (DuplicateName first second)) =
+    AreFirstNamesakes names first second
+RefusesMount names layout fields (Part PartFault) = ⊥
+RefusesMount names layout fields (Part (TooSmall len need)) = ⊥
+RefusesMount names layout fields (Part PartNotFormatted) = ⊥
+RefusesMount names layout fields (Part (PartTorn field found want)) = ⊥
+RefusesMount names layout fields (Part PartNoMemory) = ⊥
+RefusesMount names layout fields (Arena i bad) =
+    AreDistinct names × (first_bad Bool.false 0 layout fields ≡ Some (Arena i bad))
+RefusesMount names layout fields (Order i clumps) =
+    AreDistinct names × (first_bad Bool.false 0 layout fields ≡ Some (Order i clumps))
+RefusesMount names layout fields Fault = AreDistinct names
+RefusesMount names layout fields NoMemory = AreDistinct names
+
+-- of several counts of faults one rose, and the others stand where they stood
+pub record OneHasRisen (old new : List ℕ) : Type 0 where
+  pub many : length new ≡ length old
+  pub which : ℕ
+  pub within : which < length old
+  pub rose : HasRisen (slice_index old which) (slice_index new which)
+  pub others : (i : ℕ) → i ≢ which → slice_index new i ≡ slice_index old i
+
+-- a fault comes only where a disk's count of faults rises, and one rises only then
+abbrev pub CountsFault : LogBad → (old new : List ℕ) → Type 0
+CountsFault (Part bad) old new = new ≡ old
+CountsFault (Arena i bad) old new = new ≡ old
+CountsFault (Order i clumps) old new = new ≡ old
+CountsFault Fault old new = OneHasRisen old new
+CountsFault NoMemory old new = new ≡ old
+
+-- a call that fails lets the count of this disk alone rise, and the others none
+abbrev pub CountsFaultAt : (disk : ℕ) → Result Progress LogErr → (old new : List ℕ) → Type 0
+CountsFaultAt disk (Ok progress) old new = new ≡ old
+CountsFaultAt disk (Err LogFault) old new =
+    (it : OneHasRisen old new) × (it.which ≡ disk)
+CountsFaultAt disk (Err (Stopped n)) old new = new ≡ old
+
+-- a log that these fields give: no test of theirs fails, its heads are those that they spell, and
+-- its base is the first unsealed arena, or their count
+pub record IsMountedBy {D : Type 0} (layout : List ArenaRegion) (fields : List (List ℕ))
+    (l : LogState D) : Type 0 where
+  pub passed : first_bad Bool.false 0 layout fields ≡ None
+  pub heads : map (λ found. fields_of found.head) l.heads ≡ fields
+  pub before : All (λ found. found.head.sealed ≡ Bool.true) (take l.base l.heads)
+  pub base : (found : Found) → slice_get l.heads l.base ≡ Some found
+      → found.head.sealed ≡ Bool.false
+  pub most : l.base ≤ length layout

@@ -1,0 +1,28 @@
+-- What making partitions a log does to their disks.
+use Rattle.std.specs.Prelude.{◌≡◌, ℕ, ◌<◌, ◌≤◌, Bool, IsTrue, List}
+use Rattle.vt_disk.specs.declared.region.Region.{Region}
+use Rattle.vt_disk.specs.Disk.{SameBut, ChangesAt, Only}
+use Rattle.vt_part.specs.declared.part.Part.{Part}
+use Rattle.vt_part.specs.Parts.{disk_of, table_of}
+use Rattle.vt_part.specs.Table.{Table, start_of}
+use Rattle.vt_arena.specs.Layout.{IsArena, empty}
+
+-- in each image the first arenas of a table, so many, have no blocks
+abbrev pub AreEmpty : Table → (arenas : ℕ) → (images : List ℕ → Type 0) → Type 0
+AreEmpty t arenas images =
+    (score_of : List ℕ → List ℕ) (number : ℕ) (region : Region) (c : List ℕ) → number < arenas
+    → region.start ≡ start_of t number → region.len ≡ t.arena_size → images c
+    → IsArena score_of region number empty c
+
+-- a partition whose arenas have no blocks, and a crash leaves nothing but what a read gives
+pub record IsEmpty {D : Type 0} (bytes : D → List ℕ) (images : D → List ℕ → Type 0)
+    (part : Part D) : Type 0 where
+  pub arenas : AreEmpty (table_of part) (table_of part).count (images (disk_of part))
+  pub settled : Only (bytes (disk_of part)) (images (disk_of part))
+
+-- the block before the arenas stays, in memory and on the disk
+abbrev pub KeepsBlock : {D : Type 0} → (tells : Bool) → (bytes : D → List ℕ)
+    → (images : D → List ℕ → Type 0) → (before after : D) → Type 0
+KeepsBlock tells bytes images before after =
+    (IsTrue tells → SameBut (λ p. 8192 ≤ p) (bytes before) (bytes after))
+    × ChangesAt (λ p. 8192 ≤ p) (images before) (images after)

@@ -1,0 +1,13 @@
+pub mod Answers
+pub mod Back
+pub mod Committing
+pub mod Faults
+pub mod Log
+pub mod Logs
+pub mod Owed
+pub mod Queue
+pub mod Reading
+pub mod Sound
+pub mod Whole
+pub mod Formatting
+pub mod Mounting

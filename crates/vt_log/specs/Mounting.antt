@@ -1,0 +1,134 @@
+-- How a log is found.
+use Rattle.std.specs.Prelude.{◌≡◌, ⊤, ℕ, ◌+◌, ◌%◌, ◌≤◌, All, Bool, IsTrue, None, Some, List, length, map, sum_by, take, slice_get, Result, Ok, Err}
+use Rattle.vt_disk.specs.declared.region.Region.{Region}
+use Rattle.vt_twin.specs.Frames.{named_number}
+use Rattle.vt_part.specs.declared.layout.ArenaRegion.{ArenaRegion}
+use Rattle.vt_part.specs.declared.part.Part.{Part}
+use Rattle.vt_part.specs.Parts.{tables_of}
+use Rattle.vt_part.specs.Table.{Table}
+use Rattle.vt_arena.specs.declared.TheConstants.{FRAME_LEN}
+use Rattle.vt_arena.specs.declared.bad.ArenaBad.{ArenaBad}
+use Rattle.vt_arena.specs.declared.bad.ArenaBad.TheVariants.{Fault as ArenaFault, NotFormatted, Torn, NoMemory as ArenaNoMemory}
+use Rattle.vt_arena.specs.declared.head.ArenaHead.{ArenaHead}
+use Rattle.vt_arena.specs.declared.head.Found.{Found}
+use Rattle.vt_arena.specs.Arena.{ArenaState, fresh_arena}
+use Rattle.vt_arena.specs.Faults.{first_bad as first_bad_in, CanStand}
+use Rattle.vt_arena.specs.Heads.{fields_of}
+use Rattle.vt_arena.specs.Layout.{Content, IsArena, fields_at, head_of}
+use Rattle.vt_log.specs.declared.bad.LogBad.{LogBad}
+use Rattle.vt_log.specs.declared.bad.LogBad.TheVariants.{Part as PartRefused, Arena, Order, Fault, NoMemory}
+use Rattle.vt_log.specs.Answers.{HoldTheSame}
+use Rattle.vt_log.specs.Faults.{bad_arena, first_bad}
+use Rattle.vt_log.specs.Log.{LogState, disks_of, filled_as}
+use Rattle.vt_log.specs.Logs.{IsRegionOf}
+use Rattle.vt_log.specs.Queue.{no_queue}
+
+-- so many calls at most were made of partitions' disks, and they wrote nothing
+pub record AreRead {D : Type 0} (tells : Bool) (bytes : D → List ℕ)
+    (images : D → List ℕ → Type 0) (size calls : D → ℕ) (most : ℕ) (old new : List (Part D))
+    : Type 0 where
+  pub tables : tables_of new ≡ tables_of old
+  pub disks : HoldTheSame bytes images size (disks_of old) (disks_of new)
+  pub calls_most : IsTrue tells
+      → sum_by calls (disks_of new) ≤ sum_by calls (disks_of old) + most
+
+-- these are the fields of an arena's current head, as the files have it
+abbrev pub AreFieldsAt : (files : List (List ℕ)) → ArenaRegion → (fields : List ℕ) → Type 0
+AreFieldsAt files r fields =
+    (region : Region) (file : List ℕ) → IsRegionOf r region → slice_get files r.part ≡ Some file
+    → fields ≡ fields_at region file
+
+-- what finding arena i answers where these are its fields; `behind` is whether an unsealed one
+-- stands before it
+abbrev pub FindsNext : (behind : Bool) (i : ℕ) → ArenaRegion → (fields : List ℕ)
+    → Result Found LogBad → Type 0
+FindsNext behind i r fields (Ok found) =
+    (bad_arena behind i (first_bad_in r.number r.len fields) fields ≡ None)
+    × (fields_of found.head ≡ fields)
+FindsNext behind i r fields (Err (PartRefused bad)) = ⊥
+FindsNext behind i r fields (Err (Arena j bad)) =
+    bad_arena behind i (first_bad_in r.number r.len fields) fields ≡ Some (Arena j bad)
+FindsNext behind i r fields (Err (Order j clumps)) =
+    bad_arena behind i (first_bad_in r.number r.len fields) fields ≡ Some (Order j clumps)
+FindsNext behind i r fields (Err Fault) = ⊤
+FindsNext behind i r fields (Err NoMemory) = ⊥
+
+-- what is told of a log whose arena i can't be mounted
+abbrev pub refused_by : (i : ℕ) → ArenaBad → LogBad
+refused_by i ArenaFault = Fault
+refused_by i NotFormatted = Arena i NotFormatted
+refused_by i (Torn field found want) = Arena i (Torn field found want)
+refused_by i ArenaNoMemory = Arena i ArenaNoMemory
+
+-- what is found of an arena whose disk reads as this file
+pub record IsFound (tells : Bool) (r : ArenaRegion) (file : List ℕ) (found : Found)
+    : Type 0 where
+  pub stands : CanStand r.number r.len found.head
+  pub selector : (region : Region) → IsTrue tells → IsRegionOf r region
+      → found.selector % 2 ≡ named_number region FRAME_LEN file
+  pub head : (score_of : List ℕ → List ℕ) (region : Region) (a : Content) → IsTrue tells
+      → IsRegionOf r region → IsArena score_of region r.number a file
+      → found.head ≡ head_of score_of r.number a
+
+-- what is found of these arenas
+pub record AreFound (tells : Bool) (layout : List ArenaRegion) (files : List (List ℕ))
+    (heads : List Found) : Type 0 where
+  pub many : length heads ≡ length layout
+  pub each : (i : ℕ) (r : ArenaRegion) (file : List ℕ) (found : Found)
+      → slice_get layout i ≡ Some r → slice_get files r.part ≡ Some file
+      → slice_get heads i ≡ Some found → IsFound tells r file found
+
+-- the arenas are refused for the first one that can't stand; a fault and want of memory need none
+abbrev pub RefusesArenas : List ArenaRegion → (fields : List (List ℕ)) → LogBad → Type 0
+RefusesArenas layout fields (PartRefused bad) = ⊥
+RefusesArenas layout fields (Arena i bad) =
+    first_bad Bool.false 0 layout fields ≡ Some (Arena i bad)
+RefusesArenas layout fields (Order i clumps) =
+    first_bad Bool.false 0 layout fields ≡ Some (Order i clumps)
+RefusesArenas layout fields Fault = ⊤
+RefusesArenas layout fields NoMemory = ⊤
+
+-- they pass, and these are their heads
+pub record ArePassed (layout : List ArenaRegion) (fields : List (List ℕ)) (heads : List Found)
+    : Type 0 where
+  pub passed : first_bad Bool.false 0 layout fields ≡ None
+  pub heads_are : map (λ found. fields_of found.head) heads ≡ fields
+
+-- the arenas before this one are sealed, and it isn't, if it is there
+pub record IsFirstOpen (heads : List Found) (arena : ℕ) : Type 0 where
+  pub before : All (λ found. found.head.sealed ≡ Bool.true) (take arena heads)
+  pub at : (found : Found) → slice_get heads arena ≡ Some found
+      → found.head.sealed ≡ Bool.false
+  pub most : arena ≤ length heads
+
+-- Room to commit in an arena; where there is none of this number, it is that of an arena without
+-- blocks.
+pub record IsRoomFor (layout : List ArenaRegion) (heads : List Found) (arena : ℕ) (a : ArenaState)
+    : Type 0 where
+  pub len : ℕ
+  pub current : ℕ
+  pub head : ArenaHead
+  pub fresh : a ≡ fresh_arena len current head
+  pub there : (r : ArenaRegion) (found : Found) → slice_get layout arena ≡ Some r
+      → slice_get heads arena ≡ Some found
+      → (len ≡ r.len) × (current ≡ found.selector % 2) × (head ≡ found.head)
+  pub past : length layout ≤ arena
+      → (head.sealed ≡ Bool.false) × (head.used ≡ 0) × (head.clumps ≡ 0)
+
+-- a log that was just found
+abbrev pub found_log : {D : Type 0} → List D → List Table → List ArenaRegion → List Found
+    → (base : ℕ) → ArenaState → LogState D
+found_log disks tables layout heads base arena = record {
+  disks = disks;
+  tables = tables;
+  layout = layout;
+  heads = heads;
+  base = base;
+  committing = base;
+  arena = arena;
+  queue = no_queue;
+  filling = filled_as base arena.head;
+  durable = sum_by (λ found. found.head.clumps) heads;
+  calls = 0;
+  stopped = None;
+}

@@ -1,0 +1,99 @@
+-- What the disks of a log hold, and what a crash leaves of them.
+use Rattle.std.specs.Prelude.{◌≡◌, ◌≢◌, ◌%◌, ℕ, ◌+◌, ◌<◌, ◌≤◌, Bool, Some, List, All, length, take, drop, sum_by, slice_get}
+use Rattle.vt_base.specs.declared.place.Place.{Place}
+use Rattle.vt_disk.specs.declared.region.Region.{Region}
+use Rattle.vt_disk.specs.Disk.{WithinCall}
+use Rattle.vt_twin.specs.Frames.{named_number}
+use Rattle.vt_clump.specs.Clumps.{IsPacked}
+use Rattle.vt_model.specs.History.{History}
+use Rattle.vt_model.specs.Places.{lengths_in, current_arena, place_of}
+use Rattle.vt_part.specs.declared.layout.ArenaRegion.{ArenaRegion}
+use Rattle.vt_arena.specs.declared.TheConstants.{FRAME_LEN}
+use Rattle.vt_arena.specs.declared.head.Found.{Found}
+use Rattle.vt_arena.specs.Layout.{Content, IsArena, head_of}
+use Rattle.vt_arena.specs.Places.{block_room}
+use Rattle.vt_arena.specs.Sound.{IsSettled, IsSound as IsSoundArena}
+use Rattle.vt_log.specs.declared.filling.Filling.{Filling}
+use Rattle.vt_log.specs.Log.{LogState, setup_of, front, queue_of}
+use Rattle.vt_log.specs.Logs.{blocks_from, IsRegionOf, IsSealed, IsUntouched, StandsFor}
+use Rattle.vt_log.specs.Queue.{spot_of}
+use Rattle.vt_log.specs.Whole.{IsWhole}
+
+-- arena i has this region, on this disk
+pub record IsAt {D : Type 0} (l : LogState D) (i : ℕ) (r : ArenaRegion) (region : Region) (disk : D)
+    : Type 0 where
+  pub arena : slice_get l.layout i ≡ Some r
+  pub region_is : IsRegionOf r region
+  pub disk_is : slice_get l.disks r.part ≡ Some disk
+
+-- the arenas before the one that is committed in are sealed, it isn't, and those behind it are
+-- untouched
+pub record IsSplit (committing : ℕ) (contents : List Content) : Type 0 where
+  pub before : All IsSealed (take committing contents)
+  pub current : (a : Content) → slice_get contents committing ≡ Some a → a.sealed ≡ Bool.false
+  pub behind : All IsUntouched (drop (committing + 1) contents)
+
+-- an arena is filled by blocks of these lengths
+pub record IsFilledBy (lengths : List ℕ) (f : Filling) : Type 0 where
+  pub used : f.used ≡ sum_by block_room lengths
+  pub clumps : f.clumps ≡ length lengths
+
+-- The disks, by what they read as and by their images, are sound for a log that has accepted this
+-- history.
+pub record IsSound {D : Type 0} (score_of : List ℕ → List ℕ) (bytes : D → List ℕ)
+    (images : D → List ℕ → Type 0) (size : D → ℕ) (l : LogState D) (h : History) : Type 0 where
+  pub whole : IsWhole size l
+  -- what each arena holds
+  pub contents : List Content
+  pub many : length contents ≡ length l.layout
+  pub split : IsSplit l.committing contents
+  -- the arena that is committed in is sound; of any other a crash leaves just what is read of it
+  pub current : (r : ArenaRegion) (region : Region) (disk : D) (a : Content)
+      → IsAt l l.committing r region disk → slice_get contents l.committing ≡ Some a
+      → IsSoundArena score_of l.arena region a (bytes disk) (images disk)
+  pub others : (i : ℕ) (r : ArenaRegion) (region : Region) (disk : D) (a : Content)
+      → i ≢ l.committing → IsAt l i r region disk → slice_get contents i ≡ Some a
+      → IsSettled region (bytes disk) (images disk)
+      × IsArena score_of region r.number a (bytes disk)
+  -- the heads are those of what is committed, and behind that arena the selectors are as they are
+  -- read
+  pub heads : (i : ℕ) (r : ArenaRegion) (found : Found) (a : Content)
+      → slice_get l.layout i ≡ Some r → slice_get l.heads i ≡ Some found
+      → slice_get contents i ≡ Some a → found.head ≡ head_of score_of r.number a
+  pub selectors : (i : ℕ) (r : ArenaRegion) (region : Region) (disk : D) (found : Found)
+      → l.committing < i → IsAt l i r region disk → slice_get l.heads i ≡ Some found
+      → found.selector % 2 ≡ named_number region FRAME_LEN (bytes disk)
+  -- the history is what the arenas hold and, behind it, the queue
+  pub committed : take l.durable h ≡ blocks_from 0 contents
+  pub queued : drop l.durable h ≡ queue_of l
+  pub front : front l ≡ length h
+  pub packed : All (λ w. IsPacked score_of w.packed) l.queue.waiting
+  -- the blocks stand where the model puts them
+  pub places : (i : ℕ) (place : Place) → slice_get l.queue.places i ≡ Some place
+      → place_of (setup_of l) h (l.durable + i) ≡ Some (spot_of place)
+  pub filling : IsFilledBy (lengths_in l.filling.arena h) l.filling
+  pub last : l.filling.arena ≡ current_arena (setup_of l) h
+  pub arenas : All (λ e. e.arena ≤ l.filling.arena) h
+
+-- one file for each disk, which a crash may leave of it
+pub record AreImages {D : Type 0} (images : D → List ℕ → Type 0) (disks : List D)
+    (files : List (List ℕ)) : Type 0 where
+  pub many : length files ≡ length disks
+  pub each : (i : ℕ) (disk : D) (file : List ℕ) → slice_get disks i ≡ Some disk
+      → slice_get files i ≡ Some file → images disk file
+
+-- and which a crash may leave of it at a moment within a call that turns the one list into the
+-- other
+pub record AreWithinCall {D : Type 0} (images : D → List ℕ → Type 0) (old new : List D)
+    (files : List (List ℕ)) : Type 0 where
+  pub many : length files ≡ length old
+  pub each : (i : ℕ) (before after : D) (file : List ℕ) → slice_get old i ≡ Some before
+      → slice_get new i ≡ Some after → slice_get files i ≡ Some file
+      → WithinCall (images before) (images after) file
+
+-- the files stand for a prefix of the history that has all durable blocks
+abbrev pub StandForPrefix : {D : Type 0} → (score_of : List ℕ → List ℕ) → LogState D
+    → (files : List (List ℕ)) → History → Type 0
+StandForPrefix score_of l files h =
+    (n : ℕ) × (l.durable ≤ n) × (n ≤ length h)
+    × StandsFor score_of (setup_of l) l.layout files h n

@@ -1,0 +1,86 @@
+-- What a log in memory keeps, whatever its disks hold.
+use Rattle.std.specs.Prelude.{◌≡◌, ◌==◌, ◌^◌, ℕ, ◌+◌, ◌<◌, ◌≤◌, Bool, IsTrue, if◌then◌else◌, Some, None, List, [], ◌∷◌, All, AllPairs, length, sum_by, slice_get}
+use Rattle.vt_disk.specs.Disk.{IsAligned}
+use Rattle.vt_part.specs.declared.layout.ArenaRegion.{ArenaRegion}
+use Rattle.vt_part.specs.Laws.{IsBefore}
+use Rattle.vt_part.specs.Layout.{layout_of}
+use Rattle.vt_arena.specs.declared.head.ArenaHead.{ArenaHead}
+use Rattle.vt_arena.specs.declared.head.Found.{Found}
+use Rattle.vt_arena.specs.Arena.{ArenaState, is_committing}
+use Rattle.vt_arena.specs.Places.{IsArenaLen, directory_room, arena_room}
+use Rattle.vt_log.specs.declared.TheConstants.{QUEUE_MAX}
+use Rattle.vt_log.specs.declared.filling.Filling.{Filling}
+use Rattle.vt_log.specs.declared.queue.Waiting.{Waiting}
+use Rattle.vt_log.specs.Queue.{WaitsFor}
+use Rattle.vt_log.specs.Log.{LogState, filled_as, found_filling, fits_in, with_room_taken}
+
+-- the region lies on the disk of its partition, and an arena may have it
+pub record IsOnDisk {D : Type 0} (size : D → ℕ) (disks : List D) (r : ArenaRegion) : Type 0 where
+  pub disk : D
+  pub has : slice_get disks r.part ≡ Some disk
+  pub within : r.at + r.len ≤ size disk
+  pub small : r.at + r.len < 2 ^ 64
+  pub aligned : IsAligned r.at
+  pub len : IsArenaLen r.len
+
+-- the arena that a waiting block goes to, as it is before the block: the one that is being filled
+-- or, where the block goes to the next one, that as it was found
+abbrev pub turned_to : List Found → (arena : ℕ) → Filling → Filling
+turned_to heads arena f = if arena == f.arena then f else found_filling heads arena
+
+-- Waiting blocks lead from one filling to another: each goes to the same arena as the one before or
+-- to the next, and fits there.
+abbrev pub Fill : List ArenaRegion → List Found → (from : Filling) → List Waiting → (to : Filling)
+    → Type 0
+Fill layout heads from [] to = from ≡ to
+Fill layout heads from (w ∷ rest) to =
+    let f = turned_to heads w.arena from in
+    (from.arena ≤ w.arena) × (w.arena ≤ from.arena + 1)
+    × IsTrue (fits_in layout f w.packed.len)
+    × Fill layout heads (with_room_taken w.packed.len f) rest to
+
+-- the head has the number of this region's arena, and the region has room for what it counts
+pub record IsHeadFor (r : ArenaRegion) (head : ArenaHead) : Type 0 where
+  pub number : head.number ≡ r.number
+  pub fit : head.used + directory_room head.clumps ≤ arena_room r.len
+
+-- the arena in memory is the one of this region and this head
+pub record IsArenaOf (r : ArenaRegion) (found : Found) (a : ArenaState) : Type 0 where
+  pub len : a.len ≡ r.len
+  pub number : a.number ≡ r.number
+  pub head : a.head ≡ found.head
+
+pub record IsWhole {D : Type 0} (size : D → ℕ) (l : LogState D) : Type 0 where
+  -- the regions are those of the partitions' arenas, apart from each other, and on their disks
+  pub many_disks : length l.disks ≡ length l.tables
+  pub layout : l.layout ≡ layout_of l.tables
+  pub regions : All (IsOnDisk size l.disks) l.layout
+  pub apart : AllPairs IsBefore l.layout
+  pub few : length l.layout < 2 ^ 32
+  -- each arena has its head, with its number, and has room for what that counts
+  pub many : length l.heads ≡ length l.layout
+  pub heads : (i : ℕ) (r : ArenaRegion) (found : Found) → slice_get l.layout i ≡ Some r
+      → slice_get l.heads i ≡ Some found → IsHeadFor r found.head
+  -- from the one that is committed in on none is sealed
+  pub unsealed : (i : ℕ) (found : Found) → l.committing ≤ i → slice_get l.heads i ≡ Some found
+      → found.head.sealed ≡ Bool.false
+  -- the arena that is committed in; where there is none left, nothing is queued
+  pub base : l.base ≤ l.committing
+  pub committing : l.committing ≤ length l.layout
+  pub arena : (r : ArenaRegion) (found : Found) → slice_get l.layout l.committing ≡ Some r
+      → slice_get l.heads l.committing ≡ Some found → IsArenaOf r found l.arena
+  pub none : l.committing ≡ length l.layout
+      → (l.arena.staged ≡ []) × (l.arena.next.sealed ≡ Bool.false)
+  pub number : l.arena.next.number ≡ l.arena.number
+  pub clumps : l.arena.next.clumps ≡ l.arena.head.clumps + length l.arena.staged
+  pub runs : l.stopped ≡ None → l.arena.stopped ≡ None
+  -- a commit adds blocks or seals, and one that seals makes way for a block that waits for the next
+  -- arena
+  pub some : IsTrue (is_committing l.arena) → l.arena.staged ≡ [] → l.arena.next.sealed ≡ Bool.true
+  pub way : l.arena.next.sealed ≡ Bool.true → WaitsFor (l.committing + 1) l.queue.waiting
+  -- the queue leads from that arena, as its next commit leaves it, to the one that is being filled
+  pub queue : Fill l.layout l.heads (filled_as l.committing l.arena.next) l.queue.waiting l.filling
+  pub places : length l.queue.places ≡ length l.arena.staged + length l.queue.waiting
+  pub most : length l.queue.places ≤ QUEUE_MAX
+  -- the committed blocks are those that the heads count
+  pub durable : l.durable ≡ sum_by (λ found. found.head.clumps) l.heads

@@ -1,0 +1,222 @@
+//! Committing what is queued, one device call at a time.
+
+ghost use Rattle.std.specs.Prelude.{◌≡◌, ◌↔◌, ◌⊎◌, ◌+◌, ◌*◌, ◌<◌, ◌≤◌, ℕ, List, Some, None, Ok, Err, IsTrue, IsFalse, IsSome, IfOk, length, map, sum_by, slice_get, if◌then◌else◌};
+ghost use Rattle.vt_disk.specs.declared.region.Region.{Region};
+ghost use Rattle.vt_disk.specs.Disk.{SameBut};
+ghost use Rattle.vt_disk.specs.Region.{Inside, ChangesWithin};
+ghost use Rattle.vt_model.specs.History.{History};
+ghost use Rattle.vt_part.specs.declared.layout.ArenaRegion.{ArenaRegion};
+ghost use Rattle.vt_arena.specs.Arena.{calls_made, commit_calls, is_committing};
+
+use crate::bad::{LogErr, Progress};
+use crate::log::Log;
+use crate::queue::Queue;
+use vt_arena::Arena;
+use vt_base::Scorer;
+use vt_disk::{Disk, Region};
+use vt_twin::{Step, TwinErr};
+
+impl<D: Disk, S: Scorer> Log<D, S> {
+    ghost use Rattle.vt_log.specs.Answers.{Advances, Spares};
+    ghost use Rattle.vt_log.specs.Committing.{Stages, IsReady, Prepares, MakesOrEnds};
+    ghost use Rattle.vt_log.specs.Faults.{CountsFaultAt};
+    ghost use Rattle.vt_log.specs.Log.{LogState, queued, packed_of, disk_in_use};
+    ghost use Rattle.vt_log.specs.Queue.{WaitsFor};
+    ghost use Rattle.vt_log.specs.Owed.{owed, seal_calls};
+    ghost use Rattle.vt_log.specs.Sound.{IsSound, IsAt, AreWithinCall, StandForPrefix};
+
+    /// How many calls of `advance` are left at most until nothing is queued: at most six for each
+    /// queued block, and six. Each that makes a device call lowers it.
+    pub fn owed(&self) -> u64
+        ensures owed { result ≡ owed self.now }
+        ensures idle { (result ≡ 0) ↔ (queued self.now ≡ 0) }
+        ensures most { result ≤ 6 * queued self.now + 6 }
+    {
+        let waiting = self.queue.waiting() as u64;
+        let commit = if self.arena.is_sealing() || !self.arena.staged().is_empty() {
+            self.arena.calls_left()
+        } else {
+            0
+        };
+        commit + 6 * waiting + self.seal_calls()
+    }
+
+    /// How many calls are owed to seal the arena, beside those of a commit that is under way.
+    fn seal_calls(&self) -> u64
+        ensures { result ≡ (if self.now.arena.next.sealed then 0
+            else seal_calls self.now.committing self.now.queue.waiting) }
+    {
+        match self.queue.next_arena() {
+            Some(arena) if arena != self.committing && !self.arena.is_sealing() => 4,
+            _ => 0,
+        }
+    }
+
+    /// Makes one device call: the next one of the commit under way or, where there is none, the
+    /// first of a commit of all that waits for the same arena. Where a block waits for the next
+    /// arena, the commit seals this one.
+    ///
+    /// Idle is the answer where nothing is queued. A commit whose last call is made answers
+    /// Durable, with how many blocks are committed then; one that only seals does too.
+    pub fn advance(&mut self) -> Result<Progress, LogErr>
+        // For each history for which the disks are sound they stay so. It isn't changed.
+        ensures sound { (h : History) → IsTrue D.tells
+            → IsSound S.score_of D.bytes D.images D.size self.old h
+            → IsSound S.score_of D.bytes D.images D.size self.new h }
+
+        // A crash at any moment of the call leaves disks that, taken together, stand for a prefix
+        // of it that has all durable blocks.
+        ensures crash { (h : History) → IsTrue D.tells
+            → IsSound S.score_of D.bytes D.images D.size self.old h
+            → (files : List (List ℕ)) → AreWithinCall D.images self.old.disks self.new.disks files
+            → StandForPrefix S.score_of self.old files h }
+
+        ensures advances { Advances result self.old self.new }
+        ensures stopped { (n : ℕ)
+            → (result ≡ Err (LogErr.Stopped n)) ↔ (self.old.stopped ≡ Some n) }
+        ensures idle { self.old.stopped ≡ None → queued self.old ≡ 0 → result ≡ Ok Progress.Idle }
+        ensures kept { (self.new.layout ≡ self.old.layout) × (self.new.tables ≡ self.old.tables)
+            × (self.new.base ≡ self.old.base) × (self.new.filling ≡ self.old.filling) }
+
+        // It makes one call, of the disk in use, or none where it is idle or stopped. Nothing
+        // outside the arena's region changes.
+        ensures spares { Spares (disk_in_use self.old) self.old.disks self.new.disks }
+        ensures in_use { 0 < queued self.old → disk_in_use self.old < length self.old.disks }
+        ensures within { (r : ArenaRegion) (region : Region) (before after : D)
+            → IsAt self.old self.old.committing r region before
+            → slice_get self.new.disks r.part ≡ Some after
+            → ChangesWithin region (D.images before) (D.images after)
+            × (IsTrue D.tells → SameBut (Inside region) (D.bytes before) (D.bytes after)) }
+        ensures sizes { map D.size self.new.disks ≡ map D.size self.old.disks }
+        ensures calls { IsTrue D.tells
+            → sum_by D.calls self.new.disks ≤ sum_by D.calls self.old.disks + 1 }
+        ensures untouched { IsSome self.old.stopped ⊎ (queued self.old ≡ 0)
+            → self.new.disks ≡ self.old.disks }
+        ensures cause { CountsFaultAt (disk_in_use self.old) result
+            (map D.faults self.old.disks) (map D.faults self.new.disks) }
+    {
+        if let Some(call) = self.stopped {
+            return Err(LogErr::Stopped(call));
+        }
+        if self.queue.is_empty() {
+            return Ok(Progress::Idle);
+        }
+        self.prepare();
+        self.make_call()
+    }
+
+    /// Stages a commit, where none is under way.
+    fn prepare(&mut self)
+        requires { 0 < queued self.old }
+        ensures prepares { Prepares self.old self.new }
+        ensures sound { (h : History) → IsSound S.score_of D.bytes D.images D.size self.old h
+            → IsSound S.score_of D.bytes D.images D.size self.new h }
+    {
+        if !self.arena.is_committing() {
+            self.stage_all();
+        }
+    }
+
+    /// Stages all that waits for the arena, and asks for its seal where a block waits for the next
+    /// one.
+    fn stage_all(&mut self)
+        requires rest { IsFalse (is_committing self.old.arena) }
+        requires some { 0 < queued self.old }
+        ensures same { self.new
+            ≡ record self.old { arena = self.new.arena; queue = self.new.queue } }
+        ensures places { self.new.queue.places ≡ self.old.queue.places }
+        ensures packed { packed_of self.new ≡ packed_of self.old }
+        ensures ready { IsReady self.new }
+        ensures owed { owed self.new ≤ owed self.old }
+        ensures still { IsFalse (is_committing self.new.arena) }
+        ensures sound { (h : History) → IsSound S.score_of D.bytes D.images D.size self.old h
+            → IsSound S.score_of D.bytes D.images D.size self.new h }
+    {
+        while self.stage_next() {}
+        if self.queue.waiting() > 0 {
+            self.arena.seal();
+        }
+    }
+
+    /// Stages the block that waits longest, if it goes to the arena. Whether it did.
+    fn stage_next(&mut self) -> bool
+        requires rest { IsFalse (is_committing self.old.arena) }
+        ensures stages { Stages self.old self.new }
+        ensures fewer { IsTrue result
+            → length self.new.queue.waiting + 1 ≡ length self.old.queue.waiting }
+        ensures none { IsFalse result → (self.new ≡ self.old)
+            × ¬ WaitsFor self.old.committing self.old.queue.waiting }
+        ensures sound { (h : History) → IsSound S.score_of D.bytes D.images D.size self.old h
+            → IsSound S.score_of D.bytes D.images D.size self.new h }
+    {
+        match self.queue.take_for(self.committing) {
+            Some(packed) => {
+                self.arena.stage(&self.scorer, packed);
+                true
+            }
+            None => false,
+        }
+    }
+
+    /// Makes the next device call of the commit that is staged.
+    fn make_call(&mut self) -> Result<Progress, LogErr>
+        requires runs { self.old.stopped ≡ None }
+        requires some { 0 < queued self.old }
+        requires ready { IsReady self.old }
+        ensures sound { (h : History) → IsTrue D.tells
+            → IsSound S.score_of D.bytes D.images D.size self.old h
+            → IsSound S.score_of D.bytes D.images D.size self.new h }
+        ensures crash { (h : History) → IsTrue D.tells
+            → IsSound S.score_of D.bytes D.images D.size self.old h
+            → (files : List (List ℕ)) → AreWithinCall D.images self.old.disks self.new.disks files
+            → StandForPrefix S.score_of self.old files h }
+        ensures makes { MakesOrEnds result self.old self.new }
+        ensures last { (n : ℕ) → result ≡ Ok (Progress.Durable n)
+            → calls_made self.old.arena + 1 ≡ commit_calls self.old.arena }
+        ensures kept { (self.new.layout ≡ self.old.layout) × (self.new.tables ≡ self.old.tables)
+            × (self.new.base ≡ self.old.base) × (self.new.filling ≡ self.old.filling) }
+        ensures spares { Spares (disk_in_use self.old) self.old.disks self.new.disks }
+        ensures in_use { disk_in_use self.old < length self.old.disks }
+        ensures within { (r : ArenaRegion) (region : Region) (before after : D)
+            → IsAt self.old self.old.committing r region before
+            → slice_get self.new.disks r.part ≡ Some after
+            → ChangesWithin region (D.images before) (D.images after)
+            × (IsTrue D.tells → SameBut (Inside region) (D.bytes before) (D.bytes after)) }
+        ensures sizes { map D.size self.new.disks ≡ map D.size self.old.disks }
+        ensures calls { IsTrue D.tells
+            → sum_by D.calls self.new.disks ≤ sum_by D.calls self.old.disks + 1 }
+        ensures cause { CountsFaultAt (disk_in_use self.old) result
+            (map D.faults self.old.disks) (map D.faults self.new.disks) }
+    {
+        let call = self.calls;
+        self.calls = call.saturating_add(1);
+        let blocks = self.arena.staged().len();
+        let at = self.committing as usize;
+        let r = self.layout.as_slice()[at];
+        let region = Region {
+            start: r.at,
+            len: r.len,
+        };
+        let disk = &mut self.parts[r.part as usize].disk;
+        match self.arena.advance(disk, region) {
+            Ok(Step::More) => Ok(Progress::Step),
+            Ok(Step::Done) => {
+                self.queue.settle(blocks);
+                self.durable += blocks as u64;
+                self.heads[at].head = self.arena.head();
+                let sealed = self.arena.is_sealing();
+                if !sealed {
+                    return Ok(Progress::Durable(self.durable));
+                }
+                self.committing += 1;
+                let len = self.layout.as_slice()[at + 1].len;
+                self.arena.move_to(len, self.heads[at + 1]);
+                Ok(Progress::Durable(self.durable))
+            }
+            Err(_) => {
+                self.stopped = Some(call);
+                Err(LogErr::Fault)
+            }
+        }
+    }
+}

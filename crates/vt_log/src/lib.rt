@@ -1,0 +1,25 @@
+//! A log: the arenas of all partitions, filled and committed one after another, and before them a
+//! queue of blocks that are accepted and not yet committed.
+#![tactic(auto)]
+
+mod back;
+mod bad;
+mod committing;
+mod filling;
+mod laws;
+mod log;
+mod mounting;
+mod queue;
+mod reading;
+
+pub use back::Tail;
+pub use bad::{Full, LogBad, LogErr, Progress};
+pub use laws::{crash_gives_a_prefix, logs_are_told_apart};
+pub use log::Log;
+pub use mounting::{format, mount};
+
+/// How many blocks may be queued.
+pub const QUEUE_MAX: usize = 64;
+
+#[cfg(test)]
+mod tests;

@@ -1,0 +1,268 @@
+//! A log in memory: which arena it commits in, what is queued, and how full the arenas are.
+
+ghost use Rattle.std.specs.Prelude.{◌≡◌, ◌↔◌, ◌⊎◌, ◌+◌, ◌<◌, ◌≤◌, ◌^◌, ℕ, Bool, Some, Err, Result, IsTrue, IsFalse, OnOk, IfSome, MatchResult, is_some, length, map, sum_by, slice_get};
+ghost use Rattle.vt_disk.specs.Disk.{part as part_of};
+ghost use Rattle.vt_clump.specs.Clumps.{IsPacked};
+ghost use Rattle.vt_model.specs.History.{History};
+ghost use Rattle.vt_model.specs.Places.{next_arena};
+ghost use Rattle.vt_part.specs.declared.layout.ArenaRegion.{ArenaRegion};
+ghost use Rattle.vt_part.specs.Parts.{disk_of, tables_of};
+ghost use Rattle.vt_arena.specs.declared.head.Found.{Found};
+ghost use Rattle.vt_arena.specs.Places.{IsArenaLen, directory_room, arena_room};
+ghost use Rattle.vt_log.specs.declared.TheConstants.{QUEUE_MAX};
+
+use crate::QUEUE_MAX;
+use crate::bad::Full;
+use crate::filling::Filling;
+use crate::queue::Queue;
+use std::marker::Model;
+use vt_arena::{Arena, ArenaHead, Found, has_room};
+use vt_base::{Failed, Place, Scorer};
+use vt_clump::Packed;
+use vt_disk::{Disk, Region};
+use vt_model::HEAD_LEN;
+use vt_part::{ArenaRegion, Layout, Part};
+
+/// The arenas of all partitions as one log, in the order of the partitions, and a queue of at most
+/// 64 blocks that are accepted and not yet committed. Arenas are counted from 0, over all
+/// partitions.
+///
+/// One arena at a time is committed in: the next one's head is written only where that of the one
+/// before says on the disk that it is sealed. When a device call of a commit fails, no more are
+/// made, and what is queued can still be read.
+#[derive(Drop)]
+pub struct Log<D: Disk, S: Scorer> {
+    pub(crate) parts: Vec<Part<D>>,
+    pub(crate) scorer: S,
+    pub(crate) layout: Layout,
+    /// Each arena's head, as mounted or last committed.
+    pub(crate) heads: Vec<Found>,
+    pub(crate) base: u32,
+    pub(crate) committing: u32,
+    /// The arena that is committed in. Its room goes to the next one with it. Where every arena is
+    /// sealed, it is one of no partition.
+    pub(crate) arena: Arena,
+    pub(crate) queue: Queue,
+    pub(crate) filling: Filling,
+    pub(crate) durable: u64,
+    pub(crate) calls: u64,
+    pub(crate) stopped: Option<u64>,
+}
+
+impl<D: Disk, S: Scorer> Model for Log<D, S> {
+    ghost use Rattle.std.specs.Prelude.{map};
+    ghost use Rattle.vt_part.specs.Parts.{disk_of, tables_of};
+    ghost use Rattle.vt_log.specs.Log.{LogState};
+
+    ghost Value = { LogState D };
+
+    ghost use Rattle.vt_log.specs.Whole.{IsWhole};
+
+    ghost view = { λ l. record {
+      disks = map (λ part. disk_of part) l.parts.items;
+      tables = tables_of l.parts.items;
+      layout = l.layout;
+      heads = l.heads.items;
+      base = l.base;
+      committing = l.committing;
+      arena = l.arena;
+      queue = l.queue;
+      filling = l.filling;
+      durable = l.durable;
+      calls = l.calls;
+      stopped = l.stopped;
+    } };
+
+    ghost invariant = { λ l. IsWhole D.size (record {
+      disks = map (λ part. disk_of part) l.parts.items;
+      tables = tables_of l.parts.items;
+      layout = l.layout;
+      heads = l.heads.items;
+      base = l.base;
+      committing = l.committing;
+      arena = l.arena;
+      queue = l.queue;
+      filling = l.filling;
+      durable = l.durable;
+      calls = l.calls;
+      stopped = l.stopped;
+    }) };
+}
+
+impl<D: Disk, S: Scorer> Log<D, S> {
+    ghost use Rattle.vt_log.specs.Answers.{Appends, TakesOrRefuses, Spares, HoldTheSame};
+    ghost use Rattle.vt_log.specs.Faults.{OneHasRisen};
+    ghost use Rattle.vt_log.specs.Log.{LogState, front, queued, setup_of, has_next, next_filling, fits_in};
+    ghost use Rattle.vt_log.specs.Sound.{IsSound};
+
+    /// How many arenas there are.
+    pub fn arenas(&self) -> u32
+        ensures { result ≡ length self.now.layout }
+    {
+        self.heads.len() as u32
+    }
+
+    /// How many bytes the region of an arena has.
+    pub fn arena_len(&self, arena: u32) -> u64
+        requires { arena < length self.now.layout }
+        ensures len { (r : ArenaRegion) × (slice_get self.now.layout arena ≡ Some r)
+            × (result ≡ r.len) }
+        ensures bounds { IsArenaLen result }
+    {
+        self.layout.as_slice()[arena as usize].len
+    }
+
+    /// The head of an arena, as mounted or last committed.
+    pub fn head(&self, arena: u32) -> ArenaHead
+        requires { arena < length self.now.layout }
+        ensures head { (found : Found) × (slice_get self.now.heads arena ≡ Some found)
+            × (result ≡ found.head) }
+        ensures fit { (r : ArenaRegion) → slice_get self.now.layout arena ≡ Some r
+            → result.used + directory_room result.clumps ≤ arena_room r.len }
+    {
+        self.heads[arena as usize].head
+    }
+
+    /// Reads bytes of an arena's region, from this offset on.
+    pub fn bytes(&mut self, arena: u32, at: u64, buf: &mut [u8]) -> Result<(), Failed>
+        requires arena { arena < length self.old.layout }
+        requires within { (r : ArenaRegion) → slice_get self.old.layout arena ≡ Some r
+            → at + length buf.old ≤ r.len }
+        ensures read { OnOk result (IsTrue D.tells → (r : ArenaRegion) × (disk : D)
+            × (slice_get self.old.layout arena ≡ Some r)
+            × (slice_get self.old.disks r.part ≡ Some disk)
+            × (buf.new ≡ part_of (r.at + at) (length buf.old) (D.bytes disk))) }
+
+        // It makes one read of the arena's disk, and changes nothing.
+        ensures same { self.new ≡ record self.old { disks = self.new.disks } }
+        ensures sound { (h : History)
+            → IsSound S.score_of D.bytes D.images D.size self.old h
+            → IsSound S.score_of D.bytes D.images D.size self.new h }
+        ensures disks { HoldTheSame D.bytes D.images D.size self.old.disks self.new.disks }
+        ensures spares { (r : ArenaRegion) → slice_get self.old.layout arena ≡ Some r
+            → Spares r.part self.old.disks self.new.disks }
+        ensures calls { IsTrue D.tells
+            → sum_by D.calls self.new.disks ≤ sum_by D.calls self.old.disks + 1 }
+        ensures cause { MatchResult result
+            (λ _. map D.faults self.new.disks ≡ map D.faults self.old.disks)
+            (λ _. OneHasRisen (map D.faults self.old.disks) (map D.faults self.new.disks)) }
+    {
+        let r = self.layout.as_slice()[arena as usize];
+        let region = Region {
+            start: r.at,
+            len: r.len,
+        };
+        region.read_at(&mut self.parts[r.part as usize].disk, at, buf)
+    }
+
+    /// How many blocks were accepted.
+    pub fn front(&self) -> u64
+        ensures { result ≡ front self.now }
+    {
+        self.durable + self.queue.len() as u64
+    }
+
+    /// How many of them are committed: after a crash the log still has these.
+    pub fn durable(&self) -> u64
+        ensures { result ≡ self.now.durable }
+    {
+        self.durable
+    }
+
+    /// The first arena that wasn't sealed when the log was mounted, or their count.
+    pub fn base(&self) -> u32
+        ensures { result ≡ self.now.base }
+    {
+        self.base
+    }
+
+    /// Whether 64 blocks are queued.
+    pub fn queue_full(&self) -> bool
+        ensures full { IsTrue result ↔ (front self.now ≡ self.now.durable + QUEUE_MAX) }
+        ensures room { IsFalse result → queued self.now < QUEUE_MAX }
+        ensures most { queued self.now ≤ QUEUE_MAX }
+    {
+        self.queue.len() >= QUEUE_MAX
+    }
+
+    /// The number of the device call that stopped it, if one did. The calls are those that
+    /// `advance` made, counted from 0.
+    pub fn stopped(&self) -> Option<u64>
+        ensures { result ≡ self.now.stopped }
+    {
+        self.stopped
+    }
+
+    /// Whether a block of `n` bytes has room: in the arena that is being filled, or in the next
+    /// one.
+    pub fn room(&self, n: u32) -> bool
+        ensures room { result ≡ has_next self.now n }
+        ensures next { (h : History)
+            → IsSound S.score_of D.bytes D.images D.size self.now h
+            → result ≡ is_some (next_arena (setup_of self.now) h n) }
+    {
+        self.next_filling(n).is_some()
+    }
+
+    /// Takes a block in: it goes behind those that the arena has that is being filled or, where it
+    /// doesn't fit there, into the next one. It makes no device call.
+    pub fn append(&mut self, packed: Packed) -> Result<Place, Full>
+        requires { queued self.old < QUEUE_MAX }
+
+        // For each history for which the disks are sound, the block is added exactly where there is
+        // a next arena for it, in that arena.
+        ensures appends { (h : History) → IsPacked S.score_of packed
+            → IsSound S.score_of D.bytes D.images D.size self.old h
+            → Appends S.score_of D.bytes D.images D.size self.old self.new h packed result }
+
+        // So much holds whatever the disks have.
+        ensures takes { TakesOrRefuses packed self.old self.new result }
+    {
+        let Some(filling) = self.next_filling(packed.len) else {
+            return Err(Full);
+        };
+        let place = Place {
+            arena: filling.arena,
+            offset: (HEAD_LEN as u64 + filling.used) as u32,
+        };
+        self.filling = filling.with(packed.len);
+        self.queue.push(packed, place);
+        Ok(place)
+    }
+
+    /// How full the arena is that a block of `n` bytes goes to, before that block.
+    fn next_filling(&self, n: u32) -> Option<Filling>
+        ensures next { result ≡ next_filling self.now n }
+        ensures small { IfSome result
+            (λ f. (f.used + n + 38 < 2 ^ 31) × (f.clumps + 1 < 2 ^ 32)) }
+    {
+        let filling = self.filling;
+        if self.fits(filling, n) {
+            return Some(filling);
+        }
+        let arena = filling.arena.checked_add(1)?;
+        let found = self.heads.get(arena as usize)?;
+        let next = Filling::of(arena, &found.head);
+        if self.fits(next, n) { Some(next) } else { None }
+    }
+
+    /// Whether a block of `n` bytes fits behind what fills an arena.
+    fn fits(&self, filling: Filling, n: u32) -> bool
+        ensures { result ≡ fits_in self.now.layout filling n }
+    {
+        match self.layout.as_slice().get(filling.arena as usize) {
+            Some(r) => has_room(r.len, filling.used, filling.clumps, n),
+            None => false,
+        }
+    }
+}
+
+impl<D: Disk, S: Scorer + Drop> Log<D, S> {
+    /// Hands the partitions back. It makes no device call.
+    pub fn into_devices(self) -> Vec<Part<D>>
+        ensures disks { map (λ part. disk_of part) result.items ≡ self.disks }
+        ensures tables { tables_of result.items ≡ self.tables }
+    {
+        self.parts
+    }
+}

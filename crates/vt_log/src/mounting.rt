@@ -1,0 +1,467 @@
+//! Making partitions a log, and finding the log of partitions.
+
+ghost use Rattle.std.specs.Prelude.{◌≡◌, ◌⊎◌, ◌+◌, ◌*◌, ◌^◌, ◌<◌, ◌≤◌, [], ℕ, Bool, List, All, Some, IsTrue, IfOk, IfErr, OnOk, MatchResult, None, length, map, sum_by, slice_get};
+ghost use Rattle.vt_base.specs.Faults.{HasCause};
+ghost use Rattle.vt_disk.specs.Disk.{SameBut, ChangesAt, Only};
+ghost use Rattle.vt_model.specs.History.{History};
+ghost use Rattle.vt_part.specs.Layout.{layout_of, AreDistinct};
+ghost use Rattle.vt_part.specs.Parts.{disk_of, table_of, tables_of, names_of};
+ghost use Rattle.vt_part.specs.Table.{end_of};
+ghost use Rattle.vt_part.specs.declared.layout.ArenaRegion.{ArenaRegion};
+ghost use Rattle.vt_arena.specs.declared.head.Found.{Found};
+ghost use Rattle.vt_arena.specs.Faults.{CanStand};
+ghost use Rattle.vt_arena.specs.Heads.{fields_of};
+ghost use Rattle.vt_arena.specs.Places.{IsArenaLen};
+ghost use Rattle.vt_log.specs.Answers.{HoldTheSame};
+ghost use Rattle.vt_log.specs.Faults.{AreFields, RefusesMount, CountsFault, OneHasRisen, IsMountedBy, out_of_order};
+ghost use Rattle.vt_log.specs.Formatting.{IsEmpty, KeepsBlock};
+ghost use Rattle.vt_log.specs.Log.{IsMounted, disks_of, disks_after};
+ghost use Rattle.vt_log.specs.Logs.{IsLog, arena_count};
+ghost use Rattle.vt_log.specs.Mounting.{AreRead, AreFieldsAt, FindsNext, refused_by, IsFound, AreFound, RefusesArenas, ArePassed, IsFirstOpen, IsRoomFor};
+ghost use Rattle.vt_log.specs.Queue.{no_queue};
+ghost use Rattle.vt_log.specs.Sound.{IsSound, AreImages};
+ghost use Rattle.vt_log.specs.Whole.{IsOnDisk};
+
+use crate::bad::LogBad;
+use crate::filling::Filling;
+use crate::log::Log;
+use crate::queue::Queue;
+use std::alloc::Global;
+use vt_arena::{Arena, ArenaBad, ArenaHead, Field, Found, find};
+use vt_base::{Failed, NoMemory, Score, Scorer};
+use vt_disk::{Disk, Region};
+use vt_part::{ArenaRegion, Layout, Part, PartBad};
+
+/// The shortest length that an arena may have.
+const SHORTEST_ARENA: u64 = 32_768;
+
+/// Makes each arena of these partitions one without blocks. Its head is written and synced; other
+/// bytes stay.
+pub fn format<D: Disk>(parts: &mut [Part<D>]) -> Result<(), Failed>
+    requires rooms { All (λ part. end_of (table_of part) ≤ D.size (disk_of part)) parts.old }
+
+    // Any images taken together are a log without blocks, whose base is its first arena.
+    ensures empty { (score_of : List ℕ → List ℕ) (files : List (List ℕ)) → IsTrue D.tells
+        → AreImages D.images (disks_of parts.new) files → OnOk result
+        (IsLog score_of (layout_of (tables_of parts.old)) files [] 0) }
+    ensures settled { IsTrue D.tells
+        → OnOk result (All (λ disk. Only (D.bytes disk) (D.images disk)) (disks_of parts.new)) }
+
+    // The tables stay, in memory and on the disks.
+    ensures tables { tables_of parts.new ≡ tables_of parts.old }
+    ensures stays { (i : ℕ) (before after : D) → slice_get (disks_of parts.old) i ≡ Some before
+        → slice_get (disks_of parts.new) i ≡ Some after
+        → (IsTrue D.tells → SameBut (λ p. 8192 ≤ p) (D.bytes before) (D.bytes after))
+        × ChangesAt (λ p. 8192 ≤ p) (D.images before) (D.images after) }
+    ensures size { map D.size (disks_of parts.new) ≡ map D.size (disks_of parts.old) }
+    ensures most_calls { IsTrue D.tells → sum_by D.calls (disks_of parts.new)
+        ≤ sum_by D.calls (disks_of parts.old) + 3 * arena_count (tables_of parts.old) }
+    ensures cause { MatchResult result
+        (λ _. map D.faults (disks_of parts.new) ≡ map D.faults (disks_of parts.old))
+        (λ _. OneHasRisen (map D.faults (disks_of parts.old))
+        (map D.faults (disks_of parts.new))) }
+{
+    for part in parts.iter_mut() {
+        format_part(part)?;
+    }
+    Ok(())
+}
+
+/// Makes each arena of a partition one without blocks.
+fn format_part<D: Disk>(part: &mut Part<D>) -> Result<(), Failed>
+    requires { end_of (table_of part.old) ≤ D.size (disk_of part.old) }
+    ensures empty { IsTrue D.tells → OnOk result (IsEmpty D.bytes D.images part.new) }
+    ensures table { table_of part.new ≡ table_of part.old }
+    ensures stays { KeepsBlock D.tells D.bytes D.images (disk_of part.old) (disk_of part.new) }
+    ensures size { D.size (disk_of part.new) ≡ D.size (disk_of part.old) }
+    ensures most_calls { IsTrue D.tells → D.calls (disk_of part.new)
+        ≤ D.calls (disk_of part.old) + 3 * (table_of part.old).count }
+    ensures cause { HasCause result (D.faults (disk_of part.old)) (D.faults (disk_of part.new)) }
+{
+    for arena in 0..part.count() {
+        let region = part.region(arena);
+        vt_arena::format(&mut part.disk, region, arena)?;
+    }
+    Ok(())
+}
+
+/// Finds the log of these partitions. It syncs each disk, since only what was synced names the
+/// heads for good, and then reads the head of each arena. A refusal hands the partitions back.
+///
+/// An arena with blocks that stands behind an unsealed one is refused, and so is a sealed one
+/// there.
+pub fn mount<D: Disk, S: Scorer + Drop>(
+    alloc: Global,
+    mut parts: Vec<Part<D>>,
+    scorer: S,
+) -> Result<Log<D, S>, (LogBad, Vec<Part<D>>)>
+    requires many { length parts.items < 2 ^ 32 }
+    requires few { arena_count (tables_of parts.items) < 2 ^ 32 }
+    requires rooms { All (λ part. end_of (table_of part) ≤ D.size (disk_of part)) parts.items }
+
+    // The log that is there is found, with exactly its history and its base.
+    ensures found { (h : History) (base : ℕ) → IsTrue D.tells → AreDistinct (names_of parts.items)
+        → IsLog S.score_of (layout_of (tables_of parts.items))
+        (map D.bytes (disks_of parts.items)) h base
+        → MatchResult result (λ log. IsSound S.score_of D.bytes D.images D.size log h
+        × (log.base ≡ base) × (log.durable ≡ length h))
+        (λ refusal. (refusal.0 ≡ LogBad.Fault) ⊎ (refusal.0 ≡ LogBad.NoMemory)) }
+    ensures mounted { IfOk result IsMounted }
+    ensures layout { IfOk result (λ log. (log.layout ≡ layout_of (tables_of parts.items))
+        × (log.tables ≡ tables_of parts.items)) }
+
+    // Each refusal comes exactly where its test is the first to fail.
+    ensures distinct { IfOk result (λ _. AreDistinct (names_of parts.items)) }
+    ensures answer { (fields : List (List ℕ)) × (IsTrue D.tells
+        → AreFields (layout_of (tables_of parts.items)) (map D.bytes (disks_of parts.items)) fields)
+        × MatchResult result (λ log. IsMountedBy (layout_of (tables_of parts.items)) fields log)
+        (λ refusal. RefusesMount (names_of parts.items) (layout_of (tables_of parts.items)) fields
+        refusal.0) }
+
+    // It writes nothing, and syncs each disk and reads each head once.
+    ensures handed_back { IfErr result (λ refusal. tables_of refusal.1.items
+        ≡ tables_of parts.items) }
+    ensures settled { IfOk result (λ log. IsTrue D.tells
+        → All (λ disk. Only (D.bytes disk) (D.images disk)) log.disks) }
+    ensures disks { HoldTheSame D.bytes D.images D.size (disks_of parts.items)
+        (disks_after result) }
+    ensures most_calls { IsTrue D.tells → sum_by D.calls (disks_after result)
+        ≤ sum_by D.calls (disks_of parts.items) + length parts.items
+        + 2 * arena_count (tables_of parts.items) }
+    ensures cause { MatchResult result
+        (λ log. map D.faults log.disks ≡ map D.faults (disks_of parts.items))
+        (λ refusal. CountsFault refusal.0 (map D.faults (disks_of parts.items))
+        (map D.faults (disks_of refusal.1.items))) }
+{
+    match find_log(alloc, &mut parts) {
+        Ok(opened) => Ok(opened.into_log(parts, scorer)),
+        Err(bad) => Err((bad, parts)),
+    }
+}
+
+/// What was found of a log, and room for its calls.
+#[derive(Drop)]
+struct Opened {
+    layout: Layout,
+    heads: Vec<Found>,
+    base: u32,
+    arena: Arena,
+    queue: Queue,
+}
+
+impl Opened {
+    ghost use Rattle.vt_log.specs.Mounting.{found_log};
+    ghost use Rattle.vt_log.specs.Queue.{no_queue};
+    ghost use Rattle.vt_log.specs.Whole.{IsWhole};
+
+    fn into_log<D: Disk, S: Scorer>(self, parts: Vec<Part<D>>, scorer: S) -> Log<D, S>
+        requires queue { self.queue ≡ no_queue }
+        requires whole { IsWhole D.size (found_log (disks_of parts.items) (tables_of parts.items)
+            self.layout self.heads.items self.base self.arena) }
+        ensures { result ≡ found_log (disks_of parts.items) (tables_of parts.items)
+            self.layout self.heads.items self.base self.arena }
+    {
+        let Opened {
+            layout,
+            heads,
+            base,
+            arena,
+            queue,
+        } = self;
+        let durable = blocks_in(&heads);
+        let filling = Filling::of(base, &arena.head());
+        Log {
+            parts,
+            scorer,
+            layout,
+            heads,
+            base,
+            committing: base,
+            arena,
+            queue,
+            filling,
+            durable,
+            calls: 0,
+            stopped: None,
+        }
+    }
+}
+
+/// How many blocks arenas with these heads have.
+fn blocks_in(heads: &[Found]) -> u64
+    requires { length heads.now < 2 ^ 32 }
+    ensures { result ≡ sum_by (λ found. found.head.clumps) heads.now }
+{
+    let mut blocks = 0;
+    for found in heads {
+        blocks += u64::from(found.head.clumps);
+    }
+    blocks
+}
+
+/// Finds the log, and makes room.
+fn find_log<D: Disk>(alloc: Global, parts: &mut [Part<D>]) -> Result<Opened, LogBad>
+    requires many { length parts.old < 2 ^ 32 }
+    requires few { arena_count (tables_of parts.old) < 2 ^ 32 }
+    requires rooms { All (λ part. end_of (table_of part) ≤ D.size (disk_of part)) parts.old }
+    ensures distinct { OnOk result (AreDistinct (names_of parts.old)) }
+    ensures answer { (fields : List (List ℕ)) × (IsTrue D.tells
+        → AreFields (layout_of (tables_of parts.old)) (map D.bytes (disks_of parts.old)) fields)
+        × MatchResult result
+        (λ it. ArePassed (layout_of (tables_of parts.old)) fields it.heads.items)
+        (λ bad. RefusesMount (names_of parts.old) (layout_of (tables_of parts.old)) fields bad) }
+    ensures found { IfOk result (λ it. AreFound D.tells (layout_of (tables_of parts.old))
+        (map D.bytes (disks_of parts.old)) it.heads.items) }
+    ensures layout { IfOk result (λ it. it.layout ≡ layout_of (tables_of parts.old)) }
+    ensures base { IfOk result (λ it. IsFirstOpen it.heads.items it.base) }
+    ensures arena { IfOk result
+        (λ it. IsRoomFor (layout_of (tables_of parts.old)) it.heads.items it.base it.arena) }
+    ensures queue { IfOk result (λ it. it.queue ≡ no_queue) }
+    ensures settled { OnOk result (IsTrue D.tells
+        → All (λ disk. Only (D.bytes disk) (D.images disk)) (disks_of parts.new)) }
+    ensures read { AreRead D.tells D.bytes D.images D.size D.calls
+        (length parts.old + 2 * arena_count (tables_of parts.old)) parts.old parts.new }
+    ensures cause { MatchResult result
+        (λ _. map D.faults (disks_of parts.new) ≡ map D.faults (disks_of parts.old))
+        (λ bad. CountsFault bad (map D.faults (disks_of parts.old))
+        (map D.faults (disks_of parts.new))) }
+{
+    let layout = list(alloc, parts)?;
+    sync_all(parts)?;
+    let heads = find_all(alloc, parts, &layout)?;
+    make_room(alloc, layout, heads)
+}
+
+/// The regions of all arenas.
+fn list<D>(alloc: Global, parts: &[Part<D>]) -> Result<Layout, LogBad>
+    requires { length parts.now < 2 ^ 32 }
+    ensures listed { IfOk result (λ layout. layout ≡ layout_of (tables_of parts.now)) }
+    ensures distinct { OnOk result (AreDistinct (names_of parts.now)) }
+    ensures refused { (layout : List ArenaRegion) (fields : List (List ℕ))
+        → IfErr result (RefusesMount (names_of parts.now) layout fields) }
+    ensures cause { (counts : List ℕ) → IfErr result (λ bad. CountsFault bad counts counts) }
+{
+    match vt_part::list(alloc, parts) {
+        Ok(layout) => Ok(layout),
+        Err(PartBad::NoMemory) => Err(LogBad::NoMemory),
+        Err(bad) => Err(LogBad::Part(bad)),
+    }
+}
+
+/// Syncs each disk.
+fn sync_all<D: Disk>(parts: &mut [Part<D>]) -> Result<(), LogBad>
+    ensures settled { OnOk result (IsTrue D.tells
+        → All (λ disk. Only (D.bytes disk) (D.images disk)) (disks_of parts.new)) }
+    ensures fault { IfErr result (λ bad. bad ≡ LogBad.Fault) }
+    ensures read { AreRead D.tells D.bytes D.images D.size D.calls (length parts.old)
+        parts.old parts.new }
+    ensures cause { MatchResult result
+        (λ _. map D.faults (disks_of parts.new) ≡ map D.faults (disks_of parts.old))
+        (λ bad. CountsFault bad (map D.faults (disks_of parts.old))
+        (map D.faults (disks_of parts.new))) }
+{
+    for part in parts.iter_mut() {
+        part.disk.sync()?;
+    }
+    Ok(())
+}
+
+/// Finds each arena, and tests that they are in order.
+fn find_all<D: Disk>(
+    alloc: Global,
+    parts: &mut [Part<D>],
+    layout: &Layout,
+) -> Result<Vec<Found>, LogBad>
+    requires few { length layout.now < 2 ^ 32 }
+    requires regions { All (IsOnDisk D.size (disks_of parts.old)) layout.now }
+    ensures answer { (fields : List (List ℕ)) × (IsTrue D.tells
+        → AreFields layout.now (map D.bytes (disks_of parts.old)) fields)
+        × MatchResult result (λ heads. ArePassed layout.now fields heads.items)
+        (λ bad. RefusesArenas layout.now fields bad) }
+    ensures found { IfOk result (λ heads. AreFound D.tells layout.now
+        (map D.bytes (disks_of parts.old)) heads.items) }
+    ensures read { AreRead D.tells D.bytes D.images D.size D.calls (2 * length layout.now)
+        parts.old parts.new }
+    ensures cause { MatchResult result
+        (λ _. map D.faults (disks_of parts.new) ≡ map D.faults (disks_of parts.old))
+        (λ bad. CountsFault bad (map D.faults (disks_of parts.old))
+        (map D.faults (disks_of parts.new))) }
+{
+    let regions = layout.as_slice();
+    let Ok(mut heads) = Vec::with_capacity(alloc, regions.len()) else {
+        return Err(LogBad::NoMemory);
+    };
+    let mut behind = false;
+    for i in 0..regions.len() {
+        let found = find_next(parts, regions[i], i as u32, behind)?;
+        behind = behind || !found.head.sealed;
+        let Ok(()) = heads.push(found) else {
+            return Err(LogBad::NoMemory);
+        };
+    }
+    Ok(heads)
+}
+
+/// Finds an arena, and tests that it may stand behind an unsealed one, if it does.
+fn find_next<D: Disk>(
+    parts: &mut [Part<D>],
+    r: ArenaRegion,
+    arena: u32,
+    behind: bool,
+) -> Result<Found, LogBad>
+    requires { IsOnDisk D.size (disks_of parts.old) r }
+    ensures answer { (fields : List ℕ)
+        × (IsTrue D.tells → AreFieldsAt (map D.bytes (disks_of parts.old)) r fields)
+        × FindsNext behind arena r fields result }
+    ensures found { IfOk result (λ found. (disk : D) → slice_get (disks_of parts.old) r.part
+        ≡ Some disk → IsFound D.tells r (D.bytes disk) found) }
+    ensures read { AreRead D.tells D.bytes D.images D.size D.calls 2 parts.old parts.new }
+    ensures cause { MatchResult result
+        (λ _. map D.faults (disks_of parts.new) ≡ map D.faults (disks_of parts.old))
+        (λ bad. CountsFault bad (map D.faults (disks_of parts.old))
+        (map D.faults (disks_of parts.new))) }
+{
+    let found = find_arena(parts, r, arena)?;
+    if behind {
+        check_order(arena, &found.head)?;
+    }
+    Ok(found)
+}
+
+/// Finds one arena.
+fn find_arena<D: Disk>(parts: &mut [Part<D>], r: ArenaRegion, arena: u32) -> Result<Found, LogBad>
+    requires { IsOnDisk D.size (disks_of parts.old) r }
+    ensures answer { (fields : List ℕ)
+        × (IsTrue D.tells → AreFieldsAt (map D.bytes (disks_of parts.old)) r fields)
+        × FindsNext Bool.false arena r fields result }
+    ensures found { IfOk result (λ found. (disk : D) → slice_get (disks_of parts.old) r.part
+        ≡ Some disk → IsFound D.tells r (D.bytes disk) found) }
+    ensures read { AreRead D.tells D.bytes D.images D.size D.calls 2 parts.old parts.new }
+    ensures cause { MatchResult result
+        (λ _. map D.faults (disks_of parts.new) ≡ map D.faults (disks_of parts.old))
+        (λ bad. CountsFault bad (map D.faults (disks_of parts.old))
+        (map D.faults (disks_of parts.new))) }
+{
+    let region = Region {
+        start: r.at,
+        len: r.len,
+    };
+    match find(&mut parts[r.part as usize].disk, region, r.number) {
+        Ok(found) => Ok(found),
+        Err(bad) => Err(refused(arena, bad)),
+    }
+}
+
+/// Why a log can't be mounted, where this is why its arena of this number can't.
+fn refused(arena: u32, bad: ArenaBad) -> LogBad
+    ensures { result ≡ refused_by arena bad }
+{
+    match bad {
+        ArenaBad::Fault => LogBad::Fault,
+        _ => LogBad::Arena { arena, bad },
+    }
+}
+
+/// Tests that an arena behind an unsealed one has no blocks, and isn't sealed.
+fn check_order(arena: u32, head: &ArenaHead) -> Result<(), LogBad>
+    ensures order { MatchResult result (λ _. out_of_order arena (fields_of head.now) ≡ None)
+        (λ bad. out_of_order arena (fields_of head.now) ≡ Some bad) }
+    ensures cause { (counts : List ℕ) → IfErr result (λ bad. CountsFault bad counts counts) }
+{
+    if head.clumps > 0 {
+        return Err(LogBad::Order {
+            arena,
+            clumps: head.clumps,
+        });
+    }
+    if head.sealed {
+        return Err(LogBad::Arena {
+            arena,
+            bad: ArenaBad::Torn {
+                field: Field::Sealed,
+                found: 1,
+                want: 0,
+            },
+        });
+    }
+    Ok(())
+}
+
+/// Makes room for the calls of a log.
+fn make_room(alloc: Global, layout: Layout, heads: Vec<Found>) -> Result<Opened, LogBad>
+    requires few { length layout < 2 ^ 32 }
+    requires many { length heads.items ≡ length layout }
+    requires heads { (i : ℕ) (r : ArenaRegion) (found : Found) → slice_get layout i ≡ Some r
+        → slice_get heads.items i ≡ Some found
+        → IsArenaLen r.len × CanStand r.number r.len found.head }
+    ensures layout { IfOk result (λ it. it.layout ≡ layout) }
+    ensures heads { IfOk result (λ it. it.heads.items ≡ heads.items) }
+    ensures base { IfOk result (λ it. IsFirstOpen heads.items it.base) }
+    ensures arena { IfOk result (λ it. IsRoomFor layout heads.items it.base it.arena) }
+    ensures queue { IfOk result (λ it. it.queue ≡ no_queue) }
+    ensures memory { IfErr result (λ bad. bad ≡ LogBad.NoMemory) }
+{
+    let base = first_unsealed(&heads);
+    let Ok(arena) = room_for(alloc, &layout, &heads, base) else {
+        return Err(LogBad::NoMemory);
+    };
+    let Ok(queue) = Queue::new(alloc) else {
+        return Err(LogBad::NoMemory);
+    };
+    Ok(Opened {
+        layout,
+        heads,
+        base: base as u32,
+        arena,
+        queue,
+    })
+}
+
+/// The number of the first arena that isn't sealed, or their count.
+fn first_unsealed(heads: &[Found]) -> usize
+    ensures { IsFirstOpen heads.now result }
+{
+    for (i, found) in heads.iter().enumerate() {
+        if !found.head.sealed {
+            return i;
+        }
+    }
+    heads.len()
+}
+
+/// Room to commit in an arena. Where there is none, it is that of an arena without blocks.
+fn room_for(
+    alloc: Global,
+    layout: &Layout,
+    heads: &[Found],
+    arena: usize,
+) -> Result<Arena, NoMemory>
+    requires many { length heads.now ≡ length layout.now }
+    requires heads { (r : ArenaRegion) (found : Found) → slice_get layout.now arena ≡ Some r
+        → slice_get heads.now arena ≡ Some found
+        → IsArenaLen r.len × CanStand r.number r.len found.head }
+    ensures { IfOk result (λ a. IsRoomFor layout.now heads.now arena a) }
+{
+    if arena >= heads.len() {
+        return Arena::resume(alloc, SHORTEST_ARENA, no_arena());
+    }
+    Arena::resume(alloc, layout.as_slice()[arena].len, heads[arena])
+}
+
+/// An arena without blocks.
+fn no_arena() -> Found
+    ensures { (result.head.sealed ≡ Bool.false) × (result.head.used ≡ 0)
+        × (result.head.clumps ≡ 0) }
+{
+    Found {
+        head: ArenaHead {
+            version: 1,
+            number: 0,
+            sealed: false,
+            clumps: 0,
+            used: 0,
+            chain: Score([0; 20]),
+        },
+        selector: 0,
+    }
+}

@@ -1,0 +1,204 @@
+//! Reading a block.
+
+ghost use Rattle.std.specs.Prelude.{◌≡◌, ◌≢◌, ◌⊎◌, ◌∷◌, ◌++◌, ◌+◌, ◌-◌, ◌<◌, ◌≤◌, ⊤, ℕ, List, Some, Ok, Err, Result, IsTrue, IfOk, IfErr, OnOk, MatchResult, length, map, sum_by, drop, slice_get};
+ghost use Rattle.vt_disk.specs.declared.region.Region.{Region};
+ghost use Rattle.vt_clump.specs.declared.packed.Packed.{Packed};
+ghost use Rattle.vt_clump.specs.Spelling.{Stored};
+ghost use Rattle.vt_clump.specs.Clumps.{IsRead};
+ghost use Rattle.vt_model.specs.declared.TheConstants.{HEAD_LEN, CLUMP_HEADER_LEN};
+ghost use Rattle.vt_model.specs.History.{Accepted, History};
+ghost use Rattle.vt_model.specs.Places.{place_of};
+ghost use Rattle.vt_part.specs.declared.layout.ArenaRegion.{ArenaRegion};
+ghost use Rattle.vt_arena.specs.Layout.{Content, IsContent, HasBlocks};
+ghost use Rattle.vt_arena.specs.Places.{offset_of};
+ghost use Rattle.vt_arena.specs.Reading.{HasHeader, clump_at, ReadsAs as ReadsClump};
+ghost use Rattle.vt_log.specs.Reading.{IsDamagedBy};
+
+use crate::log::Log;
+use std::alloc::Global;
+use std::sync::ledger::Ledger;
+use vt_arena::ReadBad;
+use vt_base::{Bytes, FieldValue, Key, Kind, Place, Score, Scorer};
+use vt_clump::{Clump, HEADER_LEN, Packed};
+use vt_disk::{Disk, Region};
+use vt_steps::Steps;
+
+impl<D: Disk, S: Scorer> Log<D, S> {
+    ghost use Rattle.vt_log.specs.Answers.{Spares, HoldTheSame};
+    ghost use Rattle.vt_log.specs.Log.{LogState, setup_of, packed_of};
+    ghost use Rattle.vt_log.specs.Queue.{IsFirstAt, IsNowhere, spot_of};
+    ghost use Rattle.vt_log.specs.Reading.{GivesPacked, ReadsAs, CountsFault};
+    ghost use Rattle.vt_log.specs.Sound.{IsSound, IsAt};
+
+    /// Reads the block with this key that stands at this place. A queued block is given from the
+    /// queue, without a device call. Else one clump is read from its disk, and counted as one step.
+    ///
+    /// Damaged says by what value the place, the clump or its key differs from what was wanted: of an
+    /// arena that isn't there, that the last one was, or 0 where there is none.
+    pub fn read<L: Ledger>(
+        &mut self,
+        alloc: Global,
+        place: Place,
+        key: &Key,
+        steps: &mut Steps<L>,
+    ) -> Result<Bytes, ReadBad>
+        // Each accepted block is given, by its place and key.
+        ensures block { (h : History) (i : ℕ) (e : Accepted) → IsTrue D.tells
+            → IsSound S.score_of D.bytes D.images D.size self.old h
+            → slice_get h i ≡ Some e → place_of (setup_of self.old) h i ≡ Some (spot_of place)
+            → key.now.kind ≡ e.block.kind → key.now.score.0 ≡ S.score_of e.block.bytes
+            → MatchResult result (λ block. block ≡ e.block.bytes)
+            (λ bad. (bad ≡ ReadBad.Fault) ⊎ (bad ≡ ReadBad.NoMemory)) }
+
+        // For any place and key the answer is what stands in the queue or, where nothing queued has
+        // the place, on the disk.
+        ensures queued { (i : ℕ) → IsFirstAt self.old.queue.places place i → (p : Packed)
+            × (slice_get (packed_of self.old) i ≡ Some p) × GivesPacked key.now p result }
+        ensures nowhere { IsNowhere self.old.queue.places place
+            → length self.old.layout ≤ place.arena → result ≡ Err (ReadBad.Damaged
+            (FieldValue.Number (length self.old.layout - 1)) (FieldValue.Number place.arena)) }
+        ensures outside { (r : ArenaRegion) → IsNowhere self.old.queue.places place
+            → slice_get self.old.layout place.arena ≡ Some r → ¬ HasHeader r.len place.offset
+            → (result ≡ Err (ReadBad.Damaged
+            (FieldValue.Number HEAD_LEN) (FieldValue.Number place.offset)))
+            × (self.new ≡ self.old) }
+        ensures stored { (r : ArenaRegion) (region : Region) (disk : D)
+            → IsNowhere self.old.queue.places place → IsAt self.old place.arena r region disk
+            → HasHeader r.len place.offset → (bytes : List ℕ) × (IsTrue D.tells
+            → bytes ≡ clump_at region place.offset (D.bytes disk))
+            × ReadsAs S.score_of key.now bytes result }
+        ensures whole { IfOk result (λ block. length block ≤ 57344) }
+
+        // One step is counted where an arena is there to read a clump from, and none else. It makes
+        // two reads at most, and changes nothing.
+        ensures cost { IsNowhere self.old.queue.places place
+            → place.arena < length self.old.layout → steps.new ≡ steps.old + 1 }
+        ensures free { ((i : ℕ) × IsFirstAt self.old.queue.places place i)
+            ⊎ (length self.old.layout ≤ place.arena)
+            → (steps.new ≡ steps.old) × (self.new ≡ self.old) }
+        ensures same { self.new ≡ record self.old { disks = self.new.disks } }
+        ensures sound { (h : History)
+            → IsSound S.score_of D.bytes D.images D.size self.old h
+            → IsSound S.score_of D.bytes D.images D.size self.new h }
+        ensures disks { HoldTheSame D.bytes D.images D.size self.old.disks self.new.disks }
+        ensures spares { (r : ArenaRegion) → slice_get self.old.layout place.arena ≡ Some r
+            → Spares r.part self.old.disks self.new.disks }
+        ensures calls { IsTrue D.tells
+            → sum_by D.calls self.new.disks ≤ sum_by D.calls self.old.disks + 2 }
+        ensures cause { MatchResult result
+            (λ _. map D.faults self.new.disks ≡ map D.faults self.old.disks)
+            (λ bad. CountsFault bad (map D.faults self.old.disks)
+            (map D.faults self.new.disks)) }
+    {
+        if let Some(index) = self.queue.find(place) {
+            return copy_queued(alloc, self.packed(index), key);
+        }
+        let arenas = self.arenas();
+        if place.arena >= arenas {
+            return Err(ReadBad::Damaged {
+                want: FieldValue::Number(u128::from(arenas.saturating_sub(1))),
+                found: FieldValue::Number(u128::from(place.arena)),
+            });
+        }
+        steps.tick();
+        let clump = match self.read_clump(alloc, place) {
+            Ok(clump) => clump,
+            Err(bad) => return Err(bad),
+        };
+        match check_key(key, clump.kind, clump.score) {
+            Ok(()) => Ok(clump.bytes),
+            Err(bad) => Err(bad),
+        }
+    }
+
+    /// Reads the clump at a place of an arena.
+    fn read_clump(&mut self, alloc: Global, place: Place) -> Result<Clump, ReadBad>
+        requires { place.arena < length self.old.layout }
+        ensures outside { (r : ArenaRegion) → slice_get self.old.layout place.arena ≡ Some r
+            → ¬ HasHeader r.len place.offset → (result ≡ Err (ReadBad.Damaged
+            (FieldValue.Number HEAD_LEN) (FieldValue.Number place.offset)))
+            × (self.new ≡ self.old) }
+        ensures stored { (r : ArenaRegion) (region : Region) (disk : D)
+            → IsAt self.old place.arena r region disk → HasHeader r.len place.offset
+            → (bytes : List ℕ)
+            × (IsTrue D.tells → bytes ≡ clump_at region place.offset (D.bytes disk))
+            × ReadsClump S.score_of bytes result }
+        ensures committed { (r : ArenaRegion) (region : Region) (disk : D) (a : Content)
+            (before behind : List Stored) (s : Stored) → IsTrue D.tells
+            → IsAt self.old place.arena r region disk → IsContent S.score_of region.len a
+            → HasBlocks region a.stored (D.bytes disk) → a.stored ≡ before ++ s ∷ behind
+            → place.offset ≡ offset_of before → MatchResult result (IsRead s)
+            (λ bad. (bad ≡ ReadBad.Fault) ⊎ (bad ≡ ReadBad.NoMemory)) }
+        ensures whole { IfOk result (λ clump. length clump.bytes ≤ 57344) }
+        ensures same { self.new ≡ record self.old { disks = self.new.disks } }
+        ensures sound { (h : History)
+            → IsSound S.score_of D.bytes D.images D.size self.old h
+            → IsSound S.score_of D.bytes D.images D.size self.new h }
+        ensures disks { HoldTheSame D.bytes D.images D.size self.old.disks self.new.disks }
+        ensures spares { (r : ArenaRegion) → slice_get self.old.layout place.arena ≡ Some r
+            → Spares r.part self.old.disks self.new.disks }
+        ensures calls { IsTrue D.tells
+            → sum_by D.calls self.new.disks ≤ sum_by D.calls self.old.disks + 2 }
+        ensures cause { MatchResult result
+            (λ _. map D.faults self.new.disks ≡ map D.faults self.old.disks)
+            (λ bad. CountsFault bad (map D.faults self.old.disks)
+            (map D.faults self.new.disks)) }
+    {
+        let r = self.layout.as_slice()[place.arena as usize];
+        let region = Region {
+            start: r.at,
+            len: r.len,
+        };
+        let disk = &mut self.parts[r.part as usize].disk;
+        vt_arena::read(alloc, disk, region, u64::from(place.offset), &self.scorer)
+    }
+
+    /// A queued clump, counted from the first one.
+    pub(crate) fn packed(&self, index: usize) -> &Packed
+        requires { index < length self.now.queue.places }
+        ensures { slice_get (packed_of self.now) index ≡ Some result.now }
+    {
+        let staged = self.arena.staged();
+        if index < staged.len() {
+            &staged[index]
+        } else {
+            self.queue.waiting_block(index - staged.len())
+        }
+    }
+}
+
+/// The block of a queued clump, if it has this key.
+fn copy_queued(alloc: Global, packed: &Packed, key: &Key) -> Result<Bytes, ReadBad>
+    ensures key { IfOk result (λ _. (packed.now.kind ≡ key.now.kind)
+        × (packed.now.score ≡ key.now.score)) }
+    ensures block { IfOk result (λ block. block ≡ drop CLUMP_HEADER_LEN packed.now.bytes) }
+    ensures whole { IfOk result (λ block. length block ≤ 57344) }
+    ensures other { IfErr result (λ bad. (bad ≡ ReadBad.NoMemory)
+        ⊎ IsDamagedBy key.now packed.now.kind packed.now.score.0 bad) }
+{
+    check_key(key, packed.kind, packed.score)?;
+    match Bytes::copy_of(alloc, &packed.bytes.as_slice()[HEADER_LEN..]) {
+        Ok(block) => Ok(block),
+        Err(NoMemory) => Err(ReadBad::NoMemory),
+    }
+}
+
+/// Tests a clump's type and then its score.
+fn check_key(key: &Key, kind: Kind, score: Score) -> Result<(), ReadBad>
+    ensures same { OnOk result ((kind ≡ key.now.kind) × (score ≡ key.now.score)) }
+    ensures other { IfErr result (IsDamagedBy key.now kind score.0) }
+{
+    if kind != key.kind {
+        return Err(ReadBad::Damaged {
+            want: FieldValue::Number(u128::from(key.kind.wire())),
+            found: FieldValue::Number(u128::from(kind.wire())),
+        });
+    }
+    if score != key.score {
+        return Err(ReadBad::Damaged {
+            want: FieldValue::Score(key.score),
+            found: FieldValue::Score(score),
+        });
+    }
+    Ok(())
+}

@@ -1,0 +1,9 @@
+//! Counting what a call costs, without bytes or time.
+#![tactic(auto)]
+
+mod steps;
+
+pub use steps::Steps;
+
+#[cfg(test)]
+mod tests;
