@@ -6,7 +6,7 @@ use Rattle.std.proofs.lemmas.List.{map-append}
 use Rattle.vt_base.specs.Bytes.{AreBytes}
 use Rattle.vt_base.specs.declared.why.Failed.{Failed}
 use Rattle.vt_model.specs.History.{History}
-use Rattle.vt_model.specs.Places.{Setup}
+use Rattle.vt_prog.specs.Store.{memory}
 use Rattle.vt_session.specs.declared.Ended.{Ended}
 use Rattle.vt_session.specs.declared.Ended.TheVariants.{Goodbye, Closed, Cut, Malformed, Spent, ReadFault, WriteFault, NoMemory}
 use Rattle.vt_session.specs.Heard.{Item, Heard}
@@ -17,7 +17,7 @@ use Rattle.vt_session.specs.Talk.{HearsAll, EndsByInput}
 use Rattle.vt_session.proofs.Hearings.{heard_some, heard_one}
 use Rattle.vt_session.proofs.Pieces.{turns_cut}
 use Rattle.vt_session.proofs.Turns.{turns_part}
-use Rattle.vt_prog.specs.Sessions.{memory, fails, OnlyMemory, Says, AnswersAll, AnswersInput, SinkCause}
+use Rattle.vt_prog.specs.Sessions.{fails, OnlyMemory, Says, AnswersAll, AnswersInput, SinkCause}
 
 pub heard_ends : (input : List ℕ) (items : List Item) (ended : Ended) → AreBytes input → Heard input items ended → EndsByInput ended
 heard_ends input items ended bytes heard =
@@ -42,13 +42,9 @@ fails_front : (a b : List Cause) → fails a ≡ true → fails (a ++ b) ≡ tru
 fails_front [] b x = absurd (cc)
 fails_front (cause ∷ a) b x = refl
 
-module _ (score : List ℕ → List ℕ) (input : List ℕ) (ran : Bool) (before after waiting : List ℕ) (c : Setup) (heard : Hearing) (h : History)
-    (setup : c ≡ memory) (none : h ≡ []) (line : waiting ≡ server_line) (bytes : AreBytes input)
+module _ (score : List ℕ → List ℕ) (input : List ℕ) (ran : Bool) (before after waiting : List ℕ) (heard : Hearing) (line : waiting ≡ server_line) (bytes : AreBytes input)
     (hears : (items : List Item) (ended : Ended) → HearsOn heard items ended → Heard input items ended) where
-  answered : (turns : List Turn) (last : History) → AnsweredAlone score c h turns last → AnsweredAlone score memory [] turns last
-  answered turns last x = subst (λ (c : Setup). AnsweredAlone score c [] turns last) setup (subst (λ (h : History). AnsweredAlone score c h turns last) none x)
-
-  pub input_answered : (ended : Ended) → AnswersAll score c heard h (Ok ended) ran before waiting after → AnswersInput score input ended ran before after
+  pub input_answered : (ended : Ended) → AnswersAll score heard [] (Ok ended) ran before waiting after → AnswersInput score input ended ran before after
   input_answered ended x =
       let out = x.writes.0 in
       let is : out ≡ output_of x.turns = sym (append-nil out) ∙ x.writes.2 ∙ ap (λ (w : List ℕ). w ++ flat_map spelled_turn x.turns) line in
@@ -58,21 +54,21 @@ module _ (score : List ℕ → List ℕ) (input : List ℕ) (ran : Bool) (before
         turns = x.turns;
         history = x.history;
         says = says_to_end ended input x.turns out (heard_ends input (items_of x.turns) ended bytes heard_all) (heard_all, is);
-        answered = answered x.turns x.history x.answered;
+        answered = x.answered;
         written = x.writes.1;
-        memory_alone = x.memory;
+        memory_alone = x.memory_alone;
         ran = λ e. x.ran ∙ e;
         ran_only = λ e. inl (sym x.ran ∙ e);
       }
 
-  pub input_cut : (failed : Failed) → AnswersAll score c heard h (Err failed) ran before waiting after → AnswersInput score input WriteFault ran before after
+  pub input_cut : (failed : Failed) → AnswersAll score heard [] (Err failed) ran before waiting after → AnswersInput score input WriteFault ran before after
   input_cut failed x =
       let out = x.writes.0 in
       let unsaid = x.writes.2.0 in
       let cut = turns_cut x.turns out unsaid (ap (λ (w : List ℕ). w ++ flat_map spelled_turn x.turns) (sym line) ∙ sym x.writes.2.1) in
       let front = cut.0 in
       let behind = cut.1 in
-      let part = turns_part score memory [] x.history front behind (subst (λ (t : List Turn). AnsweredAlone score memory [] t x.history) cut.2 (answered x.turns x.history x.answered)) in
+      let part = turns_part score memory [] x.history front behind (subst (λ (t : List Turn). AnsweredAlone score memory [] t x.history) cut.2 x.answered) in
       let later = x.hears.0 in
       let causes : causes_of x.turns ≡ causes_of front ++ causes_of behind = ap causes_of cut.2 ∙ flat_map-append cause_of front behind in
       let items : items_of x.turns ++ later ≡ items_of front ++ (items_of behind ++ later) =
@@ -84,7 +80,7 @@ module _ (score : List ℕ → List ℕ) (input : List ℕ) (ran : Bool) (before
         says = (items_of behind ++ later, x.hears.1, subst (λ (i : List Item). Heard input i x.hears.1) items (hears (items_of x.turns ++ later) x.hears.1 x.hears.2), cut.3);
         answered = part.1;
         written = x.writes.1;
-        memory_alone = only_front (causes_of front) (causes_of behind) (subst OnlyMemory causes x.memory);
+        memory_alone = only_front (causes_of front) (causes_of behind) (subst OnlyMemory causes x.memory_alone);
         ran = λ e. x.ran ∙ ap fails causes ∙ fails_front (causes_of front) (causes_of behind) e;
         ran_only = λ e. inr refl;
       }

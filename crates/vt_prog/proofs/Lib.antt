@@ -1,6 +1,11 @@
 pub mod Written
 pub mod Steps
-pub mod Lent
 pub mod Inputs
 pub mod Whole
 pub mod Complete
+pub mod Holding
+pub mod Indexed
+pub mod Added
+pub mod Reading
+pub mod Writing
+pub mod Mounted

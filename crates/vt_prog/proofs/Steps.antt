@@ -3,23 +3,23 @@ use Rattle.std.proofs.Common.{◌≡◌, ℕ, List, [], ◌∷◌, ◌++◌, len
 use Rattle.std.specs.List.{flat_map}
 use Rattle.std.proofs.lemmas.Grind.{flat_map-append}
 use Rattle.std.proofs.lemmas.List.{map-append}
-use Rattle.vt_base.specs.declared.score.Score.{Score}
 use Rattle.vt_base.specs.declared.why.Failed.{Failed}
 use Rattle.vt_base.specs.declared.why.Why.{Why}
-use Rattle.vt_base.specs.declared.why.Why.TheVariants.{BadType, TooBig, TooSmall, Absent, Collision, IndexFull, ArenasFull, DiskFault, Stopped, Damaged, NoMemory}
+use Rattle.vt_base.specs.declared.why.Why.TheVariants.{NoMemory}
 use Rattle.vt_base.specs.Protocol.{Operation, write, TMessage, t_hello, t_goodbye, t_ask, RMessage, r_hello, r_write, r_refused}
 use Rattle.vt_model.specs.History.{History, IsBlock}
 use Rattle.vt_model.specs.Places.{Setup}
 use Rattle.vt_model.specs.Answer.{answer, with_added}
-use Rattle.vt_model.proofs.Added.{added-refused}
 use Rattle.vt_wire.specs.Messages.{spelled}
 use Rattle.vt_session.specs.declared.Ended.{Ended}
 use Rattle.vt_session.specs.Heard.{Item, settled, asked}
 use Rattle.vt_session.specs.Hearing.{Hearing, over, HearsOn, MatchMessage}
+use Rattle.vt_session.specs.Answered.{MayFail}
 use Rattle.vt_session.specs.Turns.{Turn, told, served, failed, Cause, no_memory, item_of_turn, items_of, spelled_turn, cause_of, causes_of}
 use Rattle.vt_session.proofs.Turns.{turns_join}
 use Rattle.vt_prog.proofs.Written.{waits_more, writes_more}
-use Rattle.vt_prog.specs.Sessions.{fails, OnlyMemory, tells_no_memory, Answers, SoFar, Writes}
+use Rattle.vt_prog.specs.Sessions.{fails, OnlyMemory, Answers, SoFar, Writes, TakesTurn, TakesTurns}
+use Rattle.vt_prog.specs.Store.{memory, Serves, tells_no_memory}
 
 or_false : (b : Bool) → b ≡ (b || false)
 or_false true = refl
@@ -43,10 +43,6 @@ pub some_hold : (tag : ℕ) (m : TMessage) (P Q : Item → Type 0) → ((item : 
 some_hold tag (t_hello version) P Q f p = f _ p
 some_hold tag t_goodbye P Q f p = p
 some_hold tag (t_ask m) P Q f p = f _ p
-
-pub write_is_answered : (s : Score) (reply : RMessage) → (◌≡◌ {A = Result Score Why} (Ok s) (Err NoMemory)) ⊎ (reply ≡ r_write s.0) → reply ≡ r_write s.0
-write_is_answered s reply (inl other) = absurd (cc)
-write_is_answered s reply (inr is) = is
 
 module _ (score : List ℕ → List ℕ) (c : Setup) where
   -- a reply that the rules of a session settle
@@ -72,42 +68,17 @@ module _ (score : List ℕ → List ℕ) (c : Setup) where
     ran = same ∙ or_false ran;
   }
 
-  -- want of memory in a write
-  failed_turn : (h h' : History) (ran ran' : Bool) (tag kind : ℕ) (bytes : List ℕ) → IsBlock (record { kind = kind; bytes = bytes })
-      → h' ≡ h → ran' ≡ (ran || true) → Answers score c (asked tag (write kind bytes)) h h' ran ran' (spelled tag (r_refused NoMemory))
-  failed_turn h h' ran ran' tag kind bytes block same flag = record {
-    turn = failed tag (write kind bytes) (length h) no_memory;
+  -- a failure
+  failed_turn : (h : History) (ran ran' : Bool) (tag : ℕ) (m : Operation) → MayFail score c m no_memory → ran' ≡ (ran || true)
+      → Answers score c (asked tag m) h h ran ran' (spelled tag (r_refused NoMemory))
+  failed_turn h ran ran' tag m may flag = record {
+    turn = failed tag m (length h) no_memory;
     item_is = refl;
-    answered = (refl, (block, tt), same);
+    answered = (refl, may, refl);
     said_is = refl;
     memory = (refl, tt);
     ran = flag;
   }
-
-  refused_turn : (h h' : History) (ran ran' : Bool) (tag kind : ℕ) (bytes : List ℕ) (why : Why) → (answer score c h (write kind bytes)).reply ≡ r_refused why
-      → h' ≡ h → ran' ≡ (ran || false) → Answers score c (asked tag (write kind bytes)) h h' ran ran' (spelled tag (r_refused why))
-  refused_turn h h' ran ran' tag kind bytes why is same flag =
-      served_turn h h' ran ran' tag (write kind bytes) (r_refused why) is
-      (same ∙ sym (ap (with_added h) (added-refused score c h (write kind bytes) _ is))) (flag ∙ sym (or_false ran))
-
-  -- a write that was refused, or that failed for want of memory
-  pub write_turn : (h h' : History) (ran ran' : Bool) (tag kind : ℕ) (bytes : List ℕ) (why : Why)
-      → (◌≡◌ {A = Result Score Why} (Err why) (Err NoMemory)) ⊎ ((answer score c h (write kind bytes)).reply ≡ r_refused why)
-      → (◌≡◌ {A = Result Score Why} (Err why) (Err NoMemory) → IsBlock (record { kind = kind; bytes = bytes }))
-      → h' ≡ h → ran' ≡ (ran || tells_no_memory why)
-      → Answers score c (asked tag (write kind bytes)) h h' ran ran' (spelled tag (r_refused why))
-  write_turn h h' ran ran' tag kind bytes NoMemory is block same flag = failed_turn h h' ran ran' tag kind bytes (block refl) same flag
-  write_turn h h' ran ran' tag kind bytes BadType (inr is) block same flag = refused_turn h h' ran ran' tag kind bytes BadType is same flag
-  write_turn h h' ran ran' tag kind bytes TooBig (inr is) block same flag = refused_turn h h' ran ran' tag kind bytes TooBig is same flag
-  write_turn h h' ran ran' tag kind bytes TooSmall (inr is) block same flag = refused_turn h h' ran ran' tag kind bytes TooSmall is same flag
-  write_turn h h' ran ran' tag kind bytes Absent (inr is) block same flag = refused_turn h h' ran ran' tag kind bytes Absent is same flag
-  write_turn h h' ran ran' tag kind bytes Collision (inr is) block same flag = refused_turn h h' ran ran' tag kind bytes Collision is same flag
-  write_turn h h' ran ran' tag kind bytes IndexFull (inr is) block same flag = refused_turn h h' ran ran' tag kind bytes IndexFull is same flag
-  write_turn h h' ran ran' tag kind bytes ArenasFull (inr is) block same flag = refused_turn h h' ran ran' tag kind bytes ArenasFull is same flag
-  write_turn h h' ran ran' tag kind bytes DiskFault (inr is) block same flag = refused_turn h h' ran ran' tag kind bytes DiskFault is same flag
-  write_turn h h' ran ran' tag kind bytes (Stopped n) (inr is) block same flag = refused_turn h h' ran ran' tag kind bytes (Stopped n) is same flag
-  write_turn h h' ran ran' tag kind bytes (Damaged s w f) (inr is) block same flag = refused_turn h h' ran ran' tag kind bytes (Damaged s w f) is same flag
-  write_turn h h' ran ran' tag kind bytes why (inl is) block same flag = absurd (cc)
 
   -- no item, at the end
   pub no_turn : (heard heard' : Hearing) (h : History) (ran : Bool) (ended : Ended) → HearsOn heard [] ended → heard' ≡ over ended
@@ -120,15 +91,6 @@ module _ (score : List ℕ → List ℕ) (c : Setup) where
     memory = tt;
     ran = or_false ran;
   }
-
-  -- no item yet
-  pub at_start : {P T : Type 0} (done : T) (heard : Hearing) (h : History) (written waiting : List ℕ)
-      → (turns : List Turn) × SoFar score c heard heard h h false false turns × (P → Writes (Ok done) written waiting written waiting (flat_map spelled_turn turns))
-  at_start done heard h written waiting = (
-    [],
-    record { heard = λ items e x. x; answered = refl; memory = tt; ran = refl },
-    λ p. waits_more done written waiting waiting [] (sym (append-nil waiting)),
-  )
 
   -- one item
   pub one_turn : (heard heard' : Hearing) (item : Item) (h h' : History) (ran ran' : Bool) (said : List ℕ)
@@ -145,15 +107,6 @@ module _ (score : List ℕ → List ℕ) (c : Setup) where
     },
     append-nil (spelled_turn a.turn) ∙ sym a.said_is,
   )
-
-  -- and what was written of it
-  pub one_written : {P T : Type 0} (r : Result T Failed) (heard heard' : Hearing) (item : Item) (h h' : History) (ran ran' : Bool) (said written waiting written' waiting' : List ℕ)
-      → ((items : List Item) (ended : Ended) → HearsOn heard' items ended → HearsOn heard (item ∷ items) ended)
-      → Answers score c item h h' ran ran' said → (P → Writes r written waiting written' waiting' said)
-      → (turns : List Turn) × SoFar score c heard heard' h h' ran ran' turns × (P → Writes r written waiting written' waiting' (flat_map spelled_turn turns))
-  one_written r heard heard' item h h' ran ran' said written waiting written' waiting' hears a w =
-      let t = one_turn heard heard' item h h' ran ran' said hears a in
-      (t.0, t.1, λ p. subst (Writes r written waiting written' waiting') (sym t.2) (w p))
 
   only_append : (a b : List Cause) → OnlyMemory a → OnlyMemory b → OnlyMemory (a ++ b)
   only_append [] b x y = y
@@ -178,15 +131,100 @@ module _ (score : List ℕ → List ℕ) (c : Setup) where
         ∙ ap (λ (b : Bool). ran || b) (sym (fails-append (causes_of turns) (causes_of more)) ∙ ap fails (sym (flat_map-append cause_of turns more)));
   }
 
-  -- turns and more turns, and what was written of them
-  pub go_on : {P T U : Type 0} (r : Result U Failed) (done : T) (c' : Setup) → c' ≡ c → (first between now : Hearing) (h k l : History) (ran' ran'' : Bool)
-      (written waiting written' waiting' written'' waiting'' : List ℕ)
-      → ((turns : List Turn) × SoFar score c first between h k false ran' turns × (P → Writes (Ok done) written waiting written' waiting' (flat_map spelled_turn turns)))
-      → ((turns : List Turn) × SoFar score c' between now k l ran' ran'' turns × (P → Writes r written' waiting' written'' waiting'' (flat_map spelled_turn turns)))
-      → (turns : List Turn) × SoFar score c first now h l false ran'' turns × (P → Writes r written waiting written'' waiting'' (flat_map spelled_turn turns))
-  go_on r done c' same first between now h k l ran' ran'' written waiting written' waiting' written'' waiting'' x y = (
-    x.0 ++ y.0,
-    more_turns first between now h k l false ran' ran'' x.0 y.0 x.1 (subst (λ (c : Setup). SoFar score c between now k l ran' ran'' y.0) same y.1),
-    λ p. subst (Writes r written waiting written'' waiting'') (sym (flat_map-append spelled_turn x.0 y.0))
-        (writes_more r done written waiting written' waiting' (flat_map spelled_turn x.0) written'' waiting'' (flat_map spelled_turn y.0) (x.2 p) (y.2 p)),
-  )
+-- ---- what the store gives
+
+-- it serves, and its answer is said
+pub says : {X : Type 0} (score : List ℕ → List ℕ) (holds : History → Type 0) (h : History) (tag : ℕ) (m : Operation) (message : X → RMessage) (x : X) (ran ran' : Bool)
+    (writes : List ℕ → Type 0) → Serves score holds h m message (Ok x) → ran' ≡ ran → writes (spelled tag (message x)) → TakesTurn score holds (asked tag m) h ran ran' writes
+says score holds h tag m message x ran ran' writes serves flag written = record {
+  history = with_added h (answer score memory h m).added;
+  said = spelled tag (message x);
+  holds_it = serves.1;
+  answers = served_turn score memory h (with_added h (answer score memory h m).added) ran ran' tag m (message x) serves.0 refl flag;
+  written = written;
+}
+
+-- or it refuses, and says why
+pub says_why : {X : Type 0} (score : List ℕ → List ℕ) (holds : History → Type 0) (h : History) (tag : ℕ) (m : Operation) (message : X → RMessage) (why : Why) (ran ran' : Bool)
+    (writes : List ℕ → Type 0) → Serves score holds h m message (Err why) → ran' ≡ (ran || tells_no_memory why) → writes (spelled tag (r_refused why))
+    → TakesTurn score holds (asked tag m) h ran ran' writes
+says_why score holds h tag m message why ran ran' writes (inl refused) flag written = record {
+  history = with_added h (answer score memory h m).added;
+  said = spelled tag (r_refused why);
+  holds_it = refused.2;
+  answers = served_turn score memory h (with_added h (answer score memory h m).added) ran ran' tag m (r_refused why) refused.1 refl
+      (flag ∙ ap (λ (b : Bool). ran || b) refused.0 ∙ sym (or_false ran));
+  written = written;
+}
+says_why score holds h tag m message why ran ran' writes (inr fails) flag written = record {
+  history = h;
+  said = spelled tag (r_refused why);
+  holds_it = fails.2;
+  answers = subst (λ (w : Why). Answers score memory (asked tag m) h h ran ran' (spelled tag (r_refused w))) (sym fails.0)
+      (failed_turn score memory h ran ran' tag m fails.1 (flag ∙ ap (λ (w : Why). ran || tells_no_memory w) fails.0));
+  written = written;
+}
+
+-- a reply that the rules of a session settle
+pub says_settled : (score : List ℕ → List ℕ) (holds : History → Type 0) (h : History) (tag : ℕ) (reply : RMessage) (ran : Bool) (writes : List ℕ → Type 0)
+    → holds h → writes (spelled tag reply) → TakesTurn score holds (settled tag reply) h ran ran writes
+says_settled score holds h tag reply ran writes hold written = record {
+  history = h;
+  said = spelled tag reply;
+  holds_it = hold;
+  answers = told_turn score memory h ran tag reply;
+  written = written;
+}
+
+-- ---- the items so far
+
+-- none yet
+pub at_start : {P T : Type 0} (score : List ℕ → List ℕ) (holds : History → Type 0) (done : T) (heard : Hearing) (h : History) (written waiting : List ℕ) → holds h
+    → TakesTurns score holds heard heard h false false (λ (said : List ℕ). P → Writes (Ok done) written waiting written waiting said)
+at_start score holds done heard h written waiting hold = record {
+  history = h;
+  turns = [];
+  holds_it = hold;
+  so_far = record { heard = λ items e x. x; answered = refl; memory = tt; ran = refl };
+  written = λ p. waits_more done written waiting waiting [] (sym (append-nil waiting));
+}
+
+-- none at the end
+pub ends_here : (score : List ℕ → List ℕ) (holds : History → Type 0) (heard heard' : Hearing) (h : History) (ran : Bool) (ended : Ended) (writes : List ℕ → Type 0)
+    → HearsOn heard [] ended → heard' ≡ over ended → holds h → writes [] → TakesTurns score holds heard heard' h ran ran writes
+ends_here score holds heard heard' h ran ended writes hears is hold written = record {
+  history = h;
+  turns = [];
+  holds_it = hold;
+  so_far = no_turn score memory heard heard' h ran ended hears is;
+  written = written;
+}
+
+-- one
+pub one_taken : (score : List ℕ → List ℕ) (holds : History → Type 0) (heard heard' : Hearing) (item : Item) (h : History) (ran ran' : Bool) (writes : List ℕ → Type 0)
+    → ((items : List Item) (ended : Ended) → HearsOn heard' items ended → HearsOn heard (item ∷ items) ended)
+    → TakesTurn score holds item h ran ran' writes → TakesTurns score holds heard heard' h ran ran' writes
+one_taken score holds heard heard' item h ran ran' writes hears t =
+    let one = one_turn score memory heard heard' item h t.history ran ran' t.said hears t.answers in
+    record {
+      history = t.history;
+      turns = one.0;
+      holds_it = t.holds_it;
+      so_far = one.1;
+      written = subst writes (sym one.2) t.written;
+    }
+
+-- and more behind those
+pub go_on : {P T U : Type 0} (r : Result U Failed) (done : T) (score : List ℕ → List ℕ) (holds holds' : History → Type 0) (first between now : Hearing) (h : History) (ran' ran'' : Bool)
+    (written waiting written' waiting' written'' waiting'' : List ℕ)
+    → (x : TakesTurns score holds first between h false ran' (λ (said : List ℕ). P → Writes (Ok done) written waiting written' waiting' said))
+    → TakesTurns score holds' between now x.history ran' ran'' (λ (said : List ℕ). P → Writes r written' waiting' written'' waiting'' said)
+    → TakesTurns score holds' first now h false ran'' (λ (said : List ℕ). P → Writes r written waiting written'' waiting'' said)
+go_on r done score holds holds' first between now h ran' ran'' written waiting written' waiting' written'' waiting'' x y = record {
+  history = y.history;
+  turns = x.turns ++ y.turns;
+  holds_it = y.holds_it;
+  so_far = more_turns score memory first between now h x.history y.history false ran' ran'' x.turns y.turns x.so_far y.so_far;
+  written = λ p. subst (Writes r written waiting written'' waiting'') (sym (flat_map-append spelled_turn x.turns y.turns))
+      (writes_more r done written waiting written' waiting' (flat_map spelled_turn x.turns) written'' waiting'' (flat_map spelled_turn y.turns) (x.written p) (y.written p));
+}

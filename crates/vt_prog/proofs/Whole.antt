@@ -145,3 +145,7 @@ none_is score had left before lost = record {
   ran = λ e. absurd (cc);
   ran_only = λ e. absurd (cc);
 }
+
+-- nor did anything fail
+pub nothing_failed : (old new sink : ℕ) → new ≡ old → HasCauses (record { ended = NoMemory; read_failed = false; ran_out = false; taken = 0 }) old new sink sink
+nothing_failed old new sink same = record { read = λ e. absurd (cc); no_read = λ e. same; read_fault = λ e. absurd (cc); write = refl; memory_first = λ e. refl }

@@ -1,5 +1,7 @@
 pub mod Hosts
+pub mod Memory
 pub mod Reading
 pub mod Runs
 pub mod Sessions
 pub mod Statuses
+pub mod Store

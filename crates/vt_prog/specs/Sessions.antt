@@ -2,8 +2,6 @@
 use Rattle.std.specs.Prelude.{ℕ, ◌≡◌, ◌≢◌, ◌⊎◌, Bool, true, false, ◌||◌, List, [], ◌∷◌, ◌++◌, length, Result, Ok, Err}
 use Rattle.std.specs.List.{AllByRecursion, flat_map}
 use Rattle.vt_base.specs.declared.why.Failed.{Failed}
-use Rattle.vt_base.specs.declared.why.Why.{Why}
-use Rattle.vt_base.specs.declared.why.Why.TheVariants as whys
 use Rattle.vt_model.specs.History.{History}
 use Rattle.vt_model.specs.Places.{Setup}
 use Rattle.vt_base.specs.Faults.{HasRisen}
@@ -17,10 +15,7 @@ use Rattle.vt_session.specs.Talk.{Alone, Took, HearsAll, EndsByInput, EndsInLast
 use Rattle.vt_prog.specs.declared.input.Reading.{Reading}
 use Rattle.vt_prog.specs.declared.input.Reading.TheVariants.{Limit, Fault}
 use Rattle.vt_prog.specs.declared.session.Outcome.{Outcome}
-
--- the store in memory: one arena of 1,048,576 bytes, and one index section of 4 buckets
-abbrev pub memory : Setup
-memory = record { arenas = 1048576 ∷ []; base = 0; sections = 4 ∷ [] }
+use Rattle.vt_prog.specs.Store.{memory}
 
 -- something failed
 abbrev pub fails : List Cause → Bool
@@ -30,10 +25,6 @@ fails (cause ∷ causes) = true
 -- nothing fails but for want of memory
 abbrev pub OnlyMemory : List Cause → Type 0
 OnlyMemory causes = AllByRecursion (λ cause. cause ≡ no_memory) causes
-
-abbrev pub tells_no_memory : Why → Bool
-tells_no_memory whys.NoMemory = true
-tells_no_memory why = false
 
 -- an item was answered, by one turn, which says this
 pub record Answers (score : List ℕ → List ℕ) (c : Setup) (item : Item) (old new : History) (ran_out ran_out' : Bool) (said : List ℕ) : Type 0 where
@@ -59,19 +50,40 @@ pub record SoFar (score : List ℕ → List ℕ) (c : Setup) (at_first now : Hea
   pub memory : OnlyMemory (causes_of turns)
   pub ran : ran_out' ≡ (ran_out || fails (causes_of turns))
 
+-- Whatever history a store held, the item was answered on it, and the store holds what that leaves.
+pub record TakesTurn (score : List ℕ → List ℕ) (holds : History → Type 0) (item : Item)
+    (old : History) (ran_out ran_out' : Bool) (writes : (said : List ℕ) → Type 0) : Type 0 where
+  pub history : History
+  pub said : List ℕ
+  pub holds_it : holds history
+  pub answers : Answers score memory item old history ran_out ran_out' said
+  pub written : writes said
+
+-- the items between two hearings were
+pub record TakesTurns (score : List ℕ → List ℕ) (holds : History → Type 0)
+    (at_first now : Hearing) (old : History) (ran_out ran_out' : Bool)
+    (writes : (said : List ℕ) → Type 0) : Type 0 where
+  pub history : History
+  pub turns : List Turn
+  pub holds_it : holds history
+  pub so_far : SoFar score memory at_first now old history ran_out ran_out' turns
+  pub written : writes (flat_map spelled_turn turns)
+
 -- what was heard to the end; where a write failed, something may be left to hear
 abbrev pub HearsFor : Result Ended Failed → Hearing → List Turn → Type 0
 HearsFor (Ok ended) heard turns = HearsOn heard (items_of turns) ended
 HearsFor (Err failed) heard turns = (later : List Item) × (ended : Ended) × HearsOn heard (items_of turns ++ later) ended
 
 -- all that was left to hear was answered, and what was said went out behind what waited
-pub record AnswersAll (score : List ℕ → List ℕ) (c : Setup) (heard : Hearing) (old : History) (result : Result Ended Failed) (ran_out : Bool) (written waiting written' : List ℕ) : Type 0 where
+pub record AnswersAll (score : List ℕ → List ℕ) (heard : Hearing) (old : History)
+    (result : Result Ended Failed) (ran_out : Bool) (written waiting written' : List ℕ)
+    : Type 0 where
   pub turns : List Turn
   pub history : History
   pub hears : HearsFor result heard turns
   pub writes : Writes result written waiting written' [] (flat_map spelled_turn turns)
-  pub answered : AnsweredAlone score c old turns history
-  pub memory : OnlyMemory (causes_of turns)
+  pub answered : AnsweredAlone score memory old turns history
+  pub memory_alone : OnlyMemory (causes_of turns)
   pub ran : ran_out ≡ fails (causes_of turns)
 
 -- What was said to a whole input before the session ended so; where a write failed, a front of it was written.

@@ -3,11 +3,14 @@
 
 mod answers;
 mod complaint;
+mod entries;
 mod host;
 mod input;
+mod memory;
 mod output;
 mod run;
 mod session;
+mod store;
 
 pub use host::{Host, Streams};
 pub use run::{run, run_with};

@@ -10,6 +10,8 @@ use crate::complaint::{complain, complain_of};
 use crate::host::Host;
 use crate::session::{Outcome, session};
 use std::alloc::Global;
+use std::marker::Brand;
+use std::sync::ledger::Blank;
 use vt_base::{Scorer, Sha1Scorer, Text};
 use vt_session::Ended;
 
@@ -123,7 +125,7 @@ pub fn run_with<R, H: Host, S: Scorer>(
         complain(host.fault_sink(), b"bad command line");
         return 1;
     }
-    let outcome = session(alloc, host, scorer);
+    let outcome = session::<Brand, H, S>(alloc, host, scorer, Blank::new(1));
     complain_of(host.fault_sink(), &outcome);
     status(&outcome)
 }

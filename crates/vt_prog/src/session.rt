@@ -1,25 +1,26 @@
 //! One session over a store in memory.
 
-ghost use Rattle.std.specs.Prelude.{◌≡◌, ◌≢◌, [], IsTrue, IfOk};
+ghost use Rattle.std.specs.Prelude.{◌≡◌, ◌≢◌, ◌<◌, [], IsTrue, IfOk};
 ghost use Rattle.vt_session.specs.Turns.{server_line};
 ghost use Rattle.vt_prog.specs.Reading.{is_fault as is_fault_of};
-ghost use Rattle.vt_prog.specs.Sessions.{memory, end_of_session, AnswersInput, IsSession, HasCauses, SinkCause};
+ghost use Rattle.vt_prog.specs.Sessions.{end_of_session, AnswersInput, IsSession, HasCauses, SinkCause};
+ghost use Rattle.vt_prog.specs.Store.{Holds};
 
 use crate::answers::answer_all;
 use crate::host::Host;
 use crate::input::{Reading, read_all};
+use crate::memory::{ARENA_LEN, empty_log};
 use crate::output::Output;
+use crate::store::LogStore;
 use std::alloc::Global;
+use std::sync::ledger::{Blank, Ledger};
 use vt_base::{Failed, NoMemory, Scorer};
-use vt_model::PlainStore;
+use vt_disk::Disk;
+use vt_memdisk::MemDisk;
 use vt_out::Sink;
+use vt_part::BLOCK_LEN;
 use vt_session::{Ended, parse_all};
-
-/// The length of the arena's region.
-const ARENA_LEN: u32 = 1_048_576;
-
-/// How many buckets the index section has.
-const BUCKETS: u32 = 4;
+use vt_steps::Steps;
 
 /// How a session ended, and what else its status depends on.
 #[derive(Clone, Copy, Debug, PartialEq, Eq)]
@@ -34,7 +35,15 @@ pub struct Outcome {
 }
 
 /// Reads the whole input, and then answers it.
-pub fn session<H: Host, S: Scorer>(alloc: Global, host: &mut H, scorer: &S) -> Outcome
+pub fn session<L: Ledger, H: Host, S: Scorer>(
+    alloc: Global,
+    host: &mut H,
+    scorer: &S,
+    blank: Blank,
+) -> Outcome
+    requires name { blank.name ≡ L.name }
+    requires parts { blank.parts ≡ L.parts }
+    requires some { 0 < L.parts }
     ensures told { IsTrue H.Source.tells → IsTrue H.Sink.tells → IsSession S.score_of result
         (H.Source.left (H.lent host.old).source) (H.Source.left (H.lent host.new).source)
         (H.Sink.written (H.lent host.old).sink) (H.Sink.written (H.lent host.new).sink) }
@@ -50,7 +59,7 @@ pub fn session<H: Host, S: Scorer>(alloc: Global, host: &mut H, scorer: &S) -> O
         taken: 0,
     };
     // Memory for the answers is taken first: what was read is answered, also where the reading fails.
-    let Ok((mut store, mut output)) = prepare(alloc, scorer) else {
+    let Ok((mut store, mut output)) = prepare::<L, S>(alloc, scorer, blank) else {
         return nothing;
     };
     let Ok((input, reading)) = read_all(alloc, host.source()) else {
@@ -82,20 +91,19 @@ fn ended_of(reading: Reading, ended: Ended) -> Ended
     }
 }
 
-/// Answers a whole input over a store without blocks, behind the server's line. It says how the session ended, and
-/// whether memory ran out in a request.
-fn answer_input<K: Sink, S: Scorer>(
+/// Answers a whole input over a store without blocks, behind the server's line. It says how the
+/// session ended, and whether memory ran out in a request.
+fn answer_input<D: Disk, L: Ledger, K: Sink, S: Scorer>(
     alloc: Global,
     input: &[u8],
-    store: &mut PlainStore<&S>,
+    store: &mut LogStore<D, L, S>,
     sink: &mut K,
     output: &mut Output,
 ) -> (Ended, bool)
-    requires setup { store.old.setup ≡ memory }
-    requires empty { store.old.history ≡ [] }
+    requires empty { Holds S.score_of D.tells D.bytes D.images D.size D.faults store.old [] }
     requires line { output.old ≡ server_line }
-    ensures told { IsTrue K.tells →
-        AnswersInput S.score_of input.now result.0 result.1 (K.written sink.old) (K.written sink.new) }
+    ensures told { IsTrue K.tells → AnswersInput S.score_of input.now result.0 result.1
+        (K.written sink.old) (K.written sink.new) }
     ensures cause { SinkCause result.0 (K.faults sink.old) (K.faults sink.new) }
     ensures end { result.0 ≢ Ended.ReadFault }
     ensures memory { result.0 ≢ Ended.NoMemory }
@@ -107,14 +115,23 @@ fn answer_input<K: Sink, S: Scorer>(
     }
 }
 
-/// A store without blocks, of one arena and one index section, and an output that begins with the server's line.
-fn prepare<S: Scorer>(alloc: Global, scorer: &S) -> Result<(PlainStore<&S>, Output), NoMemory>
-    ensures setup { IfOk result (λ it. it.0.setup ≡ memory) }
-    ensures empty { IfOk result (λ it. it.0.history ≡ []) }
+/// A store without blocks, and an output that begins with the server's line.
+fn prepare<L: Ledger, S: Scorer>(
+    alloc: Global,
+    scorer: &S,
+    blank: Blank,
+) -> Result<(LogStore<MemDisk, L, &S>, Output), NoMemory>
+    requires name { blank.name ≡ L.name }
+    requires parts { blank.parts ≡ L.parts }
+    requires some { 0 < L.parts }
+    ensures empty { IfOk result (λ it. Holds S.score_of ⟦<MemDisk as Disk>⟧.tells
+        ⟦<MemDisk as Disk>⟧.bytes ⟦<MemDisk as Disk>⟧.images ⟦<MemDisk as Disk>⟧.size
+        ⟦<MemDisk as Disk>⟧.faults it.0 []) }
     ensures line { IfOk result (λ it. it.1 ≡ server_line) }
 {
-    let arenas = vec![in alloc; ARENA_LEN]?;
-    let sections = vec![in alloc; BUCKETS]?;
+    let disk = MemDisk::new(alloc, BLOCK_LEN as u64 + ARENA_LEN)?;
+    let log = empty_log(alloc, disk, scorer)?;
+    let store = LogStore::new(alloc, scorer, log, Steps::new(blank));
     let output = Output::new(alloc)?;
-    Ok((PlainStore::new(alloc, scorer, arenas, 0, sections), output))
+    Ok((store, output))
 }

@@ -542,3 +542,27 @@ fn commands(rt: HostRuntime) -> Result<(), Fail> {
     }
     Ok(())
 }
+
+/// More blocks than are queued at once, read before a sync and behind it.
+#[test]
+fn many_blocks(rt: HostRuntime) -> Result<(), Fail> {
+    let alloc = rt.alloc();
+    let mut writes = joined(alloc, &[LINE, HELLO])?;
+    let mut reads = Vec::new(alloc);
+    let mut blocks = Vec::new(alloc);
+    for number in 0..150 {
+        let block = [number, 1, 2];
+        let score = Sha1Scorer.score(&block);
+        let parameters = joined(alloc, &[&[13, 0, 0, 0], &block])?;
+        writes.extend_from_slice(&frame(alloc, 14, &parameters)?)?;
+        let parameters = joined(alloc, &[&score.0, &[13, 0, 0, 3]])?;
+        reads.extend_from_slice(&frame(alloc, 12, &parameters)?)?;
+        blocks.extend_from_slice(&frame(alloc, 13, &block)?)?;
+    }
+    let input = joined(alloc, &[&writes, &reads, SYNC, &reads])?;
+    let ran = answered(alloc, &input)?;
+    let end = joined(alloc, &[&blocks, SYNCED, &blocks])?;
+    assert!(rt; ran.output.ends_with(end.as_slice()));
+    assert_eq!(rt; ran.status, 0);
+    Ok(())
+}

@@ -1,38 +1,22 @@
 -- by the kind of the message
-use Rattle.std.proofs.Common.{refl, sym, ap}
-use Rattle.vt_base.specs.Protocol.{ping, sync, read, r_ping, r_sync, r_hello}
-use Rattle.vt_model.specs.Answer.{answer, with_added}
-use Rattle.vt_wire.specs.Messages.{spelled}
-use Rattle.vt_prog.proofs.Lent.{read_adds}
-use Rattle.vt_prog.proofs.Steps.{told_turn, served_turn}
+use Rattle.std.proofs.Common.{refl}
+use Rattle.vt_base.specs.Protocol.{ping, r_ping, r_hello}
+use Rattle.vt_prog.specs.Store.{Holds}
+use Rattle.vt_prog.proofs.Steps.{says, says_settled}
 use Rattle.vt_prog.proofs.answers.answer.Goals as goal
 
 pub returns-in-Hello-clause-answered : goal.returns-in-Hello-clause-answered
-returns-in-Hello-clause-answered g c = rw c.in-Hello.is
-    (spelled c.args.tag r_hello, told_turn g.S.Scorer.score_of c.args.store.now.setup c.args.store.now.history c.args.ran_out.now c.args.tag r_hello, λ tells. c.add.ensures.written tells)
+returns-in-Hello-clause-answered g c = rw c.in-Hello.is (λ h hold.
+    let score = g.S.Scorer.score_of in
+    says_settled score (Holds score g.D.Disk.tells g.D.Disk.bytes g.D.Disk.images g.D.Disk.size g.D.Disk.faults c.args.store.now) h c.args.tag r_hello c.args.ran_out.now _ hold (λ tells. c.add.ensures.written tells))
 
 pub returns-in-Ping-clause-answered : goal.returns-in-Ping-clause-answered
-returns-in-Ping-clause-answered g c = rw c.in-Ping.is (
-  spelled c.args.tag r_ping,
-  served_turn g.S.Scorer.score_of c.args.store.now.setup c.args.store.now.history c.args.store.now.history c.args.ran_out.now c.args.ran_out.now c.args.tag ping r_ping refl refl refl,
-  λ tells. c.add-in-Ping.ensures.written tells,
-)
-
-pub returns-in-Sync-clause-answered : goal.returns-in-Sync-clause-answered
-returns-in-Sync-clause-answered g c = rw c.in-Sync.is (
-  spelled c.args.tag r_sync,
-  served_turn g.S.Scorer.score_of c.args.store.now.setup c.args.store.now.history c.args.store.now.history c.args.ran_out.now c.args.ran_out.now c.args.tag sync r_sync refl refl refl,
-  λ tells. c.add-in-Sync.ensures.written tells,
-)
+returns-in-Ping-clause-answered g c = rw c.in-Ping.is (λ h hold.
+    let score = g.S.Scorer.score_of in
+    says {X = Unit {0}} score (Holds score g.D.Disk.tells g.D.Disk.bytes g.D.Disk.images g.D.Disk.size g.D.Disk.faults c.args.store.now) h c.args.tag ping (λ x. r_ping) tt c.args.ran_out.now c.args.ran_out.now _ (refl, hold) refl (λ tells. c.add-in-Ping.ensures.written tells))
 
 pub returns-in-Read-clause-answered : goal.returns-in-Read-clause-answered
-returns-in-Read-clause-answered g c =
-    let score = g.S.Scorer.score_of in
-    let store = c.args.store.now in
-    let m = read c.in-Read.score.0 c.in-Read.kind c.in-Read.count in
-    rw c.in-Read.is (
-      spelled c.args.tag (answer score store.setup store.history m).reply,
-      served_turn score store.setup store.history store.history c.args.ran_out.now c.args.ran_out.now c.args.tag m (answer score store.setup store.history m).reply refl
-          (sym (ap (with_added store.history) (read_adds score store.setup store.history c.in-Read.score.0 c.in-Read.kind c.in-Read.count))) refl,
-      λ tells. c.answer_read.ensures.answered tells,
-    )
+returns-in-Read-clause-answered g c = rw c.in-Read.is (λ h hold. c.answer_read.ensures.answered h hold)
+
+pub returns-in-Write-clause-answered : goal.returns-in-Write-clause-answered
+returns-in-Write-clause-answered g c = rw c.in-Write.is (λ h hold. c.answer_write.ensures.answered h hold)

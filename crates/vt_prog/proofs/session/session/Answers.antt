@@ -1,11 +1,21 @@
 -- what was read, and what it was answered
 use Rattle.std.proofs.Common.{IsTrue, [], length, refl, sym, ap, arith, ◌∙◌}
-use Rattle.vt_prog.proofs.Whole.{session_is, causes_are, none_is}
+use Rattle.vt_prog.proofs.Whole.{session_is, causes_are, none_is, nothing_failed}
 use Rattle.vt_prog.proofs.session.session.Goals as goal
 
 pub returns-in_default-clause-told : goal.returns-in_default-clause-told
 returns-in_default-clause-told g c tells tells' =
     none_is g.S.Scorer.score_of _ _ _ ([], refl, omega arith)
+
+pub returns-in_default-read_all-clause-told : goal.returns-in_default-read_all-clause-told
+returns-in_default-read_all-clause-told g c tells tells' =
+    let again = g.met.H.Host.lent_again in
+    simp again (rw (← c.source.ensures.source) (none_is g.S.Scorer.score_of _ _ _ (c.in_default-read_all.ensures.lost tells)))
+
+pub returns-in_default-read_all-clause-causes : goal.returns-in_default-read_all-clause-causes
+returns-in_default-read_all-clause-causes g c =
+    let again = g.met.H.Host.lent_again in
+    simp again (rw (← c.source.ensures.source) (nothing_failed _ _ _ c.in_default-read_all.ensures.no_fault))
 
 pub returns-clause-told : goal.returns-clause-told
 returns-clause-told g c tells tells' =

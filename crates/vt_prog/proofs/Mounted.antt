@@ -1,0 +1,54 @@
+-- What is mounted of one partition of one arena.
+use Rattle.std.proofs.Common.{◌≡◌, ◌≢◌, ◌⊎◌, ⊎_elim, ℕ, zero, suc, ◌<◌, List, [], ◌∷◌, ◌++◌, length, map, take, drop, refl, sym, ◌∙◌, ap, subst, arith, Some, None}
+use Rattle.std.specs.Prelude.{slice_get}
+use Rattle.std.specs.List.{range_with_len}
+use Rattle.std.proofs.Math.Seq.{take-append_seam}
+use Rattle.std.proofs.lemmas.List.{length-map, drop_all}
+use Rattle.vt_part.specs.declared.layout.ArenaRegion.{ArenaRegion}
+use Rattle.vt_part.specs.Layout.{layout_of, arena_of, AreDistinct}
+use Rattle.vt_part.specs.declared.part.Part.{Part}
+use Rattle.vt_part.specs.Parts.{table_of, tables_of}
+use Rattle.vt_part.specs.Table.{Table}
+use Rattle.vt_log.specs.declared.bad.LogBad.{LogBad}
+use Rattle.vt_log.specs.declared.bad.LogBad.TheVariants as bads
+use Rattle.vt_log.specs.Faults.{CountsFault}
+use Rattle.vt_log.specs.Sound.{AreImages}
+use Rattle.vt_prog.specs.Memory.{IsOneArena}
+use Rattle.vt_prog.proofs.Holding.{none_rose}
+
+-- the one arena is the whole layout
+pub one_region : (t : Table) → IsOneArena t → map (λ r. r.len) (layout_of (t ∷ [])) ≡ 1048576 ∷ []
+one_region t is =
+    ap (λ (n : ℕ). map (λ (r : ArenaRegion). r.len) (map (arena_of 0 t) (range_with_len 0 n) ++ [])) is.count
+    ∙ ap (λ (n : ℕ). n ∷ []) is.arena_size
+
+-- no two partitions of one have one name
+pub one_name : (names : List (List ℕ)) → length names ≡ 1 → AreDistinct names
+one_name names one i j is = omega (arith, one, is.order, is.within)
+
+-- what is read of disks is an image of them
+map_there : {X Y : Type 0} (f : X → Y) (xs : List X) (i : ℕ) (x : X) (y : Y) → slice_get xs i ≡ Some x → slice_get (map f xs) i ≡ Some y → y ≡ f x
+map_there f [] i x y at at' = absurd (cc)
+map_there f (z ∷ xs) zero x y at at' = cc
+map_there f (z ∷ xs) (suc i) x y at at' = map_there f xs i x y at at'
+
+pub own_images : {D : Type 0} (bytes : D → List ℕ) (images : D → List ℕ → Type 0) → ((disk : D) → images disk (bytes disk)) → (disks : List D) → AreImages images disks (map bytes disks)
+own_images bytes images own disks = record {
+  many = length-map disks bytes;
+  each = λ i disk file at at'. subst (images disk) (sym (map_there bytes disks i disk file at at')) (own disk);
+}
+
+pub only_memory : {D : Type 0} (faults : D → ℕ) → ((disk : D) → faults disk ≡ 0) → (bad : LogBad) (old new : List D)
+    → CountsFault bad (map faults old) (map faults new) → (bad ≡ bads.Fault) ⊎ (bad ≡ bads.NoMemory) → bad ≡ bads.NoMemory
+only_memory faults never bad old new cause is =
+    ⊎_elim (λ fault. absurd (none_rose faults never old new (subst (λ (b : LogBad). CountsFault b (map faults old) (map faults new)) fault cause))) (λ none. none) is
+
+-- a list that was written over by one as long is that one
+pub written_back : {X : Type 0} (xs ys : List X) (n : ℕ) → length xs ≡ length ys → n ≡ length ys → take n (xs ++ drop (length xs) ys) ≡ xs
+written_back xs ys n same len =
+    ap (λ (rest : List _). take n (xs ++ rest)) (drop_all (length xs) ys (omega (arith, same)))
+    ∙ ap (λ (k : ℕ). take k (xs ++ [])) (len ∙ sym same) ∙ take-append_seam xs []
+
+-- partitions whose tables are as many are as many
+pub as_long : {D : Type 0} (ps qs : List (Part D)) → tables_of ps ≡ tables_of qs → length ps ≡ length qs
+as_long ps qs same = sym (length-map ps (λ part. table_of part)) ∙ ap length same ∙ length-map qs (λ part. table_of part)

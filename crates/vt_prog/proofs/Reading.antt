@@ -1,0 +1,40 @@
+-- What a read of a type and a score that isn't zero answers.
+use Rattle.std.proofs.Common.{◌≡◌, ◌≢◌, inl, inr, ℕ, ◌<◌, ◌≤◌, Bool, true, false, not, cond, List, [], length, refl, sym, ◌∙◌, ap, subst, Option, Some, None, Ok, Err, Result}
+use Rattle.std.specs.Prelude.{MatchResult, find, nat_lt}
+use Rattle.std.specs.Option.{option_map}
+use Rattle.std.specs.Str.{bytes_eq}
+use Rattle.std.proofs.lemmas.Bool.{lt-ltb, le-ltb, true≢false}
+use Rattle.std.proofs.lemmas.Slice.Eq.{bytes_eq-Decides}
+use Rattle.vt_base.specs.Kind.{is_kind}
+use Rattle.vt_base.specs.declared.why.Why.{Why}
+use Rattle.vt_base.specs.declared.why.Why.TheVariants.{BadType, TooSmall, Absent, NoMemory}
+use Rattle.vt_base.specs.Protocol.{read, RMessage, r_read}
+use Rattle.vt_model.specs.History.{History, Accepted, has_key, held}
+use Rattle.vt_model.specs.Answer.{Outcome, answer_to_read, lends, refuses, replies, with_added}
+use Rattle.vt_prog.specs.Store.{Serves}
+
+module _ (score : List ℕ → List ℕ) (h : History) (s : List ℕ) (kind count : ℕ) (known : is_kind kind ≡ true) (nonzero : bytes_eq s (score []) ≡ false) where
+  read_as : (o : Option Accepted) → find (has_key score s kind) h ≡ o → answer_to_read score h s kind count ≡ lends count (option_map (λ e. e.block.bytes) o)
+  read_as o found =
+      ap (λ b. cond (not b) (refuses BadType) (lends count (held score h s kind))) known
+      ∙ ap (λ b. lends count (cond b (Some []) (option_map (λ (e : Accepted). e.block.bytes) (find (has_key score s kind) h)))) nonzero
+      ∙ ap (λ (o : Option Accepted). lends count (option_map (λ e. e.block.bytes) o)) found
+
+  pub absent : find (has_key score s kind) h ≡ None → answer_to_read score h s kind count ≡ refuses Absent
+  absent found = read_as None found
+
+  pub too_small : (e : Accepted) → find (has_key score s kind) h ≡ Some e → count < length e.block.bytes → answer_to_read score h s kind count ≡ refuses TooSmall
+  too_small e found less = read_as (Some e) found ∙ ap (λ b. cond b (refuses TooSmall) (replies (r_read e.block.bytes))) (lt-ltb count (length e.block.bytes) less)
+
+  given : (e : Accepted) → find (has_key score s kind) h ≡ Some e → length e.block.bytes ≤ count → answer_to_read score h s kind count ≡ replies (r_read e.block.bytes)
+  given e found most = read_as (Some e) found ∙ ap (λ b. cond b (refuses TooSmall) (replies (r_read e.block.bytes))) (le-ltb count (length e.block.bytes) most)
+
+  pub serves : (holds : History → Type 0) (e : Accepted) (r : Result (List ℕ) Why) → find (has_key score s kind) h ≡ Some e → length e.block.bytes ≤ count
+      → MatchResult r (λ block. block ≡ e.block.bytes) (λ why. why ≡ NoMemory) → holds h → Serves score holds h (read s kind count) (λ block. r_read block) r
+  serves holds e (Ok block) found most is hold =
+      let its = given e found most in (
+        ap (λ (o : Outcome). o.reply) its ∙ ap r_read (sym is),
+        subst (λ (o : Outcome). holds (with_added h o.added)) (sym its) hold,
+      )
+  serves holds e (Err why) found most is hold =
+      inr (is, ((known, λ zero. true≢false (sym ((bytes_eq-Decides s (score [])).1 zero) ∙ nonzero)), tt), hold)

@@ -1,0 +1,50 @@
+//! The index of the store in memory: entries that are searched from the front.
+
+ghost use Rattle.std.specs.Prelude.{◌≡◌, ◌==◌, ◌&&◌, find, count_by, is_some};
+ghost use Rattle.std.specs.Option.{option_copied};
+ghost use Rattle.std.specs.Str.{bytes_eq};
+ghost use Rattle.vt_model.specs.Places.{bucket_of};
+
+use vt_base::{Entry, Key, Score};
+use vt_model::bucket_of;
+
+/// How many buckets the index would have on a disk: in none there are more blocks than its room.
+const BUCKETS: u128 = 4;
+
+/// The first entry with this key.
+pub fn find_key<'a>(entries: &'a [Entry], key: &Key) -> Option<&'a Entry>
+    ensures { let k = key.now in
+        option_copied result
+        ≡ find (λ e. bytes_eq e.key.score.0 k.score.0 && e.key.kind == k.kind) entries.now }
+{
+    entries.iter().find(|e| e.key == *key)
+}
+
+/// Whether an entry has this key.
+pub fn has_key(entries: &[Entry], key: &Key) -> bool
+    ensures { let k = key.now in
+        result ≡ is_some (find (λ e. bytes_eq e.key.score.0 k.score.0 && e.key.kind == k.kind)
+        entries.now) }
+{
+    find_key(entries, key).is_some()
+}
+
+/// The first entry with this score, of whatever type.
+pub fn find_score<'a>(entries: &'a [Entry], score: &Score) -> Option<&'a Entry>
+    ensures { let s = score.now.0 in
+        option_copied result ≡ find (λ e. bytes_eq e.key.score.0 s) entries.now }
+{
+    entries.iter().find(|e| e.key.score == *score)
+}
+
+/// How many entries are in the bucket of this score.
+pub fn crowd(entries: &[Entry], score: &Score) -> usize
+    ensures { let bucket = bucket_of 4 score.now.0 in
+        result ≡ count_by (λ e. bucket_of 4 e.key.score.0 == bucket) entries.now }
+{
+    let bucket = bucket_of(BUCKETS, score);
+    entries
+        .iter()
+        .filter(|e| bucket_of(BUCKETS, &e.key.score) == bucket)
+        .count()
+}
