@@ -84,21 +84,24 @@ def make(folder):
     with open(os.path.join(TOP, "crates.txt")) as source, open(os.path.join(folder, "crates.txt"), "w") as out:
         out.writelines(line for line in source if not line.startswith("vt_prog:"))
         out.write("sha1_rate: sha1\nlog_rate: vt_base vt_clump vt_disk vt_memdisk vt_part vt_arena vt_log\n")
-    for name, text in ("sha1_rate", RATE.replace("8_192", "1_024")), ("log_rate", LOG):
-        crate = os.path.join(crates, name)
-        os.makedirs(os.path.join(crate, "src"))
-        with open(os.path.join(crate, "src", "main.rt"), "w") as out:
+    programs = {"sha1_rate": RATE.replace("8_192", "1_024"), "log_rate": LOG}
+    for name, text in programs.items():
+        os.makedirs(os.path.join(crates, name, "src"))
+        with open(os.path.join(crates, name, "src", "main.rt"), "w") as out:
             out.write(text)
+    for name in programs:
+        crate = os.path.join(crates, name)
         subprocess.run(["rt", "run"], cwd=crate, stdin=subprocess.DEVNULL, stdout=subprocess.DEVNULL,
                        stderr=subprocess.DEVNULL, check=True)
-        yield os.path.join(crate, "out", name)
+    return [os.path.join(crates, name, "out", name) for name in programs]
 
 
 def main():
     with tempfile.TemporaryDirectory() as folder:
         rate, log = make(folder)
         path = os.path.join(folder, "input")
-        print("| work | blocks | seconds | memory, MiB |\n|---|---|---|---|")
+        print("| work | blocks | seconds | blocks per second, behind the making | memory, MiB |\n|---|---|---|---|---|")
+        making = 0.0
         for name, command, blocks in (
             ("making the disk and the log", log, 0),
             ("append and commit", log, 10_000),
@@ -109,7 +112,11 @@ def main():
                 for number in range(blocks):
                     out.write(number.to_bytes(4, "big") * (BLOCK // 4))
             seconds, memory = best([command], path)
-            print(f"| {name} | {blocks} | {seconds:.3f} | {memory:.0f} |", flush=True)
+            if blocks == 0:
+                making = seconds
+            work = seconds - (making if command == log else 0)
+            per_second = blocks / work if blocks > 0 else 0
+            print(f"| {name} | {blocks} | {seconds:.3f} | {per_second:,.0f} | {memory:.0f} |", flush=True)
 
 
 if __name__ == "__main__":
