@@ -1,6 +1,5 @@
 -- What is known goes on to agree between calls.
-use Rattle.std.proofs.Common.{◌≡◌, ℕ, List, Option, None, refl, subst}
-use Rattle.vt_base.specs.declared.place.Entry.{Entry}
+use Rattle.std.proofs.Common.{◌≡◌, ℕ, List, None, refl, subst}
 use Rattle.vt_model.specs.History.{History}
 use Rattle.vt_model.specs.Places.{Setup}
 use Rattle.vt_isect.specs.declared.phase.Phase.TheVariants.{Rest}

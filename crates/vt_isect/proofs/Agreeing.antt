@@ -1,31 +1,28 @@
 -- What is known of a section goes on to agree with a history, and so do its images.
-use Rattle.std.proofs.Common.{◌≡◌, ◌≢◌, ◌⊎◌, inl, inr, ⊎_elim, ℕ, zero, suc, ◌+◌, ◌-◌, ◌<◌, ◌≤◌, List, [], ◌∷◌, length, get_or, Option, Some, None, refl, sym, ◌∙◌, ap, subst, arith}
+use Rattle.std.proofs.Common.{◌≡◌, ◌⊎◌, inl, ⊎_elim, ℕ, zero, suc, ◌+◌, ◌<◌, ◌≤◌, List, [], ◌∷◌, length, get_or, Option, Some, None, refl, sym, ◌∙◌, ap, subst, arith}
 use Rattle.std.specs.Prelude.{IsSome, slice_get}
 use Rattle.std.specs.List.{Contains, AllPairs}
-use Rattle.std.proofs.lemmas.Bool.{cases_lt, cases_eq, cases_order, false≢true}
+use Rattle.std.proofs.lemmas.Bool.{cases_order, false≢true}
 use Rattle.vt_base.specs.declared.place.Entry.{Entry}
 use Rattle.vt_base.specs.declared.key.Key.{Key}
-use Rattle.vt_bucket.specs.Frame.{IsFrame}
-use Rattle.vt_bucket.specs.Order.{IsAscending}
-use Rattle.vt_disk.specs.declared.region.Region.{Region}
 use Rattle.vt_model.specs.History.{History, Accepted}
 use Rattle.vt_model.specs.Legal.{HasOtherKey}
 use Rattle.vt_model.specs.Places.{Setup, bucket_of, bucket_count}
 use Rattle.vt_isect.specs.declared.head.Head.{Head}
 use Rattle.vt_isect.specs.declared.phase.Phase.{Phase}
-use Rattle.vt_isect.specs.declared.phase.Phase.TheVariants.{Rest, ReadSelector, ReadFrame, ChangeBucket, ChangeHead}
+use Rattle.vt_isect.specs.declared.phase.Phase.TheVariants.{ChangeHead}
 use Rattle.vt_isect.specs.Agreement.{IsEntryOf, IsOfBlock, HasBlock, IsInBucket, AgreesWith, IsCovered, NoOthers, KnownAgrees}
-use Rattle.vt_isect.specs.Layout.{head_place, IsPlaceOf, InRange, IsSection}
-use Rattle.vt_isect.specs.Merging.{Merges, HasKey}
-use Rattle.vt_isect.specs.Section.{SectionState, HasBucket, IsChanging, IsOfGroup, IsTodo, entries_of, bucket_number}
-use Rattle.vt_isect.specs.Sound.{Known, IsWhole, LeavesSection}
+use Rattle.vt_isect.specs.Layout.{InRange}
+use Rattle.vt_isect.specs.Merging.{Merges}
+use Rattle.vt_isect.specs.Section.{SectionState, HasBucket, IsChanging, IsOfGroup, IsTodo}
+use Rattle.vt_isect.specs.Sound.{Known, LeavesSection}
 
-get_at : (h : History) (i : ℕ) (b : Accepted) → slice_get h i ≡ Some b → (d : Accepted) → get_or h i d ≡ b
+pub get_at : (h : History) (i : ℕ) (b : Accepted) → slice_get h i ≡ Some b → (d : Accepted) → get_or h i d ≡ b
 get_at [] i b is d = cc
 get_at (x ∷ xs) zero b is d = cc
 get_at (x ∷ xs) (suc i) b is d = get_at xs i b is d
 
-get_below : (h : History) (i : ℕ) (b : Accepted) → slice_get h i ≡ Some b → i < length h
+pub get_below : (h : History) (i : ℕ) (b : Accepted) → slice_get h i ≡ Some b → i < length h
 get_below [] i b is = cc
 get_below (x ∷ xs) zero b is = omega arith
 get_below (x ∷ xs) (suc i) b is = let rest = get_below xs i b is in omega (arith, rest)

@@ -1,5 +1,5 @@
 -- What is begun on a section at rest.
-use Rattle.std.proofs.Common.{◌≡◌, ◌≢◌, ◌⊎◌, inl, inr, ⊎_elim, ℕ, ◌+◌, ◌-◌, ◌^◌, ◌<◌, ◌≤◌, List, [], ◌∷◌, ◌++◌, length, Option, Some, None, refl, sym, ◌∙◌, ap, subst, arith}
+use Rattle.std.proofs.Common.{◌≡◌, ◌⊎◌, inl, inr, ⊎_elim, ℕ, ◌^◌, ◌<◌, List, [], ◌∷◌, ◌++◌, length, Some, refl, sym, ap, subst, arith}
 use Rattle.std.specs.List.{Contains}
 use Rattle.vt_base.specs.declared.place.Entry.{Entry}
 use Rattle.vt_model.specs.History.{History}
@@ -7,10 +7,11 @@ use Rattle.vt_model.specs.Places.{Setup, bucket_of}
 use Rattle.vt_twin.specs.Twin.{TwinState, with_change}
 use Rattle.vt_isect.specs.declared.head.Head.{Head}
 use Rattle.vt_isect.specs.declared.phase.Phase.{Phase}
-use Rattle.vt_isect.specs.declared.phase.Phase.TheVariants.{Rest, ReadSelector, ReadFrame, ChangeBucket, ChangeHead}
+use Rattle.vt_isect.specs.declared.phase.Phase.TheVariants.{Rest, ReadSelector, ChangeHead}
 use Rattle.vt_isect.specs.Agreement.{IsOfBlock, IsCovered, NoOthers, KnownAgrees}
+use Rattle.vt_isect.specs.Entries.{EntriesState}
 use Rattle.vt_isect.specs.Head.{IsHead, encoded}
-use Rattle.vt_isect.specs.Section.{SectionState, AreInRange, HasBucket, IsTodo, entries_of, bucket_number}
+use Rattle.vt_isect.specs.Section.{SectionState, AreInRange, IsTodo}
 use Rattle.std.proofs.lemmas.List.Elements.{Contains-push_cases}
 use Rattle.vt_isect.specs.Layout.{InRange}
 use Rattle.vt_isect.specs.Sound.{Known, IsSoundSection}
@@ -23,9 +24,9 @@ use Rattle.vt_isect.proofs.Stepping.{covers_more}
 pub agrees_begins : {D : Type 0} (score : List ℕ → List ℕ) (c : Setup) (h : History) (t : SectionState D) (next : Head) (hw : TwinState) (known : Known)
     → KnownAgrees score c h t known → next.first ≡ t.head.first → next.total ≡ t.head.total
     → (next.state ≡ 1 → IsCovered score c h t known NoOthers next.mark)
-    → KnownAgrees score c h (record t { next = next; phase = ChangeHead; entries = None; head_twin = hw }) known
+    → KnownAgrees score c h (record t { next = next; phase = ChangeHead; head_twin = hw }) known
 agrees_begins score c h t next hw known agrees first total cover =
-    let v = record t { next = next; phase = ChangeHead; entries = None; head_twin = hw } in
+    let v = record t { next = next; phase = ChangeHead; head_twin = hw } in
     record {
       keys = agrees.keys;
       total = agrees.total;
@@ -39,11 +40,11 @@ agrees_begins score c h t next hw known agrees first total cover =
     }
 
 -- and with the entries that begin to be written
-agrees_file : {D : Type 0} (score : List ℕ → List ℕ) (c : Setup) (h : History) (t : SectionState D) (mark : ℕ) (p : Phase) (es : List Entry) (b : ℕ) (hw : TwinState) (known : Known)
-    → ((entry : Entry) → Contains es entry → IsTodo (record t { next = record t.head { mark = mark }; phase = p; entries = Some es; bucket = b; head_twin = hw }) entry)
+agrees_file : {D : Type 0} (score : List ℕ → List ℕ) (c : Setup) (h : History) (t : SectionState D) (mark : ℕ) (p : Phase) (es : EntriesState) (b : ℕ) (hw : TwinState) (known : Known)
+    → ((entry : Entry) → Contains es.items entry → IsTodo (record t { next = record t.head { mark = mark }; phase = p; entries = Some es; bucket = b; head_twin = hw }) entry)
     → KnownAgrees score c h t known
-    → ((entry : Entry) → Contains es entry → IsOfBlock score c h entry)
-    → (t.head.state ≡ 1 → IsCovered score c h t known (Contains es) mark)
+    → ((entry : Entry) → Contains es.items entry → IsOfBlock score c h entry)
+    → (t.head.state ≡ 1 → IsCovered score c h t known (Contains es.items) mark)
     → KnownAgrees score c h (record t { next = record t.head { mark = mark }; phase = p; entries = Some es; bucket = b; head_twin = hw }) known
 agrees_file score c h t mark p es b hw known forth agrees of cover =
     let v = record t { next = record t.head { mark = mark }; phase = p; entries = Some es; bucket = b; head_twin = hw } in
@@ -56,23 +57,23 @@ agrees_file score c h t mark p es b hw known forth agrees of cover =
       blocks = agrees.blocks;
       todo = λ entry way. of entry way.1;
       filed = λ live. covers_more score c h t v known NoOthers NoOthers t.head.mark refl refl (λ e none. none) (agrees.filed live);
-      coming = λ live. covers_more score c h t v known (Contains es) (IsTodo v) mark refl refl forth (cover live);
+      coming = λ live. covers_more score c h t v known (Contains es.items) (IsTodo v) mark refl refl forth (cover live);
     }
 
 -- the section whose entries are to be written
-abbrev given : {D : Type 0} → SectionState D → (mark : ℕ) → List Entry → SectionState D
+abbrev given : {D : Type 0} → SectionState D → (mark : ℕ) → EntriesState → SectionState D
 given t mark es = record t { next = record t.head { mark = mark }; entries = Some es }
 
 -- what begins, of the bucket or of the head
-abbrev pub Begins : {D : Type 0} → (t : SectionState D) (mark : ℕ) (es : List Entry) (v : SectionState D) → Type 0
+abbrev pub Begins : {D : Type 0} → (t : SectionState D) (mark : ℕ) (es : EntriesState) (v : SectionState D) → Type 0
 Begins t mark es v = (v ≡ record (given t mark es) { phase = ReadSelector; bucket = v.bucket })
     ⊎ (v ≡ record (given t mark es) { phase = ChangeHead; head_twin = with_change (encoded t.name (record t.head { mark = mark })) t.head_twin })
 
-pub file_agrees : {D : Type 0} (score : List ℕ → List ℕ) (c : Setup) (h : History) (t : SectionState D) (mark : ℕ) (es : List Entry) (v : SectionState D) (known : Known)
+pub file_agrees : {D : Type 0} (score : List ℕ → List ℕ) (c : Setup) (h : History) (t : SectionState D) (mark : ℕ) (es : EntriesState) (v : SectionState D) (known : Known)
     → BeginsFrom 0 v → Begins t mark es v
     → KnownAgrees score c h t known
-    → ((entry : Entry) → Contains es entry → IsOfBlock score c h entry)
-    → (t.head.state ≡ 1 → IsCovered score c h t known (Contains es) mark)
+    → ((entry : Entry) → Contains es.items entry → IsOfBlock score c h entry)
+    → (t.head.state ≡ 1 → IsCovered score c h t known (Contains es.items) mark)
     → KnownAgrees score c h v known
 file_agrees score c h t mark es v known begins (inl e) agrees of cover =
     let at = subst (λ x. BeginsFrom 0 x) e begins in
@@ -85,7 +86,7 @@ file_agrees score c h t mark es v known begins (inr e) agrees of cover =
     (agrees_file score c h t mark ChangeHead es t.bucket (with_change (encoded t.name (record t.head { mark = mark })) t.head_twin) known
     (λ entry has. absurd (⊎_elim (λ here. let q = here.0 in cc) (λ there. let low = there.2 entry has in omega (arith, low)) at)) agrees of cover)
 
-pub file_sound : {D : Type 0} (t : SectionState D) (mark : ℕ) (es : List Entry) (v : SectionState D) (known : Known) (read : List ℕ) (images : List ℕ → Type 0)
+pub file_sound : {D : Type 0} (t : SectionState D) (mark : ℕ) (es : EntriesState) (v : SectionState D) (known : Known) (read : List ℕ) (images : List ℕ → Type 0)
     → t.phase ≡ Rest → length t.name ≡ 64 → mark < 2 ^ 64 → Begins t mark es v
     → IsSoundSection t known read images → IsSoundSection v known read images
 file_sound t mark es v known read images rest len low (inl e) sound =

@@ -1,6 +1,6 @@
 -- The changes of a bucket and of the head, step by step.
 use Rattle.std.proofs.Common.{◌≡◌, ◌≢◌, ◌⊎◌, inl, inr, ⊎_elim, ℕ, ◌+◌, ◌-◌, ◌*◌, ◌%◌, ◌<◌, ◌≤◌, Bool, true, false, List, length, Option, Some, None, Ok, refl, sym, ◌∙◌, ap, subst, arith, cond, eqb}
-use Rattle.std.specs.Prelude.{IsSome, slice_get}
+use Rattle.std.specs.Prelude.{IsSome}
 use Rattle.std.specs.List.{Contains}
 use Rattle.std.proofs.lemmas.Bool.{cases_eq, cases_lt, cases_Bool, false≢true}
 use borrow.Author.Tests.{eqb-true, eqb-false}
@@ -8,15 +8,14 @@ use Rattle.vt_base.specs.declared.place.Entry.{Entry}
 use Rattle.vt_bucket.specs.Frame.{IsFrame}
 use Rattle.vt_bucket.proofs.Frames.{one_frame}
 use Rattle.vt_disk.specs.declared.region.Region.{Region}
-use Rattle.vt_disk.specs.Disk.{SameBut, AreAmong, ChangesAt}
+use Rattle.vt_disk.specs.Disk.{SameBut, AreAmong}
 use Rattle.vt_disk.specs.Region.{Inside, ChangesWithin}
 use Rattle.vt_model.specs.History.{History, Accepted}
 use Rattle.vt_model.specs.Places.{Setup, bucket_of, bucket_count}
-use Rattle.vt_twin.specs.Frames.{HasRoom, frame_of, named_number}
+use Rattle.vt_twin.specs.Frames.{frame_of, named_number}
 use Rattle.vt_twin.specs.Twin.{TwinState, fresh, with_change, calls_made, next_frame, one_more}
 use Rattle.vt_twin.specs.declared.step.Step.TheVariants.{More, Done}
 use Rattle.vt_twin.specs.Sound.{IsSound, HasBegunSelector}
-use Rattle.vt_isect.specs.declared.head.Head.{Head}
 use Rattle.vt_isect.specs.declared.phase.Phase.{Phase}
 use Rattle.vt_isect.specs.declared.phase.Phase.TheVariants.{Rest, ReadSelector, ReadFrame, ChangeBucket, ChangeHead}
 use Rattle.vt_isect.specs.Agreement.{IsEntryOf, HasBlock, IsInBucket, IsCovered, NoOthers, KnownAgrees}

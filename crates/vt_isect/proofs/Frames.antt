@@ -1,9 +1,8 @@
 -- Where the buffers of the frames are.
-use Rattle.std.proofs.Common.{◌≡◌, ℕ, List, [], length, Option, Some, None, Vec, Global, subst}
+use Rattle.std.proofs.Common.{◌≡◌, ℕ, [], length, Option, Some, None, Vec, Global, subst}
 use Rattle.std.specs.Option.{option_map, option_map_or}
 use Rattle.vt_twin.specs.Twin.{Change, TwinState, next_frame}
 use Rattle.vt_isect.specs.declared.phase.Phase.{Phase}
-use Rattle.vt_isect.specs.declared.phase.Phase.TheVariants.{Rest, ReadSelector, ReadFrame, ChangeBucket, ChangeHead}
 use Rattle.vt_isect.specs.Section.{HasFrames, IsLent}
 
 -- at this phase

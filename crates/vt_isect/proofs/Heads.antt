@@ -1,12 +1,12 @@
 -- Heads written and read back.
-use Rattle.std.proofs.Common.{◌≡◌, ℕ, ◌+◌, ◌-◌, ◌<◌, ◌≤◌, List, [], ◌∷◌, ◌++◌, length, take, drop, replicate, refl, sym, ◌∙◌, ap, arith, append_assoc, length-append, take-append-drop}
+use Rattle.std.proofs.Common.{◌≡◌, ℕ, ◌+◌, ◌-◌, List, ◌∷◌, ◌++◌, length, take, drop, replicate, sym, ◌∙◌, ap, arith, append_assoc, length-append, take-append-drop}
 use Rattle.std.specs.Prelude.{codes, slice_index}
 use Rattle.std.proofs.lemmas.List.{take_at}
 use Rattle.byteorder.specs.Endian.{big_number, big_bytes}
 use Rattle.vt_base.specs.Bytes.{AreBytes}
 use Rattle.vt_fields.specs.Fields.{drop-field, drop-byte, drop-number}
 use Rattle.vt_isect.specs.declared.head.Head.{Head}
-use Rattle.vt_isect.specs.Head.{spelled, head_of, encoded, IsHead, IsHeadFrame}
+use Rattle.vt_isect.specs.Head.{spelled, encoded, IsHead, IsHeadFrame}
 
 pub length-spelled : (name : List ℕ) (head : Head) → length name ≡ 64 → length (spelled name head) ≡ 91
 length-spelled name head len =

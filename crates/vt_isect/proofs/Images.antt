@@ -5,20 +5,19 @@ use Rattle.std.proofs.lemmas.Bool.{cases_lt, cases_eq, false≢true}
 use Rattle.vt_base.specs.declared.place.Entry.{Entry}
 use Rattle.vt_bucket.specs.Frame.{IsFrame}
 use Rattle.vt_disk.specs.declared.region.Region.{Region}
-use Rattle.vt_twin.specs.Frames.{current_frame, frame_of, named_number}
-use Rattle.vt_twin.specs.Twin.{TwinState, next_frame, calls_made, calls_begun}
-use Rattle.vt_twin.specs.Sound.{IsSound, GivesOldOrNew, HasBegunSelector}
+use Rattle.vt_twin.specs.Frames.{current_frame}
+use Rattle.vt_twin.specs.Twin.{next_frame}
+use Rattle.vt_twin.specs.Sound.{HasBegunSelector}
 use Rattle.vt_twin.proofs.Steps.{sound_gives}
 use Rattle.vt_isect.specs.declared.head.Head.{Head}
 use Rattle.vt_isect.specs.declared.phase.Phase.{Phase}
 use Rattle.vt_isect.specs.declared.phase.Phase.TheVariants.{Rest, ReadSelector, ReadFrame, ChangeBucket, ChangeHead}
 use Rattle.vt_isect.specs.Head.{IsHeadFrame}
-use Rattle.vt_isect.specs.Layout.{head_place, IsPlaceOf, InRange, IsSection}
+use Rattle.vt_isect.specs.Layout.{head_place, IsPlaceOf, InRange}
 use Rattle.vt_isect.specs.Merging.{Merges}
 use Rattle.vt_isect.specs.Section.{SectionState, IsChanging, IsOfGroup}
 use Rattle.vt_isect.specs.Sound.{Known, IsWhole, HoldsBucket, IsSoundSection, LeavesSection}
 use Rattle.vt_isect.proofs.Moves.{begun_bound, none_made}
-use Rattle.vt_isect.proofs.Places.{one_place}
 
 pub is_changing_phase : (p : Phase) → (p ≡ ChangeBucket) ⊎ (p ≢ ChangeBucket)
 is_changing_phase Rest = inr (λ e. cc)

@@ -1,5 +1,5 @@
 -- How many device calls are left.
-use Rattle.std.proofs.Common.{◌≡◌, ◌≢◌, ◌⊎◌, ⊎_elim, ℕ, zero, suc, ◌+◌, ◌-◌, ◌*◌, ◌<◌, ◌≤◌, Bool, true, false, cond, List, [], ◌∷◌, length, Option, Some, None, Result, Ok, Err, refl, sym, ◌∙◌, ap, subst, arith}
+use Rattle.std.proofs.Common.{◌≡◌, ◌≢◌, ⊎_elim, ℕ, zero, suc, ◌+◌, ◌*◌, ◌<◌, ◌≤◌, Bool, true, false, cond, List, [], ◌∷◌, length, Option, Some, None, Result, Ok, Err, refl, sym, ◌∙◌, ap, subst, arith}
 use Rattle.std.specs.Prelude.{nat_lt, OnOk}
 use Rattle.std.specs.List.{Contains, count_by}
 use Rattle.std.specs.Option.{option_map_or}
@@ -14,7 +14,8 @@ use Rattle.vt_isect.specs.declared.bad.ShardErr.{ShardErr}
 use Rattle.vt_isect.specs.declared.head.Head.{Head}
 use Rattle.vt_isect.specs.declared.phase.Phase.{Phase}
 use Rattle.vt_isect.specs.declared.phase.Phase.TheVariants.{Rest, ReadSelector, ReadFrame, ChangeBucket, ChangeHead}
-use Rattle.vt_isect.specs.Section.{SectionState, HasFrames, IsLent, entries_of, bucket_number}
+use Rattle.vt_isect.specs.Entries.{EntriesState}
+use Rattle.vt_isect.specs.Section.{SectionState, HasFrames, IsLent, entries_of}
 use Rattle.vt_isect.specs.Writeback.{Advances, BeginsFrom, GoesOn, NextPhase, calls_left, later, most_calls}
 
 -- ---- counting
@@ -117,7 +118,7 @@ same_later : {D : Type 0} (old new : SectionState D) → GoesOn old new → new.
     → later new.head.total new.bucket (entries_of new)
     ≡ later old.head.total old.bucket (entries_of old)
 same_later old new goes same =
-    λ i. later (goes.head_is i).total (same i) (option_map_or (λ entries. entries) (goes.section.entries i) [])
+    λ i. later (goes.head_is i).total (same i) (option_map_or (λ entries. entries.items) (goes.section.entries i) [])
 
 -- behind a bucket that is done there are fewer, or the head is left
 begins_lower : {D : Type 0} (old new : SectionState D) → GoesOn old new
@@ -126,7 +127,7 @@ begins_lower : {D : Type 0} (old new : SectionState D) → GoesOn old new
 begins_lower old new goes begins = ⊎_elim
     (λ here.
     let total = ap (λ (h : Head). h.total) goes.head_is in
-    let list = ap (λ (o : Option (List Entry)). option_map_or (λ entries. entries) o []) goes.section.entries in
+    let list = ap (λ (o : Option EntriesState). option_map_or (λ entries. entries.items) o []) goes.section.entries in
     let x = here.2.0 in
     let has = subst (λ (l : List Entry). Contains l x) list here.2.1 in
     let is = sym (ap (λ (n : ℕ). of_entry n x) total) ∙ here.2.2 in
@@ -159,7 +160,7 @@ more_lower old new ChangeBucket goes next bucket head = ⊎_elim
     (λ on.
     let left = left_as new ChangeBucket on.1 in
     let same = same_later old new goes on.3 in
-    let one = on.2 in
+    let one = ap calls_made on.2 in
     let low = bucket refl in
     omega (arith, left, same, one, low))
     (λ behind.
@@ -169,7 +170,7 @@ more_lower old new ChangeBucket goes next bucket head = ⊎_elim
     next
 more_lower old new ChangeHead goes next bucket head =
     let left = left_as new ChangeHead next.1 in
-    let one = next.2 in
+    let one = ap calls_made next.2 in
     let low = head refl in
     omega (arith, left, one, low)
 
@@ -187,10 +188,10 @@ advance_lower (Ok Done) old new step bucket head =
 advance_lower (Err bad) old new step bucket head = tt
 
 -- what begins
-pub begun_left : {D : Type 0} (t : SectionState D) (entries : List Entry) → BeginsFrom 0 t
-    → t.entries ≡ Some entries → calls_left t ≤ 6 * length entries + 4
+pub begun_left : {D : Type 0} (t : SectionState D) (entries : EntriesState) → BeginsFrom 0 t
+    → t.entries ≡ Some entries → calls_left t ≤ 6 * length entries.items + 4
 begun_left t entries begins is =
-    let list = ap (λ (o : Option (List Entry)). option_map_or (λ l. l) o []) is in
+    let list = ap (λ (o : Option EntriesState). option_map_or (λ entries. entries.items) o []) is in
     ⊎_elim
     (λ here.
     let x = here.2.0 in

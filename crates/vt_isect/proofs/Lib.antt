@@ -14,5 +14,11 @@ pub mod Begun
 pub mod Cleared
 pub mod Mounted
 pub mod Agreed
+pub mod Grown
 pub mod Left
 pub mod Apart
+pub mod Written
+pub mod Counted
+pub mod Found
+pub mod Covered
+pub mod Undamaged

@@ -1,10 +1,9 @@
 -- Entries that are put into a bucket one after another, and the least of their buckets.
-use Rattle.std.proofs.Common.{◌≡◌, ◌≢◌, ◌↔◌, ◌⊎◌, inl, inr, ⊎_elim, ℕ, zero, suc, ◌+◌, ◌<◌, ◌≤◌, List, [], ◌∷◌, ◌++◌, length, length-append, get_or, take, drop, take-append-drop, Option, Some, None, refl, sym, ap, ◌∙◌, subst, arith}
+use Rattle.std.proofs.Common.{◌≡◌, ◌≢◌, ◌⊎◌, inl, inr, ⊎_elim, ℕ, zero, suc, ◌+◌, ◌<◌, ◌≤◌, List, [], ◌∷◌, ◌++◌, length, length-append, get_or, take, drop, take-append-drop, Option, Some, None, refl, sym, ap, ◌∙◌, subst, arith}
 use Rattle.std.specs.Prelude.{IfSome, MatchOption}
 use Rattle.std.specs.Option.{ForSome}
 use Rattle.std.specs.List.{All, AllPairs, Contains}
 use Rattle.std.proofs.lemmas.List.Elements.{All-contains, All-contains_itself, Contains-append_cases, Contains-append_left, Contains-append_right, Contains-push, Contains-push_cases}
-use Rattle.std.proofs.lemmas.Bool.{cases_eq, cases_lt}
 use Rattle.std.proofs.Math.Seq.{drop-cons}
 use Rattle.std.proofs.lemmas.List.Kept.{AllPairs-cons}
 use Rattle.std.specs.declared.cmp.Ordering.{Ordering}
@@ -18,7 +17,7 @@ use Rattle.vt_model.specs.Places.{bucket_of}
 use Rattle.vt_isect.specs.Merging.{Merges, HasKey, HasKeys, IsAbsent, IsOf, Joined}
 
 -- two keys are the same or aren't
-decide_keys : (a b : Key) → (a ≡ b) ⊎ (a ≢ b)
+pub decide_keys : (a b : Key) → (a ≡ b) ⊎ (a ≢ b)
 decide_keys a b = by (key_cmp a b) refl
   where
     by : (o : Ordering) → key_cmp a b ≡ o → (a ≡ b) ⊎ (a ≢ b)
@@ -134,12 +133,12 @@ least_more total from front y least b high one below most before = record {
 
 -- ---- keys, each counted once
 
-cons_cases : (y : Entry) (xs : List Entry) (entry : Entry) → Contains (y ∷ xs) entry
+pub cons_cases : (y : Entry) (xs : List Entry) (entry : Entry) → Contains (y ∷ xs) entry
     → Contains xs entry ⊎ (y ≡ entry)
 cons_cases y xs entry (zero, within, is) = inr is
 cons_cases y xs entry (suc k, within, is) = inl (k, omega (arith, within), is)
 
-in_cons : (y : Entry) (xs : List Entry) (entry : Entry) → Contains xs entry → Contains (y ∷ xs) entry
+pub in_cons : (y : Entry) (xs : List Entry) (entry : Entry) → Contains xs entry → Contains (y ∷ xs) entry
 in_cons y xs entry has = (suc has.0, omega (arith, has.1), has.2)
 
 -- lists of different keys, one behind the other

@@ -1,5 +1,5 @@
 -- A section that was mounted.
-use Rattle.std.proofs.Common.{◌≡◌, ℕ, ◌+◌, ◌-◌, ◌*◌, ◌^◌, ◌<◌, ◌≤◌, List, length, Some, refl, sym, ◌∙◌, ap, subst, arith, inl}
+use Rattle.std.proofs.Common.{◌≡◌, ℕ, ◌+◌, ◌-◌, ◌*◌, ◌^◌, ◌<◌, ◌≤◌, List, Some, refl, sym, subst, arith, inl}
 use Rattle.std.specs.List.{Contains}
 use Rattle.vt_base.specs.declared.place.Entry.{Entry}
 use Rattle.vt_bucket.specs.Frame.{IsFrame}
@@ -11,8 +11,7 @@ use Rattle.vt_twin.specs.Frames.{current_frame}
 use Rattle.vt_twin.specs.Twin.{fresh}
 use Rattle.vt_twin.specs.Sound.{IsSound}
 use Rattle.vt_isect.specs.declared.head.Head.{Head}
-use Rattle.vt_isect.specs.declared.phase.Phase.TheVariants.{Rest, ReadFrame, ChangeBucket, ChangeHead}
-use Rattle.vt_isect.specs.Agreement.{AgreesWith, HasBlock, IsInBucket, IsCovered, KnownAgrees}
+use Rattle.vt_isect.specs.Agreement.{AgreesWith, IsCovered, KnownAgrees}
 use Rattle.vt_isect.specs.Head.{IsHeadFrame}
 use Rattle.vt_isect.specs.Layout.{head_place, IsPlaceOf, InRange, IsSection}
 use Rattle.vt_isect.specs.Section.{SectionState, IsChanging, mounted}

@@ -1,25 +1,24 @@
 -- What stays sound where nothing is written, or something else.
-use Rattle.std.proofs.Common.{◌≡◌, ◌≢◌, ⊎_elim, ℕ, ◌+◌, ◌-◌, ◌*◌, ◌%◌, ◌<◌, ◌≤◌, List, Option, Some, None, refl, sym, ◌∙◌, ap, subst, arith, is_some, if◌then◌else◌, Bool, true, false}
+use Rattle.std.proofs.Common.{◌≡◌, ◌≢◌, ℕ, ◌+◌, ◌-◌, ◌%◌, ◌≤◌, List, Option, Some, None, refl, sym, ap, subst, arith, is_some, if◌then◌else◌, Bool, true, false}
 use Rattle.vt_base.specs.declared.place.Entry.{Entry}
 use Rattle.vt_disk.specs.declared.region.Region.{Region}
 use Rattle.vt_disk.specs.Disk.{SameBut, AreAmong, ChangesAt}
 use Rattle.vt_disk.specs.Region.{Inside}
 use Rattle.vt_twin.specs.Frames.{HasRoom, named_number}
 use Rattle.std.specs.Option.{option_map_or}
-use Rattle.vt_twin.specs.Twin.{Change, TwinState, fresh, with_change, without_spare, calls_made, calls_begun, next_frame}
-use Rattle.vt_twin.specs.Sound.{IsSound, HasBegunSelector}
+use Rattle.vt_twin.specs.Twin.{Change, TwinState, fresh, with_change, without_spare, calls_made, calls_begun}
+use Rattle.vt_twin.specs.Sound.{IsSound}
 use Rattle.vt_twin.specs.declared.step.TwinErr.{TwinErr}
 use Rattle.vt_twin.specs.declared.step.TwinErr.TheVariants.{Fault, Stopped}
 use Rattle.vt_twin.proofs.Elsewhere.{sound_elsewhere}
 use Rattle.vt_isect.specs.declared.head.Head.{Head}
 use Rattle.vt_isect.specs.declared.phase.Phase.{Phase}
-use Rattle.vt_isect.specs.declared.phase.Phase.TheVariants.{Rest, ReadSelector, ReadFrame, ChangeBucket, ChangeHead}
+use Rattle.vt_isect.specs.declared.phase.Phase.TheVariants.{ReadFrame, ChangeBucket, ChangeHead}
+use Rattle.vt_isect.specs.Entries.{EntriesState}
 use Rattle.vt_isect.specs.Head.{IsHeadFrame}
-use Rattle.vt_isect.specs.Layout.{head_place, IsPlaceOf, InRange}
-use Rattle.vt_isect.specs.Merging.{Merges}
-use Rattle.vt_isect.specs.Section.{SectionState, IsChanging, IsOfGroup}
+use Rattle.vt_isect.specs.Layout.{head_place, IsPlaceOf}
+use Rattle.vt_isect.specs.Section.{SectionState, IsChanging}
 use Rattle.vt_isect.specs.Sound.{Known, HoldsBucket, IsSoundSection}
-use Rattle.vt_isect.proofs.Places.{head_room, place_room, head_apart, apart_from_head, places_apart}
 
 -- a twin at rest has begun one call at most
 pub begun_bound : (t : TwinState) → calls_begun t ≤ calls_made t + 1
@@ -118,7 +117,7 @@ bucket_passes t u n entries read reads images after still stays first pass it = 
 }
 
 -- a section that changes no bucket and not its head, before or after a call that writes nothing
-pub section_moves : {D : Type 0} (t : SectionState D) (d : D) (next : Head) (phase : Phase) (entries : Option (List Entry)) (bucket calls : ℕ) (twin : TwinState) (stopped : Option ℕ)
+pub section_moves : {D : Type 0} (t : SectionState D) (d : D) (next : Head) (phase : Phase) (entries : Option EntriesState) (bucket calls : ℕ) (twin : TwinState) (stopped : Option ℕ)
     (known : Known) (read reads : List ℕ) (images after : List ℕ → Type 0)
     → t.phase ≢ ChangeBucket → t.phase ≢ ChangeHead → phase ≢ ChangeBucket → phase ≢ ChangeHead
     → reads ≡ read → AreAmong after images
@@ -141,7 +140,7 @@ section_moves t d next phase entries bucket calls twin stopped known read reads 
 }
 
 -- the change to a next head begins
-pub head_begins : {D : Type 0} (t : SectionState D) (next : Head) (entries : Option (List Entry)) (frame : List ℕ) (known : Known) (read : List ℕ) (images : List ℕ → Type 0)
+pub head_begins : {D : Type 0} (t : SectionState D) (next : Head) (entries : Option EntriesState) (frame : List ℕ) (known : Known) (read : List ℕ) (images : List ℕ → Type 0)
     → t.phase ≢ ChangeBucket → t.phase ≢ ChangeHead → IsHeadFrame t.name next frame
     → IsSoundSection t known read images
     → IsSoundSection (record t { next = next; phase = ChangeHead; entries = entries; head_twin = with_change frame t.head_twin }) known read images

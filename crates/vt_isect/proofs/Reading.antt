@@ -1,15 +1,14 @@
 -- What is read of a bucket.
-use Rattle.std.proofs.Common.{◌≡◌, ◌⊎◌, ⊎_elim, ℕ, ◌+◌, ◌-◌, ◌*◌, ◌<◌, List, Some, refl, sym, ◌∙◌, ap, subst, arith}
+use Rattle.std.proofs.Common.{◌≡◌, ⊎_elim, ℕ, ◌+◌, ◌-◌, ◌*◌, List, Some, sym, ◌∙◌, ap, subst, arith}
 use Rattle.vt_base.specs.declared.place.Entry.{Entry}
 use Rattle.vt_bucket.specs.Frame.{IsFrame}
 use Rattle.vt_disk.specs.declared.region.Region.{Region}
 use Rattle.vt_disk.specs.Disk.{part}
 use Rattle.vt_twin.specs.Frames.{frame_of, current_frame, named_number}
 use Rattle.vt_twin.specs.Twin.{TwinState}
-use Rattle.vt_twin.specs.Sound.{HasBegunSelector}
 use Rattle.vt_isect.specs.Layout.{IsPlaceOf, InRange}
 use Rattle.vt_isect.specs.Section.{SectionState, IsChanging}
-use Rattle.vt_isect.specs.Sound.{Known, HoldsBucket, IsReadFrom, IsSoundSection}
+use Rattle.vt_isect.specs.Sound.{Known, IsReadFrom, IsSoundSection}
 use Rattle.vt_isect.proofs.Images.{changing}
 use Rattle.vt_isect.proofs.Moves.{begun_bound, none_made}
 use Rattle.vt_isect.proofs.Places.{one_place}

@@ -1,5 +1,5 @@
 -- Regions of one start and length are one.
-use Rattle.std.proofs.Common.{◌≡◌, ℕ, ◌+◌, ◌<◌, ◌^◌, ap, subst, refl}
+use Rattle.std.proofs.Common.{◌≡◌, ℕ, ◌+◌, ◌<◌, ◌^◌, ap, subst}
 use Rattle.std.specs.Coded.{le_prop}
 use Rattle.vt_disk.specs.declared.region.Region.{Region}
 

@@ -1,27 +1,26 @@
 -- What the steps of a writeback keep.
-use Rattle.std.proofs.Common.{◌≡◌, ◌≢◌, ◌⊎◌, inl, inr, ⊎_elim, ℕ, ◌+◌, ◌-◌, ◌*◌, ◌%◌, ◌<◌, ◌≤◌, List, length, get_or, drop, Option, Some, None, Result, Ok, Err, refl, sym, ◌∙◌, ap, subst, arith, lit<}
+use Rattle.std.proofs.Common.{◌≡◌, inl, inr, ⊎_elim, ℕ, ◌+◌, ◌-◌, ◌*◌, ◌%◌, List, get_or, drop, Option, Result, refl, sym, ◌∙◌, ap, subst, arith, lit<}
 use Rattle.std.proofs.lemmas.List.{get_or-take, get_or-drop}
 use Rattle.vt_disk.specs.declared.region.Region.{Region}
 use Rattle.vt_disk.specs.Disk.{AreAmong, ChangesAt, SameBut, part}
 use Rattle.vt_disk.specs.Region.{Inside}
 use Rattle.vt_disk.proofs.Bytes.{same_refl, same_wider}
 use Rattle.vt_twin.specs.Frames.{named_number}
-use Rattle.std.specs.Prelude.{IsSome}
 use Rattle.std.specs.List.{Contains}
 use Rattle.vt_base.specs.declared.place.Entry.{Entry}
 use Rattle.vt_model.specs.History.{History}
-use Rattle.vt_model.specs.Places.{Setup, bucket_of, bucket_count}
+use Rattle.vt_model.specs.Places.{Setup}
 use Rattle.vt_twin.specs.Twin.{TwinState}
 use Rattle.vt_twin.specs.declared.step.Step.{Step}
 use Rattle.vt_isect.specs.declared.bad.ShardErr.{ShardErr}
 use Rattle.vt_isect.specs.declared.head.Head.{Head}
 use Rattle.vt_isect.specs.declared.phase.Phase.{Phase}
-use Rattle.vt_isect.specs.declared.phase.Phase.TheVariants.{Rest, ReadSelector, ReadFrame, ChangeBucket, ChangeHead}
-use Rattle.vt_isect.specs.Agreement.{HasBlock, IsInBucket, IsCovered, NoOthers, KnownAgrees}
+use Rattle.vt_isect.specs.declared.phase.Phase.TheVariants.{Rest, ReadFrame, ChangeBucket, ChangeHead}
+use Rattle.vt_isect.specs.Agreement.{IsCovered, NoOthers, KnownAgrees}
 use Rattle.vt_isect.specs.Layout.{head_place, InRange, IsPlaceOf}
-use Rattle.vt_isect.specs.Section.{SectionState, HasBucket, IsTodo, entries_of}
+use Rattle.vt_isect.specs.Section.{SectionState, IsTodo}
 use Rattle.vt_isect.specs.Sound.{Known, IsSoundSection}
-use Rattle.vt_isect.specs.Writeback.{Completes, Follows, Keeps, MayWrite, NextPhase}
+use Rattle.vt_isect.specs.Writeback.{Completes, Keeps, MayWrite, NextPhase}
 
 -- a step that completes no bucket
 pub keeps_quiet : {D : Type 0} (result : Result Step ShardErr) (t u : SectionState D) (read reads : List ℕ) (images after : List ℕ → Type 0)

@@ -1,5 +1,5 @@
 -- What a crash within a step leaves.
-use Rattle.std.proofs.Common.{◌≡◌, ◌≢◌, ◌⊎◌, inl, inr, ⊎_elim, ℕ, ◌+◌, ◌<◌, ◌≤◌, List, Option, Some, None, Result, Ok, Err, refl, sym, ◌∙◌, ap, subst, arith}
+use Rattle.std.proofs.Common.{◌≡◌, ◌≢◌, ◌⊎◌, inl, inr, ⊎_elim, ℕ, ◌+◌, ◌<◌, ◌≤◌, List, Option, Some, None, Result, Ok, Err, refl, sym, ◌∙◌, ap, subst}
 use Rattle.std.specs.Prelude.{IsSome}
 use Rattle.std.proofs.lemmas.Bool.{cases_eq, false≢true}
 use Rattle.vt_base.specs.declared.place.Entry.{Entry}
@@ -61,7 +61,7 @@ is_more (Ok More) = inl refl
 is_more (Ok Done) = inr (λ e. cc)
 is_more (Err e) = inr (λ q. cc)
 
-completes_or : {D : Type 0} (result : Result Step ShardErr) (t : SectionState D) (n : ℕ) → Completes result t n ⊎ ¬ Completes result t n
+pub completes_or : {D : Type 0} (result : Result Step ShardErr) (t : SectionState D) (n : ℕ) → Completes result t n ⊎ ¬ Completes result t n
 completes_or result t n = ⊎_elim
     (λ (a : result ≡ Ok More). ⊎_elim
     (λ (b : t.phase ≡ ChangeBucket). ⊎_elim

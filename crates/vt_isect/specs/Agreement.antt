@@ -1,6 +1,6 @@
 -- When an index section has the entries of a history's blocks (Quinlan and Dorward 2002: the index
 -- maps a score to the block's place in the log).
-use Rattle.std.specs.Prelude.{◌≡◌, ◌⊎◌, ℕ, ◌<◌, ◌≤◌, List, Option, Some, length, IsSome}
+use Rattle.std.specs.Prelude.{◌≡◌, ◌⊎◌, ℕ, ◌<◌, ◌≤◌, List, Some, length}
 use Rattle.std.specs.List.{AllPairs, Contains}
 use Rattle.vt_base.specs.declared.place.Entry.{Entry}
 use Rattle.vt_bucket.specs.Order.{IsAscending}

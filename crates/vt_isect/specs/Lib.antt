@@ -1,4 +1,5 @@
 pub mod Agreement
+pub mod Entries
 pub mod Faults
 pub mod Head
 pub mod Layout

@@ -9,6 +9,7 @@ use Rattle.vt_isect.specs.declared.bad.SectBad.{SectBad}
 use Rattle.vt_isect.specs.declared.head.Head.{Head}
 use Rattle.vt_isect.specs.declared.phase.Phase.{Phase}
 use Rattle.vt_isect.specs.declared.phase.Phase.TheVariants.{Rest, ReadSelector, ReadFrame, ChangeBucket, ChangeHead}
+use Rattle.vt_isect.specs.Entries.{EntriesState}
 use Rattle.vt_isect.specs.Layout.{InRange}
 
 -- A section: its disk, how many buckets it has, its name and its head; the head that it gets by
@@ -23,7 +24,7 @@ pub record SectionState (D : Type 0) : Type 0 where
   pub head : Head
   pub next : Head
   pub phase : Phase
-  pub entries : Option (List Entry)
+  pub entries : Option EntriesState
   pub bucket : ℕ
   pub head_twin : TwinState
   pub bucket_twin : TwinState
@@ -31,7 +32,7 @@ pub record SectionState (D : Type 0) : Type 0 where
   pub stopped : Option ℕ
 
 abbrev pub entries_of : {D : Type 0} → SectionState D → List Entry
-entries_of t = option_map_or (λ entries. entries) t.entries []
+entries_of t = option_map_or (λ entries. entries.items) t.entries []
 
 -- nothing is under way
 abbrev pub IsAtRest : {D : Type 0} → SectionState D → Type 0

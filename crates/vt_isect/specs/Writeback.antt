@@ -1,10 +1,10 @@
 -- The steps of a writeback and of a change of the head.
-use Rattle.std.specs.Prelude.{◌≡◌, ◌≢◌, ◌⊎◌, ◌+◌, ◌-◌, ◌*◌, ◌<◌, ◌≤◌, nat_lt, ℕ, List, length, Option, Some, None, Result, Ok, Err}
+use Rattle.std.specs.Prelude.{◌≡◌, ◌≢◌, ◌⊎◌, ◌+◌, ◌-◌, ◌*◌, ◌%◌, ◌<◌, ◌≤◌, nat_lt, ℕ, List, Some, None, Result, Ok, Err, OnOk}
 use Rattle.std.specs.List.{Contains, count_by}
 use Rattle.vt_base.specs.Faults.{HasRisen}
 use Rattle.vt_base.specs.declared.place.Entry.{Entry}
-use Rattle.vt_base.specs.declared.why.FieldValue.{FieldValue}
-use Rattle.vt_twin.specs.Twin.{calls_made, one_more}
+use Rattle.vt_twin.specs.Calls.{bytes_after}
+use Rattle.vt_twin.specs.Twin.{TwinState, calls_made, next_frame, after_call, one_more}
 use Rattle.vt_twin.specs.declared.step.Step.{Step}
 use Rattle.vt_twin.specs.declared.step.Step.TheVariants.{More, Done}
 use Rattle.vt_isect.specs.declared.bad.ShardErr.{ShardErr}
@@ -12,13 +12,14 @@ use Rattle.vt_isect.specs.declared.bad.ShardErr.TheVariants.{Fault, Damaged, Sto
 use Rattle.vt_isect.specs.declared.head.Head.{Head}
 use Rattle.vt_isect.specs.declared.phase.Phase.{Phase}
 use Rattle.vt_isect.specs.declared.phase.Phase.TheVariants.{Rest, ReadSelector, ReadFrame, ChangeBucket, ChangeHead}
-use Rattle.vt_isect.specs.Section.{SectionState, HasBucket, IsOfGroup, entries_of, bucket_number}
+use Rattle.vt_isect.specs.Head.{encoded}
+use Rattle.vt_isect.specs.Section.{SectionState, IsOfGroup, IsTodo, entries_of, bucket_number}
 use Rattle.vt_disk.specs.declared.region.Region.{Region}
 use Rattle.vt_disk.specs.Region.{Inside}
 use Rattle.vt_isect.specs.Layout.{head_place, IsPlaceOf}
 use Rattle.vt_isect.specs.Merging.{Merges}
 use Rattle.vt_isect.specs.Sound.{Known, IsSoundSection}
-use Rattle.vt_isect.specs.Agreement.{KnownAgrees}
+use Rattle.vt_isect.specs.Agreement.{IsCovered, KnownAgrees}
 use Rattle.vt_model.specs.History.{History}
 use Rattle.vt_model.specs.Places.{Setup, bucket_of}
 
@@ -63,7 +64,7 @@ pub record GoesOn {D : Type 0} (old new : SectionState D) : Type 0 where
   pub calls : new.calls ≡ one_more old.calls
 
 -- Of the buckets of these entries, the next one from this number on is under way or, where there
--- is none, the head.
+-- is none, the head: its change to the frame that is written of the next one.
 abbrev pub BeginsFrom : {D : Type 0} → (from : ℕ) → SectionState D → Type 0
 BeginsFrom from t =
     ((t.phase ≡ ReadSelector) × (from ≤ t.bucket)
@@ -71,23 +72,26 @@ BeginsFrom from t =
     × ((entry : Entry) → Contains (entries_of t) entry → from ≤ bucket_number t entry
     → t.bucket ≤ bucket_number t entry))
     ⊎ ((t.phase ≡ ChangeHead) × (calls_made t.head_twin ≡ 0)
-    × ((entry : Entry) → Contains (entries_of t) entry → bucket_number t entry < from))
+    × ((entry : Entry) → Contains (entries_of t) entry → bucket_number t entry < from)
+    × (next_frame t.head_twin ≡ encoded t.name t.next))
 
--- What the next call does after this one: a bucket's selector is read, then its current frame, and
--- the four calls of its change follow; behind the last bucket come those of the head.
+-- What the next call does after this one: a bucket's selector is read, then the frame that it
+-- names, and the four calls of the change from that to the new one follow; behind the last bucket
+-- come those of the head.
 abbrev pub NextPhase : {D : Type 0} → Phase → (old new : SectionState D) → Type 0
 NextPhase Rest old new = ⊥
 NextPhase ReadSelector old new =
     ((s : ℕ) × (new.phase ≡ ReadFrame s)) × (new.bucket ≡ old.bucket)
 NextPhase (ReadFrame s) old new =
     (new.phase ≡ ChangeBucket) × (calls_made new.bucket_twin ≡ 0) × (new.bucket ≡ old.bucket)
+    × (new.bucket_twin.current ≡ s % 2)
 NextPhase ChangeBucket old new =
     ((calls_made old.bucket_twin ≢ 3) × (new.phase ≡ ChangeBucket)
-    × (calls_made new.bucket_twin ≡ calls_made old.bucket_twin + 1) × (new.bucket ≡ old.bucket))
+    × (new.bucket_twin ≡ after_call old.bucket_twin) × (new.bucket ≡ old.bucket))
     ⊎ ((calls_made old.bucket_twin ≡ 3) × BeginsFrom (old.bucket + 1) new)
 NextPhase ChangeHead old new =
     (calls_made old.head_twin ≢ 3) × (new.phase ≡ ChangeHead)
-    × (calls_made new.head_twin ≡ calls_made old.head_twin + 1)
+    × (new.head_twin ≡ after_call old.head_twin)
 
 -- the next call reads
 abbrev pub IsRead : Phase → Type 0
@@ -105,6 +109,21 @@ MayWrite (ReadFrame s) t i = ⊥
 MayWrite ChangeBucket t i =
     (region : Region) × IsPlaceOf (t.bucket - t.head.first) region × Inside region i
 MayWrite ChangeHead t i = Inside head_place i
+
+-- what a read gives after the next call of the change under way in this region
+abbrev pub read_after : TwinState → Region → (read : List ℕ) → List ℕ
+read_after twin region read =
+    bytes_after (calls_made twin) region 8192 twin.current (next_frame twin) read
+
+-- What the next call writes, where it succeeds: the first call of a change writes its frame, the
+-- third the selector that names it, and no other call writes.
+abbrev pub Writes : {D : Type 0} → Phase → SectionState D → (read reads : List ℕ) → Type 0
+Writes Rest t read reads = ⊥
+Writes ReadSelector t read reads = reads ≡ read
+Writes (ReadFrame s) t read reads = reads ≡ read
+Writes ChangeBucket t read reads = (region : Region) → IsPlaceOf (t.bucket - t.head.first) region
+    → reads ≡ read_after t.bucket_twin region read
+Writes ChangeHead t read reads = reads ≡ read_after t.head_twin head_place read
 
 -- A fault in a read ends the writeback. One in a write or sync stops the section at that call.
 abbrev pub EndsOrStops : {D : Type 0} → (old new : SectionState D) → Type 0
@@ -155,3 +174,13 @@ Keeps result old new read images reads after = (known : Known)
     → (knows : Known) × Follows result old new known knows × IsSoundSection new knows reads after
     × ((score : List ℕ → List ℕ) (c : Setup) (h : History)
     → KnownAgrees score c h old known → KnownAgrees score c h new knows)
+
+-- A mark that is covered with the help of some entries stays so. Where the step succeeds, so does
+-- one that is covered with the help of those that are still to be put into their buckets.
+abbrev pub KeepsCovered : {D : Type 0} → (List ℕ → List ℕ) → Setup → History
+    → Result Step ShardErr → (old new : SectionState D) → (known knows : Known) → Type 0
+KeepsCovered score c h result old new known knows = (mark : ℕ)
+    → ((others : List Entry) → IsCovered score c h old known (Contains others) mark
+    → IsCovered score c h new knows (Contains others) mark)
+    × OnOk result (IsCovered score c h old known (IsTodo old) mark
+    → IsCovered score c h new knows (IsTodo new) mark)

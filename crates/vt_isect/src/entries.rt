@@ -1,6 +1,6 @@
 //! A list of entries.
 
-ghost use Rattle.std.specs.Prelude.{◌≡◌, []};
+ghost use Rattle.std.specs.Prelude.{◌≡◌, [], vec_capacity};
 ghost use Rattle.std.specs.Option.{option_map_or};
 
 use std::marker::Model;
@@ -13,31 +13,34 @@ pub struct Entries {
 }
 
 impl Model for Entries {
-    ghost use Rattle.std.specs.Prelude.{List};
-    ghost use Rattle.vt_base.specs.declared.place.Entry.{Entry};
+    ghost use Rattle.std.specs.Prelude.{vec_capacity};
+    ghost use Rattle.vt_isect.specs.Entries.{EntriesState};
 
-    ghost Value = { List Entry };
+    ghost Value = { EntriesState };
 
-    ghost view = { λ e. e.items.items };
+    ghost view = { λ e. record { items = e.items.items; room = vec_capacity e.items } };
 }
 
 impl Entries {
     /// These entries, with the memory that they are in.
     pub fn from_vec(items: Vec<Entry>) -> Self
-        ensures { result ≡ items.items }
+        ensures items { result.items ≡ items.items }
+        ensures room { result.room ≡ vec_capacity items }
     {
         Entries { items }
     }
 
     /// The entries, given back with their memory.
     pub fn into_vec(self) -> Vec<Entry>
-        ensures { result.items ≡ self }
+        ensures items { result.items ≡ self.items }
+        ensures room { vec_capacity result ≡ self.room }
     {
         self.items
     }
 
+    /// The entries, in the order in which they were given.
     pub fn as_slice(&self) -> &[Entry]
-        ensures { result.now ≡ self.now }
+        ensures { result.now ≡ self.now.items }
     {
         &self.items
     }
@@ -45,7 +48,7 @@ impl Entries {
 
 /// The entries, or none where there is no list.
 pub fn items(entries: &Option<Entries>) -> &[Entry]
-    ensures { result.now ≡ option_map_or (λ list. list) entries.now [] }
+    ensures { result.now ≡ option_map_or (λ list. list.items) entries.now [] }
 {
     match entries {
         Some(list) => list.as_slice(),

@@ -5,7 +5,7 @@ ghost use Rattle.vt_disk.specs.Disk.{SameBut, Only};
 ghost use Rattle.vt_disk.specs.Region.{Inside, ChangesWithin};
 ghost use Rattle.vt_twin.specs.Frames.{selector_of, selector_bytes, current_frame};
 ghost use Rattle.vt_isect.specs.Faults.{RefusesFormat, CountsFault};
-ghost use Rattle.vt_isect.specs.Head.{encoded, filled};
+ghost use Rattle.vt_isect.specs.Head.{encoded, filled, IsHeadFrame};
 ghost use Rattle.vt_isect.specs.Layout.{head_place, buckets_in};
 
 use crate::bad::SectBad;
@@ -30,6 +30,10 @@ pub fn format<D: Disk>(disk: &mut D, name: &Text) -> Result<u32, SectBad>
     ensures head { IfOk result (λ count. IsTrue D.tells → (c : List ℕ) → D.images disk.new c
         → current_frame head_place 8192 c ≡ encoded (filled 64 name.now)
         (record { state = 0; first = 0; count = count; total = 0; mark = 0 })) }
+    ensures head_frame { IfOk result (λ count. IsTrue D.tells
+        → (c : List ℕ) → D.images disk.new c → IsHeadFrame (filled 64 name.now)
+        (record { state = 0; first = 0; count = count; total = 0; mark = 0 })
+        (current_frame head_place 8192 c)) }
     ensures selector { OnOk result (IsTrue D.tells
         → selector_of head_place 8192 (D.bytes disk.new) ≡ selector_bytes 0 8192) }
     ensures settled { OnOk result (IsTrue D.tells → Only (D.bytes disk.new) (D.images disk.new)) }

@@ -1,18 +1,18 @@
 //! What the layers above lean on between the calls of a section.
 
-ghost use Rattle.std.specs.Prelude.{◌≡◌, ◌≢◌, ◌⊎◌, ℕ, List, [], IsTrue, None, Some};
-ghost use Rattle.std.specs.List.{AllPairs};
+ghost use Rattle.std.specs.Prelude.{◌≡◌, ◌≢◌, ◌⊎◌, ◌≤◌, ℕ, List, [], ◌++◌, length, IsTrue, None, Some};
+ghost use Rattle.std.specs.List.{AllPairs, Contains};
 ghost use Rattle.vt_disk.specs.Disk.{AreAmong};
 ghost use Rattle.vt_model.specs.History.{History};
 ghost use Rattle.vt_model.specs.Legal.{HasOtherKey};
-ghost use Rattle.vt_model.specs.Places.{Setup, bucket_count};
+ghost use Rattle.vt_model.specs.Places.{Setup, bucket_count, bucket_of, crowd};
 ghost use Rattle.vt_twin.specs.Frames.{current_frame};
 ghost use Rattle.vt_isect.specs.declared.head.Head.{Head};
 ghost use Rattle.vt_isect.specs.declared.phase.Phase.TheVariants.{Rest, ChangeHead};
-ghost use Rattle.vt_isect.specs.Agreement.{KnownAgrees, LeavesAgreeing};
+ghost use Rattle.vt_isect.specs.Agreement.{IsEntryOf, IsOfBlock, HasBlock, IsInBucket, IsCovered, NoOthers, AgreesWith, KnownAgrees, LeavesAgreeing};
 ghost use Rattle.vt_isect.specs.Head.{IsHeadFrame};
 ghost use Rattle.vt_isect.specs.Layout.{head_place, InRange, IsSection};
-ghost use Rattle.vt_isect.specs.Section.{SectionState, IsAtRest};
+ghost use Rattle.vt_isect.specs.Section.{SectionState, IsAtRest, IsTodo};
 ghost use Rattle.vt_isect.specs.Sound.{Known, IsWhole, IsSoundSection, LeavesSection, nothing_known};
 ghost use Rattle.vt_base.specs.declared.place.Entry.{Entry};
 
@@ -62,7 +62,8 @@ pub fn soundness_is_kept<D: Disk>()
 {}
 
 /// What is known goes on to agree with a history whatever becomes of the disk, and when the entries
-/// of the last writeback are handed back.
+/// of the last writeback are handed back. A mark that is covered stays so with more entries and
+/// while the section has its buckets, and at rest with none that are still to be put.
 pub fn agreement_is_kept<D: Disk>()
     ensures disk { (score : List ℕ → List ℕ) (c : Setup) (h : History)
         (t : SectionState D) (known : Known) (disk : D)
@@ -71,6 +72,36 @@ pub fn agreement_is_kept<D: Disk>()
         (t : SectionState D) (known : Known) → IsAtRest t
         → KnownAgrees score c h t known
         → KnownAgrees score c h (record t { entries = None }) known }
+    ensures covered { (score : List ℕ → List ℕ) (c : Setup) (h : History)
+        (t u : SectionState D) (known : Known) (entries more : List Entry) (mark : ℕ)
+        → u.head ≡ t.head → u.buckets ≡ t.buckets
+        → ((entry : Entry) → Contains entries entry → Contains more entry)
+        → IsCovered score c h t known (Contains entries) mark
+        → IsCovered score c h u known (Contains more) mark }
+    ensures filed { (score : List ℕ → List ℕ) (c : Setup) (h : History)
+        (t : SectionState D) (known : Known) (mark : ℕ) → IsAtRest t
+        → IsCovered score c h t known (IsTodo t) mark
+        → IsCovered score c h t known NoOthers mark }
+{}
+
+/// What agrees with a history goes on to agree with it when blocks are added: an entry stays that
+/// of its block, and what was below the mark stays there.
+pub fn agreement_grows<D: Disk>()
+    ensures entry { (score : List ℕ → List ℕ) (c : Setup) (h more : History) (entry : Entry)
+        → IsOfBlock score c h entry → IsOfBlock score c (h ++ more) entry }
+    ensures covered { (score : List ℕ → List ℕ) (c : Setup) (h more : History)
+        (t : SectionState D) (known : Known) (entries : List Entry) (mark : ℕ)
+        → IsCovered score c h t known (Contains entries) mark
+        → IsCovered score c (h ++ more) t known (Contains entries) mark }
+    ensures known { (score : List ℕ → List ℕ) (c : Setup) (h more : History)
+        (t : SectionState D) (known : Known)
+        → AllPairs (HasOtherKey score) (h ++ more)
+        → KnownAgrees score c h t known → KnownAgrees score c (h ++ more) t known }
+    ensures section { (score : List ℕ → List ℕ) (c : Setup) (h more : History) (buckets : ℕ)
+        (head : Head) (entries : ℕ → List Entry)
+        → AllPairs (HasOtherKey score) (h ++ more)
+        → AgreesWith score c h buckets head entries
+        → AgreesWith score c (h ++ more) buckets head entries }
 {}
 
 /// A file is one section at most: it has one name and one head, and the entries of each bucket.
@@ -82,4 +113,29 @@ pub fn sections_are_told_apart()
         (entries others : ℕ → List Entry) (file : List ℕ)
         → IsSection name head buckets entries file → IsSection other its buckets others file
         → (n : ℕ) → InRange head buckets n → entries n ≡ others n }
+{}
+
+/// A key has one block of a history, and one entry.
+pub fn one_key_has_one_entry()
+    ensures { (score : List ℕ → List ℕ) (c : Setup) (h : History) (i j : ℕ) (a b : Entry)
+        → AllPairs (HasOtherKey score) h
+        → IsEntryOf score c h i a → IsEntryOf score c h j b → a.key ≡ b.key
+        → (i ≡ j) × (a ≡ b) }
+{}
+
+/// Entries of different keys, each that of a block whose bucket is the same, are no more than the
+/// blocks of that bucket. Where each of these has its entry among them, they are as many.
+pub fn blocks_are_counted()
+    ensures most { (score : List ℕ → List ℕ) (c : Setup) (h : History) (n : ℕ)
+        (entries : List Entry) → AllPairs (λ a b. a.key ≢ b.key) entries
+        → ((entry : Entry) → Contains entries entry → IsOfBlock score c h entry
+        × (bucket_of (bucket_count c) entry.key.score.0 ≡ n))
+        → length entries ≤ crowd score (bucket_count c) h n }
+    ensures all { (score : List ℕ → List ℕ) (c : Setup) (h : History) (n : ℕ)
+        (entries : List Entry) → AllPairs (HasOtherKey score) h
+        → AllPairs (λ a b. a.key ≢ b.key) entries
+        → ((entry : Entry) → Contains entries entry → IsOfBlock score c h entry
+        × (bucket_of (bucket_count c) entry.key.score.0 ≡ n))
+        → ((i : ℕ) → IsInBucket score c h n i → HasBlock score c h (Contains entries) i)
+        → length entries ≡ crowd score (bucket_count c) h n }
 {}

@@ -19,7 +19,10 @@ pub use bad::{Field, SectBad, ShardErr};
 pub use entries::Entries;
 pub use formatting::format;
 pub use head::Head;
-pub use laws::{agreement_is_kept, images_agree, sections_are_told_apart, soundness_is_kept};
+pub use laws::{
+    agreement_grows, agreement_is_kept, blocks_are_counted, images_agree, one_key_has_one_entry,
+    sections_are_told_apart, soundness_is_kept,
+};
 pub use mounting::mount;
 pub use place::bucket_number;
 pub use section::Section;
@@ -27,7 +30,7 @@ pub use section::Section;
 /// How many bytes a frame has, that of the head and that of a bucket.
 pub const FRAME_LEN: usize = 8192;
 
-/// The least section: a head and one bucket.
+/// How many bytes the least section has: a head and one bucket.
 pub const LEAST_LEN: u64 = 41_472;
 
 #[cfg(test)]

@@ -2,7 +2,6 @@
 
 ghost use Rattle.std.specs.Prelude.{◌≡◌, ◌≢◌, ◌⊎◌, ◌↔◌, ℕ, ◌+◌, ◌%◌, ◌<◌, ◌≤◌, List, length, IsTrue, IsOkAnd, IfOk, IfErr, OnOk, IfSome, MatchOption, Some, Err};
 ghost use Rattle.std.specs.List.{Contains};
-ghost use Rattle.std.specs.Option.{ForSome};
 ghost use Rattle.vt_base.specs.declared.place.Entry.{Entry};
 ghost use Rattle.vt_bucket.specs.Buckets.{number_of, entries_of};
 ghost use Rattle.vt_bucket.specs.Frame.{IsFrame};
@@ -71,22 +70,10 @@ pub fn next_bucket(entries: &[Entry], total: u32, from: u64) -> Option<u32>
     for entry in entries {
         let bucket = bucket_number(total, &entry.key.score);
         if u64::from(bucket) >= from {
-            least = Some(lesser(least, bucket));
+            least = Some(least.unwrap_or(bucket).min(bucket));
         }
     }
     least
-}
-
-/// The lesser of two numbers, or the one that there is.
-fn lesser(least: Option<u32>, bucket: u32) -> u32
-    ensures one { (result ≡ bucket) ⊎ (least ≡ Some result) }
-    ensures least { ForSome least (λ other. result ≤ other) }
-    ensures most { result ≤ bucket }
-{
-    match least {
-        Some(least) if least < bucket => least,
-        _ => bucket,
-    }
 }
 
 /// Reads the current frame of a bucket, which a selector with this first byte names, and makes of

@@ -1,6 +1,6 @@
 //! Finding the section of a disk.
 
-ghost use Rattle.std.specs.Prelude.{◌≡◌, ◌+◌, ◌-◌, ◌^◌, ◌<◌, ◌≤◌, min, ℕ, List, None, IsTrue, IfOk, IfErr, OnOk, MatchResult, length};
+ghost use Rattle.std.specs.Prelude.{◌≡◌, ◌⊎◌, ◌+◌, ◌-◌, ◌^◌, ◌<◌, ◌≤◌, min, ℕ, List, None, IsTrue, IfOk, IfErr, OnOk, MatchResult, length};
 ghost use Rattle.vt_base.specs.Faults.{HasCause};
 ghost use Rattle.vt_base.specs.declared.place.Entry.{Entry};
 ghost use Rattle.vt_bucket.specs.Frame.{IsFrame};
@@ -12,6 +12,7 @@ ghost use Rattle.vt_twin.specs.Frames.{current_frame};
 ghost use Rattle.vt_twin.specs.Sound.{IsSound};
 ghost use Rattle.vt_twin.specs.Twin.{fresh};
 ghost use Rattle.vt_isect.specs.Agreement.{AgreesWith, KnownAgrees};
+ghost use Rattle.vt_isect.specs.declared.head.Head.{Head};
 ghost use Rattle.vt_isect.specs.Faults.{first_bad, RefusesMount, NamesItsCause, CountsFault};
 ghost use Rattle.vt_isect.specs.Head.{IsHeadFrame};
 ghost use Rattle.vt_isect.specs.Layout.{head_place, IsPlaceOf, InRange, IsSection, buckets_in};
@@ -61,6 +62,12 @@ pub fn mount<D: Disk>(alloc: Global, mut disk: D) -> Result<Section<D>, (SectBad
         → RefusesMount (D.size disk) (current_frame head_place 8192 (D.bytes disk)) refusal.0) }
     ensures accepted { IfOk result (λ _. IsTrue D.tells
         → first_bad (D.size disk) (current_frame head_place 8192 (D.bytes disk)) ≡ None) }
+
+    // Each section is found, unless a call of the disk fails or memory runs out.
+    ensures all_are_found { (name : List ℕ) (head : Head) → IsTrue D.tells → 41472 ≤ D.size disk
+        → IsHeadFrame name head (current_frame head_place 8192 (D.bytes disk))
+        → MatchResult result (λ it. (it.name ≡ name) × (it.head ≡ head))
+        (λ refusal. (refusal.0 ≡ SectBad.Fault) ⊎ (refusal.0 ≡ SectBad.NoMemory)) }
 
     // So much is known of a disk that doesn't tell what it holds, too.
     ensures differs { IfErr result (λ refusal. NamesItsCause (D.size disk) refusal.0) }

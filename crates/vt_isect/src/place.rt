@@ -7,6 +7,7 @@ ghost use Rattle.vt_isect.specs.Layout.{head_place, IsPlaceOf, buckets_in};
 
 use vt_base::Score;
 use vt_disk::Region;
+use vt_model::bucket_of;
 
 /// How many bytes the head has: two frames and a block.
 const HEAD_LEN: u64 = 24_576;
@@ -46,8 +47,8 @@ pub fn bucket_place(bucket: u32) -> Region
 
 /// The number of a score's bucket, of so many.
 pub fn bucket_number(total: u32, score: &Score) -> u32
-    ensures { result ≡ bucket_of total score.now.0 }
+    ensures bucket { result ≡ bucket_of total score.now.0 }
+    ensures range { 0 < total → result < total }
 {
-    let [a, b, c, d, ..] = score.0;
-    (u64::from(u32::from_be_bytes([a, b, c, d])) * u64::from(total) / 4_294_967_296) as u32
+    bucket_of(u128::from(total), score) as u32
 }

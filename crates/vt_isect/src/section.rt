@@ -12,10 +12,10 @@ ghost use Rattle.vt_disk.specs.declared.region.Region.{Region};
 ghost use Rattle.vt_model.specs.History.{History};
 ghost use Rattle.vt_model.specs.Places.{Setup};
 ghost use Rattle.vt_twin.specs.Frames.{current_frame, named_number};
-ghost use Rattle.vt_twin.specs.Twin.{fresh, calls_made};
+ghost use Rattle.vt_twin.specs.Twin.{fresh, calls_made, next_frame};
 ghost use Rattle.vt_isect.specs.Agreement.{KnownAgrees, IsCovered, IsOfBlock, NoOthers};
-ghost use Rattle.vt_isect.specs.Head.{IsHeadFrame};
-ghost use Rattle.vt_isect.specs.Layout.{IsPlaceOf, InRange};
+ghost use Rattle.vt_isect.specs.Head.{IsHeadFrame, encoded};
+ghost use Rattle.vt_isect.specs.Layout.{IsPlaceOf, InRange, Clears};
 ghost use Rattle.vt_isect.specs.Merging.{IsFaulty};
 
 use crate::FRAME_LEN;
@@ -276,12 +276,12 @@ impl<D: Disk> Section<D> {
 
     /// Takes in entries that are to be written to their buckets, and the mark that the head gets
     /// behind them. It makes no device call. The entries need no order; of two with one key one is
-    /// kept.
+    /// kept. Entries of an earlier writeback that `idle` hasn't handed back are freed.
     pub fn begin_file(&mut self, entries: Entries, mark: u64)
         requires rest { IsAtRest self.old }
-        requires in_range { AreInRange self.old.head self.old.buckets entries }
+        requires in_range { AreInRange self.old.head self.old.buckets entries.items }
         ensures begins { BeginsFrom 0 self.new }
-        ensures left { calls_left self.new ≤ 6 * length entries + 4 }
+        ensures left { calls_left self.new ≤ 6 * length entries.items + 4 }
         ensures entries { self.new.entries ≡ Some entries }
         ensures next { self.new.next ≡ record self.old.head { mark = mark } }
         ensures same { self.new ≡ record self.old {
@@ -299,10 +299,15 @@ impl<D: Disk> Section<D> {
         // each block below the mark is in its bucket or among the entries.
         ensures agrees { (score : List ℕ → List ℕ) (c : Setup) (h : History) (known : Known)
             → KnownAgrees score c h self.old known
-            → ((entry : Entry) → Contains entries entry → IsOfBlock score c h entry)
+            → ((entry : Entry) → Contains entries.items entry → IsOfBlock score c h entry)
             → (self.old.head.state ≡ 1
-            → IsCovered score c h self.old known (Contains entries) mark)
+            → IsCovered score c h self.old known (Contains entries.items) mark)
             → KnownAgrees score c h self.new known }
+
+        // Whatever the state, a mark that is covered by what is known and the entries stays so.
+        ensures covers { (score : List ℕ → List ℕ) (c : Setup) (h : History) (known : Known)
+            (covered : ℕ) → IsCovered score c h self.old known (Contains entries.items) covered
+            → IsCovered score c h self.new known (IsTodo self.new) covered }
     {
         self.next = Head { mark, ..self.head };
         self.entries = Some(entries);
@@ -310,10 +315,11 @@ impl<D: Disk> Section<D> {
     }
 
     /// Begins to change the head: `advance` makes the four device calls. The count of buckets
-    /// becomes what the section has.
+    /// becomes what the section has. The entries of the last writeback can still be handed back.
     pub fn begin_head(&mut self, state: u8, first: u32, total: u32, mark: u64)
         requires rest { IsAtRest self.old }
-        ensures begins { (self.new.phase ≡ ChangeHead) × (calls_made self.new.head_twin ≡ 0) }
+        ensures begins { (self.new.phase ≡ ChangeHead) × (calls_made self.new.head_twin ≡ 0)
+            × (next_frame self.new.head_twin ≡ encoded self.old.name self.new.next) }
         ensures left { calls_left self.new ≡ 4 }
         ensures next { self.new.next ≡ record {
           state = state;
@@ -325,7 +331,6 @@ impl<D: Disk> Section<D> {
         ensures same { self.new ≡ record self.old {
           next = self.new.next;
           phase = self.new.phase;
-          entries = None;
           head_twin = self.new.head_twin;
         } }
         ensures sound { (known : Known) → IsTrue D.tells
@@ -344,12 +349,11 @@ impl<D: Disk> Section<D> {
             total,
             mark,
         };
-        self.entries = None;
         self.write_head();
     }
 
-    /// Formats a bucket without entries, by its number over all sections. A call that fails can be
-    /// made again.
+    /// Formats a bucket without entries, by its number over all sections: frame 0 and a selector
+    /// that names it. A call that fails can be made again.
     pub fn clear(&mut self, number: u32) -> Result<(), ShardErr>
         requires rest { IsAtRest self.old }
         requires in_range { InRange self.old.head self.old.buckets number }
@@ -365,6 +369,11 @@ impl<D: Disk> Section<D> {
             → IsSoundSection self.old known (D.bytes self.old.disk) (D.images self.old.disk)
             → IsSoundSection self.new (with_bucket number (Some []) known)
             (D.bytes self.new.disk) (D.images self.new.disk)) }
+
+        // What it writes.
+        ensures written { OnOk result (IsTrue D.tells
+            → (region : Region) → IsPlaceOf (number - self.old.head.first) region
+            → Clears number region (D.bytes self.old.disk) (D.bytes self.new.disk)) }
 
         // Whatever the answer, the others and the head stay.
         ensures others { (known : Known) → IsTrue D.tells

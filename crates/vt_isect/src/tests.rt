@@ -284,13 +284,16 @@ fn failing(call: u64, fails: bool) -> u64 {
     }
 }
 
+/// Whether a call of the writeback of the three entries reads: the first two of each bucket do.
+fn reads(call: u64) -> bool {
+    call < 2 || call == 6 || call == 7
+}
+
 /// How far a writeback has come that ends with this call, after a crash.
 fn written(alloc: Global, call: u64, fails: bool, mode: usize) -> Result<u8, Fail> {
     let mut section = live(alloc, failing(call, fails))?;
     begin(&mut section, three(alloc)?, 3)?;
-    // The first two calls of a bucket read.
-    let is_read = call < 2 || call == 6 || call == 7;
-    stop(&mut section, call, fails, is_read)?;
+    stop(&mut section, call, fails, reads(call))?;
     let disk = crashed(alloc, section.into_devices(), mode)?;
     level(&mut mounted(alloc, disk)?)
 }
@@ -361,6 +364,47 @@ fn a_change_of_the_head_is_stopped_anywhere(rt: HostRuntime) -> Result<(), Fail>
             assert_eq!(rt; answer, failed[mode], "failed call {call}, mode {mode}");
         }
     }
+    Ok(())
+}
+
+/// How far look-ups find a writeback to have come that ends with this call.
+fn looked_up(alloc: Global, call: u64, fails: bool) -> Result<u8, Fail> {
+    let mut section = live(alloc, failing(call, fails))?;
+    begin(&mut section, three(alloc)?, 3)?;
+    stop(&mut section, call, fails, reads(call))?;
+    level(&mut section)
+}
+
+/// Makes so many device calls, and sees before each that bucket 0 has entries at these offsets.
+fn step_with<D: Disk>(section: &mut Section<D>, calls: u64, offsets: &[u32]) -> Result<(), Fail> {
+    for _ in 0..calls {
+        see(has(section, 0, offsets)?, "another bucket 0")?;
+        see(step(section)? == Ok(Step::More), "another step than More")?;
+    }
+    Ok(())
+}
+
+#[test]
+fn a_bucket_under_way_has_its_old_entries(rt: HostRuntime) -> Result<(), Fail> {
+    // What is found behind each call, where it is done and where it fails: a bucket has its new
+    // entries from the last of its six calls on.
+    let done = *b"0000011111122223";
+    let failed = *b"0000001111112222";
+    for call in 0..16 {
+        let found = looked_up(rt.alloc(), call as u64, false)?;
+        assert_eq!(rt; found, done[call], "call {call}");
+        let found = looked_up(rt.alloc(), call as u64, true)?;
+        assert_eq!(rt; found, failed[call], "failed call {call}");
+    }
+    // And where the bucket is in frame 1 and has entries.
+    let mut section = live(rt.alloc(), NEVER)?;
+    file_three(rt.alloc(), &mut section)?;
+    let list = entries(rt.alloc(), &[(0x7f, 0, 17), (0x00, 1, 6)])?;
+    begin(&mut section, list, 4)?;
+    step_with(&mut section, 6, &[9, 7])?;
+    step_with(&mut section, 3, &[6, 9, 17])?;
+    finish(&mut section, 1)?;
+    assert!(rt; has(&mut section, 0, &[6, 9, 17])?);
     Ok(())
 }
 
@@ -451,6 +495,25 @@ fn sections_are_found_or_refused(rt: HostRuntime) -> Result<(), Fail> {
     Ok(())
 }
 
+#[test]
+fn formatting_fails_with_its_disk(rt: HostRuntime) -> Result<(), Fail> {
+    // The write of the head, that of its selector, the sync.
+    for (failing, answer) in [
+        (0, Err(SectBad::Fault)),
+        (1, Err(SectBad::Fault)),
+        (2, Err(SectBad::Fault)),
+        (3, Ok(2)),
+    ] {
+        let mut disk = disk(rt.alloc(), LEN, failing)?;
+        assert_eq!(rt;
+            format_named(rt.alloc(), &mut disk)?,
+            answer,
+            "call {failing}"
+        );
+    }
+    Ok(())
+}
+
 /// Whether these bytes stand at a place of a disk.
 fn stands<D: Disk + Drop>(mut disk: D, at: u64, bytes: &[u8; 31]) -> Result<bool, Fail> {
     if disk.len() != LEN || at > LEN - 31 {
@@ -514,13 +577,53 @@ fn a_section_is_spelled(rt: HostRuntime) -> Result<(), Fail> {
         file_three(rt.alloc(), &mut section)?;
         assert!(rt; stands(section.into_devices(), at, bytes)?, "{at}");
     }
-    // The buckets of the score of `abc`, a9993e36.., by its first 32 bits.
-    let mut score = Score([0xff; 20]);
-    assert_eq!(rt; bucket_number(1, &score), 0);
-    score.0[..4].copy_from_slice(b"\xa9\x99\x3e\x36");
-    assert_eq!(rt; bucket_number(4, &score), 2);
-    assert_eq!(rt; bucket_number(1000, &score), 662);
     Ok(())
+}
+
+/// Whether bucket 1 of a disk has no entries: its head and zeros in frame 0, at 24,576 + 16,896,
+/// and a selector of zeros.
+fn is_clear<D: Disk + Drop>(mut disk: D) -> Result<bool, Fail> {
+    if disk.len() != LEN {
+        return Err("another length".into());
+    }
+    let mut frame = [0xa5; 8192];
+    disk.read_at(41_472, &mut frame)?;
+    let mut selector = [0xa5; 512];
+    disk.read_at(57_856, &mut selector)?;
+    let mut wanted = [0; 8192];
+    wanted[..10].copy_from_slice(b"VBKT\x00\x00\x00\x01\x00\x00");
+    Ok(frame == wanted && selector == [0; 512])
+}
+
+/// A disk with this byte at each place of bucket 1.
+fn filled<D: Disk + Drop>(mut disk: D, byte: u8) -> Result<D, Fail> {
+    if disk.len() != LEN {
+        return Err("another length".into());
+    }
+    disk.write_at(41_472, &[byte; 16_896])?;
+    Ok(disk)
+}
+
+#[test]
+fn a_cleared_bucket_is_spelled(rt: HostRuntime) -> Result<(), Fail> {
+    let disk = filled(disk(rt.alloc(), LEN, NEVER)?, 0xa5)?;
+    let mut section = fresh(rt.alloc(), disk)?;
+    assert_eq!(rt; clear(&mut section, 1)?, Ok(()));
+    assert!(rt; is_clear(section.into_devices())?);
+    Ok(())
+}
+
+#[test]
+fn buckets_go_by_the_first_32_bits(rt: HostRuntime) {
+    let mut score = Score([0xff; 20]);
+    for (total, wanted) in [(1, 0), (2, 1), (u32::MAX, u32::MAX - 1)] {
+        assert_eq!(rt; bucket_number(total, &score), wanted, "of {total}");
+    }
+    // The score of `abc`, a9993e36..
+    score.0[..4].copy_from_slice(b"\xa9\x99\x3e\x36");
+    for (total, wanted) in [(4, 2), (1000, 662)] {
+        assert_eq!(rt; bucket_number(total, &score), wanted, "of {total}");
+    }
 }
 
 /// Fills bucket 0 with 263 entries.

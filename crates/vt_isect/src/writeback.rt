@@ -7,7 +7,7 @@ ghost use Rattle.vt_base.specs.declared.why.FieldValue.{FieldValue};
 ghost use Rattle.vt_disk.specs.Disk.{SameBut, ChangesAt, WithinCall, IsOneMore};
 ghost use Rattle.vt_disk.specs.declared.region.Region.{Region};
 ghost use Rattle.vt_model.specs.History.{History};
-ghost use Rattle.vt_model.specs.Places.{Setup};
+ghost use Rattle.vt_model.specs.Places.{Setup, bucket_count, crowd};
 ghost use Rattle.vt_twin.specs.Frames.{frame_of as twin_frame};
 ghost use Rattle.vt_twin.specs.Twin.{calls_made, next_frame, with_change, one_more};
 ghost use Rattle.vt_isect.specs.Agreement.{KnownAgrees, LeavesAgreeing};
@@ -32,7 +32,7 @@ impl<D: Disk> Section<D> {
     ghost use Rattle.vt_isect.specs.declared.phase.Phase.TheVariants.{Rest, ReadSelector, ReadFrame, ChangeBucket, ChangeHead};
     ghost use Rattle.vt_isect.specs.Section.{AreInRange, entries_of, HasBucket, IsAtRest};
     ghost use Rattle.vt_isect.specs.Sound.{Known, IsSoundSection, LeavesSection, IsWhole};
-    ghost use Rattle.vt_isect.specs.Writeback.{Advances, BeginsFrom, CountsFaultOf, Follows, IsRead, Keeps, MayWrite, calls_left};
+    ghost use Rattle.vt_isect.specs.Writeback.{Advances, BeginsFrom, CountsFaultOf, Follows, IsRead, Keeps, KeepsCovered, MayWrite, Writes, calls_left};
 
     /// Makes one device call of what is under way. Of a writeback, for each bucket: it reads the
     /// selector, reads the current frame, and makes the four calls of the change to one with the
@@ -69,6 +69,16 @@ impl<D: Disk> Section<D> {
             → LeavesAgreeing score c h self.old known file
             ⊎ LeavesAgreeing score c h self.new knows file) }
 
+        // Whatever mark is covered stays so, with what is known after the step.
+        ensures covers { (score : List ℕ → List ℕ) (c : Setup) (h : History)
+            (known knows : Known) → KnownAgrees score c h self.old known
+            → Follows result self.old self.new known knows
+            → KeepsCovered score c h result self.old self.new known knows }
+
+        // What it writes.
+        ensures written { IsTrue D.tells → OnOk result (Writes self.old.phase self.old
+            (D.bytes self.old.disk) (D.bytes self.new.disk)) }
+
         ensures steps { Advances result self.old self.new }
         ensures done { IfOk result (λ step. (step ≡ Step.Done)
             ↔ ((self.old.phase ≡ ChangeHead) × (calls_made self.old.head_twin ≡ 3))) }
@@ -91,6 +101,15 @@ impl<D: Disk> Section<D> {
             × ((region : Region) → IsTrue D.tells
             → IsPlaceOf (self.old.bucket - self.old.head.first) region
             → read ≡ twin_frame region 8192 (s % 2) (D.bytes self.old.disk))) }
+
+        // While no bucket has more blocks than it has room for, it finds no damage.
+        ensures undamaged { (score : List ℕ → List ℕ) (c : Setup) (h : History) (known : Known)
+            → IsTrue D.tells
+            → IsSoundSection self.old known (D.bytes self.old.disk) (D.images self.old.disk)
+            → KnownAgrees score c h self.old known
+            → ((n : ℕ) → crowd score (bucket_count c) h n ≤ 263)
+            → IfErr result (λ bad. (bad ≡ ShardErr.Fault)
+            ⊎ ((n : ℕ) × (bad ≡ ShardErr.Stopped n))) }
 
         ensures faults { CountsFaultOf result (D.faults self.old.disk) (D.faults self.new.disk) }
 
@@ -125,6 +144,8 @@ impl<D: Disk> Section<D> {
         ensures sound { IsTrue D.tells → Keeps result self.old self.new
             (D.bytes self.old.disk) (D.images self.old.disk)
             (D.bytes self.new.disk) (D.images self.new.disk) }
+        ensures written { IsTrue D.tells → OnOk result (Writes self.old.phase self.old
+            (D.bytes self.old.disk) (D.bytes self.new.disk)) }
         ensures steps { Advances result self.old self.new }
         ensures faults { CountsFaultOf result (D.faults self.old.disk) (D.faults self.new.disk) }
         ensures calls { IsTrue D.tells
@@ -158,6 +179,8 @@ impl<D: Disk> Section<D> {
         ensures sound { IsTrue D.tells → Keeps result self.old self.new
             (D.bytes self.old.disk) (D.images self.old.disk)
             (D.bytes self.new.disk) (D.images self.new.disk) }
+        ensures written { IsTrue D.tells → OnOk result (Writes self.old.phase self.old
+            (D.bytes self.old.disk) (D.bytes self.new.disk)) }
         ensures steps { Advances result self.old self.new }
         ensures faults { CountsFaultOf result (D.faults self.old.disk) (D.faults self.new.disk) }
         ensures calls { IsTrue D.tells
@@ -217,6 +240,8 @@ impl<D: Disk> Section<D> {
         ensures sound { IsTrue D.tells → Keeps result self.old self.new
             (D.bytes self.old.disk) (D.images self.old.disk)
             (D.bytes self.new.disk) (D.images self.new.disk) }
+        ensures written { IsTrue D.tells → OnOk result (Writes self.old.phase self.old
+            (D.bytes self.old.disk) (D.bytes self.new.disk)) }
         ensures steps { Advances result self.old self.new }
         ensures faults { CountsFaultOf result (D.faults self.old.disk) (D.faults self.new.disk) }
         ensures calls { IsTrue D.tells
@@ -254,6 +279,8 @@ impl<D: Disk> Section<D> {
         ensures sound { IsTrue D.tells → Keeps result self.old self.new
             (D.bytes self.old.disk) (D.images self.old.disk)
             (D.bytes self.new.disk) (D.images self.new.disk) }
+        ensures written { IsTrue D.tells → OnOk result (Writes self.old.phase self.old
+            (D.bytes self.old.disk) (D.bytes self.new.disk)) }
         ensures steps { Advances result self.old self.new }
         ensures faults { CountsFaultOf result (D.faults self.old.disk) (D.faults self.new.disk) }
         ensures calls { IsTrue D.tells

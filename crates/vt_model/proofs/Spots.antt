@@ -66,7 +66,7 @@ if_in-other f a e other =
 
 -- ---- places
 
-slice_get-append : (xs ys : History) (i : ℕ) → i < length xs
+pub slice_get-append : (xs ys : History) (i : ℕ) → i < length xs
     → slice_get (xs ++ ys) i ≡ slice_get xs i
 slice_get-append [] ys i lt = absurd (omega arith)
 slice_get-append (x ∷ xs) ys zero lt = refl

@@ -79,7 +79,8 @@ impl Layout {
 /// The number of a score's bucket, of so many buckets: they divide the scores evenly, in order.
 pub fn bucket_of(buckets: u128, score: &Score) -> u128
     requires { buckets < 2 ^ 96 }
-    ensures { result ≡ bucket_of buckets score.now.0 }
+    ensures bucket { result ≡ bucket_of buckets score.now.0 }
+    ensures range { 0 < buckets → result < buckets }
 {
     let [a, b, c, d, ..] = score.0;
     u32::from_be_bytes([a, b, c, d]) as u128 * buckets / 4_294_967_296

@@ -1,4 +1,4 @@
-use Rattle.std.proofs.Common.{◌≡◌, ◌+◌, ℕ, List, [], ◌∷◌, ◌++◌, length, take, sym, ◌∙◌, ap, arith, append_assoc}
+use Rattle.std.proofs.Common.{◌≡◌, ℕ, List, [], ◌∷◌, ◌++◌, length, take, ◌∙◌, ap, arith, append_assoc}
 use Rattle.std.specs.Prelude.{codes}
 use Rattle.byteorder.specs.Endian.{big_bytes}
 use Rattle.vt_isect.proofs.Heads.{and_then}

@@ -1,8 +1,7 @@
-use Rattle.std.proofs.Common.{◌≡◌, ◌≢◌, ◌+◌, ◌∷◌, [], ◌++◌, ℕ, List, length, ◌-◌, take, drop, length-drop, ap, sym, refl, subst, ◌∙◌, arith, rules}
+use Rattle.std.proofs.Common.{◌≡◌, ◌+◌, ◌∷◌, [], ◌++◌, ℕ, List, length, ◌-◌, take, drop, length-drop, ap, sym, refl, subst, ◌∙◌, arith, rules}
 use Rattle.std.specs.List.{Contains}
 use Rattle.std.proofs.lemmas.List.{take_more, take_all}
 use Rattle.vt_base.specs.declared.place.Entry.{Entry}
-use Rattle.vt_bucket.specs.declared.Bucket.{Bucket}
 use Rattle.vt_bucket.specs.Buckets.{number_of, entries_of}
 use Rattle.vt_isect.specs.Merging.{Merges, HasKeys, IsAbsent, IsOf}
 use Rattle.vt_isect.proofs.Merged.{merges_none, merges_other, merges_more, some_keys, keys_joined, first_of_rest}
@@ -26,14 +25,14 @@ loop-i-preserved c =
     let here = c.number.ensures ∙ c.loop-i.invariant.number in
     elim c.else-bucket_number-number.branch [
       | else-bucket_number-number-via-else-bucket_number-number w ↦
-          let other = rw (c.bucket_number.ensures, here) at w.if-bucket_number-number.false in
+          let other = rw (c.bucket_number.ensures.bucket, here) at w.if-bucket_number-number.false in
           rw w.bucket-is (record {
             merged = subst (λ (l : List Entry). Merges old (IsOf total n l) mid) (sym grown)
                 (merges_other old mid total n (take i xs) y other c.loop-i.invariant.merged);
             number = c.loop-i.invariant.number;
           })
       | else-bucket_number-number-via-then-bucket_number-number+in-Ok-1 w ↦
-          let same = rw (c.bucket_number.ensures, here) at w.if-bucket_number-number.true in
+          let same = rw (c.bucket_number.ensures.bucket, here) at w.if-bucket_number-number.true in
           rw w.bucket-is (record {
             merged = subst (λ (l : List Entry). Merges old (IsOf total n l) (entries_of w.with.new.self)) (sym grown)
                 (merges_more old mid (entries_of w.with.new.self) total n (take i xs) y same c.loop-i.invariant.merged (search rules));
@@ -51,7 +50,7 @@ returns-in-loop-i-clause-full c =
     let y : Entry = c.index-entries-i.result in
     let full = c.in-Err.ensures.full.0 refl in
     let here : bucket_of total y.key.score.0 ≡ n =
-    sym c.bucket_number.ensures ∙ c.if-bucket_number-number.true ∙ c.number.ensures ∙ c.loop-i.invariant.number in
+    sym c.bucket_number.ensures.bucket ∙ c.if-bucket_number-number.true ∙ c.number.ensures ∙ c.loop-i.invariant.number in
     let count : ℕ = c.count_absent.result in
     let left : ℕ = length xs - c.loop-i.i in
     let all : take left (drop c.loop-i.i xs) ≡ drop c.loop-i.i xs =

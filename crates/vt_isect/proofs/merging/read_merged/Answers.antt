@@ -1,10 +1,7 @@
-use Rattle.std.proofs.Common.{◌≡◌, ℕ, ◌+◌, ◌*◌, ◌%◌, IsTrue, List, ◌∙◌, subst}
+use Rattle.std.proofs.Common.{◌≡◌, ◌+◌, ◌*◌, ◌%◌, IsTrue, ◌∙◌}
 use Rattle.std.proofs.lemmas.Result.{on_ok_weaker, IfErr-weaker}
-use Rattle.vt_base.specs.declared.place.Entry.{Entry}
-use Rattle.vt_bucket.specs.Frame.{IsFrame}
 use Rattle.vt_disk.specs.Disk.{part}
 use Rattle.vt_twin.specs.Frames.{frame_of}
-use Rattle.vt_isect.specs.Merging.{Merges, IsOf, IsDamage}
 use Rattle.vt_isect.proofs.merging.read_merged.Goals as goal
 
 -- what was read

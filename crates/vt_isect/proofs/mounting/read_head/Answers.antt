@@ -2,7 +2,6 @@ use Rattle.std.proofs.Common.{◌≡◌, ◌+◌, ◌*◌, ℕ, List, ap, ◌∙
 use Rattle.vt_disk.specs.declared.region.Region.{Region}
 use Rattle.vt_disk.specs.Disk.{part}
 use Rattle.vt_twin.specs.Frames.{frame_of, current_frame, named_number}
-use Rattle.vt_isect.specs.Layout.{head_place}
 use Rattle.vt_isect.proofs.mounting.read_head.Goals as goal
 
 pub returns-clause-read : goal.returns-clause-read

@@ -2,7 +2,12 @@ use Rattle.std.proofs.Common.{◌≡◌, ℕ, ◌%◌, Err, refl, sym, ap, ◌�
 use Rattle.std.proofs.lemmas.Result.{IfErr-weaker, on_ok_weaker}
 use Rattle.vt_twin.specs.Frames.{frame_of}
 use Rattle.vt_isect.specs.declared.bad.ShardErr.TheVariants.{Stopped}
+use Rattle.vt_isect.specs.declared.phase.Phase.TheVariants.{ReadFrame}
+use Rattle.vt_isect.specs.Layout.{InRange}
+use Rattle.vt_isect.specs.Section.{HasBucket}
 use Rattle.vt_isect.proofs.Stepping.{keeps_quiet, same_selector}
+use Rattle.vt_isect.proofs.Covered.{covered_kept}
+use Rattle.vt_isect.proofs.Undamaged.{no_damage}
 use Rattle.vt_isect.proofs.Within.{crash_within, agrees_within}
 use Rattle.vt_isect.proofs.Left.{bucket_made, head_made, advance_lower}
 use Rattle.vt_isect.proofs.section.Section.advance.Goals as goal
@@ -91,3 +96,37 @@ returns-in-ChangeHead-clause-left g c =
     rw (← c.self.view_is)
     (advance_lower c.change_head.result _ _ (rw (← c.self.view_is) at c.change_head.ensures.steps)
     (bucket_made _ _ _ _ _ c.self.invariant.frames) (head_made _ _ _ _ _ c.self.invariant.frames))
+
+pub returns-in-ReadSelector-clause-covers : goal.returns-in-ReadSelector-clause-covers
+returns-in-ReadSelector-clause-covers g c score setup h known knows agrees follows =
+    covered_kept score setup h _ _ known knows agrees _ c.read_selector.ensures.steps follows
+
+pub returns-in-ReadFrame-clause-covers : goal.returns-in-ReadFrame-clause-covers
+returns-in-ReadFrame-clause-covers g c score setup h known knows agrees follows =
+    covered_kept score setup h _ _ known knows agrees _ c.read_frame.ensures.steps follows
+
+pub returns-in-ChangeBucket-clause-covers : goal.returns-in-ChangeBucket-clause-covers
+returns-in-ChangeBucket-clause-covers g c score setup h known knows agrees follows =
+    covered_kept score setup h _ _ known knows agrees _ c.change_bucket.ensures.steps follows
+
+pub returns-in-ChangeHead-clause-covers : goal.returns-in-ChangeHead-clause-covers
+returns-in-ChangeHead-clause-covers g c score setup h known knows agrees follows =
+    covered_kept score setup h _ _ known knows agrees _ c.change_head.ensures.steps follows
+
+pub returns-in-Some-clause-covers : goal.returns-in-Some-clause-covers
+returns-in-Some-clause-covers g c score setup h known knows agrees follows =
+    covered_kept score setup h c.args.self.now c.args.self.now known knows agrees (Err (Stopped c.in-Some.call))
+    (ap (λ x. x.stopped) (sym c.self.view_is) ∙ c.in-Some.is, refl) follows
+
+pub returns-in-ReadFrame-clause-undamaged : goal.returns-in-ReadFrame-clause-undamaged
+returns-in-ReadFrame-clause-undamaged g c score setup h known told sound agrees room =
+    let now = c.args.self.now in
+    let phase : now.phase ≡ ReadFrame c.in-ReadFrame.selector =
+    ap (λ x. x.phase) (sym c.self.view_is) ∙ c.in-ReadFrame.is in
+    let within : InRange now.head now.buckets now.bucket =
+    rw (← c.self.view_is) (c.self.invariant.bucket (subst HasBucket (sym c.in-ReadFrame.is) tt)) in
+    IfErr-weaker c.read_frame.result _ _
+    (λ bad it. no_damage score setup h now known agrees c.in-ReadFrame.selector phase within _ _
+    (g.met.D.Disk.read_is_image _ told) sound room bad
+    (λ other. let found = it other in (found.0, found.1, λ region place. found.2 region told place)))
+    c.read_frame.ensures.damaged

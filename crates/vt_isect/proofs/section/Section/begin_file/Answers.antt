@@ -1,6 +1,7 @@
-use Rattle.std.proofs.Common.{◌≡◌, ⊎_elim, ℕ, sym, ap, subst}
+use Rattle.std.proofs.Common.{⊎_elim, ap, subst}
 use Rattle.vt_isect.specs.Section.{SectionState, HasBucket}
 use Rattle.vt_isect.proofs.Begun.{file_agrees, file_sound}
+use Rattle.vt_isect.proofs.Covered.{file_covers}
 use Rattle.vt_isect.proofs.Left.{begun_left}
 use Rattle.vt_isect.proofs.section.Section.begin_file.Goals as goal
 
@@ -65,3 +66,23 @@ returns-clause-agrees g c score setup h known agrees of cover =
 pub returns-clause-left : goal.returns-clause-left
 returns-clause-left g c = begun_left c.go_on.new.self c.args.entries c.go_on.ensures.begins
     (⊎_elim (λ e. ap (λ x. x.entries) e) (λ e. ap (λ x. x.entries) e) c.go_on.ensures.same)
+
+pub returns-clause-covers : goal.returns-clause-covers
+returns-clause-covers g c score setup h known covered cover =
+    let s = c.self.inside in
+    let t : SectionState g.row.D.Denot = record {
+      disk = s.disk;
+      buckets = s.buckets;
+      name = s.name;
+      head = s.head;
+      next = s.next;
+      phase = s.phase;
+      entries = s.entries;
+      bucket = s.bucket;
+      head_twin = s.head_twin;
+      bucket_twin = s.bucket_twin;
+      calls = s.calls;
+      stopped = s.stopped;
+    } in
+    file_covers score setup h t c.args.mark c.args.entries c.go_on.new.self known covered
+    c.go_on.ensures.begins c.go_on.ensures.same (rw (← c.self.view_is) at cover)

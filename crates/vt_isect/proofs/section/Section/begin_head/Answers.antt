@@ -1,4 +1,4 @@
-use Rattle.std.proofs.Common.{◌≡◌, ℕ, sym, subst}
+use Rattle.std.proofs.Common.{subst}
 use Rattle.vt_isect.specs.Section.{HasBucket}
 use Rattle.vt_isect.proofs.Begun.{agrees_begins}
 use Rattle.vt_isect.proofs.Heads.{frame_has}

@@ -1,10 +1,7 @@
-use Rattle.std.proofs.Common.{◌≡◌, ◌+◌, ◌*◌, ◌-◌, ℕ, List, Some, Result, Ok, Err, IsTrue, refl, sym, ap, ◌∙◌, subst}
-use Rattle.std.specs.Prelude.{IfOk, IfErr, IsOkAnd}
+use Rattle.std.proofs.Common.{◌≡◌, ◌+◌, ◌*◌, ◌-◌, Result, Ok, Err, IsTrue, ap, ◌∙◌, subst}
+use Rattle.std.specs.Prelude.{IfErr, IsOkAnd}
 use Rattle.std.proofs.lemmas.Result.{IfOk-weaker, IfErr-weaker}
-use Rattle.vt_base.specs.declared.place.Entry.{Entry}
-use Rattle.vt_bucket.specs.declared.Bucket.{Bucket}
 use Rattle.vt_bucket.specs.Buckets.{entries_of}
-use Rattle.vt_bucket.specs.Frame.{IsFrame}
 use Rattle.vt_bucket.proofs.Frames.{one_frame}
 use Rattle.vt_disk.specs.declared.region.Region.{Region}
 use Rattle.vt_disk.specs.Disk.{part}

@@ -1,16 +1,17 @@
-use Rattle.std.proofs.Common.{◌≡◌, ◌≢◌, ℕ, ◌+◌, ◌-◌, List, Option, None, Ok, Err, inl, inr, ⊎_elim, refl, sym, ap, ◌∙◌, subst}
+use Rattle.std.proofs.Common.{◌≡◌, ◌≢◌, ℕ, ◌+◌, List, Option, Ok, Err, inl, inr, ⊎_elim, refl, sym, ap, ◌∙◌, subst}
 use Rattle.vt_disk.specs.Disk.{ChangesAt, SameBut}
 use Rattle.vt_twin.specs.Twin.{TwinState, calls_made, next_frame, without_spare}
 use Rattle.vt_twin.specs.declared.step.Step.TheVariants.{More}
 use Rattle.vt_twin.specs.declared.step.TwinErr.TheVariants.{Fault}
 use Rattle.vt_isect.specs.declared.phase.Phase.TheVariants.{ChangeBucket}
 use Rattle.vt_isect.specs.Section.{SectionState, HasBucket, IsHere}
-use Rattle.vt_isect.specs.Writeback.{IsRead, Keeps, MayWrite}
+use Rattle.vt_isect.specs.Writeback.{IsRead, Keeps, MayWrite, Writes}
 use Rattle.vt_isect.proofs.Frames.{at_phase, lent_len}
 use Rattle.vt_isect.proofs.Moves.{idle_sound, is_fault}
 use Rattle.vt_isect.proofs.Stepping.{keeps_quiet, agrees_moves, next_of, images_wider, place_written}
 use Rattle.vt_disk.proofs.Bytes.{same_wider}
 use Rattle.vt_isect.proofs.Changes.{bucket_goes, keeps_next, goes_next}
+use Rattle.vt_isect.proofs.Written.{bucket_writes}
 use Rattle.vt_isect.proofs.section.Section.change_bucket.Goals as goal
 
 pub returns-in-Ok-More-clause-sound : goal.returns-in-Ok-More-clause-sound
@@ -44,7 +45,7 @@ returns-in-Ok-More-clause-steps g c =
         calls = c.saturating_add-self-inside.ensures;
       },
       goes,
-      next_of ChangeBucket _ _ phase (inl (no, phase, ap calls_made steps, refl)),
+      next_of ChangeBucket _ _ phase (inl (no, phase, steps, refl)),
     )
 
 pub go_on-requires-clause-in_range : goal.go_on-requires-clause-in_range
@@ -233,3 +234,34 @@ returns-in-Ok-Done-clause-bytes g c told =
     rw (← c.self.view_is)
     (subst (λ (x : g.row.D.Denot). SameBut (MayWrite s.phase t) (g.D.Disk.bytes s.disk) (g.D.Disk.bytes x)) (sym disk)
     (same_wider _ _ (place_written t c.bucket_place-place.result phase c.bucket_place-place.ensures.place) _ _ (c.advance.ensures.bytes told)))
+
+pub returns-in-Ok-More-clause-written : goal.returns-in-Ok-More-clause-written
+returns-in-Ok-More-clause-written g c told =
+    let phase = rw (← c.self.view_is) at c.requires.phase in
+    let written = c.in-Ok-More.ensures.written told in
+    rw (← c.self.view_is)
+    (bucket_writes _ c.bucket_place-place.result _ _ _ phase c.self.invariant.bucket_len c.bucket_place-place.ensures.place written)
+
+pub returns-in-Ok-Done-clause-written : goal.returns-in-Ok-Done-clause-written
+returns-in-Ok-Done-clause-written g c told =
+    let s = c.self.inside in
+    let t : SectionState g.row.D.Denot = record {
+      disk = s.disk;
+      buckets = s.buckets;
+      name = s.name;
+      head = s.head;
+      next = s.next;
+      phase = s.phase;
+      entries = s.entries;
+      bucket = s.bucket;
+      head_twin = s.head_twin;
+      bucket_twin = s.bucket_twin;
+      calls = s.calls;
+      stopped = s.stopped;
+    } in
+    let disk : c.go_on.new.self.disk ≡ c.advance.new.disk = ⊎_elim (λ e. ap (λ x. x.disk) e) (λ e. ap (λ x. x.disk) e) c.go_on.ensures.same in
+    let phase = rw (← c.self.view_is) at c.requires.phase in
+    let written = c.in-Ok-Done.ensures.written told in
+    rw (← c.self.view_is)
+    (subst (λ (x : g.row.D.Denot). Writes s.phase t (g.D.Disk.bytes s.disk) (g.D.Disk.bytes x)) (sym disk)
+    (bucket_writes t c.bucket_place-place.result _ _ _ phase c.self.invariant.bucket_len c.bucket_place-place.ensures.place written))

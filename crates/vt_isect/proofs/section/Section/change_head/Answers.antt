@@ -1,15 +1,13 @@
-use Rattle.std.proofs.Common.{◌≡◌, ◌≢◌, ℕ, ◌+◌, List, Option, None, Err, inr, refl, sym, ap, ◌∙◌, subst}
-use Rattle.vt_base.specs.Faults.{HasRisen}
-use Rattle.vt_twin.specs.Twin.{TwinState, CountsFault, calls_made, next_frame, without_spare}
-use Rattle.vt_twin.specs.Sound.{IsSound}
+use Rattle.std.proofs.Common.{◌≡◌, ◌≢◌, Err, inr, refl, ap, ◌∙◌, subst}
+use Rattle.vt_twin.specs.Twin.{TwinState, calls_made, next_frame, without_spare}
 use Rattle.vt_twin.specs.declared.step.TwinErr.TheVariants.{Fault}
 use Rattle.vt_isect.specs.declared.phase.Phase.TheVariants.{ChangeHead}
-use Rattle.vt_isect.specs.Layout.{head_place}
 use Rattle.vt_isect.specs.Writeback.{IsRead}
 use Rattle.vt_isect.proofs.Moves.{idle_sound, is_fault}
 use Rattle.vt_isect.proofs.Stepping.{keeps_quiet, agrees_moves, next_of, images_wider, head_written}
 use Rattle.vt_disk.proofs.Bytes.{same_wider}
 use Rattle.vt_isect.proofs.Changes.{head_goes, keeps_head}
+use Rattle.vt_isect.proofs.Written.{head_writes}
 use Rattle.vt_isect.proofs.section.Section.change_head.Goals as goal
 
 pub returns-in-Ok-More-clause-sound : goal.returns-in-Ok-More-clause-sound
@@ -40,7 +38,7 @@ returns-in-Ok-More-clause-steps g c =
         calls = c.saturating_add-self-inside.ensures;
       },
       goes,
-      next_of ChangeHead _ _ phase (no, phase, ap calls_made steps),
+      next_of ChangeHead _ _ phase (no, phase, steps),
     )
 
 pub returns-in-Ok-Done-clause-sound : goal.returns-in-Ok-Done-clause-sound
@@ -141,3 +139,15 @@ pub returns-in-Err-clause-bytes : goal.returns-in-Err-clause-bytes
 returns-in-Err-clause-bytes g c told =
     let phase = rw (← c.self.view_is) at c.requires.phase in
     rw (← c.self.view_is) (same_wider _ _ (head_written _ phase) _ _ (rw c.head_place.ensures at (c.advance.ensures.bytes told)))
+
+pub returns-in-Ok-More-clause-written : goal.returns-in-Ok-More-clause-written
+returns-in-Ok-More-clause-written g c told =
+    let phase = rw (← c.self.view_is) at c.requires.phase in
+    let written = rw c.head_place.ensures at (c.in-Ok-More.ensures.written told) in
+    rw (← c.self.view_is) (head_writes _ _ _ _ phase c.self.invariant.head_len written)
+
+pub returns-in-Ok-Done-clause-written : goal.returns-in-Ok-Done-clause-written
+returns-in-Ok-Done-clause-written g c told =
+    let phase = rw (← c.self.view_is) at c.requires.phase in
+    let written = rw c.head_place.ensures at (c.in-Ok-Done.ensures.written told) in
+    rw (← c.self.view_is) (head_writes _ _ _ _ phase c.self.invariant.head_len written)

@@ -1,13 +1,14 @@
 use Rattle.std.proofs.Common.{◌≡◌, ◌-◌, ℕ, List, [], length, IsTrue, sym, ap, ◌∙◌, subst}
 use Rattle.vt_base.specs.declared.place.Entry.{Entry}
 use Rattle.vt_bucket.specs.Buckets.{entries_of}
-use Rattle.vt_bucket.specs.Frame.{IsFrame}
-use Rattle.vt_isect.specs.Layout.{IsPlaceOf}
+use Rattle.vt_bucket.specs.Frame.{IsFrame, frame_of as bucket_frame}
+use Rattle.vt_isect.specs.Layout.{IsPlaceOf, Clears}
 use Rattle.vt_isect.specs.Section.{SectionState}
 use Rattle.vt_disk.specs.declared.region.Region.{Region}
 use Rattle.vt_twin.specs.Frames.{current_frame}
 use Rattle.vt_isect.proofs.Cleared.{others_sound, cleared_sound, agrees_cleared}
 use Rattle.vt_isect.proofs.Places.{one_place}
+use Rattle.vt_isect.proofs.Written.{formatted_clears}
 use Rattle.vt_isect.proofs.section.Section.clear.Goals as goal
 
 pub returns-in_err-format-clause-others : goal.returns-in_err-format-clause-others
@@ -60,3 +61,13 @@ returns-clause-others g c known told =
 pub returns-clause-agrees : goal.returns-clause-agrees
 returns-clause-agrees g c score setup h known =
     rw (← c.self.view_is) (agrees_cleared score setup h _ _ c.args.number known)
+
+pub returns-clause-written : goal.returns-clause-written
+returns-clause-written g c told region place =
+    let here = subst (λ (t : SectionState g.row.D.Denot). IsPlaceOf (c.args.number - t.head.first) c.bucket_place-place.result) c.self.view_is c.bucket_place-place.ensures.place in
+    let empty = ap (λ (l : List Entry). bucket_frame c.new.result.number l) c.new.ensures.entries in
+    let spelled = c.encode.ensures.bytes ∙ empty ∙ ap (λ (k : ℕ). bucket_frame k []) c.new.ensures.number in
+    let old = ap (λ (t : SectionState g.row.D.Denot). g.D.Disk.bytes t.disk) c.self.view_is in
+    subst (λ (l : List ℕ). Clears c.args.number region l (g.D.Disk.bytes c.format.new.disk)) old
+    (formatted_clears c.args.number _ c.bucket_place-place.result region c.encode.new.frame _ _ c.encode.auto.frame spelled
+    (c.in_ok-format.ensures.frame told) (c.in_ok-format.ensures.selector told) (c.in_ok-format.ensures.idle told) here place)

@@ -1,4 +1,4 @@
-use Rattle.std.proofs.Common.{◌≡◌, ◌+◌, ◌<◌, ◌≤◌, ℕ, List, Option, inl, inr, ⊎_elim, subst, sym, ap, ◌∙◌, refl}
+use Rattle.std.proofs.Common.{◌<◌, ◌≤◌, List, inl, inr, ⊎_elim, subst, sym, ap, ◌∙◌, refl}
 use Rattle.std.proofs.lemmas.Bool.{cases_lt}
 use Rattle.std.specs.List.{Contains}
 use Rattle.vt_base.specs.declared.place.Entry.{Entry}
@@ -42,4 +42,5 @@ returns-in-None-clause-begins g c =
           let here : Contains c.items.result.now entry = subst (λ (l : List Entry). Contains l entry) (ap entries_of (sym c.self.view_is) ∙ sym c.items.ensures) has in
           absurd (c.in-None.ensures.least entry here (rw (← c.self.view_is) at up)))
           (cases_lt (bucket_number now entry) c.args.from),
+      refl,
     ))

@@ -1,4 +1,4 @@
-use Rattle.std.proofs.Common.{◌≡◌, ◌+◌, ◌∷◌, [], ◌++◌, ℕ, List, take, refl, sym, ap, ◌∙◌, subst, rules}
+use Rattle.std.proofs.Common.{◌≡◌, ◌+◌, ◌∷◌, [], ◌++◌, ℕ, List, take, refl, sym, ap, ◌∙◌, subst}
 use Rattle.std.proofs.lemmas.List.{take_more, take_all}
 use Rattle.std.proofs.lemmas.Bool.{false≢true}
 use Rattle.vt_base.specs.declared.place.Entry.{Entry}
@@ -19,7 +19,7 @@ loop-entry-preserved g c =
     let y : Entry = c.entry-item.result in
     let grown : take (i + 1) xs ≡ take i xs ++ y ∷ [] = take_more xs i y c.loop-entry-test.true ∙ ap (λ (x : Entry). take i xs ++ x ∷ []) (sym c.entry-item.is) in
     let number : c.bucket_number.result ≡ bucket_of now.head.total y.key.score.0 =
-    c.bucket_number.ensures ∙ ap (λ t. bucket_of t.head.total y.key.score.0) c.self.view_is in
+    c.bucket_number.ensures.bucket ∙ ap (λ t. bucket_of t.head.total y.key.score.0) c.self.view_is in
     subst (AreInRange now.head now.buckets) (sym grown)
     (in_range_more now.head now.buckets (take i xs) y
     (subst (InRange now.head now.buckets) number (c.has_bucket.ensures.0 c.if-not-has_bucket.false)) c.loop-entry.invariant)
@@ -28,7 +28,7 @@ pub returns-then-not-has_bucket : goal.returns-then-not-has_bucket
 returns-then-not-has_bucket g c =
     let now = c.args.self.now in
     let number : c.bucket_number.result ≡ bucket_of now.head.total c.entry-item.result.key.score.0 =
-    c.bucket_number.ensures ∙ ap (λ t. bucket_of t.head.total c.entry-item.result.key.score.0) c.self.view_is in (
+    c.bucket_number.ensures.bucket ∙ ap (λ t. bucket_of t.head.total c.entry-item.result.key.score.0) c.self.view_is in (
       λ is. absurd (false≢true is),
       λ all. absurd (false≢true (sym c.if-not-has_bucket.true
           ∙ c.has_bucket.ensures.1 (subst (InRange now.head now.buckets) (sym number)

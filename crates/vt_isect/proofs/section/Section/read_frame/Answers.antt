@@ -1,4 +1,4 @@
-use Rattle.std.proofs.Common.{◌≡◌, ◌+◌, ◌-◌, ◌%◌, ℕ, List, [], Option, Vec, Global, length, refl, sym, ap, ◌∙◌, subst, arith, rules}
+use Rattle.std.proofs.Common.{◌≡◌, ◌-◌, ◌%◌, ℕ, List, [], Option, Vec, Global, length, sym, ap, ◌∙◌, subst, arith}
 use Rattle.std.specs.Option.{option_map, option_map_or}
 use Rattle.std.proofs.lemmas.List.{take_at}
 use Rattle.vt_base.specs.declared.place.Entry.{Entry}
@@ -6,8 +6,7 @@ use Rattle.vt_bucket.specs.Frame.{IsFrame}
 use Rattle.vt_disk.specs.declared.region.Region.{Region}
 use Rattle.vt_twin.specs.Frames.{frame_of}
 use Rattle.vt_twin.specs.Twin.{TwinState, fresh, next_frame, with_change}
-use Rattle.vt_isect.specs.declared.phase.Phase.TheVariants.{ReadFrame, ChangeBucket}
-use Rattle.vt_isect.specs.Layout.{IsPlaceOf}
+use Rattle.vt_isect.specs.declared.phase.Phase.TheVariants.{ReadFrame}
 use Rattle.vt_isect.specs.Merging.{Merges, IsOf, IsMerged, IsDamage}
 use Rattle.vt_isect.specs.Section.{HasBucket, IsHere, IsLent}
 use Rattle.vt_isect.proofs.Frames.{at_phase}
@@ -15,6 +14,7 @@ use Rattle.vt_isect.proofs.Places.{one_place}
 use Rattle.vt_isect.proofs.Moves.{section_moves}
 use Rattle.vt_isect.proofs.Stepping.{keeps_quiet, agrees_moves, agrees_ends, reads_within, bytes_within}
 use Rattle.vt_isect.proofs.Changes.{bucket_begins}
+use Rattle.vt_isect.proofs.Written.{writes_at}
 use Rattle.vt_isect.proofs.section.Section.read_frame.Goals as goal
 
 pub invariant_of-self : goal.invariant_of-self
@@ -90,7 +90,7 @@ returns-in-Ok-clause-merged g c =
     sym (ap next_frame c.begin.ensures ∙ c.from_vec.ensures ∙ take_at c.read_merged-merged.new.frame _ c.in-Some.frame.len (c.read_merged-merged.auto.frame ∙ c.deref_mut.ensures.len)) in
     rw (← c.self.view_is) (
       it.0,
-      subst (λ (f : List ℕ). IsMerged s.head.total s.bucket (option_map_or (λ l. l) s.entries []) it.0 f) e
+      subst (λ (f : List ℕ). IsMerged s.head.total s.bucket (option_map_or (λ list. list.items) s.entries []) it.0 f) e
           (subst (λ (l : List Entry). IsMerged s.head.total s.bucket l it.0 c.read_merged-merged.new.frame) c.items.ensures it.1),
       λ region told place. subst (λ (r : Region). it.0 ≡ frame_of r 8192 (c.args.selector % 2) (g.D.Disk.bytes s.disk))
           (one_place (s.bucket - s.head.first) c.bucket_place-place.result region c.bucket_place-place.ensures.place place) (it.2 told),
@@ -107,3 +107,8 @@ returns-in-Err-clause-images g c = rw (c.end.ensures, ← c.self.view_is) (reads
 
 pub returns-in-Err-clause-bytes : goal.returns-in-Err-clause-bytes
 returns-in-Err-clause-bytes g c told = rw (c.end.ensures, ← c.self.view_is) (bytes_within _ _ _ c.in-Err.ensures.bytes)
+
+pub returns-in-Ok-clause-written : goal.returns-in-Ok-clause-written
+returns-in-Ok-clause-written g c told =
+    let phase = rw (← c.self.view_is) at c.requires.phase in
+    rw (← c.self.view_is) (writes_at (ReadFrame c.args.selector) _ _ _ phase c.in-Ok.ensures.bytes)

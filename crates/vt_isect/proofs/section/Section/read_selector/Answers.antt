@@ -1,9 +1,10 @@
-use Rattle.std.proofs.Common.{◌≡◌, ◌+◌, ◌-◌, ℕ, refl, sym, subst}
-use Rattle.vt_isect.specs.declared.phase.Phase.TheVariants.{Rest, ReadSelector, ReadFrame}
+use Rattle.std.proofs.Common.{◌-◌, refl, sym, subst}
+use Rattle.vt_isect.specs.declared.phase.Phase.TheVariants.{ReadSelector}
 use Rattle.vt_isect.specs.Section.{HasBucket}
 use Rattle.vt_isect.proofs.Frames.{at_phase}
 use Rattle.vt_isect.proofs.Stepping.{keeps_quiet, agrees_moves, agrees_ends, selector_read, reads_within, bytes_within}
 use Rattle.vt_isect.proofs.Moves.{section_moves}
+use Rattle.vt_isect.proofs.Written.{writes_at}
 use Rattle.vt_isect.proofs.section.Section.read_selector.Goals as goal
 
 pub invariant_of-self : goal.invariant_of-self
@@ -58,3 +59,8 @@ returns-in-Err-clause-images g c = rw (c.end.ensures, ← c.self.view_is) (reads
 
 pub returns-in-Err-clause-bytes : goal.returns-in-Err-clause-bytes
 returns-in-Err-clause-bytes g c told = rw (c.end.ensures, ← c.self.view_is) (bytes_within _ _ _ c.in-Err.ensures.bytes)
+
+pub returns-in-Ok-clause-written : goal.returns-in-Ok-clause-written
+returns-in-Ok-clause-written g c told =
+    let phase = rw (← c.self.view_is) at c.requires.phase in
+    rw (← c.self.view_is) (writes_at ReadSelector _ _ _ phase c.in-Ok.ensures.bytes)

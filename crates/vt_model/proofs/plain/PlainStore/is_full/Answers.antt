@@ -5,7 +5,7 @@ use Rattle.vt_model.proofs.plain.PlainStore.is_full.Goals as goal
 
 pub returns : goal.returns
 returns g c =
-    rw (← c.self.view_is, ← c.bucket_count-buckets.ensures.count, ← c.bucket_of.ensures)
+    rw (← c.self.view_is, ← c.bucket_count-buckets.ensures.count, ← c.bucket_of.ensures.bucket)
     (ap (nat_le BUCKET_ROOM)
     ((rw c.deref.ensures.value at c.crowd.ensures)
     ∙ crowd-history_of g.S.Scorer.score_of c.self.inside.blocks.items c.self.invariant _ _))

@@ -1,0 +1,233 @@
+-- Marks that are covered stay so.
+use Rattle.std.proofs.Common.{◌≡◌, ◌⊎◌, inl, inr, ⊎_elim, ℕ, ◌+◌, ◌<◌, ◌≤◌, List, Option, Some, None, Result, Ok, Err, refl, sym, ◌∙◌, ap, subst, arith}
+use Rattle.std.specs.Prelude.{IsSome, OnOk}
+use Rattle.std.specs.List.{Contains}
+use Rattle.std.proofs.lemmas.Bool.{cases_lt, false≢true}
+use Rattle.vt_base.specs.declared.place.Entry.{Entry}
+use Rattle.vt_model.specs.History.{History, Accepted}
+use Rattle.vt_model.specs.Places.{Setup, bucket_of, bucket_count}
+use Rattle.vt_twin.specs.Twin.{with_change}
+use Rattle.vt_twin.specs.declared.step.Step.{Step}
+use Rattle.vt_twin.specs.declared.step.Step.TheVariants.{More, Done}
+use Rattle.vt_isect.specs.declared.bad.ShardErr.{ShardErr}
+use Rattle.vt_isect.specs.declared.head.Head.{Head}
+use Rattle.vt_isect.specs.declared.phase.Phase.{Phase}
+use Rattle.vt_isect.specs.declared.phase.Phase.TheVariants.{Rest, ReadSelector, ReadFrame, ChangeBucket, ChangeHead}
+use Rattle.vt_isect.specs.Agreement.{IsEntryOf, HasBlock, IsInBucket, IsCovered, NoOthers, KnownAgrees}
+use Rattle.vt_isect.specs.Entries.{EntriesState}
+use Rattle.vt_isect.specs.Head.{encoded}
+use Rattle.vt_isect.specs.Layout.{InRange}
+use Rattle.vt_isect.specs.Section.{SectionState, HasBucket, IsOfGroup, IsTodo, entries_of, bucket_number}
+use Rattle.vt_isect.specs.Sound.{Known}
+use Rattle.vt_isect.specs.Writeback.{Advances, BeginsFrom, Completes, Follows, GoesOn, KeepsCovered, NextPhase}
+use Rattle.vt_isect.proofs.Agreeing.{merged_has}
+use Rattle.vt_isect.proofs.Begun.{Begins}
+use Rattle.vt_isect.proofs.Stepping.{covers_more}
+use Rattle.vt_isect.proofs.Within.{Stands, stands, completes_or}
+
+-- ---- a step
+
+module _ {D : Type 0} (score : List ℕ → List ℕ) (c : Setup) (h : History) (t u : SectionState D)
+    (known knows : Known) (agrees : KnownAgrees score c h t known) where
+  some_same : (a b : List Entry) → Some a ≡ Some b → a ≡ b
+  some_same a b e = cc
+
+  -- an entry of a block is of the block's bucket
+  its_bucket : (n i : ℕ) (entry : Entry) → IsEntryOf score c h i entry → IsInBucket score c h n i
+      → bucket_number t entry ≡ n
+  its_bucket n i entry of at =
+      let same : of.block ≡ at.block =
+      one_block of.block at.block (sym of.stands.block ∙ at.stands.block) in
+      ap (λ (k : ℕ). bucket_of k entry.key.score.0) agrees.total
+      ∙ ap (bucket_of (bucket_count c)) of.score_is
+      ∙ ap (λ (a : Accepted). bucket_of (bucket_count c) (score a.block.bytes)) same
+      ∙ at.bucket_is
+    where
+      one_block : (x y : Accepted) → Some x ≡ Some y → x ≡ y
+      one_block x y e = cc
+
+  module _ (result : Result Step ShardErr) (steps : Advances result t u)
+      (follows : Follows result t u known knows) where
+    -- each of the others is put into the bucket that is completed, or is among more
+    covers : (others more : Entry → Type 0) (mark : ℕ)
+        → ((n i : ℕ) (entry : Entry) → IsInBucket score c h n i → IsEntryOf score c h i entry
+        → others entry → (Completes result t n × IsOfGroup t entry) ⊎ more entry)
+        → IsCovered score c h t known others mark → IsCovered score c h u knows more mark
+    covers others more mark split cover = record {
+      fits = cover.fits;
+      has = λ n i entries within is below at.
+          ⊎_elim
+          (λ (done : Completes result t n). merged n i entries (here n within) is below at done)
+          (λ (not_done : ¬ Completes result t n).
+          let was : known n ≡ Some entries = sym (follows.kept n first not_done) ∙ is in
+          let it = cover.has n i entries (here n within) was below at in
+          ⊎_elim
+          (λ (has : Contains entries it.0). (it.0, inl has, it.2))
+          (λ (other : others it.0). ⊎_elim
+          (λ (put : Completes result t n × IsOfGroup t it.0). absurd (not_done put.0))
+          (λ (m : more it.0). (it.0, inr m, it.2))
+          (split n i it.0 at it.2 other))
+          it.1)
+          (completes_or result t n);
+    }
+      where
+        stays : Stands t u
+        stays = stands result t u agrees.same_first steps
+
+        first : u.head.first ≡ t.head.first
+        first = stays.first
+
+        here : (n : ℕ) → InRange u.head u.buckets n → InRange t.head t.buckets n
+        here n within =
+            subst (λ (b : ℕ). (t.head.first ≤ n) × (n < t.head.first + b)) stays.buckets
+            (subst (λ (k : ℕ). (k ≤ n) × (n < k + u.buckets)) first within)
+
+        merged : (n i : ℕ) (entries : List Entry) → InRange t.head t.buckets n
+            → knows n ≡ Some entries → i < mark → IsInBucket score c h n i → Completes result t n
+            → HasBlock score c h (λ entry. Contains entries entry ⊎ more entry) i
+        merged n i entries within is below at done = by (known n) refl (agrees.whole n within)
+          where
+            by : (o : Option (List Entry)) → known n ≡ o → IsSome o
+                → HasBlock score c h (λ entry. Contains entries entry ⊎ more entry) i
+            by None was some = absurd (false≢true some)
+            by (Some old) was some =
+                let new = follows.merged n old first done was in
+                let same : new.0 ≡ entries = some_same new.0 entries (sym new.1 ∙ is) in
+                let it = cover.has n i old within was below at in
+                let put : Contains old it.0 ⊎ IsOfGroup t it.0
+                → HasBlock score c h (λ entry. Contains entries entry ⊎ more entry) i =
+                λ of.
+                let found = merged_has score c h t known agrees (subst HasBucket (sym done.1) tt) n
+                done.3 within old new.0 was new.2 i it.0 it.2 of in (
+                  found.0,
+                  inl (subst (λ (l : List Entry). Contains l found.0) same found.1),
+                  found.2,
+                ) in
+                ⊎_elim
+                (λ (has : Contains old it.0). put (inl has))
+                (λ (other : others it.0). ⊎_elim
+                (λ (of : Completes result t n × IsOfGroup t it.0). put (inr of.1))
+                (λ (m : more it.0). (it.0, inr m, it.2))
+                (split n i it.0 at it.2 other))
+                it.1
+
+  -- the entries stay
+  has_still : GoesOn t u → (entry : Entry) → Contains (entries_of t) entry
+      → Contains (entries_of u) entry
+  has_still goes entry has =
+      subst (λ e. Contains (entries_of (record t { entries = e })) entry)
+      (sym goes.section.entries) has
+
+  -- what is still to be put is so after a step, or the step completes its bucket
+  still : GoesOn t u → HasBucket u.phase → u.bucket ≡ t.bucket → (entry : Entry) → IsTodo t entry
+      → IsTodo u entry
+  still goes has same entry way = (
+    has,
+    has_still goes entry way.1,
+    let e : bucket_number u entry ≡ bucket_number t entry =
+        ap (λ (x : Head). bucket_of x.total entry.key.score.0) goes.head_is in
+        omega (arith, e, same, way.2),
+  )
+
+  behind : GoesOn t u → BeginsFrom (t.bucket + 1) u → (entry : Entry) → IsTodo t entry
+      → (bucket_number t entry ≡ t.bucket) ⊎ IsTodo u entry
+  behind goes begins entry way = ⊎_elim
+      (λ (low : bucket_number t entry < t.bucket + 1). inl (omega (arith, low, way.2)))
+      (λ (up : t.bucket + 1 ≤ bucket_number t entry).
+      let e : bucket_number u entry ≡ bucket_number t entry =
+      ap (λ (x : Head). bucket_of x.total entry.key.score.0) goes.head_is in
+      let has = has_still goes entry way.1 in
+      ⊎_elim
+      (λ here. inr (subst HasBucket (sym here.0) tt, has, here.3 entry has (omega (arith, e, up))))
+      (λ there. absurd (let low = there.2 entry has in omega (arith, e, up, low)))
+      begins)
+      (cases_lt (bucket_number t entry) (t.bucket + 1))
+
+  split_more : (q : Phase) → t.phase ≡ q → GoesOn t u → NextPhase q t u → (n i : ℕ) (entry : Entry)
+      → IsInBucket score c h n i → IsEntryOf score c h i entry → IsTodo t entry
+      → (Completes (Ok More) t n × IsOfGroup t entry) ⊎ IsTodo u entry
+  split_more Rest is goes next n i entry at of way = absurd next
+  split_more ReadSelector is goes next n i entry at of way =
+      inr (still goes (subst HasBucket (sym next.0.1) tt) next.1 entry way)
+  split_more (ReadFrame s) is goes next n i entry at of way =
+      inr (still goes (subst HasBucket (sym next.0) tt) next.2 entry way)
+  split_more ChangeBucket is goes next n i entry at of way = ⊎_elim
+      (λ on. inr (still goes (subst HasBucket (sym on.1) tt) on.3 entry way))
+      (λ last. ⊎_elim
+      (λ (own : bucket_number t entry ≡ t.bucket).
+      inl ((refl, is, last.0, sym (its_bucket n i entry of at) ∙ own), (way.1, own)))
+      (λ (todo : IsTodo u entry). inr todo)
+      (behind goes last.1 entry way))
+      next
+  split_more ChangeHead is goes next n i entry at of way = absurd (subst HasBucket is way.0)
+
+  todo_kept : (result : Result Step ShardErr) → Advances result t u
+      → Follows result t u known knows → (mark : ℕ)
+      → OnOk result (IsCovered score c h t known (IsTodo t) mark
+      → IsCovered score c h u knows (IsTodo u) mark)
+  todo_kept (Ok More) steps follows mark = covers (Ok More) steps follows (IsTodo t) (IsTodo u) mark
+      (split_more t.phase refl steps.0 steps.2)
+  todo_kept (Ok Done) steps follows mark = covers (Ok Done) steps follows (IsTodo t) (IsTodo u) mark
+      (λ n i entry at of way. absurd (subst HasBucket steps.0 way.0))
+  todo_kept (Err bad) steps follows mark = tt
+
+  pub covered_kept : (result : Result Step ShardErr) → Advances result t u
+      → Follows result t u known knows → KeepsCovered score c h result t u known knows
+  covered_kept result steps follows mark = (
+    λ others cover. covers result steps follows (Contains others) (Contains others) mark
+        (λ n i entry at of has. inr has) cover,
+    todo_kept result steps follows mark,
+  )
+
+-- ---- entries that begin to be written
+
+pub file_covers : {D : Type 0} (score : List ℕ → List ℕ) (c : Setup) (h : History)
+    (t : SectionState D) (mark : ℕ) (es : EntriesState) (v : SectionState D) (known : Known)
+    (covered : ℕ) → BeginsFrom 0 v → Begins t mark es v
+    → IsCovered score c h t known (Contains es.items) covered
+    → IsCovered score c h v known (IsTodo v) covered
+file_covers score c h t mark es v known covered begins (inl e) cover =
+    let at = subst (λ x. BeginsFrom 0 x) e begins in
+    let w = record t {
+      next = record t.head { mark = mark };
+      phase = ReadSelector;
+      entries = Some es;
+      bucket = v.bucket;
+    } in
+    subst (λ x. IsCovered score c h x known (IsTodo x) covered) (sym e)
+    (covers_more score c h t w known (Contains es.items) (IsTodo w) covered refl refl
+    (λ entry has. (
+      tt,
+      has,
+      ⊎_elim
+          (λ here. here.3 entry has (omega arith))
+          (λ there. absurd (let q = there.0 in cc))
+          at,
+    ))
+    cover)
+file_covers score c h t mark es v known covered begins (inr e) cover =
+    let at = subst (λ x. BeginsFrom 0 x) e begins in
+    let next : Head = record t.head { mark = mark } in
+    let w = record t {
+      next = next;
+      phase = ChangeHead;
+      entries = Some es;
+      head_twin = with_change (encoded t.name next) t.head_twin;
+    } in
+    subst (λ x. IsCovered score c h x known (IsTodo x) covered) (sym e)
+    (covers_more score c h t w known (Contains es.items) (IsTodo w) covered refl refl
+    (λ entry has. absurd (⊎_elim
+    (λ here. let q = here.0 in cc)
+    (λ there. let low = there.2 entry has in omega (arith, low))
+    at))
+    cover)
+
+-- ---- at rest
+
+-- nothing is still to be put
+pub covered_at_rest : {D : Type 0} (score : List ℕ → List ℕ) (c : Setup) (h : History)
+    (t : SectionState D) (known : Known) (mark : ℕ) → t.phase ≡ Rest
+    → IsCovered score c h t known (IsTodo t) mark → IsCovered score c h t known NoOthers mark
+covered_at_rest score c h t known mark rest cover =
+    covers_more score c h t t known (IsTodo t) NoOthers mark refl refl
+    (λ entry way. subst HasBucket rest way.0) cover

@@ -1,0 +1,102 @@
+-- A writeback finds no damage while buckets have room.
+use Rattle.std.proofs.Common.{◌≡◌, ◌≢◌, ◌⊎◌, inl, inr, ⊎_elim, ℕ, ◌-◌, ◌%◌, ◌≤◌, List, Option, Some, None, refl, sym, ◌∙◌, ap, subst, arith}
+use Rattle.std.specs.Prelude.{IsSome}
+use Rattle.std.specs.List.{Contains}
+use Rattle.std.proofs.lemmas.Bool.{false≢true}
+use Rattle.vt_base.specs.declared.place.Entry.{Entry}
+use Rattle.vt_bucket.specs.Frame.{IsFrame}
+use Rattle.vt_bucket.proofs.Frames.{accepted, one_frame}
+use Rattle.vt_disk.specs.declared.region.Region.{Region}
+use Rattle.vt_model.specs.History.{History}
+use Rattle.vt_model.specs.Places.{Setup, bucket_of, bucket_count, crowd}
+use Rattle.vt_twin.specs.Frames.{frame_of, named_number}
+use Rattle.vt_twin.specs.Twin.{fresh}
+use Rattle.vt_twin.specs.Sound.{IsSound, HasBegunSelector}
+use Rattle.vt_isect.specs.declared.bad.ShardErr.{ShardErr}
+use Rattle.vt_isect.specs.declared.bad.ShardErr.TheVariants.{Fault, Damaged, Stopped}
+use Rattle.vt_isect.specs.declared.phase.Phase.TheVariants.{ReadFrame}
+use Rattle.vt_isect.specs.Agreement.{IsOfBlock, KnownAgrees}
+use Rattle.vt_isect.specs.Layout.{IsPlaceOf, InRange}
+use Rattle.vt_isect.specs.Merging.{IsDamage, IsFaulty, IsOf, IsOverfull, Joined}
+use Rattle.vt_isect.specs.Section.{SectionState, HasBucket, entries_of}
+use Rattle.vt_isect.specs.Sound.{Known, IsSoundSection}
+use Rattle.vt_isect.proofs.Counted.{blocks_most}
+use Rattle.vt_isect.proofs.Moves.{begun_bound, none_made, rests_fresh}
+
+module _ {D : Type 0} (score : List ℕ → List ℕ) (c : Setup) (h : History) (t : SectionState D)
+    (known : Known) (agrees : KnownAgrees score c h t known) (s : ℕ) (phase : t.phase ≡ ReadFrame s)
+    (within : InRange t.head t.buckets t.bucket) where
+  -- the frame that the selector names has what is known of the bucket
+  frame_known : (entries : List Entry) (read : List ℕ) (images : List ℕ → Type 0)
+      → images read → IsSoundSection t known read images → known t.bucket ≡ Some entries
+      → (region : Region) × IsPlaceOf (t.bucket - t.head.first) region
+      × IsFrame t.bucket entries (frame_of region 8192 (s % 2) read)
+  frame_known entries read images is_image sound is =
+      let it = sound.bucket t.bucket entries within is in
+      let none = it.rest (λ way. let e = way.0 in cc) in
+      let few : ¬ HasBegunSelector it.twin = λ begun.
+      omega (arith, begun, begun_bound it.twin, none_made it.twin none) in
+      let named : named_number it.region 8192 read ≡ it.twin.current =
+      ap (λ (k : ℕ). named_number it.region k read) (sym it.frame_len)
+      ∙ it.sound.named few read is_image in
+      let current : it.twin.current ≡ s % 2 =
+      sym named ∙ sound.selector s it.region phase it.place in
+      let rests : IsSound (fresh 8192 (s % 2)) it.region it.frame read images =
+      subst (λ (k : ℕ). IsSound (fresh 8192 k) it.region it.frame read images) current
+      (subst (λ (k : ℕ). IsSound (fresh k it.twin.current) it.region it.frame read images)
+      it.frame_len (rests_fresh it.twin it.region it.frame read images none it.sound)) in (
+        it.region,
+        it.place,
+        subst (λ (f : List ℕ). IsFrame t.bucket entries f) (sym (rests.kept read is_image))
+            it.spelled,
+      )
+
+  -- what the bucket has and gets are blocks of it
+  joined_blocks : (entries : List Entry) → known t.bucket ≡ Some entries → (entry : Entry)
+      → Joined entries (IsOf t.head.total t.bucket (entries_of t)) entry
+      → IsOfBlock score c h entry × (bucket_of (bucket_count c) entry.key.score.0 ≡ t.bucket)
+  joined_blocks entries is entry joined = ⊎_elim
+      (λ (has : Contains entries entry). agrees.blocks t.bucket entries entry within is has)
+      (λ (of : IsOf t.head.total t.bucket (entries_of t) entry). (
+        agrees.todo entry (subst HasBucket (sym phase) tt, of.0, omega (arith, of.1)),
+        ap (λ (k : ℕ). bucket_of k entry.key.score.0) (sym agrees.total) ∙ of.1,
+      ))
+      joined
+
+  not_damaged : (frame : List ℕ) (bad : ShardErr) (entries : List Entry)
+      → known t.bucket ≡ Some entries → IsFrame t.bucket entries frame
+      → crowd score (bucket_count c) h t.bucket ≤ 263
+      → ¬ IsDamage t.head.total t.bucket (entries_of t) frame bad
+  not_damaged frame bad entries is spelled room damage = ⊎_elim
+      (λ (faulty : IsFaulty t.bucket frame bad).
+      accepted faulty.0 t.bucket entries frame spelled faulty.1)
+      (λ (full : IsOverfull t.head.total t.bucket (entries_of t) frame bad).
+      let same : full.0 ≡ entries =
+      (one_frame t.bucket t.bucket full.0 entries frame full.1 spelled).1 in
+      let keys = full.3 in
+      let was : known t.bucket ≡ Some full.0 = is ∙ ap (λ (l : List Entry). Some l) (sym same) in
+      let most = blocks_most score c h t.bucket keys.some keys.distinct
+      (λ entry has. joined_blocks full.0 was entry (keys.each entry has)) in
+      omega (arith, most, keys.count_is, room, full.4))
+      damage
+
+  pub no_damage : (read : List ℕ) (images : List ℕ → Type 0) → images read
+      → IsSoundSection t known read images
+      → ((n : ℕ) → crowd score (bucket_count c) h n ≤ 263) → (bad : ShardErr)
+      → (bad ≢ Fault → (frame : List ℕ) × IsDamage t.head.total t.bucket (entries_of t) frame bad
+      × ((region : Region) → IsPlaceOf (t.bucket - t.head.first) region
+      → frame ≡ frame_of region 8192 (s % 2) read))
+      → (bad ≡ Fault) ⊎ ((n : ℕ) × (bad ≡ Stopped n))
+  no_damage read images is_image sound room Fault damaged = inl refl
+  no_damage read images is_image sound room (Stopped n) damaged = inr (n, refl)
+  no_damage read images is_image sound room (Damaged n want found) damaged =
+      absurd (by (known t.bucket) refl (agrees.whole t.bucket within))
+    where
+      by : (o : Option (List Entry)) → known t.bucket ≡ o → IsSome o → ⊥
+      by None is some = false≢true some
+      by (Some entries) is some =
+          let it = damaged (λ e. cc) in
+          let at = frame_known entries read images is_image sound is in
+          not_damaged it.0 (Damaged n want found) entries is
+          (subst (λ (f : List ℕ). IsFrame t.bucket entries f) (sym (it.2 at.0 at.1)) at.2)
+          (room t.bucket) it.1
