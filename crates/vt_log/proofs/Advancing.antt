@@ -1,10 +1,10 @@
 -- A call of `advance`, from its two steps.
-use Rattle.std.proofs.Common.{◌≡◌, ◌≢◌, ⊎_elim, ℕ, ◌+◌, ◌<◌, ◌≤◌, List, [], ◌∷◌, length, get_or, refl, sym, ◌∙◌, ap, subst, arith, Some, None, Ok, Err, Result, drop}
-use Rattle.std.specs.Prelude.{IsFalse, slice_get}
+use Rattle.std.proofs.Common.{◌≡◌, ◌≢◌, ⊎_elim, ℕ, ◌+◌, ◌<◌, ◌≤◌, List, [], ◌∷◌, length, get_or, refl, sym, ◌∙◌, ap, subst, arith, Some, None, Ok, Err, Result}
+use Rattle.std.specs.Prelude.{IsTrue, IsFalse, slice_get}
 use Rattle.std.proofs.lemmas.Bool.{cases_eq}
 use Rattle.std.proofs.lemmas.Option.{slice_get_within, slice_get_cases}
-use Rattle.vt_base.specs.declared.place.Place.{Place}
 use Rattle.vt_disk.specs.declared.region.Region.{Region}
+use Rattle.vt_disk.specs.Disk.{IsOneMore}
 use Rattle.vt_twin.specs.Twin.{one_more}
 use Rattle.vt_clump.specs.declared.packed.Packed.{Packed}
 use Rattle.vt_model.specs.History.{History}
@@ -15,9 +15,10 @@ use Rattle.vt_log.specs.declared.bad.Progress.TheVariants.{Idle, Step, Durable}
 use Rattle.vt_log.specs.declared.bad.LogErr.{LogErr}
 use Rattle.vt_log.specs.declared.bad.LogErr.TheVariants.{Fault, Stopped}
 use Rattle.vt_log.specs.Answers.{Advances, MakesCall, EndsCommit}
-use Rattle.vt_log.specs.Committing.{Prepares, MakesOrEnds}
+use Rattle.vt_log.specs.Committing.{TakesAll, Prepares, MakesOrEnds}
 use Rattle.vt_log.specs.declared.queue.Waiting.{Waiting}
 use Rattle.vt_log.specs.Log.{LogState, queued, disk_in_use, filled_as}
+use Rattle.vt_log.specs.Queue.{WaitsFor}
 use Rattle.vt_log.specs.Sound.{IsAt, AreWithinCall, StandForPrefix}
 use Rattle.vt_log.specs.Whole.{IsOnDisk, IsWhole, Fill, turned_to}
 use Rattle.vt_log.proofs.Fillings.{fits_within, turned_arena}
@@ -31,6 +32,7 @@ makes_call {D = D} old m new prep it = record {
   durable = it.durable ∙ ap (λ (l : LogState D). l.durable) prep.same;
   packed = it.packed ∙ prep.packed;
   places = it.places ∙ prep.places;
+  commit = λ on. subst (λ (l : LogState D). IsTrue (is_committing l.arena) → (new.arena.staged ≡ l.arena.staged) × (new.arena.next ≡ l.arena.next)) (prep.commit on) it.commit on;
 }
 
 pub advances : {D : Type 0} (old m new : LogState D) (result : Result Progress LogErr) → Prepares old m → MakesOrEnds result m new
@@ -39,20 +41,29 @@ advances old m new (Ok Idle) prep it last = absurd it
 advances old m new (Ok Step) prep it last = (makes_call old m new prep it.0, it.1, omega (arith, it.2, prep.owed_is))
 advances {D = D} old m new (Ok (Durable n)) prep it last = (ended, it.1, it.2, omega (arith, it.3, prep.owed_is))
   where
-    staged : length m.arena.staged ≡ length old.arena.staged
-    staged = ⊎_elim (λ (same : m ≡ old). ap (λ (l : LogState D). length l.arena.staged) same)
-        (λ (rest : IsFalse (is_committing m.arena)). absurd (omega (arith, none_made m.arena rest, last n refl))) prep.begun
-
     ended : EndsCommit (length old.arena.staged) old new
-    ended = subst (λ (k : ℕ). EndsCommit k old new) staged (record {
-      calls = it.0.calls ∙ ap (λ (l : LogState D). one_more l.calls) prep.same;
-      heads = λ i other. it.0.heads i (λ same. other (same ∙ ap (λ (l : LogState D). l.committing) prep.same)) ∙ ap (λ (l : LogState D). slice_get l.heads i) prep.same;
-      durable = it.0.durable ∙ ap (λ (l : LogState D). l.durable + length m.arena.staged) prep.same;
-      packed = it.0.packed ∙ ap (λ (ps : List Packed). drop (length m.arena.staged) ps) prep.packed;
-      places = it.0.places ∙ ap (λ (ps : List Place). drop (length m.arena.staged) ps) prep.places;
-    })
+    ended = ⊎_elim (λ (same : m ≡ old). subst (λ (l : LogState D). EndsCommit (length l.arena.staged) l new) same it.0)
+        (λ (rest : IsFalse (is_committing m.arena)). absurd (omega (arith, none_made m.arena rest, last n refl))) prep.begun
 advances {D = D} old m new (Err Fault) prep it last = (makes_call old m new prep it.0, it.1 ∙ ap (λ (l : LogState D). Some l.calls) prep.same)
 advances old m new (Err (Stopped n)) prep it last = absurd it
+
+-- the call is the first of a commit, and doesn't end it
+pub batch_begins : {D : Type 0} (old m new : LogState D) → Prepares old m → (TakesAll m → calls_made m.arena + 1 < commit_calls m.arena → TakesAll new) → IsFalse (is_committing old.arena) → TakesAll new
+batch_begins {D = D} old m new prep stays rest = stays (prep.batch rest) (omega (arith, none_made m.arena rests))
+  where
+    rests : IsFalse (is_committing m.arena)
+    rests = ⊎_elim (λ (same : m ≡ old). subst (λ (l : LogState D). IsFalse (is_committing l.arena)) (sym same) rest) (λ (still : IsFalse (is_committing m.arena)). still) prep.begun
+
+-- where nothing is queued there is no commit to be had
+pub batch_of_none : {D : Type 0} (size : D → ℕ) (l : LogState D) → IsWhole size l → queued l ≡ 0 → TakesAll l
+batch_of_none size l whole idle = at l.queue.waiting refl
+  where
+    at : (ws : List Waiting) → l.queue.waiting ≡ ws → TakesAll l
+    at [] none = record {
+      blocks = λ waits. subst (WaitsFor l.committing) none waits;
+      seal = (λ sealed. absurd (subst (WaitsFor (l.committing + 1)) none (whole.way sealed)), λ some. absurd (omega (arith, some, ap (λ (ws : List Waiting). length ws) none)));
+    }
+    at (w ∷ ws) some = absurd (omega (arith, whole.places, idle, ap (λ (ws : List Waiting). length ws) some))
 
 pub stand_as_prepared : {D : Type 0} (score_of : List ℕ → List ℕ) (old m : LogState D) (files : List (List ℕ)) (h : History) → Prepares old m → StandForPrefix score_of m files h → StandForPrefix score_of old files h
 stand_as_prepared {D = D} score_of old m files h prep it = subst (λ (k : LogState D). StandForPrefix score_of k files h) prep.same it
@@ -62,6 +73,13 @@ at_as_prepared {D = D} old m r region disk prep at = subst (λ (k : LogState D).
 
 pub within_as_prepared : {D : Type 0} (images : D → List ℕ → Type 0) (old m : LogState D) (ds : List D) (files : List (List ℕ)) → Prepares old m → AreWithinCall images old.disks ds files → AreWithinCall images m.disks ds files
 within_as_prepared {D = D} images old m ds files prep left = subst (λ (k : LogState D). AreWithinCall images k.disks ds files) (sym prep.same) left
+
+pub call_as_prepared : {D : Type 0} (calls : D → ℕ) (old m new : LogState D) → Prepares old m
+    → ((before after : D) → slice_get m.disks (disk_in_use m) ≡ Some before → slice_get new.disks (disk_in_use m) ≡ Some after → IsOneMore (calls before) (calls after))
+    → (before after : D) → slice_get old.disks (disk_in_use old) ≡ Some before → slice_get new.disks (disk_in_use old) ≡ Some after → IsOneMore (calls before) (calls after)
+call_as_prepared {D = D} calls old m new prep it =
+    subst (λ (k : LogState D). (before after : D) → slice_get k.disks (disk_in_use k) ≡ Some before → slice_get new.disks (disk_in_use k) ≡ Some after → IsOneMore (calls before) (calls after))
+    prep.same it
 
 -- where something is queued, an arena is committed in, and its disk is there
 pub committing_there : {D : Type 0} (size : D → ℕ) (l : LogState D) → IsWhole size l → 0 < queued l → l.committing < length l.layout

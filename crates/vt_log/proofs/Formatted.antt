@@ -24,7 +24,7 @@ use Rattle.vt_arena.specs.Places.{IsArenaLen}
 use Rattle.vt_arena.specs.Sound.{IsRegion}
 use Rattle.vt_arena.proofs.Regions.{arena_in_region}
 use Rattle.vt_log.specs.Faults.{OneHasRisen}
-use Rattle.vt_log.specs.Formatting.{AreEmpty, IsEmpty, KeepsBlock}
+use Rattle.vt_log.specs.Formatting.{AreEmpty, IsEmpty, InHeads, ChangesInHeads}
 use Rattle.vt_log.specs.Log.{disks_of}
 use Rattle.vt_log.specs.Logs.{first_unsealed, IsUntouched, InOrder, HasArena, IsLog, arena_count}
 use Rattle.vt_log.specs.Sound.{AreImages}
@@ -46,19 +46,20 @@ region_fits size t number region table less start len room = record {
   len = subst IsArenaLen (sym len) (arena_len t.arena_size table.arena_size);
 }
 
--- and its head, behind the block
-pub head_behind : (t : Table) (number : ℕ) (region : Region) → region.start ≡ start_of t number → (i : ℕ) → InHead region i → 8192 ≤ i
-head_behind t number region start i in_head = omega (arith, start, in_head.0)
+-- and its head
+pub among_heads : (t : Table) (number : ℕ) (region : Region) → number < t.count → region.start ≡ start_of t number → (p : ℕ) → InHead region p → InHeads t p
+among_heads t number region less start p in_head = (number, less, omega (arith, start, in_head.0), omega (arith, start, in_head.1))
 
 pub changes_wider : (P Q : ℕ → Type 0) (before after : List ℕ → Type 0) → ((i : ℕ) → P i → Q i) → ChangesAt P before after → ChangesAt Q before after
 changes_wider P Q before after wider changes c left =
     let from = changes c left in
     (from.0, from.1, same_wider P Q wider from.0 c from.2)
 
-pub keeps_then : {D : Type 0} (tells : Bool) (bytes : D → List ℕ) (images : D → List ℕ → Type 0) (a b c : D) → KeepsBlock tells bytes images a b → KeepsBlock tells bytes images b c → KeepsBlock tells bytes images a c
-keeps_then tells bytes images a b c one two = (
-  λ told. same_then (λ p. 8192 ≤ p) (bytes a) (bytes b) (bytes c) (one.0 told) (two.0 told),
-  changes_then (λ p. 8192 ≤ p) (images a) (images b) (images c) one.1 two.1,
+pub heads_then : {D : Type 0} (tells : Bool) (bytes : D → List ℕ) (images : D → List ℕ → Type 0) (t : Table) (a b c : D)
+    → ChangesInHeads tells bytes images t a b → ChangesInHeads tells bytes images t b c → ChangesInHeads tells bytes images t a c
+heads_then tells bytes images t a b c one two = (
+  λ told. same_then (InHeads t) (bytes a) (bytes b) (bytes c) (one.0 told) (two.0 told),
+  changes_then (InHeads t) (images a) (images b) (images c) one.1 two.1,
 )
 
 -- a head that is written leaves the arenas before it
@@ -103,19 +104,20 @@ module _ {D : Type 0} (ps : List (Part D)) (i : ℕ) (p q : Part D) (at : slice_
   pub calls_part : (f : D → ℕ) (k : ℕ) → f (disk_of q) ≤ f (disk_of p) + k → sum_by f (disks_of (set ps i q)) ≤ sum_by f (disks_of ps) + k
   calls_part f k most = subst (λ (ds : List D). sum_by f ds ≤ sum_by f (disks_of ps) + k) (sym disks_set) (calls_set f (disks_of ps) i (disk_of p) (disk_of q) k disk_there most)
 
-  pub stays_set : (tells : Bool) (bytes : D → List ℕ) (images : D → List ℕ → Type 0) (ds : List D)
-      → ((k : ℕ) (before after : D) → slice_get ds k ≡ Some before → slice_get (disks_of ps) k ≡ Some after → KeepsBlock tells bytes images before after)
-      → KeepsBlock tells bytes images (disk_of p) (disk_of q)
-      → (k : ℕ) (before after : D) → slice_get ds k ≡ Some before → slice_get (disks_of (set ps i q)) k ≡ Some after → KeepsBlock tells bytes images before after
-  stays_set tells bytes images ds stays step k before after was is =
-      let there : slice_get (set (disks_of ps) i (disk_of q)) k ≡ Some after = ap (λ (es : List D). slice_get es k) (sym disks_set) ∙ is in
-      ⊎_elim
+  pub stays_set : (tells : Bool) (bytes : D → List ℕ) (images : D → List ℕ → Type 0) (old : List (Part D)) → tables_of ps ≡ tables_of old
+      → ((k : ℕ) (before after : Part D) → slice_get old k ≡ Some before → slice_get ps k ≡ Some after → ChangesInHeads tells bytes images (table_of before) (disk_of before) (disk_of after))
+      → ChangesInHeads tells bytes images (table_of p) (disk_of p) (disk_of q)
+      → (k : ℕ) (before after : Part D) → slice_get old k ≡ Some before → slice_get (set ps i q) k ≡ Some after
+      → ChangesInHeads tells bytes images (table_of before) (disk_of before) (disk_of after)
+  stays_set tells bytes images old tables stays step k before after was is = ⊎_elim
       (λ (here : k ≡ i).
-      let within : i < length (disks_of ps) = slice_get_within (disks_of ps) i (disk_of p) disk_there in
-      let same : disk_of q ≡ after = same_Some (disk_of q) after (sym (slice_get_set_same (disks_of ps) i (disk_of q) within) ∙ sym (ap (slice_get (set (disks_of ps) i (disk_of q))) here) ∙ there) in
-      subst (λ (d : D). KeepsBlock tells bytes images before d) same
-      (keeps_then tells bytes images before (disk_of p) (disk_of q) (stays k before (disk_of p) was (ap (slice_get (disks_of ps)) here ∙ disk_there)) step))
-      (λ (other : k ≢ i). stays k before after was (sym (slice_get_set_other (disks_of ps) i k (disk_of q) other) ∙ there))
+      let there : slice_get ps k ≡ Some p = ap (slice_get ps) here ∙ at in
+      let same : q ≡ after = same_Some q after (sym (slice_get_set_same ps i q (slice_get_within ps i p at)) ∙ sym (ap (slice_get (set ps i q)) here) ∙ is) in
+      let table : table_of p ≡ table_of before = map_there (λ (part : Part D). table_of part) old ps k before p tables was there in
+      subst (λ (x : Part D). ChangesInHeads tells bytes images (table_of before) (disk_of before) (disk_of x)) same
+      (heads_then tells bytes images (table_of before) (disk_of before) (disk_of p) (disk_of q) (stays k before p was there)
+      (subst (λ (t : Table). ChangesInHeads tells bytes images t (disk_of p) (disk_of q)) table step)))
+      (λ (other : k ≢ i). stays k before after was (sym (slice_get_set_other ps i k q other) ∙ is))
       (cases_eq k i)
 
   pub empty_set : (bytes : D → List ℕ) (images : D → List ℕ → Type 0) → ((k : ℕ) (part : Part D) → k < i → slice_get ps k ≡ Some part → IsEmpty bytes images part) → IsEmpty bytes images q

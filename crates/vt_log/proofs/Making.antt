@@ -1,6 +1,6 @@
 -- What one device call of a commit makes of a log, for each of its answers.
-use Rattle.std.proofs.Common.{◌≡◌, ℕ, ◌+◌, ◌%◌, ◌<◌, ◌≤◌, Bool, true, false, List, [], ◌++◌, length, get_or, drop, map, set, refl, sym, ◌∙◌, ap, subst, arith, Some, None, Option, option_map, Ok, Err, Result}
-use Rattle.std.specs.Prelude.{slice_get, IsTrue, sum_by}
+use Rattle.std.proofs.Common.{◌≡◌, ◌↔◌, ℕ, ◌+◌, ◌%◌, ◌<◌, ◌≤◌, Bool, true, false, List, [], ◌++◌, length, get_or, drop, map, set, refl, sym, ◌∙◌, ap, subst, arith, Some, None, Option, option_map, Ok, Err, Result}
+use Rattle.std.specs.Prelude.{slice_get, IsTrue}
 use Rattle.std.specs.Option.{option_map_or}
 use Rattle.std.proofs.lemmas.List.{drop_at, length-set}
 use Rattle.std.proofs.lemmas.Option.{slice_get_within, slice_get-map, slice_get-get_or, slice_get_read, same_Some}
@@ -31,7 +31,7 @@ use Rattle.vt_log.specs.declared.bad.LogErr.TheVariants.{Fault, Stopped}
 use Rattle.vt_log.specs.declared.log.Log.TheInside.{Inside as InLog}
 use Rattle.vt_log.specs.declared.queue.Waiting.{Waiting}
 use Rattle.vt_log.specs.Answers.{MakesCall, EndsCommit, Spares}
-use Rattle.vt_log.specs.Committing.{IsReady, MakesOrEnds}
+use Rattle.vt_log.specs.Committing.{IsReady, TakesAll, MakesOrEnds}
 use Rattle.vt_log.specs.Faults.{CountsFaultAt}
 use Rattle.vt_log.specs.Log.{LogState, queued, packed_of, disk_in_use}
 use Rattle.vt_log.specs.Logs.{IsRegionOf}
@@ -40,7 +40,7 @@ use Rattle.vt_log.specs.Queue.{QueueState}
 use Rattle.vt_log.specs.Whole.{IsOnDisk, IsWhole}
 use Rattle.vt_log.proofs.Advancing.{committing_there}
 use Rattle.vt_log.proofs.Calls.{KeepsArena, ChangesRegion, step_keeps, fault_keeps, call_whole, call_sound, call_stands, same_region}
-use Rattle.vt_log.proofs.Disks.{map_same, spares_set, calls_set, risen_set, parts_disks, parts_tables}
+use Rattle.vt_log.proofs.Disks.{map_same, spares_set, risen_set, parts_disks, parts_tables}
 use Rattle.vt_log.proofs.Endings.{EndsArena, last_ends, ended, ended_whole, ended_sound, turned, turned_whole, turned_sound, IsEnding, next_there}
 use Rattle.vt_log.proofs.Held.{with_disk, part_there}
 use Rattle.vt_log.proofs.Memory.{slice_get_other, at_slice, slice_get_set_same, slice_get_set_other}
@@ -80,6 +80,7 @@ pub record IsMade {D : Type 0} (score_of : List ℕ → List ℕ) (bytes : D →
   pub sound : (h : History) → IsTrue tells → IsSound score_of bytes images size l h → IsSound score_of bytes images size k h
   pub crash : (h : History) → IsTrue tells → IsSound score_of bytes images size l h → (files : List (List ℕ)) → AreWithinCall images l.disks k.disks files → StandForPrefix score_of l files h
   pub makes : MakesOrEnds result l k
+  pub batch : TakesAll l → calls_made l.arena + 1 < commit_calls l.arena → TakesAll k
   pub last : (n : ℕ) → result ≡ Ok (Durable n) → calls_made l.arena + 1 ≡ commit_calls l.arena
   pub kept : (k.layout ≡ l.layout) × (k.tables ≡ l.tables) × (k.base ≡ l.base) × (k.filling ≡ l.filling)
   pub spares : Spares (disk_in_use l) l.disks k.disks
@@ -87,7 +88,7 @@ pub record IsMade {D : Type 0} (score_of : List ℕ → List ℕ) (bytes : D →
   pub within : (q : ArenaRegion) (other : Region) (before after : D) → IsAt l l.committing q other before → slice_get k.disks q.part ≡ Some after
       → ChangesWithin other (images before) (images after) × (IsTrue tells → SameBut (Inside other) (bytes before) (bytes after))
   pub sizes : map size k.disks ≡ map size l.disks
-  pub calls_are : IsTrue tells → sum_by calls_of k.disks ≤ sum_by calls_of l.disks + 1
+  pub one_call : IsTrue tells → (before after : D) → slice_get l.disks (disk_in_use l) ≡ Some before → slice_get k.disks (disk_in_use l) ≡ Some after → IsOneMore (calls_of before) (calls_of after)
   pub cause : CountsFaultAt (disk_in_use l) result (map faults_of l.disks) (map faults_of k.disks)
 
 -- ---- the disks
@@ -114,7 +115,7 @@ record IsOneCall {D : Type 0} (bytes : D → List ℕ) (images : D → List ℕ 
   within : (q : ArenaRegion) (other : Region) (before after : D) → IsAt l l.committing q other before → slice_get ds q.part ≡ Some after
       → ChangesWithin other (images before) (images after) × (IsTrue tells → SameBut (Inside other) (bytes before) (bytes after))
   sizes : map size ds ≡ map size l.disks
-  calls_are : IsTrue tells → sum_by calls_of ds ≤ sum_by calls_of l.disks + 1
+  one_call : IsTrue tells → (before after : D) → slice_get l.disks (disk_in_use l) ≡ Some before → slice_get ds (disk_in_use l) ≡ Some after → IsOneMore (calls_of before) (calls_of after)
   cause : CountsFaultAt (disk_in_use l) result (map faults_of l.disks) (map faults_of ds)
 
 one_call : {D : Type 0} (score_of : List ℕ → List ℕ) (bytes : D → List ℕ) (images : D → List ℕ → Type 0) (size calls_of faults_of : D → ℕ) (tells : Bool)
@@ -123,22 +124,29 @@ one_call : {D : Type 0} (score_of : List ℕ → List ℕ) (bytes : D → List �
     → IsOneCall bytes images size calls_of faults_of tells l (set l.disks r.part e) result
 one_call {D = D} score_of bytes images size calls_of faults_of tells l r region d e b step result it cause = record {
   spares = subst (λ (n : ℕ). Spares n l.disks (set l.disks r.part e)) (sym used) (spares_set l.disks r.part e);
-  in_use = omega (arith, used, slice_get_within l.disks r.part d it.at.disk_is);
+  in_use = omega (arith, used, there);
   within = within;
   sizes = map_same size l.disks r.part d e it.at.disk_is it.made.size_is;
-  calls_are = λ told. calls_set calls_of l.disks r.part d e 1 it.at.disk_is (omega (arith, it.made.calls_are told (it.whole.runs it.runs)));
+  one_call = λ told before after was now.
+      let d_is : d ≡ before = same_Some d before (sym it.at.disk_is ∙ sym (ap (slice_get l.disks) used) ∙ was) in
+      let e_is : e ≡ after = same_Some e after (sym (slice_get_set_same l.disks r.part e there) ∙ sym (ap (slice_get (set l.disks r.part e)) used) ∙ now) in
+      subst (λ (x : D). IsOneMore (calls_of before) (calls_of x)) e_is
+      (subst (λ (x : D). IsOneMore (calls_of x) (calls_of e)) d_is (it.made.calls_are told (it.whole.runs it.runs)));
   cause = subst (λ (n : ℕ). CountsFaultAt n result (map faults_of l.disks) (map faults_of (set l.disks r.part e))) (sym used) (cause_at faults_of l.disks r.part d e result it.at.disk_is cause);
 }
   where
     used : disk_in_use l ≡ r.part
     used = use_is l r it.at.arena
 
+    there : r.part < length l.disks
+    there = slice_get_within l.disks r.part d it.at.disk_is
+
     within : (q : ArenaRegion) (other : Region) (before after : D) → IsAt l l.committing q other before → slice_get (set l.disks r.part e) q.part ≡ Some after
         → ChangesWithin other (images before) (images after) × (IsTrue tells → SameBut (Inside other) (bytes before) (bytes after))
     within q other before after there_at now =
         let r_is : r ≡ q = same_Some r q (sym it.at.arena ∙ there_at.arena) in
         let d_is : d ≡ before = same_Some d before (sym it.at.disk_is ∙ ap (λ (x : ArenaRegion). slice_get l.disks x.part) r_is ∙ there_at.disk_is) in
-        let e_is : e ≡ after = same_Some e after (sym (slice_get_set_same l.disks r.part e (slice_get_within l.disks r.part d it.at.disk_is)) ∙ ap (λ (x : ArenaRegion). slice_get (set l.disks r.part e) x.part) r_is ∙ now) in
+        let e_is : e ≡ after = same_Some e after (sym (slice_get_set_same l.disks r.part e there) ∙ ap (λ (x : ArenaRegion). slice_get (set l.disks r.part e) x.part) r_is ∙ now) in
         let region_is : region ≡ other = same_region region other
         (it.at.region_is.start ∙ ap (λ (x : ArenaRegion). x.at) r_is ∙ sym there_at.region_is.start) (it.at.region_is.len ∙ ap (λ (x : ArenaRegion). x.len) r_is ∙ sym there_at.region_is.len) in
         subst (λ (x : Region). ChangesWithin x (images before) (images after) × (IsTrue tells → SameBut (Inside x) (bytes before) (bytes after))) region_is
@@ -171,6 +179,13 @@ makes_call l part e b stopped keeps = record {
   durable = refl;
   packed = ap (λ (ps : List Packed). ps ++ map (λ (w : Waiting). w.packed) l.queue.waiting) keeps.staged;
   places = refl;
+  commit = λ on. (keeps.staged, keeps.next);
+}
+
+takes_all : {D : Type 0} (l : LogState D) (part : ℕ) (e : D) (b : ArenaState) (calls : ℕ) (stopped : Option ℕ) → KeepsArena l.arena b → TakesAll l → TakesAll (called l part e b calls stopped)
+takes_all l part e b calls stopped keeps all = record {
+  blocks = all.blocks;
+  seal = subst (λ (h : ArenaHead). IsTrue h.sealed ↔ (0 < length l.queue.waiting)) (sym keeps.next) all.seal;
 }
 
 -- its last call isn't made yet
@@ -184,13 +199,14 @@ more_made score_of bytes images size calls_of faults_of tells l r region d e b i
       (changes score_of bytes images size calls_of faults_of tells l r region d e b (Ok More) it told) (λ a has. it.made.sound a told (sound.current r region d a it.at has));
   crash = stands score_of bytes images size calls_of faults_of tells l r region d e b (Ok More) it;
   makes = (makes_call l r.part e b l.stopped keeps, it.runs, call_owed l b (set l.disks r.part e) (one_more l.calls) l.stopped keeps.staged keeps.next it.ready made it.made.left);
+  batch = λ all more. takes_all l r.part e b (one_more l.calls) l.stopped keeps all;
   last = λ n is. absurd (cc);
   kept = (refl, refl, refl, refl);
   spares = one.spares;
   in_use = one.in_use;
   within = one.within;
   sizes = one.sizes;
-  calls_are = one.calls_are;
+  one_call = one.one_call;
   cause = one.cause;
 }
   where
@@ -218,13 +234,14 @@ fault_made score_of bytes images size calls_of faults_of tells l r region d e b 
       (changes score_of bytes images size calls_of faults_of tells l r region d e b (Err TwinFault) it told) (λ a has. it.made.sound a told (sound.current r region d a it.at has));
   crash = stands score_of bytes images size calls_of faults_of tells l r region d e b (Err TwinFault) it;
   makes = (makes_call l r.part e b (Some l.calls) keeps, refl);
+  batch = λ all more. takes_all l r.part e b (one_more l.calls) (Some l.calls) keeps all;
   last = λ n is. absurd (cc);
   kept = (refl, refl, refl, refl);
   spares = one.spares;
   in_use = one.in_use;
   within = one.within;
   sizes = one.sizes;
-  calls_are = one.calls_are;
+  one_call = one.one_call;
   cause = one.cause;
 }
   where
@@ -267,11 +284,16 @@ is_ending score_of bytes images size calls_of faults_of tells l r found region d
 }
 
 -- the blocks leave the queue
-ends_commit : {D : Type 0} (l : LogState D) (part : ℕ) (e : D) (found : Found) (b : ArenaState) (m : LogState D)
+ends_commit : {D : Type 0} (l : LogState D) (found : Found) (b : ArenaState) (m : LogState D) → slice_get l.heads l.committing ≡ Some found → b.head ≡ l.arena.next
     → m.calls ≡ one_more l.calls → m.heads ≡ set l.heads l.committing (record found { head = b.head }) → m.durable ≡ l.durable + length l.arena.staged
     → m.arena.staged ≡ [] → m.queue.waiting ≡ l.queue.waiting → m.queue.places ≡ drop (length l.arena.staged) l.queue.places → EndsCommit (length l.arena.staged) l m
-ends_commit l part e found b m calls heads durable staged waiting places = record {
+ends_commit l found b m has head_is calls heads durable staged waiting places = record {
   calls = calls;
+  head = λ other at.
+      let same : found ≡ other = same_Some found other (sym has ∙ at) in
+      let new : record found { head = b.head } ≡ record other { head = l.arena.next } = λ j. record (same j) { head = head_is j } in
+      ap (λ (fs : List Found). slice_get fs l.committing) heads ∙ slice_get_set_same l.heads l.committing (record found { head = b.head }) (slice_get_within l.heads l.committing found has)
+      ∙ ap (λ (x : Found). Some x) new;
   heads = λ i other. ap (λ (fs : List Found). slice_get fs i) heads ∙ slice_get_set_other l.heads l.committing i (record found { head = b.head }) other;
   durable = durable;
   packed = packed;
@@ -297,18 +319,19 @@ ended_made {D = D} score_of bytes images size calls_of faults_of tells l r found
       (it.made.sound content.0 told (sound.current r region d content.0 it.at content.1));
   crash = stands score_of bytes images size calls_of faults_of tells l r region d e b (Ok Done) it;
   makes = (
-    ends_commit l r.part e found b m refl refl refl ends.staged refl refl,
+    ends_commit l found b m last.has ends.head refl refl refl ends.staged refl refl,
     refl,
     it.runs,
     ended_owed l m ends.staged (ap (λ (h : ArenaHead). h.sealed) ends.next ∙ unsealed) refl unsealed refl it.ready it.made.left,
   );
+  batch = λ all more. absurd (omega (arith, more, it.made.done refl));
   last = λ n is. it.made.done refl;
   kept = (refl, refl, refl, refl);
   spares = one.spares;
   in_use = one.in_use;
   within = one.within;
   sizes = one.sizes;
-  calls_are = one.calls_are;
+  one_call = one.one_call;
   cause = one.cause;
 }
   where
@@ -344,18 +367,19 @@ turned_made {D = D} score_of bytes images size calls_of faults_of tells l r q fo
       });
   crash = stands score_of bytes images size calls_of faults_of tells l r region d e b (Ok Done) it;
   makes = (
-    ends_commit l r.part e found b m refl refl refl refl refl refl,
+    ends_commit l found b m last.has ends.head refl refl refl refl refl refl,
     refl,
     it.runs,
     turned_owed l m refl (it.whole.unsealed (l.committing + 1) next (omega arith) next_has) refl sealed (it.whole.way sealed) it.made.left,
   );
+  batch = λ all more. absurd (omega (arith, more, it.made.done refl));
   last = λ n is. it.made.done refl;
   kept = (refl, refl, refl, refl);
   spares = one.spares;
   in_use = one.in_use;
   within = one.within;
   sizes = one.sizes;
-  calls_are = one.calls_are;
+  one_call = one.one_call;
   cause = one.cause;
 }
   where

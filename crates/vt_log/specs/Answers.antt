@@ -1,5 +1,5 @@
 -- What the calls of a log answer.
-use Rattle.std.specs.Prelude.{◌≡◌, ◌≢◌, ℕ, ◌+◌, ◌<◌, Some, None, Result, Ok, Err, List, [], ◌∷◌, ◌++◌, length, map, drop, slice_get}
+use Rattle.std.specs.Prelude.{◌≡◌, ◌≢◌, ℕ, ◌+◌, ◌<◌, IsTrue, Some, None, Result, Ok, Err, List, [], ◌∷◌, ◌++◌, length, map, drop, slice_get}
 use Rattle.vt_base.specs.declared.place.Place.{Place}
 use Rattle.vt_clump.specs.declared.packed.Packed.{Packed}
 use Rattle.vt_clump.specs.Clumps.{stored_of}
@@ -8,6 +8,8 @@ use Rattle.vt_twin.specs.Twin.{one_more}
 use Rattle.vt_model.specs.declared.TheConstants.{HEAD_LEN}
 use Rattle.vt_model.specs.History.{History}
 use Rattle.vt_model.specs.Places.{next_arena, place_of}
+use Rattle.vt_arena.specs.declared.head.Found.{Found}
+use Rattle.vt_arena.specs.Arena.{is_committing}
 use Rattle.vt_log.specs.declared.bad.Full.{Full}
 use Rattle.vt_log.specs.declared.bad.Progress.{Progress}
 use Rattle.vt_log.specs.declared.bad.Progress.TheVariants.{Idle, Step, Durable}
@@ -51,17 +53,23 @@ TakesOrRefuses packed old new (Ok place) = TakesIn packed place old new
 TakesOrRefuses packed old new (Err full) =
     (next_filling old packed.len ≡ None) × (new ≡ old)
 
--- a device call was made that ended no commit; the queue is what it was
+-- a device call was made that ended no commit; the queue is what it was, and a commit that was
+-- under way has the blocks and the head that it had
 pub record MakesCall {D : Type 0} (old new : LogState D) : Type 0 where
   pub calls : new.calls ≡ one_more old.calls
   pub heads : new.heads ≡ old.heads
   pub durable : new.durable ≡ old.durable
   pub packed : packed_of new ≡ packed_of old
   pub places : new.queue.places ≡ old.queue.places
+  pub commit : IsTrue (is_committing old.arena)
+      → (new.arena.staged ≡ old.arena.staged) × (new.arena.next ≡ old.arena.next)
 
--- one was made that ended a commit of so many blocks: they leave the queue, and one head changes
+-- one was made that ended a commit of so many blocks: they leave the queue, and the arena's head is
+-- the one that the commit was to bring
 pub record EndsCommit {D : Type 0} (blocks : ℕ) (old new : LogState D) : Type 0 where
   pub calls : new.calls ≡ one_more old.calls
+  pub head : (found : Found) → slice_get old.heads old.committing ≡ Some found
+      → slice_get new.heads old.committing ≡ Some (record found { head = old.arena.next })
   pub heads : (i : ℕ) → i ≢ old.committing → slice_get new.heads i ≡ slice_get old.heads i
   pub durable : new.durable ≡ old.durable + blocks
   pub packed : packed_of new ≡ drop blocks (packed_of old)

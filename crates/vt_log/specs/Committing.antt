@@ -1,5 +1,5 @@
 -- The steps of a commit, between its calls.
-use Rattle.std.specs.Prelude.{◌≡◌, ◌⊎◌, ◌<◌, ◌≤◌, Bool, IsFalse, [], Some, None, Result, Ok, Err, length}
+use Rattle.std.specs.Prelude.{◌≡◌, ◌↔◌, ◌⊎◌, ◌<◌, ◌≤◌, Bool, IsTrue, IsFalse, [], Some, None, Result, Ok, Err, length}
 use Rattle.vt_arena.specs.Arena.{is_committing}
 use Rattle.vt_log.specs.declared.bad.Progress.{Progress}
 use Rattle.vt_log.specs.declared.bad.Progress.TheVariants.{Idle, Step, Durable}
@@ -8,6 +8,7 @@ use Rattle.vt_log.specs.declared.bad.LogErr.TheVariants.{Fault, Stopped}
 use Rattle.vt_log.specs.Answers.{MakesCall, EndsCommit}
 use Rattle.vt_log.specs.Log.{LogState, packed_of}
 use Rattle.vt_log.specs.Owed.{owed}
+use Rattle.vt_log.specs.Queue.{WaitsFor}
 
 -- some of the blocks that wait are staged, and nothing else changes; between two commits
 pub record Stages {D : Type 0} (old new : LogState D) : Type 0 where
@@ -22,6 +23,12 @@ pub record Stages {D : Type 0} (old new : LogState D) : Type 0 where
 abbrev pub IsReady : {D : Type 0} → LogState D → Type 0
 IsReady l = l.arena.staged ≡ [] → l.arena.next.sealed ≡ Bool.true
 
+-- the commit takes in all that it may: the block that waits longest isn't for its arena, and it
+-- seals the arena exactly where one waits
+pub record TakesAll {D : Type 0} (l : LogState D) : Type 0 where
+  pub blocks : ¬ WaitsFor l.committing l.queue.waiting
+  pub seal : IsTrue l.arena.next.sealed ↔ (0 < length l.queue.waiting)
+
 -- A commit is staged or under way: all that waits for the arena is staged or, where a call of the
 -- commit was made, the log is what it was.
 pub record Prepares {D : Type 0} (old new : LogState D) : Type 0 where
@@ -31,6 +38,8 @@ pub record Prepares {D : Type 0} (old new : LogState D) : Type 0 where
   pub ready : IsReady new
   pub owed_is : owed new ≤ owed old
   pub begun : (new ≡ old) ⊎ IsFalse (is_committing new.arena)
+  pub commit : IsTrue (is_committing old.arena) → new ≡ old
+  pub batch : IsFalse (is_committing old.arena) → TakesAll new
 
 -- what a device call makes of a log
 abbrev pub MakesOrEnds : {D : Type 0} → Result Progress LogErr → (old new : LogState D) → Type 0

@@ -1,7 +1,8 @@
 -- What making partitions a log does to their disks.
-use Rattle.std.specs.Prelude.{◌≡◌, ℕ, ◌<◌, ◌≤◌, Bool, IsTrue, List}
+use Rattle.std.specs.Prelude.{◌≡◌, ℕ, ◌+◌, ◌<◌, ◌≤◌, Bool, IsTrue, List}
 use Rattle.vt_disk.specs.declared.region.Region.{Region}
 use Rattle.vt_disk.specs.Disk.{SameBut, ChangesAt, Only}
+use Rattle.vt_model.specs.declared.TheConstants.{HEAD_LEN}
 use Rattle.vt_part.specs.declared.part.Part.{Part}
 use Rattle.vt_part.specs.Parts.{disk_of, table_of}
 use Rattle.vt_part.specs.Table.{Table, start_of}
@@ -20,9 +21,15 @@ pub record IsEmpty {D : Type 0} (bytes : D → List ℕ) (images : D → List �
   pub arenas : AreEmpty (table_of part) (table_of part).count (images (disk_of part))
   pub settled : Only (bytes (disk_of part)) (images (disk_of part))
 
--- the block before the arenas stays, in memory and on the disk
-abbrev pub KeepsBlock : {D : Type 0} → (tells : Bool) → (bytes : D → List ℕ)
-    → (images : D → List ℕ → Type 0) → (before after : D) → Type 0
-KeepsBlock tells bytes images before after =
-    (IsTrue tells → SameBut (λ p. 8192 ≤ p) (bytes before) (bytes after))
-    × ChangesAt (λ p. 8192 ≤ p) (images before) (images after)
+-- the byte lies in the head of an arena of the table
+abbrev pub InHeads : Table → ℕ → Type 0
+InHeads t p =
+    (number : ℕ) × (number < t.count) × (start_of t number ≤ p)
+    × (p < start_of t number + HEAD_LEN)
+
+-- bytes in no head stay, as a read gives them and as a crash may leave them
+abbrev pub ChangesInHeads : {D : Type 0} → (tells : Bool) → (bytes : D → List ℕ)
+    → (images : D → List ℕ → Type 0) → Table → (before after : D) → Type 0
+ChangesInHeads tells bytes images t before after =
+    (IsTrue tells → SameBut (InHeads t) (bytes before) (bytes after))
+    × ChangesAt (InHeads t) (images before) (images after)

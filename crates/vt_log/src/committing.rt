@@ -1,8 +1,8 @@
 //! Committing what is queued, one device call at a time.
 
-ghost use Rattle.std.specs.Prelude.{◌≡◌, ◌↔◌, ◌⊎◌, ◌+◌, ◌*◌, ◌<◌, ◌≤◌, ℕ, List, Some, None, Ok, Err, IsTrue, IsFalse, IsSome, IfOk, length, map, sum_by, slice_get, if◌then◌else◌};
+ghost use Rattle.std.specs.Prelude.{◌≡◌, ◌↔◌, ◌⊎◌, ◌+◌, ◌*◌, ◌<◌, ◌≤◌, ℕ, List, Some, None, Ok, Err, IsTrue, IsFalse, IsSome, IfOk, length, map, slice_get, if◌then◌else◌};
 ghost use Rattle.vt_disk.specs.declared.region.Region.{Region};
-ghost use Rattle.vt_disk.specs.Disk.{SameBut};
+ghost use Rattle.vt_disk.specs.Disk.{SameBut, IsOneMore};
 ghost use Rattle.vt_disk.specs.Region.{Inside, ChangesWithin};
 ghost use Rattle.vt_model.specs.History.{History};
 ghost use Rattle.vt_part.specs.declared.layout.ArenaRegion.{ArenaRegion};
@@ -18,7 +18,7 @@ use vt_twin::{Step, TwinErr};
 
 impl<D: Disk, S: Scorer> Log<D, S> {
     ghost use Rattle.vt_log.specs.Answers.{Advances, Spares};
-    ghost use Rattle.vt_log.specs.Committing.{Stages, IsReady, Prepares, MakesOrEnds};
+    ghost use Rattle.vt_log.specs.Committing.{Stages, IsReady, TakesAll, Prepares, MakesOrEnds};
     ghost use Rattle.vt_log.specs.Faults.{CountsFaultAt};
     ghost use Rattle.vt_log.specs.Log.{LogState, queued, packed_of, disk_in_use};
     ghost use Rattle.vt_log.specs.Queue.{WaitsFor};
@@ -78,8 +78,17 @@ impl<D: Disk, S: Scorer> Log<D, S> {
         ensures kept { (self.new.layout ≡ self.old.layout) × (self.new.tables ≡ self.old.tables)
             × (self.new.base ≡ self.old.base) × (self.new.filling ≡ self.old.filling) }
 
+        // The first call of a commit begins it with all that waits for the arena, and with its
+        // seal where a block waits for the next one.
+        ensures batch { self.old.stopped ≡ None → IsFalse (is_committing self.old.arena)
+            → TakesAll self.new }
+
         // It makes one call, of the disk in use, or none where it is idle or stopped. Nothing
         // outside the arena's region changes.
+        ensures one_call { IsTrue D.tells → self.old.stopped ≡ None → 0 < queued self.old
+            → (before after : D) → slice_get self.old.disks (disk_in_use self.old) ≡ Some before
+            → slice_get self.new.disks (disk_in_use self.old) ≡ Some after
+            → IsOneMore (D.calls before) (D.calls after) }
         ensures spares { Spares (disk_in_use self.old) self.old.disks self.new.disks }
         ensures in_use { 0 < queued self.old → disk_in_use self.old < length self.old.disks }
         ensures within { (r : ArenaRegion) (region : Region) (before after : D)
@@ -88,8 +97,6 @@ impl<D: Disk, S: Scorer> Log<D, S> {
             → ChangesWithin region (D.images before) (D.images after)
             × (IsTrue D.tells → SameBut (Inside region) (D.bytes before) (D.bytes after)) }
         ensures sizes { map D.size self.new.disks ≡ map D.size self.old.disks }
-        ensures calls { IsTrue D.tells
-            → sum_by D.calls self.new.disks ≤ sum_by D.calls self.old.disks + 1 }
         ensures untouched { IsSome self.old.stopped ⊎ (queued self.old ≡ 0)
             → self.new.disks ≡ self.old.disks }
         ensures cause { CountsFaultAt (disk_in_use self.old) result
@@ -127,6 +134,7 @@ impl<D: Disk, S: Scorer> Log<D, S> {
         ensures places { self.new.queue.places ≡ self.old.queue.places }
         ensures packed { packed_of self.new ≡ packed_of self.old }
         ensures ready { IsReady self.new }
+        ensures batch { TakesAll self.new }
         ensures owed { owed self.new ≤ owed self.old }
         ensures still { IsFalse (is_committing self.new.arena) }
         ensures sound { (h : History) → IsSound S.score_of D.bytes D.images D.size self.old h
@@ -171,10 +179,16 @@ impl<D: Disk, S: Scorer> Log<D, S> {
             → (files : List (List ℕ)) → AreWithinCall D.images self.old.disks self.new.disks files
             → StandForPrefix S.score_of self.old files h }
         ensures makes { MakesOrEnds result self.old self.new }
+        ensures batch { TakesAll self.old
+            → calls_made self.old.arena + 1 < commit_calls self.old.arena → TakesAll self.new }
         ensures last { (n : ℕ) → result ≡ Ok (Progress.Durable n)
             → calls_made self.old.arena + 1 ≡ commit_calls self.old.arena }
         ensures kept { (self.new.layout ≡ self.old.layout) × (self.new.tables ≡ self.old.tables)
             × (self.new.base ≡ self.old.base) × (self.new.filling ≡ self.old.filling) }
+        ensures one_call { IsTrue D.tells → (before after : D)
+            → slice_get self.old.disks (disk_in_use self.old) ≡ Some before
+            → slice_get self.new.disks (disk_in_use self.old) ≡ Some after
+            → IsOneMore (D.calls before) (D.calls after) }
         ensures spares { Spares (disk_in_use self.old) self.old.disks self.new.disks }
         ensures in_use { disk_in_use self.old < length self.old.disks }
         ensures within { (r : ArenaRegion) (region : Region) (before after : D)
@@ -183,8 +197,6 @@ impl<D: Disk, S: Scorer> Log<D, S> {
             → ChangesWithin region (D.images before) (D.images after)
             × (IsTrue D.tells → SameBut (Inside region) (D.bytes before) (D.bytes after)) }
         ensures sizes { map D.size self.new.disks ≡ map D.size self.old.disks }
-        ensures calls { IsTrue D.tells
-            → sum_by D.calls self.new.disks ≤ sum_by D.calls self.old.disks + 1 }
         ensures cause { CountsFaultAt (disk_in_use self.old) result
             (map D.faults self.old.disks) (map D.faults self.new.disks) }
     {

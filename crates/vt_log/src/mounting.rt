@@ -2,19 +2,20 @@
 
 ghost use Rattle.std.specs.Prelude.{◌≡◌, ◌⊎◌, ◌+◌, ◌*◌, ◌^◌, ◌<◌, ◌≤◌, [], ℕ, Bool, List, All, Some, IsTrue, IfOk, IfErr, OnOk, MatchResult, None, length, map, sum_by, slice_get};
 ghost use Rattle.vt_base.specs.Faults.{HasCause};
-ghost use Rattle.vt_disk.specs.Disk.{SameBut, ChangesAt, Only};
+ghost use Rattle.vt_disk.specs.Disk.{Only};
 ghost use Rattle.vt_model.specs.History.{History};
 ghost use Rattle.vt_part.specs.Layout.{layout_of, AreDistinct};
 ghost use Rattle.vt_part.specs.Parts.{disk_of, table_of, tables_of, names_of};
 ghost use Rattle.vt_part.specs.Table.{end_of};
 ghost use Rattle.vt_part.specs.declared.layout.ArenaRegion.{ArenaRegion};
+ghost use Rattle.vt_part.specs.declared.part.Part.{Part};
 ghost use Rattle.vt_arena.specs.declared.head.Found.{Found};
 ghost use Rattle.vt_arena.specs.Faults.{CanStand};
 ghost use Rattle.vt_arena.specs.Heads.{fields_of};
 ghost use Rattle.vt_arena.specs.Places.{IsArenaLen};
 ghost use Rattle.vt_log.specs.Answers.{HoldTheSame};
 ghost use Rattle.vt_log.specs.Faults.{AreFields, RefusesMount, CountsFault, OneHasRisen, IsMountedBy, out_of_order};
-ghost use Rattle.vt_log.specs.Formatting.{IsEmpty, KeepsBlock};
+ghost use Rattle.vt_log.specs.Formatting.{IsEmpty, ChangesInHeads};
 ghost use Rattle.vt_log.specs.Log.{IsMounted, disks_of, disks_after};
 ghost use Rattle.vt_log.specs.Logs.{IsLog, arena_count};
 ghost use Rattle.vt_log.specs.Mounting.{AreRead, AreFieldsAt, FindsNext, refused_by, IsFound, AreFound, RefusesArenas, ArePassed, IsFirstOpen, IsRoomFor};
@@ -47,12 +48,12 @@ pub fn format<D: Disk>(parts: &mut [Part<D>]) -> Result<(), Failed>
     ensures settled { IsTrue D.tells
         → OnOk result (All (λ disk. Only (D.bytes disk) (D.images disk)) (disks_of parts.new)) }
 
-    // The tables stay, in memory and on the disks.
+    // The tables stay in memory, and on the disks all bytes that are in no head of an arena.
     ensures tables { tables_of parts.new ≡ tables_of parts.old }
-    ensures stays { (i : ℕ) (before after : D) → slice_get (disks_of parts.old) i ≡ Some before
-        → slice_get (disks_of parts.new) i ≡ Some after
-        → (IsTrue D.tells → SameBut (λ p. 8192 ≤ p) (D.bytes before) (D.bytes after))
-        × ChangesAt (λ p. 8192 ≤ p) (D.images before) (D.images after) }
+    ensures stays { (i : ℕ) (before after : Part D) → slice_get parts.old i ≡ Some before
+        → slice_get parts.new i ≡ Some after
+        → ChangesInHeads D.tells D.bytes D.images (table_of before) (disk_of before)
+        (disk_of after) }
     ensures size { map D.size (disks_of parts.new) ≡ map D.size (disks_of parts.old) }
     ensures most_calls { IsTrue D.tells → sum_by D.calls (disks_of parts.new)
         ≤ sum_by D.calls (disks_of parts.old) + 3 * arena_count (tables_of parts.old) }
@@ -72,7 +73,8 @@ fn format_part<D: Disk>(part: &mut Part<D>) -> Result<(), Failed>
     requires { end_of (table_of part.old) ≤ D.size (disk_of part.old) }
     ensures empty { IsTrue D.tells → OnOk result (IsEmpty D.bytes D.images part.new) }
     ensures table { table_of part.new ≡ table_of part.old }
-    ensures stays { KeepsBlock D.tells D.bytes D.images (disk_of part.old) (disk_of part.new) }
+    ensures stays { ChangesInHeads D.tells D.bytes D.images (table_of part.old) (disk_of part.old)
+        (disk_of part.new) }
     ensures size { D.size (disk_of part.new) ≡ D.size (disk_of part.old) }
     ensures most_calls { IsTrue D.tells → D.calls (disk_of part.new)
         ≤ D.calls (disk_of part.old) + 3 * (table_of part.old).count }

@@ -12,13 +12,15 @@ use std::marker::Brand;
 use std::process::Abort;
 use std::sync::ledger::{Blank, Ledger};
 use std::test::Fail;
-use vt_arena::{ArenaHead, ReadBad};
-use vt_base::{Bytes, FieldValue, Info, Key, Kind, Place, Score, Scorer, Sha1Scorer, Text, Why};
+use vt_arena::{ArenaBad, ArenaHead, BackBad, Field, ReadBad};
+use vt_base::{
+    Bytes, Failed, FieldValue, Info, Key, Kind, Place, Score, Scorer, Sha1Scorer, Text, Why,
+};
 use vt_clump::{Packed, pack};
 use vt_disk::Disk;
 use vt_memdisk::{Listed, MemDisk};
 use vt_model::PlainStore;
-use vt_part::Part;
+use vt_part::{Part, PartBad};
 use vt_steps::Steps;
 
 type TestLog = Log<MemDisk<Listed>, Sha1Scorer>;
@@ -26,7 +28,8 @@ type TestLog = Log<MemDisk<Listed>, Sha1Scorer>;
 const ARENA_LEN: u64 = 32_768;
 
 /// The calls of a disk of one arena before a commit's first one: two of formatting the partition,
-/// two of mounting it twice, three of formatting its arena, a sync and two reads of mounting the log.
+/// two of mounting it twice, three of formatting its arena, a sync and two reads of mounting the
+/// log.
 const FIRST_CALL: u64 = 10;
 
 /// The clump of `abc`, of type 13, at time 0.
@@ -44,6 +47,15 @@ const SECOND_PLACE: Place = Place {
     arena: 0,
     offset: 24_617,
 };
+
+/// Where the first block of the second arena stands.
+const NEXT_PLACE: Place = Place {
+    arena: 1,
+    offset: 24_576,
+};
+
+/// Where the last one of 124 blocks of three bytes stands in an arena.
+const LAST_OFFSET: u32 = 24_576 + 123 * 41;
 
 /// A partition of this length with arenas of 32,768 bytes, of which these calls fail.
 fn part(
@@ -80,12 +92,22 @@ fn mount_part(disk: MemDisk<Listed>) -> Result<Part<MemDisk<Listed>>, Fail>
     Ok(part)
 }
 
-/// A log without blocks on one partition of this length, of which these calls fail.
-fn log(rt: &HostRuntime, len: u64, failing: &[u64]) -> Result<TestLog, Fail> {
-    let mut parts = vec![in rt.alloc(); part(rt, len, b"a", failing)?]?;
+/// A partition like that, with arenas without blocks.
+fn formatted(
+    rt: &HostRuntime,
+    len: u64,
+    name: &[u8],
+    failing: &[u64],
+) -> Result<MemDisk<Listed>, Fail> {
+    let mut parts = vec![in rt.alloc(); part(rt, len, name, failing)?]?;
     format(&mut parts)?;
     let part = parts.pop().ok_or("no partition")?;
-    mounted(rt, part.into_devices())
+    Ok(part.into_devices())
+}
+
+/// A log without blocks on one partition of this length, of which these calls fail.
+fn log(rt: &HostRuntime, len: u64, failing: &[u64]) -> Result<TestLog, Fail> {
+    mounted(rt, formatted(rt, len, b"a", failing)?)
 }
 
 /// The log of this disk.
@@ -144,7 +166,7 @@ fn head(log: &TestLog, arena: u32) -> Result<ArenaHead, Fail> {
 }
 
 /// Reads bytes of the first arena's region.
-fn bytes(log: &mut TestLog, at: u64, buf: &mut [u8]) -> Result<(), Fail> {
+fn bytes(log: &mut TestLog, at: u64, buf: &mut [u8]) -> Result<Result<(), Failed>, Fail> {
     if log.arenas() == 0 {
         return Err("no arena")?;
     }
@@ -152,8 +174,7 @@ fn bytes(log: &mut TestLog, at: u64, buf: &mut [u8]) -> Result<(), Fail> {
     if at > len || buf.len() as u64 > len - at {
         return Err("outside of the arena")?;
     }
-    log.bytes(0, at, buf)?;
-    Ok(())
+    Ok(log.bytes(0, at, buf))
 }
 
 fn packed(rt: &HostRuntime, kind: u8, block: &[u8]) -> Result<Packed, Fail> {
@@ -187,6 +208,14 @@ fn flush(log: &mut TestLog) -> Result<u64, LogErr> {
         }
     }
     Ok(most)
+}
+
+/// Makes so many calls of a log's commits.
+fn advance(log: &mut TestLog, calls: u64) -> Result<(), Fail> {
+    for _ in 0..calls {
+        log.advance().ok().ok_or("advance")?;
+    }
+    Ok(())
 }
 
 /// Takes a block in, where there is room for it.
@@ -224,7 +253,7 @@ fn fill(rt: &HostRuntime, log: &mut TestLog) -> Result<(u32, Place), Fail> {
     Err("never full")?
 }
 
-/// Reads a block, and gives how many clumps were read for it too.
+/// Whether the block is given that was written with these bytes.
 fn read<L: Ledger>(
     rt: &HostRuntime,
     log: &mut TestLog,
@@ -290,7 +319,7 @@ fn see_head(log: &TestLog, arena: u32, sealed: bool, clumps: u32) -> Result<(), 
     check(head.sealed == sealed && head.clumps == clumps)
 }
 
-/// The block is given that was written with these bytes.
+/// The block of type 13 is given that was written with these bytes.
 fn see_block<L: Ledger>(
     rt: &HostRuntime,
     log: &mut TestLog,
@@ -340,19 +369,20 @@ fn see_refusals<L: Ledger>(
     see_refused(rt, log, FIRST_PLACE, &abd, scores, steps)
 }
 
-/// The last block of a log is `abc`, at the first place.
-fn see_last<L: Ledger>(log: &mut TestLog, steps: &mut Steps<L>) -> Result<(), Fail> {
-    let mut tail = log.tail();
-    let Ok(Some(info)) = log.back(&mut tail, steps) else {
-        return Err("back")?;
-    };
-    let wanted = Info {
+/// What is known of `abc`, as the first block of a log.
+fn abc_info() -> Result<Info, Fail> {
+    Ok(Info {
         key: key_of(13, b"abc")?,
         size: 3,
         place: FIRST_PLACE,
         number: 0,
-    };
-    check(info == wanted)
+    })
+}
+
+/// The last block of a log is `abc`, at the first place.
+fn see_last<L: Ledger>(log: &mut TestLog, steps: &mut Steps<L>) -> Result<(), Fail> {
+    let mut tail = log.tail();
+    check(log.back(&mut tail, steps) == Ok(Some(abc_info()?)))
 }
 
 /// Queues `abc`, commits it, and reads it before and after.
@@ -375,7 +405,7 @@ fn commit_abc<L: Ledger>(
 fn see_arena(log: &mut TestLog) -> Result<(), Fail> {
     see_head(log, 0, false, 1)?;
     let mut clump = [0; 41];
-    bytes(log, 24_576, &mut clump)?;
+    check(bytes(log, 24_576, &mut clump)? == Ok(()))?;
     check(clump == ABC_CLUMP)
 }
 
@@ -399,15 +429,17 @@ fn a_block_is_queued_committed_and_read(rt: HostRuntime) -> Result<(), Fail> {
 /// A block of so many bytes gets this place, if any, in a log of one arena.
 fn see_room(rt: &HostRuntime, len: usize, place: Option<Place>) -> Result<(), Fail> {
     let mut log = log(rt, 40_960, &[])?;
+    check(log.arenas() == 1)?;
     let block = vec![in rt.alloc(); 7; len]?;
     check(put(rt, &mut log, 13, &block)? == place)
 }
 
 /// So many blocks of three bytes fill a log of one arena.
 fn see_filled(rt: &HostRuntime, log: &mut TestLog) -> Result<(), Fail> {
+    check(log.arenas() == 1)?;
     let last = Place {
         arena: 0,
-        offset: 24_576 + 123 * 41,
+        offset: LAST_OFFSET,
     };
     let (blocks, place) = fill(rt, log)?;
     check(blocks == 124 && place == last)
@@ -417,12 +449,10 @@ fn see_filled(rt: &HostRuntime, log: &mut TestLog) -> Result<(), Fail> {
 fn room_is_used_to_the_end(rt: HostRuntime) -> Result<(), Fail> {
     see_filled(&rt, &mut log(&rt, 40_960, &[])?)?;
     see_room(&rt, 8129, Some(FIRST_PLACE))?;
-    see_room(&rt, 8130, None)?;
-    goes_on(&rt, log(&rt, 73_728, &[])?)?;
-    goes_on(&rt, pair(&rt, 40_960, 40_960)?)
+    see_room(&rt, 8130, None)
 }
 
-/// Fills the first arena.
+/// Takes in so many blocks of three bytes.
 fn put_many(rt: &HostRuntime, log: &mut TestLog, blocks: u8) -> Result<(), Fail> {
     for n in 0..blocks {
         put(rt, log, 13, &[1, 2, n])?.ok_or("no room")?;
@@ -432,96 +462,208 @@ fn put_many(rt: &HostRuntime, log: &mut TestLog, blocks: u8) -> Result<(), Fail>
 
 /// A block goes to the second arena once the first one is full.
 fn turns(rt: &HostRuntime, two: &mut TestLog) -> Result<(), Fail> {
+    check(two.arenas() == 2)?;
     put_many(rt, two, 124)?;
-    let next = Place {
-        arena: 1,
-        offset: 24_576,
-    };
-    check(put(rt, two, 13, b"abc")? == Some(next))?;
+    check(put(rt, two, 13, b"abc")? == Some(NEXT_PLACE))?;
     flush(two).ok().ok_or("flush")?;
     see_head(two, 0, true, 124)?;
     see_head(two, 1, false, 1)
 }
 
-/// Fills a log of two arenas.
-fn goes_on(rt: &HostRuntime, log: TestLog) -> Result<(), Fail> {
+/// Fills two arenas, and commits all blocks.
+fn fill_both(rt: &HostRuntime, two: &mut TestLog) -> Result<(), Fail> {
+    turns(rt, two)?;
+    let last = Place {
+        arena: 1,
+        offset: LAST_OFFSET,
+    };
+    let (more, place) = fill(rt, two)?;
+    check(more == 123 && place == last)?;
+    flush(two).ok().ok_or("flush")?;
+    see_counts(two, 248, 248)
+}
+
+/// The first and the last block of both arenas are given, and a walk gives all.
+fn see_both<L: Ledger>(
+    rt: &HostRuntime,
+    two: &mut TestLog,
+    steps: &mut Steps<L>,
+) -> Result<(), Fail> {
+    see_block(rt, two, FIRST_PLACE, &[1, 2, 0], steps)?;
+    let last = Place {
+        arena: 0,
+        offset: LAST_OFFSET,
+    };
+    see_block(rt, two, last, &[1, 2, 123], steps)?;
+    see_block(rt, two, NEXT_PLACE, b"abc", steps)?;
+    let last = Place {
+        arena: 1,
+        offset: LAST_OFFSET,
+    };
+    see_block(rt, two, last, &[3, 0, 122], steps)?;
+    check(count_back(two, steps)? == 248)
+}
+
+/// What was committed in two arenas is there when they are mounted again.
+fn is_found<L: Ledger>(rt: &HostRuntime, log: TestLog, steps: &mut Steps<L>) -> Result<(), Fail> {
     let mut two = log;
-    turns(rt, &mut two)?;
-    let (more, _) = fill(rt, &mut two)?;
-    check(more == 123)?;
-    let two = mounted_again(rt, two)?;
-    check(two.base() == 1 && two.durable() == two.front())
+    fill_both(rt, &mut two)?;
+    let mut two = mounted_again(rt, two)?;
+    see_counts(&two, 248, 248)?;
+    check(two.base() == 1)?;
+    see_head(&two, 0, true, 124)?;
+    see_head(&two, 1, false, 124)?;
+    see_both(rt, &mut two, steps)
 }
 
-/// Commits `abc` and then queues `abd`, of whose flush the calls from this one on aren't made.
-fn commit_until(rt: &HostRuntime, log: &mut TestLog, calls: u64) -> Result<(), Fail> {
-    put(rt, log, 13, b"abc")?;
-    flush(log).ok().ok_or("flush")?;
-    put(rt, log, 13, b"abd")?;
-    for _ in 0..calls {
-        log.advance().ok().ok_or("advance")?;
-    }
-    Ok(())
+fn two_arenas<L: Ledger>(rt: &HostRuntime, blank: Blank) -> Result<(), Fail>
+    requires name { blank.name ≡ L.name }
+    requires parts { blank.parts ≡ L.parts }
+    requires some { 0 < L.parts }
+{
+    let mut steps = Steps::<L>::new(blank);
+    is_found(rt, log(rt, 73_728, &[])?, &mut steps)?;
+    is_found(rt, pair(rt, 40_960, 40_960)?, &mut steps)
 }
 
-fn until(rt: &HostRuntime, calls: u64) -> Result<TestLog, Fail> {
-    let mut log = log(rt, 40_960, &[])?;
-    commit_until(rt, &mut log, calls)?;
+#[test]
+fn two_full_arenas_are_found_again(rt: HostRuntime) -> Result<(), Fail> {
+    two_arenas::<Brand>(&rt, Blank::new(1))
+}
+
+/// The flush of 64 blocks, on a disk of which this call fails, counted from the first of the flush,
+/// ends so.
+fn see_flush(rt: &HostRuntime, call: u64, end: Result<u64, LogErr>) -> Result<(), Fail> {
+    let mut log = log(rt, 40_960, &[FIRST_CALL.saturating_add(call)])?;
+    put_many(rt, &mut log, 64)?;
+    check(log.queue_full())?;
+    see_counts(&log, 64, 0)?;
+    check(flush(&mut log) == end)?;
+    see_counts(&log, 64, if end.is_ok() { 64 } else { 0 })
+}
+
+/// A clump and a directory entry are written of each, and the change of the head is four calls.
+#[test]
+fn a_full_queue_takes_132_calls(rt: HostRuntime) -> Result<(), Fail> {
+    see_flush(&rt, 131, Err(LogErr::Fault))?;
+    see_flush(&rt, 132, Ok(132))
+}
+
+/// A log on a partition of this length that has taken in `abc`.
+fn with_one(rt: &HostRuntime, len: u64) -> Result<TestLog, Fail> {
+    let mut log = log(rt, len, &[])?;
+    put(rt, &mut log, 13, b"abc")?;
     Ok(log)
 }
 
-/// So many blocks may be left behind so many calls of the second commit, of six.
-fn may_be_left(calls: u64, blocks: u64) -> bool {
-    match calls {
-        0..=4 => blocks == 1,
-        5 => blocks == 1 || blocks == 2,
-        _ => blocks == 2,
-    }
+/// One that has committed it, and has taken in `abd`.
+fn with_two(rt: &HostRuntime) -> Result<TestLog, Fail> {
+    let mut log = with_one(rt, 40_960)?;
+    flush(&mut log).ok().ok_or("flush")?;
+    put(rt, &mut log, 13, b"abd")?;
+    Ok(log)
 }
 
-/// The second block is given where it is left.
-fn see_second<L: Ledger>(
+/// A block that fills the first arena, behind one of three bytes.
+fn rest(rt: &HostRuntime) -> Result<Vec<u8>, Fail> {
+    Ok(vec![in rt.alloc(); 7; 8192 - 66 - 63]?)
+}
+
+/// One that has committed `abc`, and has taken in two blocks: the first of them fills the first
+/// arena.
+fn with_three(rt: &HostRuntime) -> Result<TestLog, Fail> {
+    let mut log = with_one(rt, 73_728)?;
+    flush(&mut log).ok().ok_or("flush")?;
+    put(rt, &mut log, 13, &rest(rt)?)?;
+    put(rt, &mut log, 13, b"abd")?;
+    Ok(log)
+}
+
+/// So many blocks may be left where so many were committed, and then so many calls were made of
+/// commits of one block each. These have six calls, of which the fifth is the one that counts.
+fn may_be_left(committed: u8, calls: u8, blocks: u64) -> bool {
+    let least = u64::from(committed) + u64::from(calls / 6);
+    blocks == least || (calls % 6 == 5 && blocks == least + 1)
+}
+
+/// The log after a crash behind so many more calls, with a right number of blocks.
+fn after_crash<L: Ledger>(
     rt: &HostRuntime,
-    log: &mut TestLog,
+    log: TestLog,
+    committed: u8,
+    calls: u8,
+    mode: usize,
     steps: &mut Steps<L>,
-) -> Result<(), Fail> {
-    if log.front() < 2 {
-        return Ok(());
-    }
-    see_block(rt, log, SECOND_PLACE, b"abd", steps)
+) -> Result<TestLog, Fail> {
+    let mut log = log;
+    advance(&mut log, u64::from(calls))?;
+    let mut log = crashed(rt, log, mode)?;
+    let blocks = log.front();
+    check(may_be_left(committed, calls, blocks))?;
+    see_counts(&log, blocks, blocks)?;
+    check(count_back(&mut log, steps)? == blocks)?;
+    Ok(log)
 }
 
-/// What is there after a crash within the second commit, behind so many of its calls.
+/// The block of this number is given, where it is left.
 fn see_left<L: Ledger>(
     rt: &HostRuntime,
     log: &mut TestLog,
-    calls: u64,
+    number: u64,
+    place: Place,
+    block: &[u8],
     steps: &mut Steps<L>,
 ) -> Result<(), Fail> {
-    let blocks = log.front();
-    check(may_be_left(calls, blocks))?;
-    see_counts(log, blocks, blocks)?;
-    see_block(rt, log, FIRST_PLACE, b"abc", steps)?;
-    see_second(rt, log, steps)?;
-    check(count_back(log, steps)? == blocks)
+    if log.front() <= number {
+        return Ok(());
+    }
+    see_block(rt, log, place, block, steps)
 }
 
-fn after_crash<L: Ledger>(
+/// A crash within the first commit.
+fn first_commit<L: Ledger>(
     rt: &HostRuntime,
-    calls: u64,
+    calls: u8,
     mode: usize,
     steps: &mut Steps<L>,
 ) -> Result<(), Fail> {
-    let mut log = crashed(rt, until(rt, calls)?, mode)?;
-    see_left(rt, &mut log, calls, steps)
+    let mut log = after_crash(rt, with_one(rt, 40_960)?, 0, calls, mode, steps)?;
+    see_left(rt, &mut log, 0, FIRST_PLACE, b"abc", steps)
 }
 
-/// What is queued is lost.
-fn before_commit(rt: &HostRuntime, mode: usize) -> Result<(), Fail> {
-    let mut log = log(rt, 40_960, &[])?;
-    put(rt, &mut log, 13, b"abc")?;
-    let log = crashed(rt, log, mode)?;
-    check(log.front() == 0)
+/// A crash within the second commit.
+fn second_commit<L: Ledger>(
+    rt: &HostRuntime,
+    calls: u8,
+    mode: usize,
+    steps: &mut Steps<L>,
+) -> Result<(), Fail> {
+    let mut log = after_crash(rt, with_two(rt)?, 1, calls, mode, steps)?;
+    see_block(rt, &mut log, FIRST_PLACE, b"abc", steps)?;
+    see_left(rt, &mut log, 1, SECOND_PLACE, b"abd", steps)
+}
+
+/// A crash within a commit that seals its arena, or within the one behind it.
+fn sealing_commit<L: Ledger>(
+    rt: &HostRuntime,
+    calls: u8,
+    mode: usize,
+    steps: &mut Steps<L>,
+) -> Result<(), Fail> {
+    let mut log = after_crash(rt, with_three(rt)?, 1, calls, mode, steps)?;
+    see_sealed(&log)?;
+    see_block(rt, &mut log, FIRST_PLACE, b"abc", steps)?;
+    see_left(rt, &mut log, 1, SECOND_PLACE, &rest(rt)?, steps)?;
+    see_left(rt, &mut log, 2, NEXT_PLACE, b"abd", steps)
+}
+
+/// The first arena is sealed exactly where it has its two blocks.
+fn see_sealed(log: &TestLog) -> Result<(), Fail> {
+    let blocks = log.front().min(3) as u32;
+    let sealed = blocks >= 2;
+    check(log.base() == u32::from(sealed))?;
+    see_head(log, 0, sealed, blocks.min(2))?;
+    see_head(log, 1, false, blocks.saturating_sub(2))
 }
 
 fn a_crash<L: Ledger>(rt: &HostRuntime, blank: Blank) -> Result<(), Fail>
@@ -531,9 +673,12 @@ fn a_crash<L: Ledger>(rt: &HostRuntime, blank: Blank) -> Result<(), Fail>
 {
     let mut steps = Steps::<L>::new(blank);
     for mode in 0..4 {
-        before_commit(rt, mode)?;
         for calls in 0..7 {
-            after_crash(rt, calls, mode, &mut steps)?;
+            first_commit(rt, calls, mode, &mut steps)?;
+            second_commit(rt, calls, mode, &mut steps)?;
+        }
+        for calls in 0..13 {
+            sealing_commit(rt, calls, mode, &mut steps)?;
         }
     }
     Ok(())
@@ -582,6 +727,69 @@ fn a_failed_call_stops_the_log(rt: HostRuntime) -> Result<(), Fail> {
     a_failed_call::<Brand>(&rt, Blank::new(1))
 }
 
+/// The calls that fail of a disk with `abc`, committed: the first and the second of two readings of
+/// it, the one of a step back, and the one of reading bytes. Those between them don't fail.
+const FAILING_READS: [u64; 4] = [
+    FIRST_CALL + 6,
+    FIRST_CALL + 8,
+    FIRST_CALL + 11,
+    FIRST_CALL + 13,
+];
+
+/// A call of the disk fails where `abc` is read.
+fn see_fault<L: Ledger>(
+    rt: &HostRuntime,
+    log: &mut TestLog,
+    steps: &mut Steps<L>,
+) -> Result<(), Fail> {
+    let refused = log
+        .read(rt.alloc(), FIRST_PLACE, &key_of(13, b"abc")?, steps)
+        .err();
+    check(refused == Some(ReadBad::Fault))
+}
+
+/// A step back fails, and is made then.
+fn step_again<L: Ledger>(log: &mut TestLog, steps: &mut Steps<L>) -> Result<(), Fail> {
+    let mut tail = log.tail();
+    check(log.back(&mut tail, steps) == Err(BackBad::Fault))?;
+    check(tail.left() == 1)?;
+    check(log.back(&mut tail, steps) == Ok(Some(abc_info()?)))
+}
+
+/// Each call that reads fails, and then does what it is asked.
+fn read_again<L: Ledger>(
+    rt: &HostRuntime,
+    log: &mut TestLog,
+    steps: &mut Steps<L>,
+) -> Result<(), Fail> {
+    see_fault(rt, log, steps)?;
+    see_fault(rt, log, steps)?;
+    see_block(rt, log, FIRST_PLACE, b"abc", steps)?;
+    step_again(log, steps)?;
+    check(bytes(log, 24_576, &mut [0; 41])? == Err(Failed))?;
+    see_arena(log)
+}
+
+fn failing_reads<L: Ledger>(rt: &HostRuntime, blank: Blank) -> Result<(), Fail>
+    requires name { blank.name ≡ L.name }
+    requires parts { blank.parts ≡ L.parts }
+    requires some { 0 < L.parts }
+{
+    let mut steps = Steps::<L>::new(blank);
+    let mut log = log(rt, 40_960, &FAILING_READS)?;
+    put(rt, &mut log, 13, b"abc")?;
+    check(flush(&mut log) == Ok(6))?;
+    read_again(rt, &mut log, &mut steps)?;
+    check(put(rt, &mut log, 13, b"abd")? == Some(SECOND_PLACE))?;
+    check(flush(&mut log) == Ok(6))?;
+    see_counts(&log, 2, 2)
+}
+
+#[test]
+fn a_failed_reading_may_be_made_again(rt: HostRuntime) -> Result<(), Fail> {
+    failing_reads::<Brand>(&rt, Blank::new(1))
+}
+
 /// The next of a row of drawn numbers (an xorshift).
 fn drawn(state: &mut u64) -> u64 {
     let mut x = *state;
@@ -620,14 +828,6 @@ impl Sides {
             }
             None => check(wanted.err() == Some(Why::ArenasFull)),
         }
-    }
-
-    /// Makes so many calls of the log's commits.
-    fn advance(&mut self, calls: u64) -> Result<(), Fail> {
-        for _ in 0..calls {
-            self.log.advance().ok().ok_or("advance")?;
-        }
-        Ok(())
     }
 
     /// Reads one of the blocks.
@@ -676,7 +876,7 @@ fn write_many<L: Ledger>(
         let block = drawn_block(rt, &mut state, kind, mark)?;
         mark = mark.wrapping_add(1);
         sides.write(rt, kind, block)?;
-        sides.advance(drawn(&mut state) % 8)?;
+        advance(&mut sides.log, drawn(&mut state) % 8)?;
         sides.read(rt, drawn(&mut state), steps)?;
     }
     Ok(())
@@ -707,16 +907,106 @@ fn the_log_and_the_plain_store_agree(rt: HostRuntime) -> Result<(), Fail> {
     side_by_side::<Brand>(&rt, Blank::new(1))
 }
 
-#[test]
-fn arenas_out_of_order_are_refused(rt: HostRuntime) -> Result<(), Fail> {
-    let first = part(&rt, 40_960, b"a", &[])?;
-    let second = part(&rt, 40_960, b"a", &[])?;
-    let same = vec![in rt.alloc(); first, second]?;
-    let refused = mount(rt.alloc(), same, Sha1Scorer).err().ok_or("mounted")?;
-    let bad = vt_part::PartBad::DuplicateName {
+/// Why there is no log on these two partitions, which are handed back.
+fn refusal(
+    rt: &HostRuntime,
+    first: MemDisk<Listed>,
+    second: MemDisk<Listed>,
+) -> Result<(LogBad, MemDisk<Listed>, MemDisk<Listed>), Fail> {
+    let a = mount_part(first)?;
+    let b = mount_part(second)?;
+    let refused = mount(rt.alloc(), vec![in rt.alloc(); a, b]?, Sha1Scorer);
+    let (bad, mut parts) = refused.err().ok_or("mounted")?;
+    let b = parts.pop().ok_or("no partition")?;
+    let a = parts.pop().ok_or("no partition")?;
+    Ok((bad, a.into_devices(), b.into_devices()))
+}
+
+fn see_namesakes(rt: &HostRuntime) -> Result<(), Fail> {
+    let a = formatted(rt, 40_960, b"a", &[])?;
+    let same = formatted(rt, 40_960, b"a", &[])?;
+    let bad = PartBad::DuplicateName {
         first: 0,
         second: 1,
     };
-    check(refused.0 == LogBad::Part(bad))?;
+    check(refusal(rt, a, same)?.0 == LogBad::Part(bad))
+}
+
+/// A block of the second partition can't stand behind an empty arena, and may before one.
+fn see_order(rt: &HostRuntime) -> Result<(), Fail> {
+    let a = formatted(rt, 40_960, b"a", &[])?;
+    let mut log = mounted(rt, formatted(rt, 40_960, b"b", &[])?)?;
+    put(rt, &mut log, 13, b"abc")?;
+    check(flush(&mut log) == Ok(6))?;
+    let part = log.into_devices().pop().ok_or("no partition")?;
+    let (bad, a, b) = refusal(rt, a, part.into_devices())?;
+    let order = LogBad::Order {
+        arena: 1,
+        clumps: 1,
+    };
+    check(bad == order)?;
+    let log = mounted_pair(rt, b, a)?;
+    see_counts(&log, 1, 1)?;
+    see_head(&log, 0, false, 1)
+}
+
+/// Writes over bytes of the head of a partition's first arena.
+fn write(disk: &mut MemDisk<Listed>, at: u64, bytes: &[u8]) -> Result<(), Fail> {
+    let len = disk.len();
+    if at > len || len - at < 8192 || bytes.len() as u64 > len - at - 8192 {
+        return Err("outside of the disk")?;
+    }
+    disk.write_at(8192 + at, bytes)?;
     Ok(())
+}
+
+/// Where the head of the second of two empty arenas has these bytes instead, this is why there is no
+/// log.
+fn see_bad_head(rt: &HostRuntime, at: u64, bytes: &[u8], bad: ArenaBad) -> Result<(), Fail> {
+    let a = formatted(rt, 40_960, b"a", &[])?;
+    let mut b = formatted(rt, 40_960, b"b", &[])?;
+    write(&mut b, at, bytes)?;
+    check(refusal(rt, a, b)?.0 == LogBad::Arena { arena: 1, bad })
+}
+
+fn torn(field: Field, found: u128, want: u128) -> ArenaBad {
+    ArenaBad::Torn { field, found, want }
+}
+
+/// Behind the magic number of a head stand its version at 4, its number at 6, the byte for `sealed`
+/// at 10, the count of clumps at 11, and the count of their bytes at 15.
+fn see_bad_heads(rt: &HostRuntime) -> Result<(), Fail> {
+    see_bad_head(rt, 0, &[0; 4], ArenaBad::NotFormatted)?;
+    see_bad_head(rt, 4, &[0, 2], torn(Field::Version, 2, 1))?;
+    see_bad_head(rt, 6, &[0, 0, 0, 1], torn(Field::Number, 1, 0))?;
+    see_bad_head(rt, 10, &[2], torn(Field::Sealed, 2, 1))?;
+    see_bad_head(rt, 10, &[1], torn(Field::Sealed, 1, 0))?;
+    see_bad_head(rt, 11, &[0, 0, 1, 72], torn(Field::Used, 8200, 8192))
+}
+
+/// Mounting ends so on a disk of which this call fails, counted from the first of mounting.
+fn see_failing_mount(rt: &HostRuntime, call: u64, bad: LogBad) -> Result<(), Fail> {
+    let part = part(rt, 40_960, b"a", &[call.saturating_add(3)])?;
+    let refused = mount(rt.alloc(), vec![in rt.alloc(); part]?, Sha1Scorer);
+    check(refused.err().ok_or("mounted")?.0 == bad)
+}
+
+/// The disk is synced, and two reads find the head of its arena, which isn't formatted.
+fn see_failing_mounts(rt: &HostRuntime) -> Result<(), Fail> {
+    see_failing_mount(rt, 0, LogBad::Fault)?;
+    see_failing_mount(rt, 1, LogBad::Fault)?;
+    see_failing_mount(rt, 2, LogBad::Fault)?;
+    let bad = LogBad::Arena {
+        arena: 0,
+        bad: ArenaBad::NotFormatted,
+    };
+    see_failing_mount(rt, 3, bad)
+}
+
+#[test]
+fn what_is_no_log_is_refused(rt: HostRuntime) -> Result<(), Fail> {
+    see_namesakes(&rt)?;
+    see_order(&rt)?;
+    see_bad_heads(&rt)?;
+    see_failing_mounts(&rt)
 }

@@ -35,7 +35,7 @@ returns-in_err-format_part-clause-stays g c =
     let p = get_or ps i c.part-item.result in
     let q = c.format_part.new.part in
     let at : slice_get ps i ≡ Some p = slice_get-get_or ps i c.part-item.result (omega arith) in
-    stays_set ps i p q at g.D.Disk.tells g.D.Disk.bytes g.D.Disk.images (disks_of c.args.parts.now) c.loop-part.invariant.stays c.format_part.ensures.stays
+    stays_set ps i p q at g.D.Disk.tells g.D.Disk.bytes g.D.Disk.images c.args.parts.now c.loop-part.invariant.tables c.loop-part.invariant.stays c.format_part.ensures.stays
 
 pub returns-in_err-format_part-clause-size : goal.returns-in_err-format_part-clause-size
 returns-in_err-format_part-clause-size g c =
@@ -83,7 +83,7 @@ loop-part-preserved g c =
     record {
       tables = tables_set ps i p q at c.format_part.ensures.table ∙ c.loop-part.invariant.tables;
       empty = λ told. empty_set ps i p q at g.D.Disk.bytes g.D.Disk.images (c.loop-part.invariant.empty told) (c.in_ok-format_part.ensures.empty told);
-      stays = stays_set ps i p q at g.D.Disk.tells g.D.Disk.bytes g.D.Disk.images (disks_of c.args.parts.now) c.loop-part.invariant.stays c.format_part.ensures.stays;
+      stays = stays_set ps i p q at g.D.Disk.tells g.D.Disk.bytes g.D.Disk.images c.args.parts.now c.loop-part.invariant.tables c.loop-part.invariant.stays c.format_part.ensures.stays;
       size = counts_set ps i p q at g.D.Disk.size c.format_part.ensures.size ∙ c.loop-part.invariant.size;
       calls = λ told. omega (
         arith,

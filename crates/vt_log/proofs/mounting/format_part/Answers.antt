@@ -1,10 +1,11 @@
 -- One more head is written.
-use Rattle.std.proofs.Common.{◌≡◌, ◌≤◌, ◌∙◌, ap, arith}
+use Rattle.std.proofs.Common.{◌≡◌, ◌<◌, ◌∙◌, ap, arith}
 use Rattle.vt_disk.proofs.Bytes.{same_wider}
 use Rattle.vt_part.specs.Parts.{disk_of, table_of}
 use Rattle.vt_part.specs.Table.{Table, start_of, end_of}
 use Rattle.vt_arena.specs.Layout.{InHead}
-use Rattle.vt_log.proofs.Formatted.{region_fits, head_behind, changes_wider, keeps_then, empty_more, empty_whole}
+use Rattle.vt_log.specs.Formatting.{InHeads}
+use Rattle.vt_log.proofs.Formatted.{region_fits, among_heads, changes_wider, heads_then, empty_more, empty_whole}
 use Rattle.vt_log.proofs.mounting.format_part.Goals as goal
 
 pub format-requires : goal.format-requires
@@ -19,15 +20,16 @@ loop-arena-preserved g c =
     let was = c.loop-arena.part in
     let start : c.region-region.result.start ≡ start_of t c.loop-arena.arena = c.region-region.ensures.start ∙ ap (λ (u : Table). start_of u c.loop-arena.arena) c.loop-arena.invariant.table in
     let len : c.region-region.result.len ≡ t.arena_size = c.region-region.ensures.len ∙ ap (λ (u : Table). u.arena_size) c.loop-arena.invariant.table in
-    let behind = head_behind t c.loop-arena.arena c.region-region.result start in
+    let less : c.loop-arena.arena < t.count = omega (arith, ap (λ (u : Table). u.count) c.loop-arena.invariant.table, c.count-arena-end.ensures.count) in
+    let within = among_heads t c.loop-arena.arena c.region-region.result less start in
     record {
       table = c.loop-arena.invariant.table;
       empty = λ told. empty_more t c.loop-arena.arena c.region-region.result (g.D.Disk.images (disk_of was)) (g.D.Disk.images c.format.new.disk) c.count-arena-end.ensures.table start len
           (c.loop-arena.invariant.empty told) c.format.ensures.images (λ score_of. c.in_ok-format.ensures.empty score_of told);
       settled = λ told some. c.in_ok-format.ensures.settled told;
-      stays = keeps_then g.D.Disk.tells g.D.Disk.bytes g.D.Disk.images (disk_of c.args.part.now) (disk_of was) c.format.new.disk c.loop-arena.invariant.stays (
-        λ told. same_wider (InHead c.region-region.result) (λ p. 8192 ≤ p) behind (g.D.Disk.bytes (disk_of was)) (g.D.Disk.bytes c.format.new.disk) (c.format.ensures.bytes told),
-        changes_wider (InHead c.region-region.result) (λ p. 8192 ≤ p) (g.D.Disk.images (disk_of was)) (g.D.Disk.images c.format.new.disk) behind c.format.ensures.images,
+      stays = heads_then g.D.Disk.tells g.D.Disk.bytes g.D.Disk.images t (disk_of c.args.part.now) (disk_of was) c.format.new.disk c.loop-arena.invariant.stays (
+        λ told. same_wider (InHead c.region-region.result) (InHeads t) within (g.D.Disk.bytes (disk_of was)) (g.D.Disk.bytes c.format.new.disk) (c.format.ensures.bytes told),
+        changes_wider (InHead c.region-region.result) (InHeads t) (g.D.Disk.images (disk_of was)) (g.D.Disk.images c.format.new.disk) within c.format.ensures.images,
       );
       size = c.format.ensures.size ∙ c.loop-arena.invariant.size;
       calls = λ told. omega (arith, c.format.ensures.most_calls told, c.loop-arena.invariant.calls told);

@@ -1,7 +1,8 @@
 -- A commit is staged, and one of its calls is made.
-use Rattle.std.proofs.Common.{refl, subst}
+use Rattle.std.proofs.Common.{refl, subst, arith}
+use Rattle.std.proofs.lemmas.Grind.{common_steps}
 use Rattle.vt_log.specs.Whole.{IsWhole}
-use Rattle.vt_log.proofs.Advancing.{advances, stand_as_prepared, at_as_prepared, within_as_prepared, in_use}
+use Rattle.vt_log.proofs.Advancing.{advances, batch_begins, batch_of_none, call_as_prepared, stand_as_prepared, at_as_prepared, within_as_prepared, in_use}
 use Rattle.vt_log.proofs.Calls.{rest_stands}
 use Rattle.vt_log.proofs.log.Log.advance.Goals as goal
 
@@ -28,3 +29,12 @@ returns-clause-advances g c = advances c.args.self.now c.prepare.new.self c.make
 pub returns-clause-within : goal.returns-clause-within
 returns-clause-within g c r region before after at now =
     c.make_call.ensures.within r region before after (at_as_prepared c.args.self.now c.prepare.new.self r region before c.prepare.ensures.prepares at) now
+
+pub returns-clause-batch : goal.returns-clause-batch
+returns-clause-batch g c runs = batch_begins c.args.self.now c.prepare.new.self c.make_call.new.self c.prepare.ensures.prepares c.make_call.ensures.batch
+
+pub returns-clause-one_call : goal.returns-clause-one_call
+returns-clause-one_call g c told runs some = call_as_prepared g.D.Disk.calls c.args.self.now c.prepare.new.self c.make_call.new.self c.prepare.ensures.prepares (c.make_call.ensures.one_call told)
+
+pub returns-then-is_empty-clause-batch : goal.returns-then-is_empty-clause-batch
+returns-then-is_empty-clause-batch g c runs rest = batch_of_none _ c.args.self.now (subst (IsWhole _) c.self.view_is c.self.invariant) (grind (arith, common_steps))

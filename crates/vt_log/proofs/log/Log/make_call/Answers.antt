@@ -63,6 +63,9 @@ returns-in-Ok-More-clause-crash g c = (more g c).crash
 pub returns-in-Ok-More-clause-makes : goal.returns-in-Ok-More-clause-makes
 returns-in-Ok-More-clause-makes g c = (more g c).makes
 
+pub returns-in-Ok-More-clause-batch : goal.returns-in-Ok-More-clause-batch
+returns-in-Ok-More-clause-batch g c = (more g c).batch
+
 pub returns-in-Ok-More-clause-last : goal.returns-in-Ok-More-clause-last
 returns-in-Ok-More-clause-last g c = (more g c).last
 
@@ -81,8 +84,8 @@ returns-in-Ok-More-clause-within g c = (more g c).within
 pub returns-in-Ok-More-clause-sizes : goal.returns-in-Ok-More-clause-sizes
 returns-in-Ok-More-clause-sizes g c = (more g c).sizes
 
-pub returns-in-Ok-More-clause-calls : goal.returns-in-Ok-More-clause-calls
-returns-in-Ok-More-clause-calls g c = (more g c).calls_are
+pub returns-in-Ok-More-clause-one_call : goal.returns-in-Ok-More-clause-one_call
+returns-in-Ok-More-clause-one_call g c = (more g c).one_call
 
 pub returns-in-Ok-More-clause-cause : goal.returns-in-Ok-More-clause-cause
 returns-in-Ok-More-clause-cause g c = (more g c).cause
@@ -157,6 +160,9 @@ returns-then-not-sealed-clause-crash g c = (done g c).crash
 pub returns-then-not-sealed-clause-makes : goal.returns-then-not-sealed-clause-makes
 returns-then-not-sealed-clause-makes g c = (done g c).makes
 
+pub returns-then-not-sealed-clause-batch : goal.returns-then-not-sealed-clause-batch
+returns-then-not-sealed-clause-batch g c = (done g c).batch
+
 pub returns-then-not-sealed-clause-last : goal.returns-then-not-sealed-clause-last
 returns-then-not-sealed-clause-last g c = (done g c).last
 
@@ -175,8 +181,8 @@ returns-then-not-sealed-clause-within g c = (done g c).within
 pub returns-then-not-sealed-clause-sizes : goal.returns-then-not-sealed-clause-sizes
 returns-then-not-sealed-clause-sizes g c = (done g c).sizes
 
-pub returns-then-not-sealed-clause-calls : goal.returns-then-not-sealed-clause-calls
-returns-then-not-sealed-clause-calls g c = (done g c).calls_are
+pub returns-then-not-sealed-clause-one_call : goal.returns-then-not-sealed-clause-one_call
+returns-then-not-sealed-clause-one_call g c = (done g c).one_call
 
 pub returns-then-not-sealed-clause-cause : goal.returns-then-not-sealed-clause-cause
 returns-then-not-sealed-clause-cause g c = (done g c).cause
@@ -278,6 +284,9 @@ returns-else-not-sealed-clause-crash g c = (turns g c).crash
 pub returns-else-not-sealed-clause-makes : goal.returns-else-not-sealed-clause-makes
 returns-else-not-sealed-clause-makes g c = (turns g c).makes
 
+pub returns-else-not-sealed-clause-batch : goal.returns-else-not-sealed-clause-batch
+returns-else-not-sealed-clause-batch g c = (turns g c).batch
+
 pub returns-else-not-sealed-clause-last : goal.returns-else-not-sealed-clause-last
 returns-else-not-sealed-clause-last g c = (turns g c).last
 
@@ -296,8 +305,8 @@ returns-else-not-sealed-clause-within g c = (turns g c).within
 pub returns-else-not-sealed-clause-sizes : goal.returns-else-not-sealed-clause-sizes
 returns-else-not-sealed-clause-sizes g c = (turns g c).sizes
 
-pub returns-else-not-sealed-clause-calls : goal.returns-else-not-sealed-clause-calls
-returns-else-not-sealed-clause-calls g c = (turns g c).calls_are
+pub returns-else-not-sealed-clause-one_call : goal.returns-else-not-sealed-clause-one_call
+returns-else-not-sealed-clause-one_call g c = (turns g c).one_call
 
 pub returns-else-not-sealed-clause-cause : goal.returns-else-not-sealed-clause-cause
 returns-else-not-sealed-clause-cause g c = (turns g c).cause
@@ -351,6 +360,9 @@ returns-in-Err-clause-crash g c = (failed g c).crash
 pub returns-in-Err-clause-makes : goal.returns-in-Err-clause-makes
 returns-in-Err-clause-makes g c = (failed g c).makes
 
+pub returns-in-Err-clause-batch : goal.returns-in-Err-clause-batch
+returns-in-Err-clause-batch g c = (failed g c).batch
+
 pub returns-in-Err-clause-last : goal.returns-in-Err-clause-last
 returns-in-Err-clause-last g c = (failed g c).last
 
@@ -369,8 +381,8 @@ returns-in-Err-clause-within g c = (failed g c).within
 pub returns-in-Err-clause-sizes : goal.returns-in-Err-clause-sizes
 returns-in-Err-clause-sizes g c = (failed g c).sizes
 
-pub returns-in-Err-clause-calls : goal.returns-in-Err-clause-calls
-returns-in-Err-clause-calls g c = (failed g c).calls_are
+pub returns-in-Err-clause-one_call : goal.returns-in-Err-clause-one_call
+returns-in-Err-clause-one_call g c = (failed g c).one_call
 
 pub returns-in-Err-clause-cause : goal.returns-in-Err-clause-cause
 returns-in-Err-clause-cause g c = (failed g c).cause
