@@ -1,19 +1,17 @@
 -- One more block, and its entry.
-use Rattle.std.proofs.Common.{◌≡◌, ◌⊎◌, ⊎_elim, inl, inr, ℕ, zero, suc, ◌+◌, ◌^◌, ◌<◌, ◌≤◌, Bool, List, [], ◌∷◌, ◌++◌, length, replicate, refl, sym, ◌∙◌, ap, subst, arith, Option, Some, None, Ok, Err, length-append, append-nil}
+use Rattle.std.proofs.Common.{◌≡◌, ◌⊎◌, ⊎_elim, inl, inr, ℕ, zero, suc, ◌+◌, ◌<◌, ◌≤◌, Bool, List, [], ◌∷◌, ◌++◌, length, replicate, refl, sym, ◌∙◌, ap, subst, arith, Some, None, Ok, Err, length-append, append-nil}
 use Rattle.std.specs.Prelude.{slice_get}
 use Rattle.vt_base.specs.Kind.{IsKind}
 use Rattle.vt_base.specs.declared.place.Entry.{Entry}
 use Rattle.vt_base.specs.declared.place.Place.{Place}
-use Rattle.vt_base.specs.declared.why.Why.TheVariants.{ArenasFull}
-use Rattle.vt_base.specs.Protocol.{write, r_write, r_refused}
+use Rattle.vt_base.specs.Protocol.{write, r_write}
 use Rattle.vt_clump.specs.declared.packed.Packed.{Packed}
 use Rattle.vt_clump.specs.Spelling.{Stored, IsStored, spelled, stored_in}
 use Rattle.vt_clump.specs.Clumps.{IsPacked, stored_of}
 use Rattle.vt_clump.proofs.ReadBack.{stored_in-spelled}
 use Rattle.vt_model.specs.History.{History, Accepted}
-use Rattle.vt_model.specs.Places.{Setup, Spot, next_arena, place_of}
-use Rattle.vt_model.specs.Answer.{Outcome, answer, answer_to_write, adds, with_added}
-use Rattle.vt_model.specs.Legal.{IsLegal}
+use Rattle.vt_model.specs.Places.{Setup, next_arena, place_of}
+use Rattle.vt_model.specs.Answer.{Outcome, answer_to_write, adds, with_added}
 use Rattle.vt_model.proofs.Adding.{IsLegal-with_added}
 use Rattle.vt_model.proofs.Spots.{place_of-append}
 use Rattle.vt_log.specs.declared.bad.Full.{Full}

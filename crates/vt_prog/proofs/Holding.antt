@@ -1,12 +1,10 @@
 -- How a store goes on holding its history.
-use Rattle.std.proofs.Common.{◌≡◌, ◌⊎◌, ⊎_elim, ℕ, zero, suc, ◌+◌, ◌-◌, ◌^◌, ◌<◌, ◌≤◌, Bool, List, [], ◌∷◌, length, map, refl, sym, ◌∙◌, ap, subst, arith, Some, None, Ok, Err, Result}
-use Rattle.std.specs.Prelude.{slice_get, slice_index, IsOk, MatchResult}
-use Rattle.vt_base.specs.Faults.{HasRisen}
+use Rattle.std.proofs.Common.{◌≡◌, ◌⊎◌, ⊎_elim, ℕ, zero, suc, Bool, List, [], ◌∷◌, map, refl, sym, ◌∙◌, ap, subst, arith, None, Ok, Err, Result}
+use Rattle.std.specs.Prelude.{slice_index, IsOk}
 use Rattle.vt_part.specs.declared.layout.ArenaRegion.{ArenaRegion}
 use Rattle.vt_arena.specs.declared.bad.ReadBad.{ReadBad}
 use Rattle.vt_arena.specs.declared.bad.ReadBad.TheVariants as unread
 use Rattle.vt_model.specs.History.{History}
-use Rattle.vt_model.specs.Places.{Setup}
 use Rattle.vt_log.specs.declared.bad.Progress.{Progress}
 use Rattle.vt_log.specs.declared.bad.Progress.TheVariants.{Idle, Step, Durable}
 use Rattle.vt_log.specs.declared.bad.LogErr.{LogErr}

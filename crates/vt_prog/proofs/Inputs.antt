@@ -5,7 +5,6 @@ use Rattle.std.proofs.lemmas.Grind.{flat_map-append}
 use Rattle.std.proofs.lemmas.List.{map-append}
 use Rattle.vt_base.specs.Bytes.{AreBytes}
 use Rattle.vt_base.specs.declared.why.Failed.{Failed}
-use Rattle.vt_model.specs.History.{History}
 use Rattle.vt_prog.specs.Store.{memory}
 use Rattle.vt_session.specs.declared.Ended.{Ended}
 use Rattle.vt_session.specs.declared.Ended.TheVariants.{Goodbye, Closed, Cut, Malformed, Spent, ReadFault, WriteFault, NoMemory}

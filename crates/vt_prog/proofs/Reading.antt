@@ -1,6 +1,6 @@
 -- What a read of a type and a score that isn't zero answers.
-use Rattle.std.proofs.Common.{◌≡◌, ◌≢◌, inl, inr, ℕ, ◌<◌, ◌≤◌, Bool, true, false, not, cond, List, [], length, refl, sym, ◌∙◌, ap, subst, Option, Some, None, Ok, Err, Result}
-use Rattle.std.specs.Prelude.{MatchResult, find, nat_lt}
+use Rattle.std.proofs.Common.{◌≡◌, inr, ℕ, ◌<◌, ◌≤◌, true, false, not, cond, List, [], length, sym, ◌∙◌, ap, subst, Option, Some, None, Ok, Err, Result}
+use Rattle.std.specs.Prelude.{MatchResult, find}
 use Rattle.std.specs.Option.{option_map}
 use Rattle.std.specs.Str.{bytes_eq}
 use Rattle.std.proofs.lemmas.Bool.{lt-ltb, le-ltb, true≢false}
@@ -8,7 +8,7 @@ use Rattle.std.proofs.lemmas.Slice.Eq.{bytes_eq-Decides}
 use Rattle.vt_base.specs.Kind.{is_kind}
 use Rattle.vt_base.specs.declared.why.Why.{Why}
 use Rattle.vt_base.specs.declared.why.Why.TheVariants.{BadType, TooSmall, Absent, NoMemory}
-use Rattle.vt_base.specs.Protocol.{read, RMessage, r_read}
+use Rattle.vt_base.specs.Protocol.{read, r_read}
 use Rattle.vt_model.specs.History.{History, Accepted, has_key, held}
 use Rattle.vt_model.specs.Answer.{Outcome, answer_to_read, lends, refuses, replies, with_added}
 use Rattle.vt_prog.specs.Store.{Serves}

@@ -1,21 +1,25 @@
 -- How turns follow from what the plain store answers, and how they go on.
-use Rattle.std.proofs.Common.{◌≡◌, ℕ, List, [], ◌∷◌, ◌++◌, length, Bool, true, false, ◌||◌, Result, Ok, Err, refl, sym, ◌∙◌, ap, subst, ◌⊎◌, inl, inr, append-nil, append_assoc}
+use Rattle.std.proofs.Common.{◌≡◌, ℕ, List, [], ◌∷◌, ◌++◌, length, Bool, true, false, ◌||◌, Result, Ok, Err, refl, sym, ◌∙◌, ap, subst, inl, inr, append-nil, append_assoc}
 use Rattle.std.specs.List.{flat_map}
 use Rattle.std.proofs.lemmas.Grind.{flat_map-append}
 use Rattle.std.proofs.lemmas.List.{map-append}
 use Rattle.vt_base.specs.declared.why.Failed.{Failed}
 use Rattle.vt_base.specs.declared.why.Why.{Why}
 use Rattle.vt_base.specs.declared.why.Why.TheVariants.{NoMemory}
-use Rattle.vt_base.specs.Protocol.{Operation, write, TMessage, t_hello, t_goodbye, t_ask, RMessage, r_hello, r_write, r_refused}
-use Rattle.vt_model.specs.History.{History, IsBlock}
+use Rattle.vt_base.specs.Protocol.{Operation, sync, TMessage, t_hello, t_goodbye, t_ask, RMessage, r_hello, r_sync, r_refused}
+use Rattle.vt_model.specs.History.{History}
 use Rattle.vt_model.specs.Places.{Setup}
 use Rattle.vt_model.specs.Answer.{answer, with_added}
 use Rattle.vt_wire.specs.Messages.{spelled}
+use Rattle.vt_wire.specs.Views.{message_of}
+use Rattle.vt_wire.specs.declared.message.Request.{Request}
+use Rattle.vt_wire.specs.declared.message.Request.TheVariants as requests
 use Rattle.vt_session.specs.declared.Ended.{Ended}
 use Rattle.vt_session.specs.Heard.{Item, settled, asked}
-use Rattle.vt_session.specs.Hearing.{Hearing, over, HearsOn, MatchMessage}
+use Rattle.vt_session.specs.Hearing.{Hearing, over, HearsOn, IsHeard, MatchMessage}
 use Rattle.vt_session.specs.Answered.{MayFail}
 use Rattle.vt_session.specs.Turns.{Turn, told, served, failed, Cause, no_memory, item_of_turn, items_of, spelled_turn, cause_of, causes_of}
+use Rattle.vt_session.proofs.Hearings.{hearing_one}
 use Rattle.vt_session.proofs.Turns.{turns_join}
 use Rattle.vt_prog.proofs.Written.{waits_more, writes_more}
 use Rattle.vt_prog.specs.Sessions.{fails, OnlyMemory, Answers, SoFar, Writes, TakesTurn, TakesTurns}
@@ -165,6 +169,11 @@ says_why score holds h tag m message why ran ran' writes (inr fails) flag writte
   written = written;
 }
 
+-- no sync is refused
+pub never_refuses : (score : List ℕ → List ℕ) (holds : History → Type 0) (h : History) (why : Why) → Serves {X = Unit {0}} score holds h sync (λ x. r_sync) (Err why) → ⊥
+never_refuses score holds h why (inl refused) = let same = refused.1 in absurd (cc)
+never_refuses score holds h why (inr fails) = fails.1.1
+
 -- a reply that the rules of a session settle
 pub says_settled : (score : List ℕ → List ℕ) (holds : History → Type 0) (h : History) (tag : ℕ) (reply : RMessage) (ran : Bool) (writes : List ℕ → Type 0)
     → holds h → writes (spelled tag reply) → TakesTurn score holds (settled tag reply) h ran ran writes
@@ -228,3 +237,29 @@ go_on r done score holds holds' first between now h ran' ran'' written waiting w
   written = λ p. subst (Writes r written waiting written'' waiting'') (sym (flat_map-append spelled_turn x.turns y.turns))
       (writes_more r done written waiting written' waiting' (flat_map spelled_turn x.turns) written'' waiting'' (flat_map spelled_turn y.turns) (x.written p) (y.written p));
 }
+
+-- ---- that a sync comes next
+
+pub sync_after : (old new : Hearing) (tag' : ℕ) (m : TMessage) → MatchMessage tag' m (λ item. (items : List Item) (ended : Ended) → HearsOn new items ended → HearsOn old (item ∷ items) ended)
+    → IsHeard new → (tag : ℕ) (items : List Item) (ended : Ended) → HearsOn old (asked tag sync ∷ items) ended → m ≡ t_ask sync
+sync_after old new tag' (t_hello version) gives heard tag items ended next =
+    let same = (hearing_one old _ _ _ _ next (gives heard.0 heard.1 heard.2)).0 in absurd (cc)
+sync_after old new tag' t_goodbye gives heard tag items ended next = absurd gives
+sync_after old new tag' (t_ask m) gives heard tag items ended next =
+    let same = (hearing_one old _ _ _ _ next (gives heard.0 heard.1 heard.2)).0 in cc
+
+pub no_sync_after : (old new : Hearing) (tag' : ℕ) (reply : RMessage) → ((items : List Item) (ended : Ended) → HearsOn new items ended → HearsOn old (settled tag' reply ∷ items) ended)
+    → IsHeard new → (tag : ℕ) (items : List Item) (ended : Ended) → HearsOn old (asked tag sync ∷ items) ended → ⊥
+no_sync_after old new tag' reply gives heard tag items ended next =
+    let same = (hearing_one old _ _ _ _ next (gives heard.0 heard.1 heard.2)).0 in cc
+
+pub no_sync_at_end : (old : Hearing) (end : Ended) → HearsOn old [] end → (tag : ℕ) (items : List Item) (ended : Ended) → HearsOn old (asked tag sync ∷ items) ended → ⊥
+no_sync_at_end old end none tag items ended next = let same = (hearing_one old _ _ _ _ next none).0 in cc
+
+pub is_sync : (r : Request) → message_of r ≡ t_ask sync → r ≡ requests.Sync
+is_sync requests.Ping is = absurd (cc)
+is_sync (requests.Hello version) is = absurd (cc)
+is_sync requests.Goodbye is = absurd (cc)
+is_sync (requests.Read score kind count) is = absurd (cc)
+is_sync (requests.Write kind bytes) is = absurd (cc)
+is_sync requests.Sync is = refl

@@ -1,7 +1,6 @@
 -- What a write of a block answers that collides with none.
-use Rattle.std.proofs.Common.{◌≡◌, ◌⊎◌, inl, inr, ℕ, ◌==◌, ◌<◌, ◌≤◌, ◌||◌, Bool, true, false, not, cond, List, [], length, refl, sym, ◌∙◌, ap, subst, arith, Option, Some, None, Ok, Err, Result}
+use Rattle.std.proofs.Common.{◌≡◌, ℕ, ◌==◌, ◌<◌, ◌≤◌, ◌||◌, Bool, true, false, not, cond, List, [], length, refl, ◌∙◌, ap, arith, Option, Some, None}
 use Rattle.std.specs.Prelude.{find, nat_lt, nat_le, is_some}
-use Rattle.std.specs.List.{list_any}
 use Rattle.std.specs.Option.{option_map}
 use Rattle.std.specs.Str.{bytes_eq}
 use Rattle.std.proofs.lemmas.Bool.{le-ltb, le-leb, lt-leb, ne_eqb}

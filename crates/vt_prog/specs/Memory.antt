@@ -1,5 +1,5 @@
 -- The partition of the store in memory.
-use Rattle.std.specs.Prelude.{ℕ, ◌≡◌}
+use Rattle.std.specs.Prelude.{◌≡◌}
 use Rattle.vt_part.specs.Table.{Table}
 
 -- it has one arena, of 1,048,576 bytes

@@ -1,5 +1,5 @@
 -- A store over one log: what it keeps, which history that stands for, and how it serves.
-use Rattle.std.specs.Prelude.{ℕ, ◌≡◌, ◌⊎◌, Bool, IsTrue, None, Some, Option, List, [], ◌∷◌, length, slice_get, Result, Ok, Err}
+use Rattle.std.specs.Prelude.{ℕ, ◌≡◌, ◌⊎◌, Bool, IsTrue, None, Some, List, [], ◌∷◌, length, slice_get, Result, Ok, Err}
 use Rattle.vt_base.specs.declared.place.Entry.{Entry}
 use Rattle.vt_base.specs.declared.why.Why.{Why}
 use Rattle.vt_base.specs.declared.why.Why.TheVariants.{NoMemory}
@@ -8,7 +8,11 @@ use Rattle.vt_model.specs.History.{History, Accepted}
 use Rattle.vt_model.specs.Places.{Setup, place_of}
 use Rattle.vt_model.specs.Answer.{answer, with_added}
 use Rattle.vt_model.specs.Legal.{IsLegal}
-use Rattle.vt_log.specs.Log.{LogState, setup_of}
+use Rattle.vt_log.specs.declared.TheConstants.{QUEUE_MAX}
+use Rattle.vt_log.specs.declared.bad.LogErr.{LogErr}
+use Rattle.vt_log.specs.declared.bad.Progress.{Progress}
+use Rattle.vt_log.specs.Answers.{Advances}
+use Rattle.vt_log.specs.Log.{LogState, setup_of, queued}
 use Rattle.vt_log.specs.Queue.{spot_of}
 use Rattle.vt_log.specs.Sound.{IsSound}
 use Rattle.vt_session.specs.Turns.{no_memory}
@@ -62,6 +66,19 @@ Serves score_of holds h m message (Err why) =
     ((tells_no_memory why ≡ Bool.false) × (outcome.reply ≡ r_refused why)
     × holds (with_added h outcome.added))
     ⊎ ((why ≡ NoMemory) × MayFail score_of memory m no_memory × holds h)
+
+-- Nothing of the log is committed, nor is a commit begun: blocks may have been queued, and disks
+-- read.
+abbrev pub OnlyQueues : {D : Type 0} → (old new : LogState D) → Type 0
+OnlyQueues old new =
+    new ≡ record old { disks = new.disks; queue = new.queue; filling = new.filling }
+
+-- the log made calls of its disks, one after another, each while its queue was full
+pub data AdvancesWhileFull {D : Type 0} (old : LogState D) : LogState D → Type 0 where
+  no_call : AdvancesWhileFull old old
+  one_more : (r : Result Progress LogErr) (before after : LogState D)
+      → AdvancesWhileFull old before → queued before ≡ QUEUE_MAX → Advances r before after
+      → AdvancesWhileFull old after
 
 -- a log of the store in memory that has accepted nothing
 pub record IsEmptyLog {D : Type 0} (score_of : List ℕ → List ℕ) (bytes : D → List ℕ)

@@ -1,9 +1,10 @@
 //! Answering what a session hears.
 
-ghost use Rattle.std.specs.Prelude.{◌≡◌, ◌++◌, ◌||◌, ◌<◌, ⊤, ℕ, List, [], Some, None, Ok, IsTrue, IfOk, IfSome};
+ghost use Rattle.std.specs.Prelude.{◌≡◌, ◌++◌, ◌||◌, ◌<◌, ⊤, ℕ, List, [], ◌∷◌, Some, None, Ok, IsTrue, IfOk, IfSome, length};
 ghost use Rattle.vt_base.specs.Faults.{HasCause};
 ghost use Rattle.vt_base.specs.Protocol.{read, write, sync, r_refused};
 ghost use Rattle.vt_model.specs.History.{History};
+ghost use Rattle.vt_log.specs.Log.{queued};
 ghost use Rattle.vt_session.specs.Heard.{Item, asked};
 ghost use Rattle.vt_session.specs.Hearing.{over, left_len, HearsOn, IsHeard, MatchMessage};
 ghost use Rattle.vt_wire.specs.Messages.{spelled};
@@ -68,27 +69,29 @@ fn answer_next<D: Disk, L: Ledger, S: Scorer, K: Sink>(
         (K.written sink.old) output.old (K.written sink.new) output.new said) }
     ensures end { IfOk result (λ end. IfSome end
         (λ ended. (heard.new ≡ over ended) × (output.new ≡ []))) }
+
+    // Where a sync is next, every block is committed behind it, and none is queued.
+    ensures durable { (tag : ℕ) (items : List Item) (ended : Ended) (h : History)
+        → HearsOn heard.old (asked tag sync ∷ items) ended
+        → Holds S.score_of D.tells D.bytes D.images D.size D.faults store.old h
+        → (queued store.new.log ≡ 0) × (store.new.log.durable ≡ length h) }
     ensures shorter { result ≡ Ok None → left_len heard.new < left_len heard.old }
     ensures goes_on { IsHeard heard.new }
     ensures cause { HasCause result (K.faults sink.old) (K.faults sink.new) }
 {
     match heard.next() {
-        Next::End(ended) => match output.flush(sink) {
-            Ok(()) => Ok(Some(ended)),
-            Err(failed) => Err(failed),
-        },
+        Next::End(ended) => {
+            output.flush(sink)?;
+            Ok(Some(ended))
+        }
         Next::Refused(rule, tag) => {
             let text = rule_text(rule).as_bytes();
-            match output.add(sink, tag, &Reply::Error(text)) {
-                Ok(()) => Ok(None),
-                Err(failed) => Err(failed),
-            }
+            output.add(sink, tag, &Reply::Error(text))?;
+            Ok(None)
         }
         Next::Message(tag, request) => {
-            match answer(alloc, store, tag, &request, sink, output, ran_out) {
-                Ok(()) => Ok(None),
-                Err(failed) => Err(failed),
-            }
+            answer(alloc, store, tag, &request, sink, output, ran_out)?;
+            Ok(None)
         }
     }
 }
@@ -111,6 +114,11 @@ fn answer<D: Disk, L: Ledger, S: Scorer, K: Sink>(
         item h ran_out.old ran_out.new
         (λ said. IsTrue K.tells → Writes result
         (K.written sink.old) output.old (K.written sink.new) output.new said)) }
+
+    // After a sync every block is committed, and none is queued.
+    ensures durable { request.now ≡ Request.Sync → (h : History)
+        → Holds S.score_of D.tells D.bytes D.images D.size D.faults store.old h
+        → (queued store.new.log ≡ 0) × (store.new.log.durable ≡ length h) }
     ensures cause { HasCause result (K.faults sink.old) (K.faults sink.new) }
 {
     match *request {
@@ -197,6 +205,11 @@ fn answer_sync<D: Disk, L: Ledger, S: Scorer, K: Sink>(
         (asked tag sync) h ran_out.old ran_out.new
         (λ said. IsTrue K.tells → Writes result
         (K.written sink.old) output.old (K.written sink.new) output.new said) }
+
+    // After it every block is committed, and none is queued.
+    ensures durable { (h : History)
+        → Holds S.score_of D.tells D.bytes D.images D.size D.faults store.old h
+        → (queued store.new.log ≡ 0) × (store.new.log.durable ≡ length h) }
     ensures cause { HasCause result (K.faults sink.old) (K.faults sink.new) }
 {
     match store.sync() {
@@ -218,12 +231,6 @@ fn refuse<K: Sink>(
         (K.written sink.new) output.new (spelled tag (r_refused why.now)) }
     ensures cause { HasCause result (K.faults sink.old) (K.faults sink.new) }
 {
-    *ran_out |= is_no_memory(why);
+    *ran_out |= matches!(why, Why::NoMemory);
     output.add(sink, tag, &Reply::Error(why_text(why).as_bytes()))
-}
-
-fn is_no_memory(why: &Why) -> bool
-    ensures { result ≡ tells_no_memory why.now }
-{
-    matches!(why, Why::NoMemory)
 }

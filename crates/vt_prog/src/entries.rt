@@ -1,6 +1,6 @@
 //! The index of the store in memory: entries that are searched from the front.
 
-ghost use Rattle.std.specs.Prelude.{◌≡◌, ◌==◌, ◌&&◌, find, count_by, is_some};
+ghost use Rattle.std.specs.Prelude.{◌≡◌, ◌==◌, ◌&&◌, find, count_by};
 ghost use Rattle.std.specs.Option.{option_copied};
 ghost use Rattle.std.specs.Str.{bytes_eq};
 ghost use Rattle.vt_model.specs.Places.{bucket_of};
@@ -18,15 +18,6 @@ pub fn find_key<'a>(entries: &'a [Entry], key: &Key) -> Option<&'a Entry>
         ≡ find (λ e. bytes_eq e.key.score.0 k.score.0 && e.key.kind == k.kind) entries.now }
 {
     entries.iter().find(|e| e.key == *key)
-}
-
-/// Whether an entry has this key.
-pub fn has_key(entries: &[Entry], key: &Key) -> bool
-    ensures { let k = key.now in
-        result ≡ is_some (find (λ e. bytes_eq e.key.score.0 k.score.0 && e.key.kind == k.kind)
-        entries.now) }
-{
-    find_key(entries, key).is_some()
 }
 
 /// The first entry with this score, of whatever type.

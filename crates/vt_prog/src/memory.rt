@@ -33,15 +33,11 @@ pub fn empty_log<D: Disk + Drop, S: Scorer>(
     };
     match vt_log::mount(alloc, parts, scorer) {
         Ok(log) => Ok(log),
-        Err((bad, _)) => Err(out_of_memory(bad)),
+        Err((bad, _)) => match bad {
+            LogBad::NoMemory => Err(NoMemory),
+            _ => unreachable!(),
+        },
     }
-}
-
-/// Why a log isn't mounted that is there, on a disk of which no call fails.
-fn out_of_memory(_bad: LogBad) -> NoMemory
-    requires { _bad ≡ LogBad.NoMemory }
-{
-    NoMemory
 }
 
 /// The disk as a partition of one arena.

@@ -71,9 +71,7 @@ impl Output {
         ensures cause { HasCause result (K.faults sink.old) (K.faults sink.new) }
     {
         if ROOM - self.used < MAX_REPLY {
-            if let Err(failed) = self.flush(sink) {
-                return Err(failed);
-            }
+            self.flush(sink)?;
         }
         self.push(tag, reply);
         Ok(())

@@ -1,14 +1,17 @@
 //! A store over one log, whose keys are a list that is searched from the front.
 
-ghost use Rattle.std.specs.Prelude.{◌≡◌, ◌<◌, ◌≤◌, ℕ, Bool, [], Some, Ok, IfOk, OnOk, IsOk, MatchResult, length, slice_get};
+ghost use Rattle.std.specs.Prelude.{◌≡◌, ◌<◌, ◌≤◌, ℕ, Bool, [], Some, Ok, IfOk, OnOk, IsOk, Result, MatchResult, length, slice_get};
 ghost use Rattle.vt_base.specs.Kind.{IsKind};
 ghost use Rattle.vt_base.specs.Protocol.{read, write, sync, r_read, r_write, r_sync};
 ghost use Rattle.vt_model.specs.History.{History, Accepted};
 ghost use Rattle.vt_model.specs.Places.{next_arena};
 ghost use Rattle.vt_model.specs.Answer.{answer_to_write, adds, collides};
 ghost use Rattle.vt_log.specs.declared.TheConstants.{QUEUE_MAX};
+ghost use Rattle.vt_log.specs.declared.bad.LogErr.{LogErr};
+ghost use Rattle.vt_log.specs.declared.bad.Progress.{Progress};
+ghost use Rattle.vt_log.specs.Answers.{Advances};
 
-use crate::entries::{crowd, find_key, find_score, has_key};
+use crate::entries::{crowd, find_key, find_score};
 use std::alloc::Global;
 use std::marker::Model;
 use std::sync::ledger::Ledger;
@@ -19,6 +22,9 @@ use vt_disk::Disk;
 use vt_log::{Log, LogErr, Progress};
 use vt_model::BUCKET_ROOM;
 use vt_steps::Steps;
+
+#[cfg(test)]
+mod tests;
 
 /// The blocks of a log, and the index entry of each, in their order.
 #[derive(Drop)]
@@ -40,7 +46,7 @@ impl<D: Disk, L: Ledger, S: Scorer> Model for LogStore<D, L, S> {
 impl<D: Disk, L: Ledger, S: Scorer> LogStore<D, L, S> {
     ghost use Rattle.vt_log.specs.Log.{queued};
     ghost use Rattle.vt_log.specs.Owed.{owed};
-    ghost use Rattle.vt_prog.specs.Store.{StoreState, memory, IsEntryOf, Holds, Serves};
+    ghost use Rattle.vt_prog.specs.Store.{StoreState, memory, IsEntryOf, Holds, Serves, OnlyQueues, AdvancesWhileFull};
 
     /// The store of a log without blocks.
     pub fn new(alloc: Global, scorer: S, log: Log<D, S>, steps: Steps<L>) -> Self
@@ -60,6 +66,9 @@ impl<D: Disk, L: Ledger, S: Scorer> LogStore<D, L, S> {
             → Holds S.score_of D.tells D.bytes D.images D.size D.faults self.old h
             → Serves S.score_of (Holds S.score_of D.tells D.bytes D.images D.size D.faults self.new)
             h (write kind bytes.now) (λ score. r_write score.0) result }
+
+        // Where the queue has room for it, nothing is committed.
+        ensures idle { queued self.old.log < QUEUE_MAX → OnlyQueues self.old.log self.new.log }
     {
         let kind = Kind::from_wire(kind).ok_or(Why::BadType)?;
         if bytes.len() > MAX_BLOCK {
@@ -82,6 +91,8 @@ impl<D: Disk, L: Ledger, S: Scorer> LogStore<D, L, S> {
             → Holds S.score_of D.tells D.bytes D.images D.size D.faults self.old h
             → Serves S.score_of (Holds S.score_of D.tells D.bytes D.images D.size D.faults self.new)
             h (read score.now.0 kind count) (λ block. r_read block) result }
+        ensures same { self.new
+            ≡ record self.old { log = record self.old.log { disks = self.new.log.disks } } }
         ensures most { IfOk result (λ block. length block ≤ 57344) }
     {
         let kind = Kind::from_wire(kind).ok_or(Why::BadType)?;
@@ -128,6 +139,8 @@ impl<D: Disk, L: Ledger, S: Scorer> LogStore<D, L, S> {
         ensures holds { (h : History)
             → Holds S.score_of D.tells D.bytes D.images D.size D.faults self.old h
             → Holds S.score_of D.tells D.bytes D.images D.size D.faults self.new h }
+        ensures same { self.new
+            ≡ record self.old { log = record self.old.log { disks = self.new.log.disks } } }
     {
         if *score == self.scorer.score(&[]) {
             return Ok(true);
@@ -151,8 +164,9 @@ impl<D: Disk, L: Ledger, S: Scorer> LogStore<D, L, S> {
             → collides S.score_of h bytes.now ≡ Bool.false
             → Serves S.score_of (Holds S.score_of D.tells D.bytes D.images D.size D.faults self.new)
             h (write key.kind bytes.now) (λ _. r_write key.score.0) result }
+        ensures idle { queued self.old.log < QUEUE_MAX → OnlyQueues self.old.log self.new.log }
     {
-        if has_key(&self.entries, &key) {
+        if find_key(&self.entries, &key).is_some() {
             return Ok(());
         }
         if crowd(&self.entries, &key.score) >= BUCKET_ROOM {
@@ -170,7 +184,8 @@ impl<D: Disk, L: Ledger, S: Scorer> LogStore<D, L, S> {
         ensures holds { (h : History)
             → Holds S.score_of D.tells D.bytes D.images D.size D.faults self.old h
             → Holds S.score_of D.tells D.bytes D.images D.size D.faults self.new h }
-        ensures entries { self.new.entries ≡ self.old.entries }
+        ensures same { self.new
+            ≡ record self.old { log = record self.old.log { disks = self.new.log.disks } } }
         ensures most { IfOk result (λ block. length block ≤ 57344) }
     {
         match self
@@ -195,6 +210,7 @@ impl<D: Disk, L: Ledger, S: Scorer> LogStore<D, L, S> {
             ≡ adds key.score.0 key.kind bytes.now (next_arena memory h (length bytes.now))
             → Serves S.score_of (Holds S.score_of D.tells D.bytes D.images D.size D.faults self.new)
             h (write key.kind bytes.now) (λ _. r_write key.score.0) result }
+        ensures idle { queued self.old.log < QUEUE_MAX → OnlyQueues self.old.log self.new.log }
     {
         let Ok(packed) = pack(alloc, key.kind, bytes, key.score, 0) else {
             return Err(Why::NoMemory);
@@ -217,13 +233,17 @@ impl<D: Disk, L: Ledger, S: Scorer> LogStore<D, L, S> {
         Ok(())
     }
 
-    /// Advances the log until the queue has room for a block.
+    /// Advances the log while the queue has no room for a block.
     fn make_room(&mut self) -> Result<(), Why>
         ensures holds { (h : History)
             → Holds S.score_of D.tells D.bytes D.images D.size D.faults self.old h
             → IsOk result × Holds S.score_of D.tells D.bytes D.images D.size D.faults self.new h }
         ensures entries { self.new.entries ≡ self.old.entries }
         ensures room { OnOk result (queued self.new.log < QUEUE_MAX) }
+
+        // Where there is room nothing is done, and each device call is made while there is none.
+        ensures idle { queued self.old.log < QUEUE_MAX → self.new ≡ self.old }
+        ensures full { AdvancesWhileFull self.old.log self.new.log }
     {
         while self.log.queue_full() {
             self.advance()?;
@@ -240,6 +260,7 @@ impl<D: Disk, L: Ledger, S: Scorer> LogStore<D, L, S> {
         ensures lower { result ≡ Ok Bool.true → owed self.new.log < owed self.old.log }
         ensures idle { result ≡ Ok Bool.false
             → (self.new ≡ self.old) × (queued self.old.log ≡ 0) }
+        ensures one { (r : Result Progress LogErr) × Advances r self.old.log self.new.log }
     {
         match self.log.advance() {
             Ok(progress) => Ok(progress != Progress::Idle),

@@ -1,5 +1,5 @@
 -- what the store gives is said
-use Rattle.std.proofs.Common.{◌≡◌, List, ℕ, refl, sym, subst}
+use Rattle.std.proofs.Common.{List, ℕ, refl, subst}
 use Rattle.vt_base.specs.Protocol.{read, r_read}
 use Rattle.vt_wire.specs.Messages.{spelled}
 use Rattle.vt_prog.specs.Sessions.{Writes}

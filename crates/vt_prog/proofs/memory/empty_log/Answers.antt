@@ -1,5 +1,5 @@
 -- no call of the disk fails, and what was formatted is found
-use Rattle.std.proofs.Common.{◌≡◌, ℕ, List, [], ◌∷◌, ◌++◌, length, map, refl, sym, ◌∙◌, ap, subst, arith}
+use Rattle.std.proofs.Common.{◌≡◌, ℕ, List, [], ◌∷◌, ◌++◌, length, map, sym, ◌∙◌, ap, subst}
 use Rattle.std.proofs.lemmas.List.{length-map}
 use Rattle.vt_part.specs.declared.part.Part.{Part}
 use Rattle.vt_part.specs.declared.layout.ArenaRegion.{ArenaRegion}
@@ -39,8 +39,8 @@ returns-in-Ok-mount g c =
       runs = c.in-Ok-mount.ensures.mounted.stopped;
     }
 
-pub out_of_memory-requires : goal.out_of_memory-requires
-out_of_memory-requires g c =
+pub unreachable-requires-in_default-bad : goal.unreachable-requires-in_default-bad
+unreachable-requires-in_default-bad g c =
     let told = c.requires.tells in
     let items = c.push.new.self.items in
     let part = c.in_ok-part.part in
@@ -53,4 +53,5 @@ out_of_memory-requires g c =
     (c.in-Ok.ensures.empty g.S.Scorer.score_of _ told (own_images g.D.Disk.bytes g.D.Disk.images (λ disk. g.met.D.Disk.read_is_image disk told) _)) in
     let there = subst (λ (ps : List (Part _)). IsLog g.S.Scorer.score_of (layout_of (tables_of ps)) (map g.D.Disk.bytes (disks_of ps)) [] 0) (sym back) empty in
     let names = subst (λ (ps : List (Part _)). AreDistinct (names_of ps)) (sym back) (one_name (names_of c.format.new.parts) (length-map c.format.new.parts (λ part. (table_of part).name) ∙ long ∙ ap length one)) in
-    only_memory g.D.Disk.faults c.requires.never c.in-Err.bad _ _ c.in-Err.ensures.cause (c.in-Err.ensures.found [] 0 told names there)
+    let is = only_memory g.D.Disk.faults c.requires.never c.in-Err.bad _ _ c.in-Err.ensures.cause (c.in-Err.ensures.found [] 0 told names there) in
+    absurd (c.in_default-bad.not-NoMemory is)

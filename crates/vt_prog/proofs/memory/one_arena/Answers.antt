@@ -1,5 +1,5 @@
 -- the table that was formatted is found
-use Rattle.std.proofs.Common.{◌≡◌, ℕ, refl, sym, ◌∙◌, ap, arith}
+use Rattle.std.proofs.Common.{ℕ, ◌∙◌, ap}
 use Rattle.vt_part.specs.Table.{Table, count_for}
 use Rattle.vt_prog.proofs.memory.one_arena.Goals as goal
 

@@ -8,7 +8,7 @@ use Rattle.vt_model.specs.Places.{next_arena}
 use Rattle.vt_model.specs.Answer.{Outcome, answer_to_write, adds, with_added}
 use Rattle.vt_log.specs.Log.{LogState, setup_of}
 use Rattle.vt_log.specs.Sound.{IsSound}
-use Rattle.vt_prog.specs.Store.{StoreState, memory, Holds}
+use Rattle.vt_prog.specs.Store.{StoreState, memory, Holds, OnlyQueues}
 use Rattle.vt_prog.proofs.Added.{stored_as, accepted_is, refused, reply_is, appended}
 use Rattle.vt_prog.proofs.Holding.{with_log}
 use Rattle.vt_prog.proofs.store.LogStore.add.Goals as goal
@@ -34,6 +34,8 @@ returns-in_default-append g c = record {
             (with_log score g.D.Disk.tells g.D.Disk.bytes g.D.Disk.images g.D.Disk.size g.D.Disk.faults _ c.append.new.self h was
             (subst (λ (l : LogState _). IsSound score g.D.Disk.bytes g.D.Disk.images g.D.Disk.size l h) (sym same) was.sound) (ap setup_of same) (ap (λ (l : LogState _). l.stopped) same ∙ was.runs))),
       );
+  idle = λ room. subst (λ (l : LogState _). OnlyQueues l c.append.new.self) (ap (λ (s : StoreState _). s.log) (c.self.view_is ∙ c.make_room.ensures.idle room))
+      (subst (OnlyQueues c.self.inside.log) (sym c.in_default-append.ensures.takes.1) refl);
 }
 
 pub returns : goal.returns
@@ -58,4 +60,6 @@ returns g c = record {
             (appended score g.D.Disk.tells g.D.Disk.bytes g.D.Disk.images g.D.Disk.size g.D.Disk.faults _ h was c.in-Ok.packed c.args.key.kind c.args.bytes.now c.in-Ok.ensures.len passes
             c.append.new.self c.in-Ok-append.place entry appends is (ap setup_of takes.new_is) (ap (λ (l : LogState _). l.stopped) takes.new_is ∙ was.runs) c.requires.score refl refl refl),
       );
+  idle = λ room. subst (λ (l : LogState _). OnlyQueues l c.append.new.self) (ap (λ (s : StoreState _). s.log) (c.self.view_is ∙ c.make_room.ensures.idle room))
+      (subst (OnlyQueues c.self.inside.log) (sym c.in-Ok-append.ensures.takes.new_is) refl);
 }

@@ -1,5 +1,5 @@
 -- the log stays sound, and no call of its disks fails
-use Rattle.std.proofs.Common.{refl, sym, ◌∙◌, subst}
+use Rattle.std.proofs.Common.{refl, sym, subst}
 use Rattle.std.specs.Prelude.{IsOk}
 use Rattle.vt_prog.specs.Store.{StoreState, Holds}
 use Rattle.vt_prog.proofs.Holding.{advanced, setup_kept, with_log}

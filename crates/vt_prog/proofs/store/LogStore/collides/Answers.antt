@@ -1,13 +1,9 @@
 -- all blocks with one score have the same bytes
-use Rattle.std.proofs.Common.{◌≡◌, List, ℕ, Bool, not, Result, refl, sym, ◌∙◌, ap, subst, arith}
+use Rattle.std.proofs.Common.{◌≡◌, List, ℕ, not, sym, ◌∙◌, ap, subst}
 use Rattle.std.specs.Str.{bytes_eq}
 use Rattle.vt_prog.specs.Store.{StoreState, Holds}
-use Rattle.std.specs.Prelude.{MatchResult}
 use Rattle.std.proofs.lemmas.Result.{err_from_is_err_and}
 use Rattle.std.proofs.lemmas.Slice.Eq.{bytes_eq-Decides}
-use Rattle.vt_base.specs.declared.why.Why.{Why}
-use Rattle.vt_base.specs.declared.why.Why.TheVariants.{NoMemory}
-use Rattle.vt_model.specs.Answer.{collides}
 use Rattle.vt_prog.proofs.Indexed.{none_collides, one_collides, score_there, passes_there}
 use Rattle.vt_prog.proofs.store.LogStore.collides.Goals as goal
 

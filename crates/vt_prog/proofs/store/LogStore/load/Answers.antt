@@ -1,10 +1,10 @@
 -- the log gives its block
-use Rattle.std.proofs.Common.{◌≡◌, refl, sym, ◌∙◌, ap, subst, List, ℕ, Option, Some, Result}
+use Rattle.std.proofs.Common.{◌≡◌, sym, ◌∙◌, ap, subst, List, ℕ, Result}
 use Rattle.std.specs.Prelude.{MatchResult}
 use Rattle.vt_base.specs.declared.why.Why.{Why}
 use Rattle.vt_base.specs.declared.why.Why.TheVariants.{NoMemory}
 use Rattle.vt_log.specs.Log.{LogState, setup_of}
-use Rattle.vt_model.specs.Places.{Setup, Spot, place_of}
+use Rattle.vt_model.specs.Places.{Setup, place_of}
 use Rattle.vt_prog.specs.Store.{StoreState, Holds}
 use Rattle.vt_prog.proofs.Holding.{no_fault, with_log}
 use Rattle.vt_prog.proofs.store.LogStore.load.Goals as goal

@@ -1,5 +1,5 @@
 -- the model's answer, by what is found
-use Rattle.std.proofs.Common.{◌≡◌, Bool, List, ℕ, true, inl, Some, None, refl, sym, ◌∙◌, ap, subst, arith}
+use Rattle.std.proofs.Common.{◌≡◌, ℕ, true, inl, Some, None, refl, sym, ◌∙◌, ap, subst, arith}
 use Rattle.std.specs.Prelude.{find}
 use Rattle.std.specs.Option.{IfSome}
 use Rattle.std.specs.Str.{bytes_eq}
