@@ -21,7 +21,7 @@ pub use laws::{
     crash_gives_old_or_next, room_is_the_models, settled_regions, soundness_is_kept,
 };
 pub use mounting::{find, format, mount};
-pub use reading::read;
+pub use reading::{has_header, read};
 use vt_model::{CLUMP_HEADER_LEN, DIRECTORY_ENTRY_LEN, HEAD_LEN};
 
 /// How many bytes a frame of the head has.

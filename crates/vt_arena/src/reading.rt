@@ -80,8 +80,9 @@ pub fn read<D: Disk, S: Scorer>(
     }
 }
 
-/// Whether a clump's header at this offset lies in a region of this length, behind the head.
-fn has_header(len: u64, offset: u64) -> bool
+/// Whether a clump's header at this offset lies in a region of this length, behind the head: `read`
+/// makes device calls for such an offset alone.
+pub fn has_header(len: u64, offset: u64) -> bool
     ensures { IsTrue result ↔ HasHeader len offset }
 {
     let header_len = CLUMP_HEADER_LEN as u64;

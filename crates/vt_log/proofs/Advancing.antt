@@ -1,6 +1,7 @@
 -- A call of `advance`, from its two steps.
-use Rattle.std.proofs.Common.{◌≡◌, ◌≢◌, ⊎_elim, ℕ, ◌+◌, ◌<◌, ◌≤◌, List, [], ◌∷◌, length, get_or, refl, sym, ◌∙◌, ap, subst, arith, Some, None, Ok, Err, Result}
-use Rattle.std.specs.Prelude.{IsTrue, IsFalse, slice_get}
+use Rattle.std.proofs.Common.{◌≡◌, ◌≢◌, ⊎_elim, ℕ, ◌+◌, ◌<◌, ◌≤◌, List, [], ◌∷◌, length, get_or, refl, sym, ◌∙◌, ap, subst, arith, Option, Some, None, Ok, Err, Result}
+use Rattle.std.specs.Option.{option_map_or}
+use Rattle.std.specs.Prelude.{IsTrue, IsFalse, slice_get, if◌then◌else◌}
 use Rattle.std.proofs.lemmas.Bool.{cases_eq}
 use Rattle.std.proofs.lemmas.Option.{slice_get_within, slice_get_cases}
 use Rattle.vt_disk.specs.declared.region.Region.{Region}
@@ -10,18 +11,20 @@ use Rattle.vt_clump.specs.declared.packed.Packed.{Packed}
 use Rattle.vt_model.specs.History.{History}
 use Rattle.vt_part.specs.declared.layout.ArenaRegion.{ArenaRegion}
 use Rattle.vt_arena.specs.Arena.{is_committing, calls_made, commit_calls}
+use Rattle.vt_arena.specs.declared.head.Found.{Found}
 use Rattle.vt_log.specs.declared.bad.Progress.{Progress}
 use Rattle.vt_log.specs.declared.bad.Progress.TheVariants.{Idle, Step, Durable}
 use Rattle.vt_log.specs.declared.bad.LogErr.{LogErr}
 use Rattle.vt_log.specs.declared.bad.LogErr.TheVariants.{Fault, Stopped}
 use Rattle.vt_log.specs.Answers.{Advances, MakesCall, EndsCommit}
 use Rattle.vt_log.specs.Committing.{TakesAll, Prepares, MakesOrEnds}
+use Rattle.vt_log.specs.declared.filling.Filling.{Filling}
 use Rattle.vt_log.specs.declared.queue.Waiting.{Waiting}
-use Rattle.vt_log.specs.Log.{LogState, queued, disk_in_use, filled_as}
+use Rattle.vt_log.specs.Log.{LogState, queued, disk_in_use, filled_as, fits_in, next_filling}
 use Rattle.vt_log.specs.Queue.{WaitsFor}
 use Rattle.vt_log.specs.Sound.{IsAt, AreWithinCall, StandForPrefix}
 use Rattle.vt_log.specs.Whole.{IsOnDisk, IsWhole, Fill, turned_to}
-use Rattle.vt_log.proofs.Fillings.{fits_within, turned_arena}
+use Rattle.vt_log.proofs.Fillings.{fits_within, turned_arena, fill_arena}
 use Rattle.vt_log.proofs.Memory.{at_slice}
 use Rattle.vt_log.proofs.Owing.{none_made}
 
@@ -101,3 +104,31 @@ in_use size l whole some = ⊎_elim
     rw it.2 (slice_get_within l.disks it.0.part on.disk on.has))
     (λ (past : (length l.layout ≤ l.committing) × (slice_get l.layout l.committing ≡ None)). absurd (omega (arith, past.0, committing_there size l whole some)))
     (slice_get_cases l.layout l.committing).1
+
+-- ---- where the next block goes
+
+-- it is told by the regions, by what is being filled, and by the head of the arena behind that
+abbrev next_by : List ArenaRegion → Filling → Option Found → ℕ → Option Filling
+next_by layout f found n =
+    let next = option_map_or (λ (it : Found). filled_as (f.arena + 1) it.head) found (record { arena = f.arena + 1; used = 0; clumps = 0 }) in
+    if fits_in layout f n then Some f else if fits_in layout next n then Some next else None
+
+next_same : {D : Type 0} (old new : LogState D) (n : ℕ) → new.layout ≡ old.layout → new.filling ≡ old.filling
+    → slice_get new.heads (old.filling.arena + 1) ≡ slice_get old.heads (old.filling.arena + 1) → next_filling new n ≡ next_filling old n
+next_same old new n layout filling head =
+    ap (λ (rs : List ArenaRegion). next_by rs new.filling (slice_get new.heads (new.filling.arena + 1)) n) layout
+    ∙ ap (λ (f : Filling). next_by old.layout f (slice_get new.heads (f.arena + 1)) n) filling
+    ∙ ap (λ (o : Option Found). next_by old.layout old.filling o n) head
+
+-- no commit reaches the arena behind the one that is being filled
+pub next_kept : {D : Type 0} (size : D → ℕ) (r : Result Progress LogErr) (old new : LogState D) (n : ℕ) → IsWhole size old → Advances r old new
+    → new.layout ≡ old.layout → new.filling ≡ old.filling → next_filling new n ≡ next_filling old n
+next_kept size (Ok Idle) old new n whole it layout filling = ap (λ (l : LogState _). next_filling l n) it.1
+next_kept size (Ok Step) old new n whole it layout filling =
+    next_same old new n layout filling (ap (λ (found : List Found). slice_get found (old.filling.arena + 1)) it.0.heads)
+next_kept size (Ok (Durable blocks)) old new n whole it layout filling =
+    let reached = fill_arena old.layout old.heads (filled_as old.committing old.arena.next) old.filling old.queue.waiting whole.queue in
+    next_same old new n layout filling (it.0.heads (old.filling.arena + 1) (λ same. omega (arith, same, reached.0)))
+next_kept size (Err Fault) old new n whole it layout filling =
+    next_same old new n layout filling (ap (λ (found : List Found). slice_get found (old.filling.arena + 1)) it.0.heads)
+next_kept size (Err (Stopped call)) old new n whole it layout filling = ap (λ (l : LogState _). next_filling l n) it.1

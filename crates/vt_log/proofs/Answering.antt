@@ -1,16 +1,25 @@
 -- What a read answers.
-use Rattle.std.proofs.Common.{◌≡◌, ◌≢◌, ◌⊎◌, ⊎_elim, inl, inr, ℕ, ◌<◌, ◌≤◌, List, drop, sym, ◌∙◌, ap, subst, arith, Ok, Err, Result, IfOk, IfErr, MatchResult}
+use Rattle.std.proofs.Common.{◌≡◌, ◌≢◌, ◌⊎◌, ⊎_elim, inl, inr, ℕ, ◌-◌, ◌<◌, ◌≤◌, Bool, IsTrue, List, length, drop, sym, ◌∙◌, ap, subst, arith, Some, Ok, Err, Result, IfOk, IfErr, MatchResult}
+use Rattle.std.specs.Prelude.{slice_get}
 use Rattle.std.proofs.lemmas.Bool.{cases_lt}
+use Rattle.std.proofs.lemmas.Option.{slice_get_within}
 use Rattle.vt_base.specs.declared.key.Key.{Key}
 use Rattle.vt_base.specs.declared.place.Place.{Place}
+use Rattle.vt_base.specs.declared.why.FieldValue.TheVariants.{Number}
+use Rattle.vt_disk.specs.declared.region.Region.{Region}
 use Rattle.vt_clump.specs.declared.packed.Packed.{Packed}
 use Rattle.vt_clump.specs.declared.reading.Clump.{Clump}
 use Rattle.vt_clump.specs.Spelling.{stored_in}
+use Rattle.vt_model.specs.declared.TheConstants.{HEAD_LEN}
+use Rattle.vt_part.specs.declared.layout.ArenaRegion.{ArenaRegion}
 use Rattle.vt_arena.specs.declared.bad.ReadBad.{ReadBad}
 use Rattle.vt_arena.specs.declared.bad.ReadBad.TheVariants.{Fault, Damaged, NoMemory}
+use Rattle.vt_arena.specs.Reading.{HasHeader, clump_at}
 use Rattle.vt_arena.specs.Reading.{ReadsAs as ReadsClump}
-use Rattle.vt_log.specs.Queue.{IsFirstAt}
-use Rattle.vt_log.specs.Reading.{IsOther, IsDamagedBy, GivesPacked, ReadsAs}
+use Rattle.vt_log.specs.Log.{LogState, packed_of}
+use Rattle.vt_log.specs.Queue.{IsFirstAt, IsNowhere}
+use Rattle.vt_log.specs.Reading.{IsOther, IsDamagedBy, GivesPacked, ReadsAs, AnswersRead}
+use Rattle.vt_log.specs.Sound.{IsAt}
 
 -- a clump with the key that was asked for is not damaged by its key
 pub no_other : (key : Key) (kind : ℕ) (score : List ℕ) (bad : ReadBad) → kind ≡ key.kind → score ≡ key.score.0 → IsDamagedBy key kind score bad → ⊥
@@ -62,3 +71,73 @@ first_once places place i j here there = ⊎_elim
     (λ (same : i ≤ j). omega (arith, rest, same))
     (cases_lt j i))
     (cases_lt i j)
+
+-- a place is nowhere in the queue of a log that is the same
+pub nowhere_in : {D : Type 0} (l m : LogState D) (place : Place) → l ≡ m
+    → IsNowhere l.queue.places place → IsNowhere m.queue.places place
+nowhere_in {D = D} l m place same none =
+    subst (λ (x : LogState D). IsNowhere x.queue.places place) same none
+
+-- no step is free for a place at which a clump is read
+pub not_free : {D : Type 0} (l : LogState D) (place : Place) → IsNowhere l.queue.places place
+    → place.arena < length l.layout
+    → ((r : ArenaRegion) → slice_get l.layout place.arena ≡ Some r
+    → ¬ HasHeader r.len place.offset → ⊥)
+    → ((i : ℕ) × IsFirstAt l.queue.places place i) ⊎ (length l.layout ≤ place.arena)
+    ⊎ ((r : ArenaRegion) × (slice_get l.layout place.arena ≡ Some r)
+    × (¬ HasHeader r.len place.offset)) → ⊥
+not_free l place none within has free = ⊎_elim
+    (λ (it : (i : ℕ) × IsFirstAt l.queue.places place i). none it.0 it.1.at)
+    (⊎_elim (λ (past : length l.layout ≤ place.arena). absurd (omega (arith, within, past)))
+    (λ (it : (r : ArenaRegion) × (slice_get l.layout place.arena ≡ Some r)
+    × (¬ HasHeader r.len place.offset)). has it.0 it.1 it.2))
+    free
+
+-- what is answered for a queued place, for one in no arena, and for one in an arena
+pub answers_queued : {D : Type 0} (score_of : List ℕ → List ℕ) (tells : Bool) (bytes : D → List ℕ)
+    (l : LogState D) (place : Place) (key : Key) (result : Result (List ℕ) ReadBad) (index : ℕ)
+    (p : Packed) → IsFirstAt l.queue.places place index → slice_get (packed_of l) index ≡ Some p
+    → GivesPacked key p result → AnswersRead score_of tells bytes l place key result
+answers_queued score_of tells bytes l place key result index p first at gives = record {
+  queued = λ i here. (
+    p,
+    subst (λ (k : ℕ). slice_get (packed_of l) k ≡ Some p)
+        (first_once l.queue.places place index i first here) at,
+    gives,
+  );
+  nowhere = λ none. absurd (none index first.at);
+  outside = λ r none. absurd (none index first.at);
+  stored = λ r region disk none. absurd (none index first.at);
+}
+
+pub answers_nowhere : {D : Type 0} (score_of : List ℕ → List ℕ) (tells : Bool)
+    (bytes : D → List ℕ) (l : LogState D) (place : Place) (key : Key)
+    (result : Result (List ℕ) ReadBad) → IsNowhere l.queue.places place
+    → length l.layout ≤ place.arena
+    → result ≡ Err (Damaged (Number (length l.layout - 1)) (Number place.arena))
+    → AnswersRead score_of tells bytes l place key result
+answers_nowhere score_of tells bytes l place key result none past is = record {
+  queued = λ i here. absurd (none i here.at);
+  nowhere = λ _ _. is;
+  outside = λ r _ at. absurd (omega (arith, past, slice_get_within l.layout place.arena r at));
+  stored = λ r region disk _ at.
+      absurd (omega (arith, past, slice_get_within l.layout place.arena r at.arena));
+}
+
+pub answers_there : {D : Type 0} (score_of : List ℕ → List ℕ) (tells : Bool) (bytes : D → List ℕ)
+    (l : LogState D) (place : Place) (key : Key) (result : Result (List ℕ) ReadBad)
+    → IsNowhere l.queue.places place → place.arena < length l.layout
+    → ((r : ArenaRegion) → slice_get l.layout place.arena ≡ Some r
+    → ¬ HasHeader r.len place.offset
+    → result ≡ Err (Damaged (Number HEAD_LEN) (Number place.offset)))
+    → ((r : ArenaRegion) (region : Region) (disk : D) → IsAt l place.arena r region disk
+    → HasHeader r.len place.offset → (clump : List ℕ)
+    × (IsTrue tells → clump ≡ clump_at region place.offset (bytes disk))
+    × ReadsAs score_of key clump result)
+    → AnswersRead score_of tells bytes l place key result
+answers_there score_of tells bytes l place key result none within outside stored = record {
+  queued = λ i here. absurd (none i here.at);
+  nowhere = λ _ past. absurd (omega (arith, within, past));
+  outside = λ r _. outside r;
+  stored = λ r region disk _. stored r region disk;
+}

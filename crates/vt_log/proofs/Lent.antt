@@ -1,5 +1,5 @@
 -- One disk of a log is lent to a call that reads an arena.
-use Rattle.std.proofs.Common.{◌≡◌, ℕ, ◌+◌, ◌^◌, ◌<◌, ◌≤◌, List, length, get_or, map, set, refl, sym, ◌∙◌, ap, subst, Some, Ok, Err, Result}
+use Rattle.std.proofs.Common.{◌≡◌, ℕ, ◌+◌, ◌^◌, ◌<◌, ◌≤◌, Bool, IsTrue, List, length, get_or, map, set, refl, sym, ◌∙◌, ap, subst, arith, Some, Ok, Err, Result, IfOk}
 use Rattle.std.specs.Prelude.{slice_get, sum_by, MatchResult}
 use Rattle.std.proofs.lemmas.List.{get_or_default, set-get_or}
 use Rattle.std.proofs.lemmas.Option.{slice_get_read, get_or_from_slice_get, same_Some}
@@ -9,14 +9,16 @@ use Rattle.vt_arena.specs.declared.bad.ReadBad.{ReadBad}
 use Rattle.vt_arena.specs.declared.bad.ReadBad.TheVariants.{Fault, Damaged, NoMemory}
 use Rattle.vt_arena.specs.declared.bad.BackBad.{BackBad}
 use Rattle.vt_arena.specs.declared.bad.BackBad.TheVariants.{Fault as BackFault, Damaged as BackDamaged}
-use Rattle.vt_clump.specs.Spelling.{Stored}
+use Rattle.vt_clump.specs.declared.reading.Clump.{Clump}
+use Rattle.vt_clump.specs.Clumps.{IsRead}
+use Rattle.vt_clump.specs.Spelling.{Stored, IsStored}
 use Rattle.vt_arena.specs.Layout.{HasBlocks}
 use Rattle.vt_arena.specs.Reading.{CountsFault as CountsFaultOne}
 use Rattle.vt_arena.specs.Directory.{CountsFault as CountsBackOne}
 use Rattle.vt_part.specs.declared.layout.ArenaRegion.{ArenaRegion}
 use Rattle.vt_part.specs.declared.part.Part.{Part}
 use Rattle.vt_part.specs.Parts.{disk_of, tables_of}
-use Rattle.vt_log.specs.Answers.{Spares}
+use Rattle.vt_log.specs.Answers.{OnlyReads, Spares}
 use Rattle.vt_log.specs.Back.{CountsFault as CountsBack}
 use Rattle.vt_log.specs.Log.{LogState}
 use Rattle.vt_log.specs.Reading.{CountsFault}
@@ -31,16 +33,22 @@ use Rattle.vt_log.proofs.Memory.{at_slice}
 abbrev pub region_at : (r : ArenaRegion) → r.at + r.len < 2 ^ 64 → Region
 region_at r k = record { start = r.at; len = r.len; in_range = k }
 
+-- a value to read an arena's region by
+abbrev pub no_region : ArenaRegion
+no_region = record { part = 0; number = 0; at = 0; len = 0 }
+
 -- an arena has this region, on this disk, and another disk is there after the call
 pub record IsLent {D : Type 0} (score_of : List ℕ → List ℕ) (bytes : D → List ℕ) (images : D → List ℕ → Type 0) (size : D → ℕ) (arena : ℕ) (r : ArenaRegion) (d e : D) (m k : LogState D) : Type 0 where
   pub only : IsReadOnly score_of bytes images size r.part d e m k
   pub layout : slice_get m.layout arena ≡ Some r
   pub r_one : (q : ArenaRegion) → slice_get m.layout arena ≡ Some q → q ≡ r
   pub small : r.at + r.len < 2 ^ 64
+  pub fits : r.at + r.len ≤ size d
   pub region_one : (q : ArenaRegion) (other : Region) (disk : D) → IsAt m arena q other disk → (it : r.at + r.len < 2 ^ 64) → region_at r it ≡ other
   pub disk_one : (q : ArenaRegion) (other : Region) (disk : D) → IsAt m arena q other disk → d ≡ disk
   pub spares : (q : ArenaRegion) → slice_get m.layout arena ≡ Some q → Spares q.part m.disks k.disks
-  pub calls : (calls : D → ℕ) (n : ℕ) → calls e ≤ calls d + n → sum_by calls k.disks ≤ sum_by calls m.disks + n
+  pub reads : (tells : Bool) (calls : D → ℕ) (n : ℕ) → (IsTrue tells → calls e ≤ calls d + n)
+      → OnlyReads score_of tells bytes images size calls n m k
 
 pub lent : {D : Type 0} (score_of : List ℕ → List ℕ) (bytes : D → List ℕ) (images : D → List ℕ → Type 0) (size : D → ℕ) (ps : List (Part D)) (arena : ℕ) (r dr : ArenaRegion) (p : Part D) (e : D)
     (l m : LogState D) → IsWhole size l → l ≡ m → l.disks ≡ map (λ part. disk_of part) ps → l.tables ≡ tables_of ps → arena < length m.layout → r ≡ get_or l.layout arena dr → p ≡ get_or ps r.part p
@@ -51,12 +59,24 @@ lent {D = D} score_of bytes images size ps arena r dr p e l m whole view disks t
   layout = layout;
   r_one = λ q at. same q at;
   small = on.small;
+  fits = omega (
+    arith,
+    on.within,
+    ap size (same_Some on.disk (disk_of p)
+        (sym on.has ∙ ap (λ (x : LogState D). slice_get x.disks r.part) view ∙ only.was)),
+  );
   region_one = λ q other disk at it. same_region (region_at r it) other
       (ap (λ (x : ArenaRegion). x.at) (sym (same q at.arena)) ∙ sym at.region_is.start) (ap (λ (x : ArenaRegion). x.len) (sym (same q at.arena)) ∙ sym at.region_is.len);
   disk_one = λ q other disk at. same_Some (disk_of p) disk (sym only.was ∙ ap (λ (x : ArenaRegion). slice_get m.disks x.part) (sym (same q at.arena)) ∙ at.disk_is);
   spares = λ q at. subst (λ (x : ArenaRegion). Spares x.part m.disks (with_disk ps r.part p e l).disks) (sym (same q at))
       (subst (λ (ds : List D). Spares r.part m.disks ds) (sym only.disks_are) (spares_set m.disks r.part e));
-  calls = λ calls n at_most. subst (λ (ds : List D). sum_by calls ds ≤ sum_by calls m.disks + n) (sym only.disks_are) (calls_set calls m.disks r.part (disk_of p) e n only.was at_most);
+  reads = λ tells calls n at_most. record {
+    same = only.same;
+    sound = only.sound;
+    disks = only.hold;
+    calls = λ told. subst (λ (ds : List D). sum_by calls ds ≤ sum_by calls m.disks + n) (sym only.disks_are)
+        (calls_set calls m.disks r.part (disk_of p) e n only.was (at_most told));
+  };
 }
   where
     inside : arena < length l.layout
@@ -102,6 +122,14 @@ pub backs_cause : {X T : Type 0} (f : X → ℕ) (xs ys : List X) (i : ℕ) (x y
     → MatchResult result (λ _. f y ≡ f x) (λ bad. CountsBackOne bad (f x) (f y)) → MatchResult result (λ _. map f ys ≡ map f xs) (λ bad. CountsBack bad (map f xs) (map f ys))
 backs_cause f xs ys i x y (Ok t) at is cause = ap (map f) is ∙ map_same f xs i x y at cause
 backs_cause f xs ys i x y (Err bad) at is cause = back_cause f xs ys i x y bad at is cause
+
+-- a clump that is read has a block of 57,344 bytes at most
+pub read_whole : (score_of : List ℕ → List ℕ) (result : Result Clump ReadBad)
+    → IfOk result (λ clump. (s : Stored) × IsStored score_of s × IsRead s clump)
+    → IfOk result (λ clump. length clump.bytes ≤ 57344)
+read_whole score_of (Ok clump) whole =
+    omega (arith, ap (λ (b : List ℕ). length b) whole.2.bytes, whole.1)
+read_whole score_of (Err bad) whole = tt
 
 -- a disk that is the same leaves the log the same
 pub unchanged : {D : Type 0} (score_of : List ℕ → List ℕ) (bytes : D → List ℕ) (images : D → List ℕ → Type 0) (size : D → ℕ) (i : ℕ) (d e : D) (m k : LogState D)

@@ -15,6 +15,7 @@ pub mod Once
 pub mod Lent
 pub mod Places
 pub mod Standing
+pub mod Damages
 pub mod Answering
 pub mod Walking
 pub mod Making

@@ -1,5 +1,5 @@
 -- What the calls of a log answer.
-use Rattle.std.specs.Prelude.{◌≡◌, ◌≢◌, ℕ, ◌+◌, ◌<◌, IsTrue, Some, None, Result, Ok, Err, List, [], ◌∷◌, ◌++◌, length, map, drop, slice_get}
+use Rattle.std.specs.Prelude.{◌≡◌, ◌≢◌, ℕ, ◌+◌, ◌<◌, ◌≤◌, Bool, IsTrue, Some, None, Result, Ok, Err, List, [], ◌∷◌, ◌++◌, length, map, drop, sum_by, slice_get}
 use Rattle.vt_base.specs.declared.place.Place.{Place}
 use Rattle.vt_clump.specs.declared.packed.Packed.{Packed}
 use Rattle.vt_clump.specs.Clumps.{stored_of}
@@ -98,3 +98,13 @@ pub record HoldTheSame {D : Type 0} (bytes : D → List ℕ) (images : D → Lis
   pub sizes_are : map size new ≡ map size old
   pub images_are : (i : ℕ) (before after : D) → slice_get old i ≡ Some before
       → slice_get new i ≡ Some after → AreAmong (images after) (images before)
+
+-- the log reads from its disks, at most so many times, and nothing else changes
+pub record OnlyReads {D : Type 0} (score_of : List ℕ → List ℕ) (tells : Bool) (bytes : D → List ℕ)
+    (images : D → List ℕ → Type 0) (size calls_of : D → ℕ) (most : ℕ) (old new : LogState D)
+    : Type 0 where
+  pub same : new ≡ record old { disks = new.disks }
+  pub sound : (h : History) → IsSound score_of bytes images size old h
+      → IsSound score_of bytes images size new h
+  pub disks : HoldTheSame bytes images size old.disks new.disks
+  pub calls : IsTrue tells → sum_by calls_of new.disks ≤ sum_by calls_of old.disks + most

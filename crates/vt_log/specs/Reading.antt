@@ -1,16 +1,22 @@
 -- What reading a block answers.
-use Rattle.std.specs.Prelude.{◌≡◌, ◌≢◌, ◌⊎◌, ⊤, ℕ, None, List, drop, Result, Ok, Err}
+use Rattle.std.specs.Prelude.{◌≡◌, ◌≢◌, ◌⊎◌, ⊤, ℕ, ◌-◌, ◌≤◌, Bool, IsTrue, Some, None, List, length, drop, slice_get, Result, Ok, Err}
 use Rattle.vt_base.specs.declared.key.Key.{Key}
 use Rattle.vt_base.specs.declared.why.FieldValue.{FieldValue}
 use Rattle.vt_base.specs.declared.why.FieldValue.TheVariants.{Number, Score as ScoreValue}
+use Rattle.vt_base.specs.declared.place.Place.{Place}
+use Rattle.vt_disk.specs.declared.region.Region.{Region}
 use Rattle.vt_clump.specs.declared.packed.Packed.{Packed}
 use Rattle.vt_clump.specs.Faults.{first_bad}
 use Rattle.vt_clump.specs.Spelling.{Stored, stored_in}
-use Rattle.vt_model.specs.declared.TheConstants.{CLUMP_HEADER_LEN}
+use Rattle.vt_model.specs.declared.TheConstants.{HEAD_LEN, CLUMP_HEADER_LEN}
+use Rattle.vt_part.specs.declared.layout.ArenaRegion.{ArenaRegion}
 use Rattle.vt_arena.specs.declared.bad.ReadBad.{ReadBad}
 use Rattle.vt_arena.specs.declared.bad.ReadBad.TheVariants.{Fault, Damaged, NoMemory}
-use Rattle.vt_arena.specs.Reading.{IsDamaged}
+use Rattle.vt_arena.specs.Reading.{HasHeader, clump_at, IsDamaged}
 use Rattle.vt_log.specs.Faults.{OneHasRisen}
+use Rattle.vt_log.specs.Log.{LogState, packed_of}
+use Rattle.vt_log.specs.Queue.{IsFirstAt, IsNowhere}
+use Rattle.vt_log.specs.Sound.{IsAt}
 
 -- a clump of this type and score has another key than the one that was asked for: another type or,
 -- of the same type, another score
@@ -50,6 +56,24 @@ ReadsAs score_of key bytes (Err (Damaged want found)) =
     ⊎ ((first_bad score_of bytes ≡ None) × Gives key (stored_in bytes) (Err (Damaged want found)))
 ReadsAs score_of key bytes (Err NoMemory) = ⊤
 ReadsAs score_of key bytes (Err Fault) = ⊤
+
+-- What reading a place answers, for any key: what stands there in the queue or, where nothing
+-- queued has the place, on the disk. Of a place in no arena the number is told, where that of the
+-- last one was wanted; of one at which no header can lie, the offset, where the head's end was.
+pub record AnswersRead {D : Type 0} (score_of : List ℕ → List ℕ) (tells : Bool)
+    (bytes : D → List ℕ) (l : LogState D) (place : Place) (key : Key)
+    (result : Result (List ℕ) ReadBad) : Type 0 where
+  pub queued : (i : ℕ) → IsFirstAt l.queue.places place i → (p : Packed)
+      × (slice_get (packed_of l) i ≡ Some p) × GivesPacked key p result
+  pub nowhere : IsNowhere l.queue.places place → length l.layout ≤ place.arena
+      → result ≡ Err (Damaged (Number (length l.layout - 1)) (Number place.arena))
+  pub outside : (r : ArenaRegion) → IsNowhere l.queue.places place
+      → slice_get l.layout place.arena ≡ Some r → ¬ HasHeader r.len place.offset
+      → result ≡ Err (Damaged (Number HEAD_LEN) (Number place.offset))
+  pub stored : (r : ArenaRegion) (region : Region) (disk : D) → IsNowhere l.queue.places place
+      → IsAt l place.arena r region disk → HasHeader r.len place.offset → (clump : List ℕ)
+      × (IsTrue tells → clump ≡ clump_at region place.offset (bytes disk))
+      × ReadsAs score_of key clump result
 
 -- a fault comes only where a disk's count of faults rises, and one rises only then
 abbrev pub CountsFault : ReadBad → (old new : List ℕ) → Type 0

@@ -1,6 +1,6 @@
 //! Walking a log from its last block to the first.
 
-ghost use Rattle.std.specs.Prelude.{◌≡◌, ◌≢◌, ◌↔◌, ◌⊎◌, ◌∷◌, ◌++◌, ◌+◌, ◌-◌, ◌<◌, ◌≤◌, ℕ, List, Some, None, Ok, IsTrue, IfOk, IfErr, MatchOption, MatchResult, length, map, sum_by, slice_get};
+ghost use Rattle.std.specs.Prelude.{◌≡◌, ◌≢◌, ◌↔◌, ◌⊎◌, ◌∷◌, ◌++◌, ◌+◌, ◌-◌, ◌<◌, ◌≤◌, ℕ, List, Some, None, Ok, IsTrue, IfOk, IfErr, MatchOption, MatchResult, length, map, slice_get};
 ghost use Rattle.vt_base.specs.declared.place.Info.{Info};
 ghost use Rattle.vt_base.specs.declared.place.Place.{Place};
 ghost use Rattle.vt_disk.specs.declared.region.Region.{Region};
@@ -56,9 +56,9 @@ impl Tail {
 }
 
 impl<D: Disk, S: Scorer> Log<D, S> {
-    ghost use Rattle.vt_log.specs.Answers.{Spares, HoldTheSame};
+    ghost use Rattle.vt_log.specs.Answers.{OnlyReads, Spares};
     ghost use Rattle.vt_log.specs.Back.{IsTailOf, IsBehind, StepsBack, IsNext, GivesEntry, Moves, IsQueued, CountsFault};
-    ghost use Rattle.vt_log.specs.Log.{LogState, front, packed_of};
+    ghost use Rattle.vt_log.specs.Log.{front, packed_of};
     ghost use Rattle.vt_log.specs.Sound.{IsSound, IsAt};
 
     /// A walk that has all blocks before it.
@@ -80,6 +80,9 @@ impl<D: Disk, S: Scorer> Log<D, S> {
     /// What is known of the block that comes next on the way from the last to the first. None where
     /// all were given. A queued one comes from the queue; else one directory entry is read, and
     /// counted as one step.
+    ///
+    /// Damaged says by what value the entry differs from what was wanted, and Fault that the device
+    /// call failed. The walk has as many blocks before it then as it had.
     pub fn back<L: Ledger>(
         &mut self,
         tail: &mut Tail,
@@ -118,17 +121,12 @@ impl<D: Disk, S: Scorer> Log<D, S> {
         ensures cost { 0 < tail.old.left → tail.old.queued ≡ 0 → steps.new ≡ steps.old + 1 }
         ensures free { (tail.old.left ≡ 0) ⊎ (0 < tail.old.queued)
             → (steps.new ≡ steps.old) × (self.new ≡ self.old) }
-        ensures same { self.new ≡ record self.old { disks = self.new.disks } }
-        ensures sound { (h : History)
-            → IsSound S.score_of D.bytes D.images D.size self.old h
-            → IsSound S.score_of D.bytes D.images D.size self.new h }
-        ensures disks { HoldTheSame D.bytes D.images D.size self.old.disks self.new.disks }
+        ensures reads { OnlyReads S.score_of D.tells D.bytes D.images D.size D.calls 1
+            self.old self.new }
         ensures spares { (arena : ℕ) (at : At) (found : Found) (r : ArenaRegion)
             → IsNext self.old.heads tail.old arena at → slice_get self.old.heads arena ≡ Some found
             → slice_get self.old.layout arena ≡ Some r
             → Spares r.part self.old.disks self.new.disks }
-        ensures calls { IsTrue D.tells
-            → sum_by D.calls self.new.disks ≤ sum_by D.calls self.old.disks + 1 }
         ensures cause { MatchResult result
             (λ _. map D.faults self.new.disks ≡ map D.faults self.old.disks)
             (λ bad. CountsFault bad (map D.faults self.old.disks)
@@ -213,25 +211,17 @@ impl<D: Disk, S: Scorer> Log<D, S> {
         ensures tail { IsTailOf self.new tail.new }
         ensures left { MatchResult result (λ it. MatchOption it (tail.new.left ≡ tail.old.left)
             (λ _. tail.new.left + 1 ≡ tail.old.left)) (λ _. tail.new.left ≡ tail.old.left) }
-        ensures same { self.new ≡ record self.old { disks = self.new.disks } }
-        ensures sound { (h : History)
-            → IsSound S.score_of D.bytes D.images D.size self.old h
-            → IsSound S.score_of D.bytes D.images D.size self.new h }
-        ensures disks { HoldTheSame D.bytes D.images D.size self.old.disks self.new.disks }
+        ensures reads { OnlyReads S.score_of D.tells D.bytes D.images D.size D.calls 1
+            self.old self.new }
         ensures spares { (r : ArenaRegion) → slice_get self.old.layout tail.old.arena ≡ Some r
             → Spares r.part self.old.disks self.new.disks }
-        ensures calls { IsTrue D.tells
-            → sum_by D.calls self.new.disks ≤ sum_by D.calls self.old.disks + 1 }
         ensures cause { MatchResult result
             (λ _. map D.faults self.new.disks ≡ map D.faults self.old.disks)
             (λ bad. CountsFault bad (map D.faults self.old.disks)
             (map D.faults self.new.disks)) }
     {
         let arena = tail.arena;
-        let info = match self.read_entry(arena, &mut tail.at) {
-            Ok(info) => info,
-            Err(bad) => return Err(bad),
-        };
+        let info = self.read_entry(arena, &mut tail.at)?;
         tail.left -= 1;
         Ok(Some(Info {
             key: info.key,
@@ -265,15 +255,10 @@ impl<D: Disk, S: Scorer> Log<D, S> {
             → a.stored ≡ before ++ s ∷ behind → found.head ≡ head_of S.score_of number a
             → IsAtBlock before s at.old
             → MatchResult result (IsInfo number before s) (λ bad. bad ≡ BackBad.Fault) }
-        ensures same { self.new ≡ record self.old { disks = self.new.disks } }
-        ensures sound { (h : History)
-            → IsSound S.score_of D.bytes D.images D.size self.old h
-            → IsSound S.score_of D.bytes D.images D.size self.new h }
-        ensures disks { HoldTheSame D.bytes D.images D.size self.old.disks self.new.disks }
+        ensures reads { OnlyReads S.score_of D.tells D.bytes D.images D.size D.calls 1
+            self.old self.new }
         ensures spares { (r : ArenaRegion) → slice_get self.old.layout arena ≡ Some r
             → Spares r.part self.old.disks self.new.disks }
-        ensures calls { IsTrue D.tells
-            → sum_by D.calls self.new.disks ≤ sum_by D.calls self.old.disks + 1 }
         ensures cause { MatchResult result
             (λ _. map D.faults self.new.disks ≡ map D.faults self.old.disks)
             (λ bad. CountsFault bad (map D.faults self.old.disks)

@@ -20,7 +20,7 @@ impl<D: Disk, S: Scorer> Log<D, S> {
     ghost use Rattle.vt_log.specs.Answers.{Advances, Spares};
     ghost use Rattle.vt_log.specs.Committing.{Stages, IsReady, TakesAll, Prepares, MakesOrEnds};
     ghost use Rattle.vt_log.specs.Faults.{CountsFaultAt};
-    ghost use Rattle.vt_log.specs.Log.{LogState, queued, packed_of, disk_in_use};
+    ghost use Rattle.vt_log.specs.Log.{LogState, queued, packed_of, next_filling, disk_in_use};
     ghost use Rattle.vt_log.specs.Queue.{WaitsFor};
     ghost use Rattle.vt_log.specs.Owed.{owed, seal_calls};
     ghost use Rattle.vt_log.specs.Sound.{IsSound, IsAt, AreWithinCall, StandForPrefix};
@@ -57,7 +57,8 @@ impl<D: Disk, S: Scorer> Log<D, S> {
     /// arena, the commit seals this one.
     ///
     /// Idle is the answer where nothing is queued. A commit whose last call is made answers
-    /// Durable, with how many blocks are committed then; one that only seals does too.
+    /// Durable, with how many blocks are committed then; one that only seals does too. Fault says
+    /// that the device call failed: the log is stopped then, and each further call answers Stopped.
     pub fn advance(&mut self) -> Result<Progress, LogErr>
         // For each history for which the disks are sound they stay so. It isn't changed.
         ensures sound { (h : History) → IsTrue D.tells
@@ -77,6 +78,9 @@ impl<D: Disk, S: Scorer> Log<D, S> {
         ensures idle { self.old.stopped ≡ None → queued self.old ≡ 0 → result ≡ Ok Progress.Idle }
         ensures kept { (self.new.layout ≡ self.old.layout) × (self.new.tables ≡ self.old.tables)
             × (self.new.base ≡ self.old.base) × (self.new.filling ≡ self.old.filling) }
+
+        // Where the next block goes stays.
+        ensures next { (n : ℕ) → next_filling self.new n ≡ next_filling self.old n }
 
         // The first call of a commit begins it with all that waits for the arena, and with its
         // seal where a block waits for the next one.
@@ -213,7 +217,7 @@ impl<D: Disk, S: Scorer> Log<D, S> {
         match self.arena.advance(disk, region) {
             Ok(Step::More) => Ok(Progress::Step),
             Ok(Step::Done) => {
-                self.queue.settle(blocks);
+                self.queue.drop_committed(blocks);
                 self.durable += blocks as u64;
                 self.heads[at].head = self.arena.head();
                 let sealed = self.arena.is_sealing();

@@ -1,6 +1,6 @@
 //! A log in memory: which arena it commits in, what is queued, and how full the arenas are.
 
-ghost use Rattle.std.specs.Prelude.{◌≡◌, ◌↔◌, ◌⊎◌, ◌+◌, ◌<◌, ◌≤◌, ◌^◌, ℕ, Bool, Some, Err, Result, IsTrue, IsFalse, OnOk, IfSome, MatchResult, is_some, length, map, sum_by, slice_get};
+ghost use Rattle.std.specs.Prelude.{◌≡◌, ◌↔◌, ◌+◌, ◌<◌, ◌≤◌, ◌^◌, Some, Err, Result, IsTrue, IsFalse, OnOk, IfSome, MatchResult, is_some, length, map, slice_get};
 ghost use Rattle.vt_disk.specs.Disk.{part as part_of};
 ghost use Rattle.vt_clump.specs.Clumps.{IsPacked};
 ghost use Rattle.vt_model.specs.History.{History};
@@ -90,7 +90,7 @@ impl<D: Disk, S: Scorer> Model for Log<D, S> {
 }
 
 impl<D: Disk, S: Scorer> Log<D, S> {
-    ghost use Rattle.vt_log.specs.Answers.{Appends, TakesOrRefuses, Spares, HoldTheSame};
+    ghost use Rattle.vt_log.specs.Answers.{Appends, OnlyReads, TakesOrRefuses, Spares};
     ghost use Rattle.vt_log.specs.Faults.{OneHasRisen};
     ghost use Rattle.vt_log.specs.Log.{LogState, front, queued, setup_of, has_next, next_filling, fits_in};
     ghost use Rattle.vt_log.specs.Sound.{IsSound};
@@ -123,7 +123,8 @@ impl<D: Disk, S: Scorer> Log<D, S> {
         self.heads[arena as usize].head
     }
 
-    /// Reads bytes of an arena's region, from this offset on.
+    /// Reads bytes of an arena's region, from this offset on. Failed says that the device call
+    /// failed.
     pub fn bytes(&mut self, arena: u32, at: u64, buf: &mut [u8]) -> Result<(), Failed>
         requires arena { arena < length self.old.layout }
         requires within { (r : ArenaRegion) → slice_get self.old.layout arena ≡ Some r
@@ -134,15 +135,10 @@ impl<D: Disk, S: Scorer> Log<D, S> {
             × (buf.new ≡ part_of (r.at + at) (length buf.old) (D.bytes disk))) }
 
         // It makes one read of the arena's disk, and changes nothing.
-        ensures same { self.new ≡ record self.old { disks = self.new.disks } }
-        ensures sound { (h : History)
-            → IsSound S.score_of D.bytes D.images D.size self.old h
-            → IsSound S.score_of D.bytes D.images D.size self.new h }
-        ensures disks { HoldTheSame D.bytes D.images D.size self.old.disks self.new.disks }
+        ensures reads { OnlyReads S.score_of D.tells D.bytes D.images D.size D.calls 1
+            self.old self.new }
         ensures spares { (r : ArenaRegion) → slice_get self.old.layout arena ≡ Some r
             → Spares r.part self.old.disks self.new.disks }
-        ensures calls { IsTrue D.tells
-            → sum_by D.calls self.new.disks ≤ sum_by D.calls self.old.disks + 1 }
         ensures cause { MatchResult result
             (λ _. map D.faults self.new.disks ≡ map D.faults self.old.disks)
             (λ _. OneHasRisen (map D.faults self.old.disks) (map D.faults self.new.disks)) }
@@ -205,7 +201,8 @@ impl<D: Disk, S: Scorer> Log<D, S> {
     }
 
     /// Takes a block in: it goes behind those that the arena has that is being filled or, where it
-    /// doesn't fit there, into the next one. It makes no device call.
+    /// doesn't fit there, into the next one. It makes no device call. Full says that neither has
+    /// room for it; the log is as it was then.
     pub fn append(&mut self, packed: Packed) -> Result<Place, Full>
         requires { queued self.old < QUEUE_MAX }
 

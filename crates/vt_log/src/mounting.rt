@@ -37,7 +37,7 @@ use vt_part::{ArenaRegion, Layout, Part, PartBad};
 const SHORTEST_ARENA: u64 = 32_768;
 
 /// Makes each arena of these partitions one without blocks. Its head is written and synced; other
-/// bytes stay.
+/// bytes stay. Failed says that a device call failed.
 pub fn format<D: Disk>(parts: &mut [Part<D>]) -> Result<(), Failed>
     requires rooms { All (λ part. end_of (table_of part) ≤ D.size (disk_of part)) parts.old }
 
@@ -90,8 +90,9 @@ fn format_part<D: Disk>(part: &mut Part<D>) -> Result<(), Failed>
 /// Finds the log of these partitions. It syncs each disk, since only what was synced names the
 /// heads for good, and then reads the head of each arena. A refusal hands the partitions back.
 ///
-/// An arena with blocks that stands behind an unsealed one is refused, and so is a sealed one
-/// there.
+/// Part refuses two partitions of one name, and Arena the first arena that can't be mounted. An
+/// arena with blocks that stands behind an unsealed one is refused by Order, and a sealed one there
+/// by Arena. Fault says that a device call failed, and NoMemory that there was no room.
 pub fn mount<D: Disk, S: Scorer + Drop>(
     alloc: Global,
     mut parts: Vec<Part<D>>,

@@ -114,8 +114,8 @@ impl Queue {
         }
     }
 
-    /// Lets go of the places of so many blocks, which are committed.
-    pub fn settle(&mut self, blocks: usize)
+    /// Drops the places of the first so many blocks, which are committed.
+    pub fn drop_committed(&mut self, blocks: usize)
         requires { blocks ≤ length self.old.places }
         ensures waiting { self.new.waiting ≡ self.old.waiting }
         ensures places { self.new.places ≡ drop blocks self.old.places }

@@ -1,6 +1,6 @@
 //! Reading a block.
 
-ghost use Rattle.std.specs.Prelude.{◌≡◌, ◌≢◌, ◌⊎◌, ◌∷◌, ◌++◌, ◌+◌, ◌-◌, ◌<◌, ◌≤◌, ⊤, ℕ, List, Some, Ok, Err, Result, IsTrue, IfOk, IfErr, OnOk, MatchResult, length, map, sum_by, drop, slice_get};
+ghost use Rattle.std.specs.Prelude.{◌≡◌, ◌≢◌, ◌⊎◌, ◌∷◌, ◌++◌, ◌+◌, ◌<◌, ◌≤◌, ℕ, List, Some, Err, IsTrue, IfOk, IfErr, OnOk, MatchResult, length, map, drop, slice_get};
 ghost use Rattle.vt_disk.specs.declared.region.Region.{Region};
 ghost use Rattle.vt_clump.specs.declared.packed.Packed.{Packed};
 ghost use Rattle.vt_clump.specs.Spelling.{Stored};
@@ -17,24 +17,26 @@ ghost use Rattle.vt_log.specs.Reading.{IsDamagedBy};
 use crate::log::Log;
 use std::alloc::Global;
 use std::sync::ledger::Ledger;
-use vt_arena::ReadBad;
+use vt_arena::{ReadBad, has_header};
 use vt_base::{Bytes, FieldValue, Key, Kind, Place, Score, Scorer};
 use vt_clump::{Clump, HEADER_LEN, Packed};
 use vt_disk::{Disk, Region};
 use vt_steps::Steps;
 
 impl<D: Disk, S: Scorer> Log<D, S> {
-    ghost use Rattle.vt_log.specs.Answers.{Spares, HoldTheSame};
-    ghost use Rattle.vt_log.specs.Log.{LogState, setup_of, packed_of};
+    ghost use Rattle.vt_log.specs.Answers.{OnlyReads, Spares};
+    ghost use Rattle.vt_log.specs.Log.{setup_of, packed_of};
     ghost use Rattle.vt_log.specs.Queue.{IsFirstAt, IsNowhere, spot_of};
-    ghost use Rattle.vt_log.specs.Reading.{GivesPacked, ReadsAs, CountsFault};
+    ghost use Rattle.vt_log.specs.Reading.{AnswersRead, CountsFault};
     ghost use Rattle.vt_log.specs.Sound.{IsSound, IsAt};
 
     /// Reads the block with this key that stands at this place. A queued block is given from the
-    /// queue, without a device call. Else one clump is read from its disk, and counted as one step.
+    /// queue, without a device call. Else one clump is read from its disk, and counted as one step,
+    /// where its header can lie at the place.
     ///
-    /// Damaged says by what value the place, the clump or its key differs from what was wanted: of an
-    /// arena that isn't there, that the last one was, or 0 where there is none.
+    /// Damaged says by what value the place, the clump or its key differs from what was wanted: of
+    /// an arena that isn't there, that the last one was, or 0 where there is none. Fault says that
+    /// a device call failed, and NoMemory that there was no room for the block.
     pub fn read<L: Ledger>(
         &mut self,
         alloc: Global,
@@ -50,41 +52,27 @@ impl<D: Disk, S: Scorer> Log<D, S> {
             → MatchResult result (λ block. block ≡ e.block.bytes)
             (λ bad. (bad ≡ ReadBad.Fault) ⊎ (bad ≡ ReadBad.NoMemory)) }
 
-        // For any place and key the answer is what stands in the queue or, where nothing queued has
-        // the place, on the disk.
-        ensures queued { (i : ℕ) → IsFirstAt self.old.queue.places place i → (p : Packed)
-            × (slice_get (packed_of self.old) i ≡ Some p) × GivesPacked key.now p result }
-        ensures nowhere { IsNowhere self.old.queue.places place
-            → length self.old.layout ≤ place.arena → result ≡ Err (ReadBad.Damaged
-            (FieldValue.Number (length self.old.layout - 1)) (FieldValue.Number place.arena)) }
-        ensures outside { (r : ArenaRegion) → IsNowhere self.old.queue.places place
-            → slice_get self.old.layout place.arena ≡ Some r → ¬ HasHeader r.len place.offset
-            → (result ≡ Err (ReadBad.Damaged
-            (FieldValue.Number HEAD_LEN) (FieldValue.Number place.offset)))
-            × (self.new ≡ self.old) }
-        ensures stored { (r : ArenaRegion) (region : Region) (disk : D)
-            → IsNowhere self.old.queue.places place → IsAt self.old place.arena r region disk
-            → HasHeader r.len place.offset → (bytes : List ℕ) × (IsTrue D.tells
-            → bytes ≡ clump_at region place.offset (D.bytes disk))
-            × ReadsAs S.score_of key.now bytes result }
+        // For any place and key the answer is what stands there. The two values of a damage differ,
+        // where there is an arena.
+        ensures answer { AnswersRead S.score_of D.tells D.bytes self.old place key.now result }
+        ensures differ { 0 < length self.old.layout → (want found : FieldValue)
+            → result ≡ Err (ReadBad.Damaged want found) → want ≢ found }
         ensures whole { IfOk result (λ block. length block ≤ 57344) }
 
-        // One step is counted where an arena is there to read a clump from, and none else. It makes
-        // two reads at most, and changes nothing.
-        ensures cost { IsNowhere self.old.queue.places place
-            → place.arena < length self.old.layout → steps.new ≡ steps.old + 1 }
+        // One step is counted where a clump is read, and none else. It makes two reads at most, and
+        // changes nothing.
+        ensures cost { (r : ArenaRegion) → IsNowhere self.old.queue.places place
+            → slice_get self.old.layout place.arena ≡ Some r → HasHeader r.len place.offset
+            → steps.new ≡ steps.old + 1 }
         ensures free { ((i : ℕ) × IsFirstAt self.old.queue.places place i)
             ⊎ (length self.old.layout ≤ place.arena)
+            ⊎ ((r : ArenaRegion) × (slice_get self.old.layout place.arena ≡ Some r)
+            × ¬ HasHeader r.len place.offset)
             → (steps.new ≡ steps.old) × (self.new ≡ self.old) }
-        ensures same { self.new ≡ record self.old { disks = self.new.disks } }
-        ensures sound { (h : History)
-            → IsSound S.score_of D.bytes D.images D.size self.old h
-            → IsSound S.score_of D.bytes D.images D.size self.new h }
-        ensures disks { HoldTheSame D.bytes D.images D.size self.old.disks self.new.disks }
+        ensures reads { OnlyReads S.score_of D.tells D.bytes D.images D.size D.calls 2
+            self.old self.new }
         ensures spares { (r : ArenaRegion) → slice_get self.old.layout place.arena ≡ Some r
             → Spares r.part self.old.disks self.new.disks }
-        ensures calls { IsTrue D.tells
-            → sum_by D.calls self.new.disks ≤ sum_by D.calls self.old.disks + 2 }
         ensures cause { MatchResult result
             (λ _. map D.faults self.new.disks ≡ map D.faults self.old.disks)
             (λ bad. CountsFault bad (map D.faults self.old.disks)
@@ -100,24 +88,23 @@ impl<D: Disk, S: Scorer> Log<D, S> {
                 found: FieldValue::Number(u128::from(place.arena)),
             });
         }
-        steps.tick();
-        let clump = match self.read_clump(alloc, place) {
-            Ok(clump) => clump,
-            Err(bad) => return Err(bad),
-        };
-        match check_key(key, clump.kind, clump.score) {
-            Ok(()) => Ok(clump.bytes),
-            Err(bad) => Err(bad),
-        }
+        let clump = self.read_clump(alloc, place, steps)?;
+        check_key(key, clump.kind, clump.score)?;
+        Ok(clump.bytes)
     }
 
-    /// Reads the clump at a place of an arena.
-    fn read_clump(&mut self, alloc: Global, place: Place) -> Result<Clump, ReadBad>
+    /// Reads the clump at a place of an arena, and counts a step where its header can lie there.
+    fn read_clump<L: Ledger>(
+        &mut self,
+        alloc: Global,
+        place: Place,
+        steps: &mut Steps<L>,
+    ) -> Result<Clump, ReadBad>
         requires { place.arena < length self.old.layout }
         ensures outside { (r : ArenaRegion) → slice_get self.old.layout place.arena ≡ Some r
             → ¬ HasHeader r.len place.offset → (result ≡ Err (ReadBad.Damaged
             (FieldValue.Number HEAD_LEN) (FieldValue.Number place.offset)))
-            × (self.new ≡ self.old) }
+            × (self.new ≡ self.old) × (steps.new ≡ steps.old) }
         ensures stored { (r : ArenaRegion) (region : Region) (disk : D)
             → IsAt self.old place.arena r region disk → HasHeader r.len place.offset
             → (bytes : List ℕ)
@@ -130,15 +117,12 @@ impl<D: Disk, S: Scorer> Log<D, S> {
             → place.offset ≡ offset_of before → MatchResult result (IsRead s)
             (λ bad. (bad ≡ ReadBad.Fault) ⊎ (bad ≡ ReadBad.NoMemory)) }
         ensures whole { IfOk result (λ clump. length clump.bytes ≤ 57344) }
-        ensures same { self.new ≡ record self.old { disks = self.new.disks } }
-        ensures sound { (h : History)
-            → IsSound S.score_of D.bytes D.images D.size self.old h
-            → IsSound S.score_of D.bytes D.images D.size self.new h }
-        ensures disks { HoldTheSame D.bytes D.images D.size self.old.disks self.new.disks }
+        ensures cost { (r : ArenaRegion) → slice_get self.old.layout place.arena ≡ Some r
+            → HasHeader r.len place.offset → steps.new ≡ steps.old + 1 }
+        ensures reads { OnlyReads S.score_of D.tells D.bytes D.images D.size D.calls 2
+            self.old self.new }
         ensures spares { (r : ArenaRegion) → slice_get self.old.layout place.arena ≡ Some r
             → Spares r.part self.old.disks self.new.disks }
-        ensures calls { IsTrue D.tells
-            → sum_by D.calls self.new.disks ≤ sum_by D.calls self.old.disks + 2 }
         ensures cause { MatchResult result
             (λ _. map D.faults self.new.disks ≡ map D.faults self.old.disks)
             (λ bad. CountsFault bad (map D.faults self.old.disks)
@@ -149,8 +133,12 @@ impl<D: Disk, S: Scorer> Log<D, S> {
             start: r.at,
             len: r.len,
         };
+        let offset = u64::from(place.offset);
+        if has_header(r.len, offset) {
+            steps.tick();
+        }
         let disk = &mut self.parts[r.part as usize].disk;
-        vt_arena::read(alloc, disk, region, u64::from(place.offset), &self.scorer)
+        vt_arena::read(alloc, disk, region, offset, &self.scorer)
     }
 
     /// A queued clump, counted from the first one.

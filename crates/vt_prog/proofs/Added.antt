@@ -57,8 +57,8 @@ last_or_before (x ∷ xs) y zero z at = inl (omega arith, at)
 last_or_before (x ∷ xs) y (suc i) z at =
     ⊎_elim (λ before. inl (omega (arith, before.0), before.1)) (λ last. inr (ap (λ (n : ℕ). suc n) last.0, last.1)) (last_or_before xs y i z at)
 
-module _ {D : Type 0} (score_of : List ℕ → List ℕ) (tells : Bool) (bytes : D → List ℕ) (images : D → List ℕ → Type 0) (size faults : D → ℕ)
-    (s : StoreState D) (h : History) (was : Holds score_of tells bytes images size faults s h) (p : Packed) (kind : ℕ) (block : List ℕ) where
+module _ {D : Type 0} (score_of : List ℕ → List ℕ) (tells : Bool) (bytes : D → List ℕ) (images : D → List ℕ → Type 0) (size : D → ℕ)
+    (s : StoreState D) (h : History) (was : Holds score_of tells bytes images size s h) (p : Packed) (kind : ℕ) (block : List ℕ) where
   -- where a block goes is told by the arenas alone
   next_is : (n : ℕ) → next_arena (setup_of s.log) h n ≡ next_arena memory h n
   next_is n = ap (λ (setup : Setup). next_arena setup h n) was.setup
@@ -88,15 +88,13 @@ module _ {D : Type 0} (score_of : List ℕ → List ℕ) (tells : Bool) (bytes :
           ap (λ (setup : Setup). place_of setup (h ++ block_added ∷ []) (length h)) (sym was.setup)
           ∙ ap (λ (e : Accepted). place_of (setup_of s.log) (h ++ e ∷ []) (length h)) (sym is) ∙ appends.1
 
-      pub appended : setup_of l ≡ setup_of s.log → l.stopped ≡ None → entry.key.score.0 ≡ score_of block → entry.key.kind ≡ kind → entry.size ≡ length block → entry.place ≡ place
-          → Holds score_of tells bytes images size faults (record { log = l; entries = s.entries ++ entry ∷ [] }) (with_added h (answer_to_write score_of memory h kind block).added)
-      appended setup runs score_is kind_is size_is place_is = record {
+      pub appended : setup_of l ≡ setup_of s.log → entry.key.score.0 ≡ score_of block → entry.key.kind ≡ kind → entry.size ≡ length block → entry.place ≡ place
+          → Holds score_of tells bytes images size (record { log = l; entries = s.entries ++ entry ∷ [] }) (with_added h (answer_to_write score_of memory h kind block).added)
+      appended setup score_is kind_is size_is place_is = record {
         tells_is = was.tells_is;
-        never = was.never;
         legal = IsLegal-with_added score_of memory h (write kind block) was.legal;
         sound = subst (λ (h : History). IsSound score_of bytes images size l h) (ap (λ (e : Accepted). h ++ e ∷ []) is ∙ sym longer) appends.2;
         setup = setup ∙ was.setup;
-        runs = runs;
         many = length-append s.entries (entry ∷ []) ∙ ap (λ (n : ℕ). n + 1) was.many ∙ sym (length-append h (block_added ∷ [])) ∙ ap length (sym longer);
         entries = subst (λ (h : History). (i : ℕ) (e : Accepted) (x : Entry) → slice_get h i ≡ Some e → slice_get (s.entries ++ entry ∷ []) i ≡ Some x → IsEntryOf score_of h i e x) (sym longer) each;
       }

@@ -4,6 +4,9 @@ pub mod Inputs
 pub mod Whole
 pub mod Complete
 pub mod Holding
+pub mod Failing
+pub mod Making
+pub mod Unfailing
 pub mod Indexed
 pub mod Added
 pub mod Reading

@@ -18,12 +18,13 @@ use Rattle.vt_session.specs.declared.Ended.{Ended}
 use Rattle.vt_session.specs.Heard.{Item, settled, asked}
 use Rattle.vt_session.specs.Hearing.{Hearing, over, HearsOn, IsHeard, MatchMessage}
 use Rattle.vt_session.specs.Answered.{MayFail}
-use Rattle.vt_session.specs.Turns.{Turn, told, served, failed, Cause, no_memory, item_of_turn, items_of, spelled_turn, cause_of, causes_of}
+use Rattle.vt_session.specs.Turns.{Turn, told, served, failed, Cause, no_memory, why_of, item_of_turn, items_of, spelled_turn, cause_of, causes_of}
 use Rattle.vt_session.proofs.Hearings.{hearing_one}
 use Rattle.vt_session.proofs.Turns.{turns_join}
 use Rattle.vt_prog.proofs.Written.{waits_more, writes_more}
 use Rattle.vt_prog.specs.Sessions.{fails, OnlyMemory, Answers, SoFar, Writes, TakesTurn, TakesTurns}
-use Rattle.vt_prog.specs.Store.{memory, Serves, tells_no_memory}
+use Rattle.vt_prog.specs.Serving.{Serves, tells_no_memory, tells_failure}
+use Rattle.vt_prog.specs.Store.{memory}
 
 or_false : (b : Bool) → b ≡ (b || false)
 or_false true = refl
@@ -138,9 +139,9 @@ module _ (score : List ℕ → List ℕ) (c : Setup) where
 -- ---- what the store gives
 
 -- it serves, and its answer is said
-pub says : {X : Type 0} (score : List ℕ → List ℕ) (holds : History → Type 0) (h : History) (tag : ℕ) (m : Operation) (message : X → RMessage) (x : X) (ran ran' : Bool)
-    (writes : List ℕ → Type 0) → Serves score holds h m message (Ok x) → ran' ≡ ran → writes (spelled tag (message x)) → TakesTurn score holds (asked tag m) h ran ran' writes
-says score holds h tag m message x ran ran' writes serves flag written = record {
+pub says : {X : Type 0} (score : List ℕ → List ℕ) (holds : History → Type 0) (fails : Cause → Type 0) (h : History) (tag : ℕ) (m : Operation) (message : X → RMessage) (x : X) (ran ran' : Bool)
+    (writes : List ℕ → Type 0) → Serves score holds fails h m message (Ok x) → ran' ≡ ran → writes (spelled tag (message x)) → TakesTurn score holds (asked tag m) h ran ran' writes
+says score holds fails h tag m message x ran ran' writes serves flag written = record {
   history = with_added h (answer score memory h m).added;
   said = spelled tag (message x);
   holds_it = serves.1;
@@ -148,31 +149,38 @@ says score holds h tag m message x ran ran' writes serves flag written = record 
   written = written;
 }
 
+-- what is no failure is no want of memory
+no_failure : (why : Why) → tells_failure why ≡ false → tells_no_memory why ≡ false
+no_failure NoMemory is = is
+no_failure why is = refl
+
 -- or it refuses, and says why
 pub says_why : {X : Type 0} (score : List ℕ → List ℕ) (holds : History → Type 0) (h : History) (tag : ℕ) (m : Operation) (message : X → RMessage) (why : Why) (ran ran' : Bool)
-    (writes : List ℕ → Type 0) → Serves score holds h m message (Err why) → ran' ≡ (ran || tells_no_memory why) → writes (spelled tag (r_refused why))
+    (writes : List ℕ → Type 0) → Serves score holds (λ cause. cause ≡ no_memory) h m message (Err why) → ran' ≡ (ran || tells_no_memory why) → writes (spelled tag (r_refused why))
     → TakesTurn score holds (asked tag m) h ran ran' writes
 says_why score holds h tag m message why ran ran' writes (inl refused) flag written = record {
   history = with_added h (answer score memory h m).added;
   said = spelled tag (r_refused why);
   holds_it = refused.2;
   answers = served_turn score memory h (with_added h (answer score memory h m).added) ran ran' tag m (r_refused why) refused.1 refl
-      (flag ∙ ap (λ (b : Bool). ran || b) refused.0 ∙ sym (or_false ran));
+      (flag ∙ ap (λ (b : Bool). ran || b) (no_failure why refused.0) ∙ sym (or_false ran));
   written = written;
 }
-says_why score holds h tag m message why ran ran' writes (inr fails) flag written = record {
-  history = h;
-  said = spelled tag (r_refused why);
-  holds_it = fails.2;
-  answers = subst (λ (w : Why). Answers score memory (asked tag m) h h ran ran' (spelled tag (r_refused w))) (sym fails.0)
-      (failed_turn score memory h ran ran' tag m fails.1 (flag ∙ ap (λ (w : Why). ran || tells_no_memory w) fails.0));
-  written = written;
-}
+says_why score holds h tag m message why ran ran' writes (inr fails) flag written =
+    let is = fails.1 ∙ ap why_of fails.3 in
+    record {
+      history = h;
+      said = spelled tag (r_refused why);
+      holds_it = fails.4;
+      answers = subst (λ (w : Why). Answers score memory (asked tag m) h h ran ran' (spelled tag (r_refused w))) (sym is)
+          (failed_turn score memory h ran ran' tag m (subst (MayFail score memory m) fails.3 fails.2) (flag ∙ ap (λ (w : Why). ran || tells_no_memory w) is));
+      written = written;
+    }
 
 -- no sync is refused
-pub never_refuses : (score : List ℕ → List ℕ) (holds : History → Type 0) (h : History) (why : Why) → Serves {X = Unit {0}} score holds h sync (λ x. r_sync) (Err why) → ⊥
+pub never_refuses : (score : List ℕ → List ℕ) (holds : History → Type 0) (h : History) (why : Why) → Serves {X = Unit {0}} score holds (λ cause. cause ≡ no_memory) h sync (λ x. r_sync) (Err why) → ⊥
 never_refuses score holds h why (inl refused) = let same = refused.1 in absurd (cc)
-never_refuses score holds h why (inr fails) = fails.1.1
+never_refuses score holds h why (inr fails) = (subst (MayFail score memory sync) fails.3 fails.2).1
 
 -- a reply that the rules of a session settle
 pub says_settled : (score : List ℕ → List ℕ) (holds : History → Type 0) (h : History) (tag : ℕ) (reply : RMessage) (ran : Bool) (writes : List ℕ → Type 0)

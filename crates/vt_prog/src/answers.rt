@@ -10,7 +10,8 @@ ghost use Rattle.vt_session.specs.Hearing.{over, left_len, HearsOn, IsHeard, Mat
 ghost use Rattle.vt_wire.specs.Messages.{spelled};
 ghost use Rattle.vt_wire.specs.Views.{message_of};
 ghost use Rattle.vt_prog.specs.Sessions.{Writes, TakesTurn, TakesTurns, AnswersAll};
-ghost use Rattle.vt_prog.specs.Store.{Holds, tells_no_memory};
+ghost use Rattle.vt_prog.specs.Serving.{tells_no_memory};
+ghost use Rattle.vt_prog.specs.Store.{HoldsInMemory};
 
 use crate::output::Output;
 use crate::store::LogStore;
@@ -33,11 +34,11 @@ pub fn answer_all<D: Disk, L: Ledger, S: Scorer, K: Sink>(
 ) -> (Result<Ended, Failed>, bool)
     requires heard { IsHeard heard }
     ensures told { (h : History)
-        → Holds S.score_of D.tells D.bytes D.images D.size D.faults store.old h
+        → HoldsInMemory S.score_of D.tells D.bytes D.images D.size D.faults store.old h
         → IsTrue K.tells → AnswersAll S.score_of heard.entry h result.0 result.1
         (K.written sink.old) output.old (K.written sink.new) }
     ensures end { (h : History)
-        → Holds S.score_of D.tells D.bytes D.images D.size D.faults store.old h
+        → HoldsInMemory S.score_of D.tells D.bytes D.images D.size D.faults store.old h
         → IfOk result.0 (λ ended. (items : List Item) × HearsOn heard.entry items ended) }
     ensures cause { HasCause result.0 (K.faults sink.old) (K.faults sink.new) }
 {
@@ -61,9 +62,9 @@ fn answer_next<D: Disk, L: Ledger, S: Scorer, K: Sink>(
     ran_out: &mut bool,
 ) -> Result<Option<Ended>, Failed>
     ensures turns { (h : History)
-        → Holds S.score_of D.tells D.bytes D.images D.size D.faults store.old h
+        → HoldsInMemory S.score_of D.tells D.bytes D.images D.size D.faults store.old h
         → TakesTurns S.score_of
-        (Holds S.score_of D.tells D.bytes D.images D.size D.faults store.new)
+        (HoldsInMemory S.score_of D.tells D.bytes D.images D.size D.faults store.new)
         heard.old heard.new h ran_out.old ran_out.new
         (λ said. IsTrue K.tells → Writes result
         (K.written sink.old) output.old (K.written sink.new) output.new said) }
@@ -73,7 +74,7 @@ fn answer_next<D: Disk, L: Ledger, S: Scorer, K: Sink>(
     // Where a sync is next, every block is committed behind it, and none is queued.
     ensures durable { (tag : ℕ) (items : List Item) (ended : Ended) (h : History)
         → HearsOn heard.old (asked tag sync ∷ items) ended
-        → Holds S.score_of D.tells D.bytes D.images D.size D.faults store.old h
+        → HoldsInMemory S.score_of D.tells D.bytes D.images D.size D.faults store.old h
         → (queued store.new.log ≡ 0) × (store.new.log.durable ≡ length h) }
     ensures shorter { result ≡ Ok None → left_len heard.new < left_len heard.old }
     ensures goes_on { IsHeard heard.new }
@@ -108,16 +109,16 @@ fn answer<D: Disk, L: Ledger, S: Scorer, K: Sink>(
 ) -> Result<(), Failed>
     requires known { MatchMessage tag (message_of request.now) (λ item. ⊤) }
     ensures answered { MatchMessage tag (message_of request.now) (λ item. (h : History)
-        → Holds S.score_of D.tells D.bytes D.images D.size D.faults store.old h
+        → HoldsInMemory S.score_of D.tells D.bytes D.images D.size D.faults store.old h
         → TakesTurn S.score_of
-        (Holds S.score_of D.tells D.bytes D.images D.size D.faults store.new)
+        (HoldsInMemory S.score_of D.tells D.bytes D.images D.size D.faults store.new)
         item h ran_out.old ran_out.new
         (λ said. IsTrue K.tells → Writes result
         (K.written sink.old) output.old (K.written sink.new) output.new said)) }
 
     // After a sync every block is committed, and none is queued.
     ensures durable { request.now ≡ Request.Sync → (h : History)
-        → Holds S.score_of D.tells D.bytes D.images D.size D.faults store.old h
+        → HoldsInMemory S.score_of D.tells D.bytes D.images D.size D.faults store.old h
         → (queued store.new.log ≡ 0) × (store.new.log.durable ≡ length h) }
     ensures cause { HasCause result (K.faults sink.old) (K.faults sink.new) }
 {
@@ -150,9 +151,9 @@ fn answer_read<D: Disk, L: Ledger, S: Scorer, K: Sink>(
     ran_out: &mut bool,
 ) -> Result<(), Failed>
     ensures answered { (h : History)
-        → Holds S.score_of D.tells D.bytes D.images D.size D.faults store.old h
+        → HoldsInMemory S.score_of D.tells D.bytes D.images D.size D.faults store.old h
         → TakesTurn S.score_of
-        (Holds S.score_of D.tells D.bytes D.images D.size D.faults store.new)
+        (HoldsInMemory S.score_of D.tells D.bytes D.images D.size D.faults store.new)
         (asked tag (read score.now.0 kind count)) h ran_out.old ran_out.new
         (λ said. IsTrue K.tells → Writes result
         (K.written sink.old) output.old (K.written sink.new) output.new said) }
@@ -176,9 +177,9 @@ fn answer_write<D: Disk, L: Ledger, S: Scorer, K: Sink>(
     ran_out: &mut bool,
 ) -> Result<(), Failed>
     ensures answered { (h : History)
-        → Holds S.score_of D.tells D.bytes D.images D.size D.faults store.old h
+        → HoldsInMemory S.score_of D.tells D.bytes D.images D.size D.faults store.old h
         → TakesTurn S.score_of
-        (Holds S.score_of D.tells D.bytes D.images D.size D.faults store.new)
+        (HoldsInMemory S.score_of D.tells D.bytes D.images D.size D.faults store.new)
         (asked tag (write kind bytes.now)) h ran_out.old ran_out.new
         (λ said. IsTrue K.tells → Writes result
         (K.written sink.old) output.old (K.written sink.new) output.new said) }
@@ -199,16 +200,16 @@ fn answer_sync<D: Disk, L: Ledger, S: Scorer, K: Sink>(
     ran_out: &mut bool,
 ) -> Result<(), Failed>
     ensures answered { (h : History)
-        → Holds S.score_of D.tells D.bytes D.images D.size D.faults store.old h
+        → HoldsInMemory S.score_of D.tells D.bytes D.images D.size D.faults store.old h
         → TakesTurn S.score_of
-        (Holds S.score_of D.tells D.bytes D.images D.size D.faults store.new)
+        (HoldsInMemory S.score_of D.tells D.bytes D.images D.size D.faults store.new)
         (asked tag sync) h ran_out.old ran_out.new
         (λ said. IsTrue K.tells → Writes result
         (K.written sink.old) output.old (K.written sink.new) output.new said) }
 
     // After it every block is committed, and none is queued.
     ensures durable { (h : History)
-        → Holds S.score_of D.tells D.bytes D.images D.size D.faults store.old h
+        → HoldsInMemory S.score_of D.tells D.bytes D.images D.size D.faults store.old h
         → (queued store.new.log ≡ 0) × (store.new.log.durable ≡ length h) }
     ensures cause { HasCause result (K.faults sink.old) (K.faults sink.new) }
 {

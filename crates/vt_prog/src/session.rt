@@ -4,7 +4,7 @@ ghost use Rattle.std.specs.Prelude.{◌≡◌, ◌≢◌, ◌<◌, [], IsTrue, I
 ghost use Rattle.vt_session.specs.Turns.{server_line};
 ghost use Rattle.vt_prog.specs.Reading.{is_fault as is_fault_of};
 ghost use Rattle.vt_prog.specs.Sessions.{end_of_session, AnswersInput, IsSession, HasCauses, SinkCause};
-ghost use Rattle.vt_prog.specs.Store.{Holds};
+ghost use Rattle.vt_prog.specs.Store.{HoldsInMemory};
 
 use crate::answers::answer_all;
 use crate::host::Host;
@@ -100,7 +100,7 @@ fn answer_input<D: Disk, L: Ledger, K: Sink, S: Scorer>(
     sink: &mut K,
     output: &mut Output,
 ) -> (Ended, bool)
-    requires empty { Holds S.score_of D.tells D.bytes D.images D.size D.faults store.old [] }
+    requires empty { HoldsInMemory S.score_of D.tells D.bytes D.images D.size D.faults store.old [] }
     requires line { output.old ≡ server_line }
     ensures told { IsTrue K.tells → AnswersInput S.score_of input.now result.0 result.1
         (K.written sink.old) (K.written sink.new) }
@@ -124,7 +124,7 @@ fn prepare<L: Ledger, S: Scorer>(
     requires name { blank.name ≡ L.name }
     requires parts { blank.parts ≡ L.parts }
     requires some { 0 < L.parts }
-    ensures empty { IfOk result (λ it. Holds S.score_of ⟦<MemDisk as Disk>⟧.tells
+    ensures empty { IfOk result (λ it. HoldsInMemory S.score_of ⟦<MemDisk as Disk>⟧.tells
         ⟦<MemDisk as Disk>⟧.bytes ⟦<MemDisk as Disk>⟧.images ⟦<MemDisk as Disk>⟧.size
         ⟦<MemDisk as Disk>⟧.faults it.0 []) }
     ensures line { IfOk result (λ it. it.1 ≡ server_line) }

@@ -1,15 +1,21 @@
 //! A store over one log, whose keys are a list that is searched from the front.
 
-ghost use Rattle.std.specs.Prelude.{◌≡◌, ◌<◌, ◌≤◌, ℕ, Bool, [], Some, Ok, IfOk, OnOk, IsOk, Result, MatchResult, length, slice_get};
+ghost use Rattle.std.specs.Prelude.{◌≡◌, ◌≢◌, ◌<◌, ◌≤◌, ℕ, Bool, List, [], Some, None, Ok, Err, IfOk, IfErr, OnOk, IsTrue, Result, MatchResult, length, slice_get};
 ghost use Rattle.vt_base.specs.Kind.{IsKind};
 ghost use Rattle.vt_base.specs.Protocol.{read, write, sync, r_read, r_write, r_sync};
-ghost use Rattle.vt_model.specs.History.{History, Accepted};
+ghost use Rattle.vt_model.specs.History.{History, Accepted, IsBlock};
 ghost use Rattle.vt_model.specs.Places.{next_arena};
 ghost use Rattle.vt_model.specs.Answer.{answer_to_write, adds, collides};
+ghost use Rattle.vt_arena.specs.declared.bad.ReadBad.{ReadBad};
 ghost use Rattle.vt_log.specs.declared.TheConstants.{QUEUE_MAX};
 ghost use Rattle.vt_log.specs.declared.bad.LogErr.{LogErr};
 ghost use Rattle.vt_log.specs.declared.bad.Progress.{Progress};
 ghost use Rattle.vt_log.specs.Answers.{Advances};
+ghost use Rattle.vt_log.specs.Log.{queued, setup_of, next_filling};
+ghost use Rattle.vt_log.specs.Owed.{owed};
+ghost use Rattle.vt_log.specs.Reading.{AnswersRead};
+ghost use Rattle.vt_log.specs.Sound.{IsSound};
+ghost use Rattle.vt_prog.specs.Serving.{CommitsOrStops, AdvancesWhileFull, advanced_by, why_stopped, why_unread};
 
 use crate::entries::{crowd, find_key, find_score};
 use std::alloc::Global;
@@ -44,9 +50,8 @@ impl<D: Disk, L: Ledger, S: Scorer> Model for LogStore<D, L, S> {
 }
 
 impl<D: Disk, L: Ledger, S: Scorer> LogStore<D, L, S> {
-    ghost use Rattle.vt_log.specs.Log.{queued};
-    ghost use Rattle.vt_log.specs.Owed.{owed};
-    ghost use Rattle.vt_prog.specs.Store.{StoreState, memory, IsEntryOf, Holds, Serves, OnlyQueues, AdvancesWhileFull};
+    ghost use Rattle.vt_prog.specs.Store.{StoreState, memory, IsEntryOf, Holds};
+    ghost use Rattle.vt_prog.specs.Serving.{Serves, FailsFor, TellsFaults, MayNotRead, SameButDisks, MakesRoom, block_or_why};
 
     /// The store of a log without blocks.
     pub fn new(alloc: Global, scorer: S, log: Log<D, S>, steps: Steps<L>) -> Self
@@ -63,12 +68,21 @@ impl<D: Disk, L: Ledger, S: Scorer> LogStore<D, L, S> {
     /// Takes a block in, and gives its score. It is queued: a sync commits it.
     pub fn write(&mut self, alloc: Global, kind: u8, bytes: &[u8]) -> Result<Score, Why>
         ensures serves { (h : History)
-            → Holds S.score_of D.tells D.bytes D.images D.size D.faults self.old h
-            → Serves S.score_of (Holds S.score_of D.tells D.bytes D.images D.size D.faults self.new)
+            → Holds S.score_of D.tells D.bytes D.images D.size self.old h
+            → Serves S.score_of (Holds S.score_of D.tells D.bytes D.images D.size self.new)
+            (FailsFor D.faults self.old.log self.new.log)
             h (write kind bytes.now) (λ score. r_write score.0) result }
+        ensures cause { TellsFaults D.faults self.old.log self.new.log result }
 
-        // Where the queue has room for it, nothing is committed.
-        ensures idle { queued self.old.log < QUEUE_MAX → OnlyQueues self.old.log self.new.log }
+        // Device calls that commit are made only while the queue is full, and none for a block that
+        // is refused.
+        ensures commits { MakesRoom self.old.log self.new.log }
+        ensures refused { IfErr result (λ why. why ≢ Why.DiskFault → SameButDisks self.old self.new) }
+
+        // A log that has stopped takes no block.
+        ensures stopped { (call : ℕ) → self.old.log.stopped ≡ Some call
+            → IsBlock (record { kind = kind; bytes = bytes.now })
+            → (result ≡ Err (Why.Stopped call)) × (self.new ≡ self.old) }
     {
         let kind = Kind::from_wire(kind).ok_or(Why::BadType)?;
         if bytes.len() > MAX_BLOCK {
@@ -77,6 +91,9 @@ impl<D: Disk, L: Ledger, S: Scorer> LogStore<D, L, S> {
         let score = self.scorer.score(bytes);
         if bytes.is_empty() {
             return Ok(score);
+        }
+        if let Some(call) = self.log.stopped() {
+            return Err(Why::Stopped(call));
         }
         if self.collides(alloc, &score, bytes)? {
             return Err(Why::Collision);
@@ -88,11 +105,12 @@ impl<D: Disk, L: Ledger, S: Scorer> LogStore<D, L, S> {
     /// The bytes of a block, of which the reader takes `count` at most.
     pub fn read(&mut self, alloc: Global, score: &Score, kind: u8, count: u32) -> Result<Bytes, Why>
         ensures serves { (h : History)
-            → Holds S.score_of D.tells D.bytes D.images D.size D.faults self.old h
-            → Serves S.score_of (Holds S.score_of D.tells D.bytes D.images D.size D.faults self.new)
+            → Holds S.score_of D.tells D.bytes D.images D.size self.old h
+            → Serves S.score_of (Holds S.score_of D.tells D.bytes D.images D.size self.new)
+            (FailsFor D.faults self.old.log self.new.log)
             h (read score.now.0 kind count) (λ block. r_read block) result }
-        ensures same { self.new
-            ≡ record self.old { log = record self.old.log { disks = self.new.log.disks } } }
+        ensures cause { TellsFaults D.faults self.old.log self.new.log result }
+        ensures same { SameButDisks self.old self.new }
         ensures most { IfOk result (λ block. length block ≤ 57344) }
     {
         let kind = Kind::from_wire(kind).ok_or(Why::BadType)?;
@@ -116,16 +134,14 @@ impl<D: Disk, L: Ledger, S: Scorer> LogStore<D, L, S> {
     /// Commits every block.
     pub fn sync(&mut self) -> Result<(), Why>
         ensures serves { (h : History)
-            → Holds S.score_of D.tells D.bytes D.images D.size D.faults self.old h
-            → Serves S.score_of (Holds S.score_of D.tells D.bytes D.images D.size D.faults self.new)
+            → Holds S.score_of D.tells D.bytes D.images D.size self.old h
+            → Serves S.score_of (Holds S.score_of D.tells D.bytes D.images D.size self.new)
+            (FailsFor D.faults self.old.log self.new.log)
             h sync (λ _. r_sync) result }
+        ensures cause { CommitsOrStops D.faults self.old.log self.new.log result }
         ensures durable { OnOk result (queued self.new.log ≡ 0) }
     {
-        loop {
-            if !self.advance()? {
-                return Ok(());
-            }
-        }
+        commit(&mut self.log)
     }
 
     /// Whether this score is the zero score, or that of a block with other bytes. All blocks with
@@ -133,14 +149,13 @@ impl<D: Disk, L: Ledger, S: Scorer> LogStore<D, L, S> {
     fn collides(&mut self, alloc: Global, score: &Score, bytes: &[u8]) -> Result<bool, Why>
         requires { score.now.0 ≡ S.score_of bytes.now }
         ensures tells { (h : History)
-            → Holds S.score_of D.tells D.bytes D.images D.size D.faults self.old h
-            → MatchResult result (λ it. it ≡ collides S.score_of h bytes.now)
-            (λ why. why ≡ Why.NoMemory) }
+            → Holds S.score_of D.tells D.bytes D.images D.size self.old h
+            → MatchResult result (λ it. it ≡ collides S.score_of h bytes.now) MayNotRead }
         ensures holds { (h : History)
-            → Holds S.score_of D.tells D.bytes D.images D.size D.faults self.old h
-            → Holds S.score_of D.tells D.bytes D.images D.size D.faults self.new h }
-        ensures same { self.new
-            ≡ record self.old { log = record self.old.log { disks = self.new.log.disks } } }
+            → Holds S.score_of D.tells D.bytes D.images D.size self.old h
+            → Holds S.score_of D.tells D.bytes D.images D.size self.new h }
+        ensures cause { TellsFaults D.faults self.old.log self.new.log result }
+        ensures same { SameButDisks self.old self.new }
     {
         if *score == self.scorer.score(&[]) {
             return Ok(true);
@@ -160,11 +175,14 @@ impl<D: Disk, L: Ledger, S: Scorer> LogStore<D, L, S> {
         requires some { 0 < length bytes.now }
         requires most { length bytes.now ≤ 57344 }
         ensures serves { (h : History)
-            → Holds S.score_of D.tells D.bytes D.images D.size D.faults self.old h
+            → Holds S.score_of D.tells D.bytes D.images D.size self.old h
             → collides S.score_of h bytes.now ≡ Bool.false
-            → Serves S.score_of (Holds S.score_of D.tells D.bytes D.images D.size D.faults self.new)
+            → Serves S.score_of (Holds S.score_of D.tells D.bytes D.images D.size self.new)
+            (FailsFor D.faults self.old.log self.new.log)
             h (write key.kind bytes.now) (λ _. r_write key.score.0) result }
-        ensures idle { queued self.old.log < QUEUE_MAX → OnlyQueues self.old.log self.new.log }
+        ensures cause { TellsFaults D.faults self.old.log self.new.log result }
+        ensures commits { MakesRoom self.old.log self.new.log }
+        ensures refused { IfErr result (λ why. why ≢ Why.DiskFault → self.new ≡ self.old) }
     {
         if find_key(&self.entries, &key).is_some() {
             return Ok(());
@@ -178,14 +196,19 @@ impl<D: Disk, L: Ledger, S: Scorer> LogStore<D, L, S> {
     /// Reads a block from the log.
     fn load(&mut self, alloc: Global, entry: &Entry) -> Result<Bytes, Why>
         ensures loads { (h : History) (i : ℕ) (e : Accepted)
-            → Holds S.score_of D.tells D.bytes D.images D.size D.faults self.old h
+            → Holds S.score_of D.tells D.bytes D.images D.size self.old h
             → slice_get h i ≡ Some e → IsEntryOf S.score_of h i e entry.now
-            → MatchResult result (λ block. block ≡ e.block.bytes) (λ why. why ≡ Why.NoMemory) }
+            → MatchResult result (λ block. block ≡ e.block.bytes) MayNotRead }
+
+        // Whatever the disks hold, the answer is the log's.
+        ensures answer { (r : Result (List ℕ) ReadBad)
+            × AnswersRead S.score_of D.tells D.bytes self.old.log entry.now.place entry.now.key r
+            × (result ≡ block_or_why entry.now.place r) }
         ensures holds { (h : History)
-            → Holds S.score_of D.tells D.bytes D.images D.size D.faults self.old h
-            → Holds S.score_of D.tells D.bytes D.images D.size D.faults self.new h }
-        ensures same { self.new
-            ≡ record self.old { log = record self.old.log { disks = self.new.log.disks } } }
+            → Holds S.score_of D.tells D.bytes D.images D.size self.old h
+            → Holds S.score_of D.tells D.bytes D.images D.size self.new h }
+        ensures cause { TellsFaults D.faults self.old.log self.new.log result }
+        ensures same { SameButDisks self.old self.new }
         ensures most { IfOk result (λ block. length block ≤ 57344) }
     {
         match self
@@ -197,7 +220,7 @@ impl<D: Disk, L: Ledger, S: Scorer> LogStore<D, L, S> {
         }
     }
 
-    /// Puts a block behind the others. Want of memory leaves all as it is.
+    /// Puts a block behind the others. Nothing is committed for one that is refused.
     fn add(&mut self, alloc: Global, key: Key, bytes: &[u8]) -> Result<(), Why>
         requires score { key.score.0 ≡ S.score_of bytes.now }
         requires some { 0 < length bytes.now }
@@ -205,22 +228,28 @@ impl<D: Disk, L: Ledger, S: Scorer> LogStore<D, L, S> {
 
         // Where no other test refuses the block, it is added if an arena has room.
         ensures serves { (h : History)
-            → Holds S.score_of D.tells D.bytes D.images D.size D.faults self.old h
+            → Holds S.score_of D.tells D.bytes D.images D.size self.old h
             → answer_to_write S.score_of memory h key.kind bytes.now
             ≡ adds key.score.0 key.kind bytes.now (next_arena memory h (length bytes.now))
-            → Serves S.score_of (Holds S.score_of D.tells D.bytes D.images D.size D.faults self.new)
+            → Serves S.score_of (Holds S.score_of D.tells D.bytes D.images D.size self.new)
+            (FailsFor D.faults self.old.log self.new.log)
             h (write key.kind bytes.now) (λ _. r_write key.score.0) result }
-        ensures idle { queued self.old.log < QUEUE_MAX → OnlyQueues self.old.log self.new.log }
+        ensures cause { TellsFaults D.faults self.old.log self.new.log result }
+        ensures commits { MakesRoom self.old.log self.new.log }
+        ensures refused { IfErr result (λ why. why ≢ Why.DiskFault → self.new ≡ self.old) }
     {
+        if !self.log.room(bytes.len() as u32) {
+            return Err(Why::ArenasFull);
+        }
         let Ok(packed) = pack(alloc, key.kind, bytes, key.score, 0) else {
             return Err(Why::NoMemory);
         };
-        self.make_room()?;
         let Ok(()) = self.entries.reserve(1) else {
             return Err(Why::NoMemory);
         };
+        make_room(&mut self.log)?;
         let Ok(place) = self.log.append(packed) else {
-            return Err(Why::ArenasFull);
+            unreachable!()
         };
         let entry = Entry {
             key,
@@ -232,46 +261,66 @@ impl<D: Disk, L: Ledger, S: Scorer> LogStore<D, L, S> {
         };
         Ok(())
     }
+}
 
-    /// Advances the log while the queue has no room for a block.
-    fn make_room(&mut self) -> Result<(), Why>
-        ensures holds { (h : History)
-            → Holds S.score_of D.tells D.bytes D.images D.size D.faults self.old h
-            → IsOk result × Holds S.score_of D.tells D.bytes D.images D.size D.faults self.new h }
-        ensures entries { self.new.entries ≡ self.old.entries }
-        ensures room { OnOk result (queued self.new.log < QUEUE_MAX) }
+/// Advances a log while its queue has no room for a block.
+fn make_room<D: Disk, S: Scorer>(log: &mut Log<D, S>) -> Result<(), Why>
+    ensures sound { (h : History) → IsTrue D.tells
+        → IsSound S.score_of D.bytes D.images D.size log.old h
+        → IsSound S.score_of D.bytes D.images D.size log.new h }
+    ensures cause { CommitsOrStops D.faults log.old log.new result }
+    ensures room { OnOk result (queued log.new < QUEUE_MAX) }
+    ensures refused { IfErr result (λ why. why ≢ Why.DiskFault → log.new ≡ log.old) }
 
-        // Where there is room nothing is done, and each device call is made while there is none.
-        ensures idle { queued self.old.log < QUEUE_MAX → self.new ≡ self.old }
-        ensures full { AdvancesWhileFull self.old.log self.new.log }
-    {
-        while self.log.queue_full() {
-            self.advance()?;
-        }
-        Ok(())
+    // Each device call is made while there is no room. Where blocks go stays.
+    ensures full { AdvancesWhileFull log.old log.new }
+    ensures setup { setup_of log.new ≡ setup_of log.old }
+    ensures next { (n : ℕ) → next_filling log.new n ≡ next_filling log.old n }
+{
+    while log.queue_full() {
+        advance(log)?;
     }
+    Ok(())
+}
 
-    /// Makes the log's next device call. Whether it had one to make.
-    fn advance(&mut self) -> Result<bool, Why>
-        ensures holds { (h : History)
-            → Holds S.score_of D.tells D.bytes D.images D.size D.faults self.old h
-            → IsOk result × Holds S.score_of D.tells D.bytes D.images D.size D.faults self.new h }
-        ensures entries { self.new.entries ≡ self.old.entries }
-        ensures lower { result ≡ Ok Bool.true → owed self.new.log < owed self.old.log }
-        ensures idle { result ≡ Ok Bool.false
-            → (self.new ≡ self.old) × (queued self.old.log ≡ 0) }
-        ensures one { (r : Result Progress LogErr) × Advances r self.old.log self.new.log }
-    {
-        match self.log.advance() {
-            Ok(progress) => Ok(progress != Progress::Idle),
-            Err(bad) => Err(why_stopped(bad)),
-        }
+/// Advances a log until nothing is queued.
+fn commit<D: Disk, S: Scorer>(log: &mut Log<D, S>) -> Result<(), Why>
+    ensures sound { (h : History) → IsTrue D.tells
+        → IsSound S.score_of D.bytes D.images D.size log.old h
+        → IsSound S.score_of D.bytes D.images D.size log.new h }
+    ensures cause { CommitsOrStops D.faults log.old log.new result }
+    ensures none { OnOk result (queued log.new ≡ 0) }
+    ensures setup { setup_of log.new ≡ setup_of log.old }
+{
+    while advance(log)? {}
+    Ok(())
+}
+
+/// Makes a log's next device call. Whether it had one to make.
+fn advance<D: Disk, S: Scorer>(log: &mut Log<D, S>) -> Result<bool, Why>
+    ensures sound { (h : History) → IsTrue D.tells
+        → IsSound S.score_of D.bytes D.images D.size log.old h
+        → IsSound S.score_of D.bytes D.images D.size log.new h }
+    ensures cause { CommitsOrStops D.faults log.old log.new result }
+    ensures advances { (r : Result Progress LogErr) × Advances r log.old log.new
+        × (result ≡ advanced_by r) }
+    ensures runs { OnOk result (log.old.stopped ≡ None) }
+    ensures lower { result ≡ Ok Bool.true → owed log.new < owed log.old }
+    ensures idle { result ≡ Ok Bool.false → (log.new ≡ log.old) × (queued log.old ≡ 0) }
+    ensures setup { setup_of log.new ≡ setup_of log.old }
+    ensures next { (n : ℕ) → next_filling log.new n ≡ next_filling log.old n }
+{
+    match log.advance() {
+        Ok(Progress::Idle) => Ok(false),
+        Ok(Progress::Step) => Ok(true),
+        Ok(Progress::Durable(_)) => Ok(true),
+        Err(bad) => Err(why_stopped(bad)),
     }
 }
 
 /// Why a block of the log, which would stand at this place, isn't given.
 fn why_unread(place: Place, bad: ReadBad) -> Why
-    ensures { bad ≡ ReadBad.NoMemory → result ≡ Why.NoMemory }
+    ensures { result ≡ why_unread place bad }
 {
     match bad {
         ReadBad::Fault => Why::DiskFault,
@@ -285,7 +334,9 @@ fn why_unread(place: Place, bad: ReadBad) -> Why
 }
 
 /// Why the log doesn't go on.
-fn why_stopped(bad: LogErr) -> Why {
+fn why_stopped(bad: LogErr) -> Why
+    ensures { result ≡ why_stopped bad }
+{
     match bad {
         LogErr::Fault => Why::DiskFault,
         LogErr::Stopped(call) => Why::Stopped(call),

@@ -8,7 +8,7 @@ use Rattle.vt_wire.specs.Rules.{rule_words}
 use Rattle.vt_wire.specs.Views.{message_of}
 use Rattle.vt_session.specs.Heard.{settled}
 use Rattle.vt_prog.specs.Sessions.{Writes}
-use Rattle.vt_prog.specs.Store.{Holds}
+use Rattle.vt_prog.specs.Store.{HoldsInMemory}
 use Rattle.vt_prog.proofs.Steps.{both_hold, ends_here, one_taken, says_settled, sync_after, no_sync_after, no_sync_at_end, is_sync}
 use Rattle.vt_prog.proofs.answers.answer_next.Goals as goal
 
@@ -16,7 +16,7 @@ pub returns-in_ok-flush-in-End-clause-turns : goal.returns-in_ok-flush-in-End-cl
 returns-in_ok-flush-in-End-clause-turns g c h hold =
     let score = g.S.Scorer.score_of in
     let gives = c.in-End.ensures.gives in
-    ends_here score (Holds score g.D.Disk.tells g.D.Disk.bytes g.D.Disk.images g.D.Disk.size g.D.Disk.faults c.args.store.now) c.args.heard.now c.next.new.self h c.args.ran_out.now c.in-End.ended _ gives.0 gives.1 hold
+    ends_here score (HoldsInMemory score g.D.Disk.tells g.D.Disk.bytes g.D.Disk.images g.D.Disk.size g.D.Disk.faults c.args.store.now) c.args.heard.now c.next.new.self h c.args.ran_out.now c.in-End.ended _ gives.0 gives.1 hold
     (λ tells. c.in_ok-flush-in-End.ensures.written tells)
 
 pub returns-in_err-flush-in-End-clause-turns : goal.returns-in_err-flush-in-End-clause-turns
@@ -24,7 +24,7 @@ returns-in_err-flush-in-End-clause-turns g c h hold =
     let p = err_from_is_err_and c.from_residual.result c.from_residual.ensures.1 in
     let score = g.S.Scorer.score_of in
     let gives = c.in-End.ensures.gives in
-    rw p.1 (ends_here score (Holds score g.D.Disk.tells g.D.Disk.bytes g.D.Disk.images g.D.Disk.size g.D.Disk.faults c.args.store.now) c.args.heard.now c.next.new.self h c.args.ran_out.now c.in-End.ended _ gives.0 gives.1 hold
+    rw p.1 (ends_here score (HoldsInMemory score g.D.Disk.tells g.D.Disk.bytes g.D.Disk.images g.D.Disk.size g.D.Disk.faults c.args.store.now) c.args.heard.now c.next.new.self h c.args.ran_out.now c.in-End.ended _ gives.0 gives.1 hold
     (λ tells. c.in_err-flush-in-End.ensures.written tells))
 
 pub returns-in_ok-add-in-Refused-clause-turns : goal.returns-in_ok-add-in-Refused-clause-turns
@@ -34,8 +34,8 @@ returns-in_ok-add-in-Refused-clause-turns g c h hold =
     let words : List ℕ = rule_words c.in-Refused.rule in
     let is : c.as_bytes-text.result.now ≡ words = c.as_bytes-text.ensures.value ∙ c.rule_text.ensures in
     let written : List ℕ = g.K.Sink.written c.args.sink.now in
-    one_taken score (Holds score g.D.Disk.tells g.D.Disk.bytes g.D.Disk.images g.D.Disk.size g.D.Disk.faults c.args.store.now) c.args.heard.now c.next.new.self (settled c.in-Refused.tag (r_error words)) h c.args.ran_out.now c.args.ran_out.now _ c.in-Refused.ensures.gives
-    (says_settled score (Holds score g.D.Disk.tells g.D.Disk.bytes g.D.Disk.images g.D.Disk.size g.D.Disk.faults c.args.store.now) h c.in-Refused.tag (r_error words) c.args.ran_out.now
+    one_taken score (HoldsInMemory score g.D.Disk.tells g.D.Disk.bytes g.D.Disk.images g.D.Disk.size g.D.Disk.faults c.args.store.now) c.args.heard.now c.next.new.self (settled c.in-Refused.tag (r_error words)) h c.args.ran_out.now c.args.ran_out.now _ c.in-Refused.ensures.gives
+    (says_settled score (HoldsInMemory score g.D.Disk.tells g.D.Disk.bytes g.D.Disk.images g.D.Disk.size g.D.Disk.faults c.args.store.now) h c.in-Refused.tag (r_error words) c.args.ran_out.now
     (λ (said : List ℕ). IsTrue g.K.Sink.tells → Writes r written c.args.output.now (g.K.Sink.written c.add.new.sink) c.add.new.self said) hold
     (λ tells. subst (λ (t : List ℕ). Writes r written c.args.output.now (g.K.Sink.written c.add.new.sink) c.add.new.self (spelled c.in-Refused.tag (r_error t))) is
     (c.in_ok-add-in-Refused.ensures.written tells)))
@@ -48,8 +48,8 @@ returns-in_err-add-in-Refused-clause-turns g c h hold =
     let words : List ℕ = rule_words c.in-Refused.rule in
     let is : c.as_bytes-text.result.now ≡ words = c.as_bytes-text.ensures.value ∙ c.rule_text.ensures in
     let written : List ℕ = g.K.Sink.written c.args.sink.now in
-    rw p.1 (one_taken score (Holds score g.D.Disk.tells g.D.Disk.bytes g.D.Disk.images g.D.Disk.size g.D.Disk.faults c.args.store.now) c.args.heard.now c.next.new.self (settled c.in-Refused.tag (r_error words)) h c.args.ran_out.now c.args.ran_out.now _ c.in-Refused.ensures.gives
-    (says_settled score (Holds score g.D.Disk.tells g.D.Disk.bytes g.D.Disk.images g.D.Disk.size g.D.Disk.faults c.args.store.now) h c.in-Refused.tag (r_error words) c.args.ran_out.now
+    rw p.1 (one_taken score (HoldsInMemory score g.D.Disk.tells g.D.Disk.bytes g.D.Disk.images g.D.Disk.size g.D.Disk.faults c.args.store.now) c.args.heard.now c.next.new.self (settled c.in-Refused.tag (r_error words)) h c.args.ran_out.now c.args.ran_out.now _ c.in-Refused.ensures.gives
+    (says_settled score (HoldsInMemory score g.D.Disk.tells g.D.Disk.bytes g.D.Disk.images g.D.Disk.size g.D.Disk.faults c.args.store.now) h c.in-Refused.tag (r_error words) c.args.ran_out.now
     (λ (said : List ℕ). IsTrue g.K.Sink.tells → Writes r written c.args.output.now (g.K.Sink.written c.add.new.sink) c.add.new.self said) hold
     (λ tells. subst (λ (t : List ℕ). Writes r written c.args.output.now (g.K.Sink.written c.add.new.sink) c.add.new.self (spelled c.in-Refused.tag (r_error t))) is
     (c.in_err-add-in-Refused.ensures.written tells))))
@@ -58,14 +58,14 @@ pub returns-in_ok-answer-in-Message-clause-turns : goal.returns-in_ok-answer-in-
 returns-in_ok-answer-in-Message-clause-turns g c h hold =
     let score = g.S.Scorer.score_of in
     let both = both_hold c.in-Message.tag (message_of c.in-Message.request) _ _ c.in-Message.ensures.gives c.in_ok-answer-in-Message.ensures.answered in
-    one_taken score (Holds score g.D.Disk.tells g.D.Disk.bytes g.D.Disk.images g.D.Disk.size g.D.Disk.faults c.answer.new.store) c.args.heard.now c.next.new.self both.0 h c.args.ran_out.now c.answer.new.ran_out _ both.1 (both.2 h hold)
+    one_taken score (HoldsInMemory score g.D.Disk.tells g.D.Disk.bytes g.D.Disk.images g.D.Disk.size g.D.Disk.faults c.answer.new.store) c.args.heard.now c.next.new.self both.0 h c.args.ran_out.now c.answer.new.ran_out _ both.1 (both.2 h hold)
 
 pub returns-in_err-answer-in-Message-clause-turns : goal.returns-in_err-answer-in-Message-clause-turns
 returns-in_err-answer-in-Message-clause-turns g c h hold =
     let p = err_from_is_err_and c.from_residual-in_err-answer-in-Message.result c.from_residual-in_err-answer-in-Message.ensures.1 in
     let score = g.S.Scorer.score_of in
     let both = both_hold c.in-Message.tag (message_of c.in-Message.request) _ _ c.in-Message.ensures.gives c.in_err-answer-in-Message.ensures.answered in
-    rw p.1 (one_taken score (Holds score g.D.Disk.tells g.D.Disk.bytes g.D.Disk.images g.D.Disk.size g.D.Disk.faults c.answer.new.store) c.args.heard.now c.next.new.self both.0 h c.args.ran_out.now c.answer.new.ran_out _ both.1 (both.2 h hold))
+    rw p.1 (one_taken score (HoldsInMemory score g.D.Disk.tells g.D.Disk.bytes g.D.Disk.images g.D.Disk.size g.D.Disk.faults c.answer.new.store) c.args.heard.now c.next.new.self both.0 h c.args.ran_out.now c.answer.new.ran_out _ both.1 (both.2 h hold))
 
 pub returns-in_ok-flush-in-End-clause-durable : goal.returns-in_ok-flush-in-End-clause-durable
 returns-in_ok-flush-in-End-clause-durable g c tag items ended h next hold = absurd (no_sync_at_end _ c.in-End.ended c.in-End.ensures.gives.0 tag items ended next)

@@ -126,11 +126,11 @@ last_ended g c = last_call (called_ended g c).there c.index_mut-in-Ok-Done.ensur
 settles_ended : (g : _) (c : goal.Then-not-sealed g)
     → Settles (seen c.self.inside) c.index_mut-in-Ok-Done.result.now c.advance.new.self
     (set c.self.inside.heads.items c.self.inside.committing (record c.index_mut-in-Ok-Done.result.now { head = c.head.result }))
-    c.settle.new.self (c.self.inside.durable + length c.staged-blocks.result.now) c.saturating_add-self-inside.result
+    c.drop_committed.new.self (c.self.inside.durable + length c.staged-blocks.result.now) c.saturating_add-self-inside.result
 settles_ended g c = record {
   heads_are = ap (λ (h : ArenaHead). set c.self.inside.heads.items c.self.inside.committing (record c.index_mut-in-Ok-Done.result.now { head = h })) c.head.ensures.head;
-  waiting = c.settle.ensures.waiting;
-  places = c.settle.ensures.places ∙ ap (λ (ps : List Packed). drop (length ps) c.self.inside.queue.places) c.staged-blocks.ensures.staged;
+  waiting = c.drop_committed.ensures.waiting;
+  places = c.drop_committed.ensures.places ∙ ap (λ (ps : List Packed). drop (length ps) c.self.inside.queue.places) c.staged-blocks.ensures.staged;
   durable_is = ap (λ (ps : List Packed). c.self.inside.durable + length ps) c.staged-blocks.ensures.staged;
   calls_is = c.saturating_add-self-inside.ensures;
 }
@@ -140,7 +140,7 @@ done : (g : _) (c : goal.Then-not-sealed g)
     (with_disk c.self.inside.parts.items (region_at c.as_slice.result.now c.self.inside.committing).part c.index_mut.result.now c.advance.new.disk (record (seen c.self.inside) {
       heads = set c.self.inside.heads.items c.self.inside.committing (record c.index_mut-in-Ok-Done.result.now { head = c.head.result });
       arena = c.advance.new.self;
-      queue = c.settle.new.self;
+      queue = c.drop_committed.new.self;
       durable = c.self.inside.durable + length c.staged-blocks.result.now;
       calls = c.saturating_add-self-inside.result;
     }))
@@ -243,11 +243,11 @@ last_turned g c = last_call (called_turned g c).there c.index_mut-in-Ok-Done.ens
 settles_turned : (g : _) (c : goal.After-move_to g)
     → Settles (seen c.self.inside) c.index_mut-in-Ok-Done.result.now c.advance.new.self
     (set c.self.inside.heads.items c.self.inside.committing (record c.index_mut-in-Ok-Done.result.now { head = c.head.result }))
-    c.settle.new.self (c.self.inside.durable + length c.staged-blocks.result.now) c.saturating_add-self-inside.result
+    c.drop_committed.new.self (c.self.inside.durable + length c.staged-blocks.result.now) c.saturating_add-self-inside.result
 settles_turned g c = record {
   heads_are = ap (λ (h : ArenaHead). set c.self.inside.heads.items c.self.inside.committing (record c.index_mut-in-Ok-Done.result.now { head = h })) c.head.ensures.head;
-  waiting = c.settle.ensures.waiting;
-  places = c.settle.ensures.places ∙ ap (λ (ps : List Packed). drop (length ps) c.self.inside.queue.places) c.staged-blocks.ensures.staged;
+  waiting = c.drop_committed.ensures.waiting;
+  places = c.drop_committed.ensures.places ∙ ap (λ (ps : List Packed). drop (length ps) c.self.inside.queue.places) c.staged-blocks.ensures.staged;
   durable_is = ap (λ (ps : List Packed). c.self.inside.durable + length ps) c.staged-blocks.ensures.staged;
   calls_is = c.saturating_add-self-inside.ensures;
 }
@@ -264,7 +264,7 @@ turns : (g : _) (c : goal.After-move_to g)
       heads = set c.self.inside.heads.items c.self.inside.committing (record c.index_mut-in-Ok-Done.result.now { head = c.head.result });
       committing = c.self.inside.committing + 1;
       arena = c.move_to.new.self;
-      queue = c.settle.new.self;
+      queue = c.drop_committed.new.self;
       durable = c.self.inside.durable + length c.staged-blocks.result.now;
       calls = c.saturating_add-self-inside.result;
     }))

@@ -8,100 +8,97 @@ use Rattle.vt_base.specs.declared.why.FieldValue.TheVariants.{Number}
 use Rattle.vt_model.specs.declared.TheConstants.{HEAD_LEN}
 use Rattle.vt_part.specs.declared.layout.ArenaRegion.{ArenaRegion}
 use Rattle.vt_log.specs.Whole.{IsWhole}
-use Rattle.vt_log.proofs.Lent.{region_at, lent, blocks_lent, reads_cause, unchanged}
+use Rattle.vt_log.proofs.Lent.{no_region, region_at, lent, blocks_lent, reads_cause, read_whole, unchanged}
 use Rattle.vt_log.proofs.log.Log.read_clump.Goals as goal
+use Rattle.vt_log.proofs.log.Log.read_clump.Goals.{then-has_header, else-has_header}
 
 pub invariant_of-self : goal.invariant_of-self
 invariant_of-self g c =
-    let dr : ArenaRegion = record { part = 0; number = 0; at = 0; len = 0 } in
-    let r : ArenaRegion = get_or c.as_slice.result.now c.args.place.arena dr in
-    let it = lent g.S.Scorer.score_of g.D.Disk.bytes g.D.Disk.images g.D.Disk.size c.self.inside.parts.items c.args.place.arena r dr c.index_mut.result.now c.read.new.disk _ c.args.self.now
-    c.self.invariant c.self.view_is refl refl c.requires (ap (λ (rs : List ArenaRegion). get_or rs c.args.place.arena dr) c.as_slice.ensures) c.index_mut.ensures.value c.read.ensures.bytes c.read.ensures.images c.read.ensures.size in
+    let r : ArenaRegion = get_or c.as_slice.result.now c.args.place.arena no_region in
+    let it = lent g.S.Scorer.score_of g.D.Disk.bytes g.D.Disk.images g.D.Disk.size
+    c.self.inside.parts.items c.args.place.arena r no_region c.index_mut.result.now
+    c.read.new.disk _ c.args.self.now c.self.invariant c.self.view_is refl refl c.requires
+    (ap (λ (rs : List ArenaRegion). get_or rs c.args.place.arena no_region) c.as_slice.ensures)
+    c.index_mut.ensures.value c.read.ensures.bytes c.read.ensures.images
+    c.read.ensures.size in
     it.only.whole (subst (IsWhole g.D.Disk.size) c.self.view_is c.self.invariant)
 
-pub returns-clause-outside : goal.returns-clause-outside
-returns-clause-outside g c q at none =
-    let dr : ArenaRegion = record { part = 0; number = 0; at = 0; len = 0 } in
-    let r : ArenaRegion = get_or c.as_slice.result.now c.args.place.arena dr in
-    let it = lent g.S.Scorer.score_of g.D.Disk.bytes g.D.Disk.images g.D.Disk.size c.self.inside.parts.items c.args.place.arena r dr c.index_mut.result.now c.read.new.disk _ c.args.self.now
-    c.self.invariant c.self.view_is refl refl c.requires (ap (λ (rs : List ArenaRegion). get_or rs c.args.place.arena dr) c.as_slice.ensures) c.index_mut.ensures.value c.read.ensures.bytes c.read.ensures.images c.read.ensures.size in
-    let offset : c.from.result ≡ c.args.place.offset = c.from.ensures in
-    let none_there : HasHeader r.len c.from.result → ⊥ = λ has. none (subst (λ (x : ArenaRegion). HasHeader x.len c.args.place.offset) (sym (it.r_one q at)) (subst (λ (n : ℕ). HasHeader r.len n) offset has)) in (
-      c.read.ensures.outside none_there ∙ ap (λ (n : ℕ). Err (Damaged (Number HEAD_LEN) (Number n))) offset,
-      unchanged g.S.Scorer.score_of g.D.Disk.bytes g.D.Disk.images g.D.Disk.size r.part _ c.read.new.disk c.args.self.now _ it.only (c.read.ensures.untouched none_there),
-    )
+pub read-requires : goal.read-requires
+read-requires g c =
+    let r : ArenaRegion = get_or c.as_slice.result.now c.args.place.arena no_region in
+    let p = c.index_mut.result.now in
+    let it = lent g.S.Scorer.score_of g.D.Disk.bytes g.D.Disk.images g.D.Disk.size
+    c.self.inside.parts.items c.args.place.arena r no_region p p.disk _ c.args.self.now
+    c.self.invariant c.self.view_is refl refl c.requires
+    (ap (λ (rs : List ArenaRegion). get_or rs c.args.place.arena no_region) c.as_slice.ensures)
+    c.index_mut.ensures.value refl (λ image left. left) refl in
+    record { region = it.fits }
 
-pub returns-clause-stored : goal.returns-clause-stored
-returns-clause-stored g c q region disk at has =
-    let dr : ArenaRegion = record { part = 0; number = 0; at = 0; len = 0 } in
-    let r : ArenaRegion = get_or c.as_slice.result.now c.args.place.arena dr in
-    let it = lent g.S.Scorer.score_of g.D.Disk.bytes g.D.Disk.images g.D.Disk.size c.self.inside.parts.items c.args.place.arena r dr c.index_mut.result.now c.read.new.disk _ c.args.self.now
-    c.self.invariant c.self.view_is refl refl c.requires (ap (λ (rs : List ArenaRegion). get_or rs c.args.place.arena dr) c.as_slice.ensures) c.index_mut.ensures.value c.read.ensures.bytes c.read.ensures.images c.read.ensures.size in
+pub returns : goal.returns
+returns g c =
+    let r : ArenaRegion = get_or c.as_slice.result.now c.args.place.arena no_region in
+    let it = lent g.S.Scorer.score_of g.D.Disk.bytes g.D.Disk.images g.D.Disk.size
+    c.self.inside.parts.items c.args.place.arena r no_region c.index_mut.result.now
+    c.read.new.disk _ c.args.self.now c.self.invariant c.self.view_is refl refl c.requires
+    (ap (λ (rs : List ArenaRegion). get_or rs c.args.place.arena no_region) c.as_slice.ensures)
+    c.index_mut.ensures.value c.read.ensures.bytes c.read.ensures.images
+    c.read.ensures.size in
     let made : Region = region_at r it.small in
-    let region_is : made ≡ region = it.region_one q region disk at it.small in
-    let offset : c.from.result ≡ c.args.place.offset = c.from.ensures in
-    let here : HasHeader made.len c.args.place.offset = subst (λ (x : ArenaRegion). HasHeader x.len c.args.place.offset) (it.r_one q at.arena) has in
-    subst (λ (x : Region). (bytes : List ℕ) × (IsTrue g.D.Disk.tells → bytes ≡ clump_at x c.args.place.offset (g.D.Disk.bytes disk)) × ReadsAs g.S.Scorer.score_of bytes c.read.result) region_is
-    (subst (λ (d : _). (bytes : List ℕ) × (IsTrue g.D.Disk.tells → bytes ≡ clump_at made c.args.place.offset (g.D.Disk.bytes d)) × ReadsAs g.S.Scorer.score_of bytes c.read.result) (it.disk_one q region disk at)
-    (subst (λ (n : ℕ). (bytes : List ℕ) × (IsTrue g.D.Disk.tells → bytes ≡ clump_at made n (g.D.Disk.bytes c.index_mut.result.now.disk)) × ReadsAs g.S.Scorer.score_of bytes c.read.result) offset
-    (c.read.ensures.answer (subst (λ (n : ℕ). HasHeader made.len n) (sym offset) here))))
-
-pub returns-clause-committed : goal.returns-clause-committed
-returns-clause-committed g c q region disk a before behind s tells at content blocks split offset =
-    let dr : ArenaRegion = record { part = 0; number = 0; at = 0; len = 0 } in
-    let r : ArenaRegion = get_or c.as_slice.result.now c.args.place.arena dr in
-    let it = lent g.S.Scorer.score_of g.D.Disk.bytes g.D.Disk.images g.D.Disk.size c.self.inside.parts.items c.args.place.arena r dr c.index_mut.result.now c.read.new.disk _ c.args.self.now
-    c.self.invariant c.self.view_is refl refl c.requires (ap (λ (rs : List ArenaRegion). get_or rs c.args.place.arena dr) c.as_slice.ensures) c.index_mut.ensures.value c.read.ensures.bytes c.read.ensures.images c.read.ensures.size in
-    let region_is : (k : r.at + r.len < 2 ^ 64) → region ≡ region_at r k = λ k. sym (it.region_one q region disk at k) in
-    c.read.ensures.committed a before behind s tells
-    (subst (λ (x : Region). IsContent g.S.Scorer.score_of x.len a) (region_is it.small) content)
-    (blocks_lent region r a.stored (g.D.Disk.bytes disk) _ region_is (ap g.D.Disk.bytes (it.disk_one q region disk at)) blocks _)
-    split (c.from.ensures ∙ offset)
-
-pub returns-clause-same : goal.returns-clause-same
-returns-clause-same g c =
-    let dr : ArenaRegion = record { part = 0; number = 0; at = 0; len = 0 } in
-    let r : ArenaRegion = get_or c.as_slice.result.now c.args.place.arena dr in
-    let it = lent g.S.Scorer.score_of g.D.Disk.bytes g.D.Disk.images g.D.Disk.size c.self.inside.parts.items c.args.place.arena r dr c.index_mut.result.now c.read.new.disk _ c.args.self.now
-    c.self.invariant c.self.view_is refl refl c.requires (ap (λ (rs : List ArenaRegion). get_or rs c.args.place.arena dr) c.as_slice.ensures) c.index_mut.ensures.value c.read.ensures.bytes c.read.ensures.images c.read.ensures.size in
-    it.only.same
-
-pub returns-clause-sound : goal.returns-clause-sound
-returns-clause-sound g c =
-    let dr : ArenaRegion = record { part = 0; number = 0; at = 0; len = 0 } in
-    let r : ArenaRegion = get_or c.as_slice.result.now c.args.place.arena dr in
-    let it = lent g.S.Scorer.score_of g.D.Disk.bytes g.D.Disk.images g.D.Disk.size c.self.inside.parts.items c.args.place.arena r dr c.index_mut.result.now c.read.new.disk _ c.args.self.now
-    c.self.invariant c.self.view_is refl refl c.requires (ap (λ (rs : List ArenaRegion). get_or rs c.args.place.arena dr) c.as_slice.ensures) c.index_mut.ensures.value c.read.ensures.bytes c.read.ensures.images c.read.ensures.size in
-    it.only.sound
-
-pub returns-clause-disks : goal.returns-clause-disks
-returns-clause-disks g c =
-    let dr : ArenaRegion = record { part = 0; number = 0; at = 0; len = 0 } in
-    let r : ArenaRegion = get_or c.as_slice.result.now c.args.place.arena dr in
-    let it = lent g.S.Scorer.score_of g.D.Disk.bytes g.D.Disk.images g.D.Disk.size c.self.inside.parts.items c.args.place.arena r dr c.index_mut.result.now c.read.new.disk _ c.args.self.now
-    c.self.invariant c.self.view_is refl refl c.requires (ap (λ (rs : List ArenaRegion). get_or rs c.args.place.arena dr) c.as_slice.ensures) c.index_mut.ensures.value c.read.ensures.bytes c.read.ensures.images c.read.ensures.size in
-    it.only.hold
-
-pub returns-clause-spares : goal.returns-clause-spares
-returns-clause-spares g c =
-    let dr : ArenaRegion = record { part = 0; number = 0; at = 0; len = 0 } in
-    let r : ArenaRegion = get_or c.as_slice.result.now c.args.place.arena dr in
-    let it = lent g.S.Scorer.score_of g.D.Disk.bytes g.D.Disk.images g.D.Disk.size c.self.inside.parts.items c.args.place.arena r dr c.index_mut.result.now c.read.new.disk _ c.args.self.now
-    c.self.invariant c.self.view_is refl refl c.requires (ap (λ (rs : List ArenaRegion). get_or rs c.args.place.arena dr) c.as_slice.ensures) c.index_mut.ensures.value c.read.ensures.bytes c.read.ensures.images c.read.ensures.size in
-    it.spares
-
-pub returns-clause-calls : goal.returns-clause-calls
-returns-clause-calls g c tells =
-    let dr : ArenaRegion = record { part = 0; number = 0; at = 0; len = 0 } in
-    let r : ArenaRegion = get_or c.as_slice.result.now c.args.place.arena dr in
-    let it = lent g.S.Scorer.score_of g.D.Disk.bytes g.D.Disk.images g.D.Disk.size c.self.inside.parts.items c.args.place.arena r dr c.index_mut.result.now c.read.new.disk _ c.args.self.now
-    c.self.invariant c.self.view_is refl refl c.requires (ap (λ (rs : List ArenaRegion). get_or rs c.args.place.arena dr) c.as_slice.ensures) c.index_mut.ensures.value c.read.ensures.bytes c.read.ensures.images c.read.ensures.size in
-    it.calls g.D.Disk.calls 2 (c.read.ensures.most_calls tells)
-
-pub returns-clause-cause : goal.returns-clause-cause
-returns-clause-cause g c =
-    let dr : ArenaRegion = record { part = 0; number = 0; at = 0; len = 0 } in
-    let r : ArenaRegion = get_or c.as_slice.result.now c.args.place.arena dr in
-    let it = lent g.S.Scorer.score_of g.D.Disk.bytes g.D.Disk.images g.D.Disk.size c.self.inside.parts.items c.args.place.arena r dr c.index_mut.result.now c.read.new.disk _ c.args.self.now
-    c.self.invariant c.self.view_is refl refl c.requires (ap (λ (rs : List ArenaRegion). get_or rs c.args.place.arena dr) c.as_slice.ensures) c.index_mut.ensures.value c.read.ensures.bytes c.read.ensures.images c.read.ensures.size in
-    reads_cause g.D.Disk.faults c.args.self.now.disks _ r.part _ c.read.new.disk c.read.result it.only.was it.only.disks_are c.read.ensures.cause
+    let offset : c.from-offset.result ≡ c.args.place.offset = c.from-offset.ensures in
+    record {
+      outside = λ q at none.
+          let none_there : ¬ HasHeader r.len c.from-offset.result = λ has. none
+          (subst (λ (x : ArenaRegion). HasHeader x.len c.args.place.offset) (sym (it.r_one q at))
+          (subst (λ (n : ℕ). HasHeader r.len n) offset has)) in (
+            c.read.ensures.outside none_there
+                ∙ ap (λ (n : ℕ). Err (Damaged (Number HEAD_LEN) (Number n))) offset,
+            unchanged g.S.Scorer.score_of g.D.Disk.bytes g.D.Disk.images g.D.Disk.size r.part _
+                c.read.new.disk c.args.self.now _ it.only (c.read.ensures.untouched none_there),
+            elim c.if-has_header.branch [
+              | then-has_header w ↦
+                  absurd (none_there (c.has_header.ensures.0 w.if-has_header.true))
+              | else-has_header w ↦ w.steps-is
+            ],
+          );
+      stored = λ q region disk at has.
+          let here : HasHeader made.len c.args.place.offset =
+          subst (λ (x : ArenaRegion). HasHeader x.len c.args.place.offset)
+          (it.r_one q at.arena) has in
+          subst (λ (x : Region). (bytes : List ℕ)
+          × (IsTrue g.D.Disk.tells
+          → bytes ≡ clump_at x c.args.place.offset (g.D.Disk.bytes disk))
+          × ReadsAs g.S.Scorer.score_of bytes c.read.result)
+          (it.region_one q region disk at it.small)
+          (subst (λ (d : _). (bytes : List ℕ)
+          × (IsTrue g.D.Disk.tells → bytes ≡ clump_at made c.args.place.offset (g.D.Disk.bytes d))
+          × ReadsAs g.S.Scorer.score_of bytes c.read.result)
+          (it.disk_one q region disk at)
+          (subst (λ (n : ℕ). (bytes : List ℕ)
+          × (IsTrue g.D.Disk.tells
+          → bytes ≡ clump_at made n (g.D.Disk.bytes c.index_mut.result.now.disk))
+          × ReadsAs g.S.Scorer.score_of bytes c.read.result) offset
+          (c.read.ensures.answer (subst (λ (n : ℕ). HasHeader made.len n) (sym offset) here))));
+      committed = λ q region disk a before behind s tells at content blocks split is.
+          let region_is : (k : r.at + r.len < 2 ^ 64) → region ≡ region_at r k =
+          λ k. sym (it.region_one q region disk at k) in
+          c.read.ensures.committed a before behind s tells
+          (subst (λ (x : Region). IsContent g.S.Scorer.score_of x.len a) (region_is it.small)
+          content)
+          (blocks_lent region r a.stored (g.D.Disk.bytes disk) _ region_is
+          (ap g.D.Disk.bytes (it.disk_one q region disk at)) blocks _)
+          split (offset ∙ is);
+      whole = read_whole g.S.Scorer.score_of c.read.result c.read.ensures.whole;
+      cost = λ q at has.
+          let here : HasHeader r.len c.from-offset.result =
+          subst (λ (x : ArenaRegion). HasHeader x.len c.from-offset.result) (it.r_one q at)
+          (subst (λ (n : ℕ). HasHeader q.len n) (sym offset) has) in
+          let lies : IsTrue c.has_header.result = c.has_header.ensures.1 here in
+          elim c.if-has_header.branch [
+            | then-has_header w ↦ w.steps-is ∙ w.tick.ensures
+            | else-has_header w ↦ absurd (cc)
+          ];
+      reads = it.reads _ g.D.Disk.calls 2 c.read.ensures.most_calls;
+      spares = it.spares;
+      cause = reads_cause g.D.Disk.faults c.args.self.now.disks _ r.part _ c.read.new.disk
+          c.read.result it.only.was it.only.disks_are c.read.ensures.cause;
+    }

@@ -1,28 +1,53 @@
 -- the log gives its block
-use Rattle.std.proofs.Common.{◌≡◌, sym, ◌∙◌, ap, subst, List, ℕ, Result}
+use Rattle.std.proofs.Common.{◌≡◌, sym, ◌∙◌, ap, subst, List, ℕ, Ok, Err, Result}
 use Rattle.std.specs.Prelude.{MatchResult}
 use Rattle.vt_base.specs.declared.why.Why.{Why}
-use Rattle.vt_base.specs.declared.why.Why.TheVariants.{NoMemory}
+use Rattle.vt_arena.specs.declared.bad.ReadBad.{ReadBad}
 use Rattle.vt_log.specs.Log.{LogState, setup_of}
+use Rattle.vt_log.specs.Reading.{AnswersRead}
 use Rattle.vt_model.specs.Places.{Setup, place_of}
+use Rattle.vt_prog.specs.Serving.{TellsFaults, MayNotRead, block_or_why}
 use Rattle.vt_prog.specs.Store.{StoreState, Holds}
-use Rattle.vt_prog.proofs.Holding.{no_fault, with_log}
+use Rattle.vt_prog.proofs.Failing.{read_tells, may_not_read}
+use Rattle.vt_prog.proofs.Holding.{with_log}
 use Rattle.vt_prog.proofs.store.LogStore.load.Goals as goal
 use Rattle.vt_prog.proofs.store.LogStore.load.Goals.{in-Ok, in-Err}
 
 pub returns-clause-loads : goal.returns-clause-loads
 returns-clause-loads g c h i e hold at is =
-    let was = subst (λ (s : StoreState _). Holds g.S.Scorer.score_of g.D.Disk.tells g.D.Disk.bytes g.D.Disk.images g.D.Disk.size g.D.Disk.faults s h) (sym c.self.view_is) hold in
+    let was = subst (λ (s : StoreState _). Holds g.S.Scorer.score_of g.D.Disk.tells g.D.Disk.bytes g.D.Disk.images g.D.Disk.size s h) (sym c.self.view_is) hold in
     let place = ap (λ (setup : Setup). place_of setup h i) was.setup ∙ is.place in
     elim c.match-read.branch [
-      | in-Ok w ↦ subst (λ (r : Result (List ℕ) Why). MatchResult r (λ block. block ≡ e.block.bytes) (λ why. why ≡ NoMemory)) (sym w.result-is)
+      | in-Ok w ↦ subst (λ (r : Result (List ℕ) Why). MatchResult r (λ block. block ≡ e.block.bytes) MayNotRead) (sym w.result-is)
           (w.in-Ok.ensures.block h i e was.tells_is was.sound at place is.kind is.score)
-      | in-Err w ↦ subst (λ (r : Result (List ℕ) Why). MatchResult r (λ block. block ≡ e.block.bytes) (λ why. why ≡ NoMemory)) (sym w.result-is)
-          (w.why_unread.ensures (no_fault g.D.Disk.faults was.never w.in-Err.bad _ _ w.in-Err.ensures.cause (w.in-Err.ensures.block h i e was.tells_is was.sound at place is.kind is.score)))
+      | in-Err w ↦ subst (λ (r : Result (List ℕ) Why). MatchResult r (λ block. block ≡ e.block.bytes) MayNotRead) (sym w.result-is)
+          (subst MayNotRead (sym w.why_unread.ensures)
+          (may_not_read c.args.entry.now.place w.in-Err.bad (w.in-Err.ensures.block h i e was.tells_is was.sound at place is.kind is.score)))
     ]
 
 pub returns-clause-holds : goal.returns-clause-holds
 returns-clause-holds g c h hold =
-    let was = subst (λ (s : StoreState _). Holds g.S.Scorer.score_of g.D.Disk.tells g.D.Disk.bytes g.D.Disk.images g.D.Disk.size g.D.Disk.faults s h) (sym c.self.view_is) hold in
-    with_log g.S.Scorer.score_of g.D.Disk.tells g.D.Disk.bytes g.D.Disk.images g.D.Disk.size g.D.Disk.faults _ c.read.new.self h was
-    (c.read.ensures.sound h was.sound) (ap (λ (l : LogState _). setup_of l) c.read.ensures.same) (ap (λ (l : LogState _). l.stopped) c.read.ensures.same ∙ was.runs)
+    let was = subst (λ (s : StoreState _). Holds g.S.Scorer.score_of g.D.Disk.tells g.D.Disk.bytes g.D.Disk.images g.D.Disk.size s h) (sym c.self.view_is) hold in
+    with_log g.S.Scorer.score_of g.D.Disk.tells g.D.Disk.bytes g.D.Disk.images g.D.Disk.size _ c.read.new.self h was
+    (c.read.ensures.reads.sound h was.sound) (ap (λ (l : LogState _). setup_of l) c.read.ensures.reads.same)
+
+pub returns-clause-cause : goal.returns-clause-cause
+returns-clause-cause g c =
+    let stop = ap (λ (l : LogState _). l.stopped) c.read.ensures.reads.same in
+    subst (λ (s : StoreState _). TellsFaults g.D.Disk.faults s.log c.read.new.self c.match-read.result) c.self.view_is
+    (elim c.match-read.branch [
+      | in-Ok w ↦ subst (λ (r : Result (List ℕ) Why). TellsFaults g.D.Disk.faults c.self.inside.log c.read.new.self r) (sym w.result-is) (w.in-Ok.ensures.cause, stop)
+      | in-Err w ↦ subst (λ (r : Result (List ℕ) Why). TellsFaults g.D.Disk.faults c.self.inside.log c.read.new.self r) (sym w.result-is)
+          (subst (λ (why : Why). TellsFaults {X = List ℕ} g.D.Disk.faults c.self.inside.log c.read.new.self (Err why)) (sym w.why_unread.ensures)
+          (read_tells (List ℕ) g.D.Disk.faults c.args.entry.now.place w.in-Err.bad c.self.inside.log c.read.new.self w.in-Err.ensures.cause stop))
+    ])
+
+pub returns-clause-answer : goal.returns-clause-answer
+returns-clause-answer g c =
+    let place = c.args.entry.now.place in
+    subst (λ (s : StoreState _). (r : Result (List ℕ) ReadBad) × AnswersRead g.S.Scorer.score_of g.D.Disk.tells g.D.Disk.bytes s.log place c.args.entry.now.key r
+    × (c.match-read.result ≡ block_or_why place r)) c.self.view_is
+    (elim c.match-read.branch [
+      | in-Ok w ↦ (Ok w.in-Ok.block, w.in-Ok.ensures.answer, w.result-is)
+      | in-Err w ↦ (Err w.in-Err.bad, w.in-Err.ensures.answer, w.result-is ∙ ap Err w.why_unread.ensures)
+    ])

@@ -1,22 +1,18 @@
--- each call of the log lowers what is owed, and none is left at the end
-use Rattle.std.proofs.Common.{refl, ◌∙◌, ap, subst, Ok}
-use Rattle.std.specs.Prelude.{IsOk}
+-- a commit answers the sync
+use Rattle.std.proofs.Common.{sym, subst}
+use Rattle.vt_base.specs.Protocol.{sync, r_sync}
+use Rattle.vt_prog.specs.Serving.{Serves, FailsFor}
+use Rattle.vt_prog.specs.Store.{StoreState, Holds}
+use Rattle.vt_prog.proofs.Failing.{serves_sync}
+use Rattle.vt_prog.proofs.Holding.{with_log}
 use Rattle.vt_prog.proofs.store.LogStore.sync.Goals as goal
 
-pub loop-init : goal.loop-init
-loop-init g c = record { holds = λ h hold. hold; entries = refl }
-
-pub returns-in_err-advance-clause-serves : goal.returns-in_err-advance-clause-serves
-returns-in_err-advance-clause-serves g c h hold = absurd (let ok = subst IsOk (c.in_err-advance.was) (c.advance.ensures.holds h (c.loop.invariant.holds h hold)).0 in cc)
-
-pub returns-then-not-branch-clause-serves : goal.returns-then-not-branch-clause-serves
-returns-then-not-branch-clause-serves g c h hold = (refl, (c.advance.ensures.holds h (c.loop.invariant.holds h hold)).1)
-
-pub loop-smaller : goal.loop-smaller
-loop-smaller g c = c.advance.ensures.lower (c.in_ok-advance.was ∙ ap Ok c.if-not-branch.false)
-
-pub loop-preserved : goal.loop-preserved
-loop-preserved g c = record {
-  holds = λ h hold. (c.advance.ensures.holds h (c.loop.invariant.holds h hold)).1;
-  entries = c.advance.ensures.entries ∙ c.loop.invariant.entries;
-}
+pub returns-clause-serves : goal.returns-clause-serves
+returns-clause-serves g c h hold =
+    let score = g.S.Scorer.score_of in
+    let was = subst (λ (s : StoreState _). Holds score g.D.Disk.tells g.D.Disk.bytes g.D.Disk.images g.D.Disk.size s h) (sym c.self.view_is) hold in
+    let now : StoreState _ = record { log = c.commit.new.log; entries = c.self.inside.entries.items } in
+    let holds = Holds score g.D.Disk.tells g.D.Disk.bytes g.D.Disk.images g.D.Disk.size now in
+    subst (λ (s : StoreState _). Serves {X = Unit {0}} score holds (FailsFor g.D.Disk.faults s.log c.commit.new.log) h sync (λ x. r_sync) c.commit.result) c.self.view_is
+    (serves_sync score holds g.D.Disk.faults c.self.inside.log c.commit.new.log h c.commit.result c.commit.ensures.cause
+    (with_log score g.D.Disk.tells g.D.Disk.bytes g.D.Disk.images g.D.Disk.size _ c.commit.new.log h was (c.commit.ensures.sound h was.tells_is was.sound) c.commit.ensures.setup))

@@ -1,7 +1,7 @@
 use Rattle.std.proofs.Common.{◌≡◌, ◌≤◌, drop}
 use Rattle.std.specs.VecDeque.{deque_capacity}
 use Rattle.vt_log.specs.declared.TheConstants.{QUEUE_MAX}
-use Rattle.vt_log.proofs.queue.Queue.settle.Given as goal
+use Rattle.vt_log.proofs.queue.Queue.drop_committed.Given as goal
 
 -- so many places have gone
 abbrev pub invariant-loop : goal.invariant-loop

@@ -1,0 +1,143 @@
+-- The two values of a damage differ.
+use Rattle.std.proofs.Common.{◌≡◌, ◌≢◌, ◌⊎◌, ⊎_elim, inl, inr, ℕ, ◌+◌, ◌-◌, ◌<◌, ◌≤◌, Bool, true, false, not, Option, Some, None, List, length, take, refl, sym, ◌∙◌, ap, subst, arith, Err, Result}
+use Rattle.std.specs.Prelude.{◌==◌, nat_lt, if◌then◌else◌, codes, slice_index}
+use Rattle.std.specs.Str.{bytes_eq}
+use Rattle.std.proofs.lemmas.Bool.{cases_lt, eqb-false, ltb-true}
+use Rattle.std.proofs.lemmas.Slice.Eq.{bytes_eq-Decides}
+use Rattle.vt_base.specs.declared.key.Key.{Key}
+use Rattle.vt_base.specs.declared.place.Place.{Place}
+use Rattle.vt_base.specs.declared.score.Score.{Score}
+use Rattle.vt_base.specs.declared.why.FieldValue.{FieldValue}
+use Rattle.vt_base.specs.declared.why.FieldValue.TheVariants.{Number, Score as ScoreValue}
+use Rattle.vt_base.specs.Kind.{is_kind}
+use Rattle.vt_clump.specs.declared.reading.ClumpBad.{ClumpBad}
+use Rattle.vt_clump.specs.Faults.{or_else, bad_encoding, bad_size, bad_header, other_score, first_bad}
+use Rattle.vt_clump.specs.Spelling.{size_in, uncsize_in, stored_in}
+use Rattle.vt_arena.specs.declared.bad.ReadBad.{ReadBad}
+use Rattle.vt_arena.specs.declared.bad.ReadBad.TheVariants.{Damaged}
+use Rattle.vt_arena.specs.Reading.{HasHeader, damage_of, IsDamaged}
+use Rattle.vt_log.specs.Log.{LogState}
+use Rattle.vt_log.specs.Queue.{IsNowhere}
+use Rattle.vt_log.specs.Reading.{IsOther, ReadsAs, AnswersRead}
+use Rattle.vt_log.specs.Whole.{IsOnDisk, IsWhole}
+use Rattle.vt_log.proofs.Images.{there}
+use Rattle.vt_log.proofs.Memory.{at_slice}
+use Rattle.vt_log.proofs.Places.{slice_get_there}
+
+-- this fault of a clump, if there is one, has two values
+abbrev HasTwo : Option ClumpBad → Type 0
+HasTwo (Some bad) = (damage_of bad).0 ≢ (damage_of bad).1
+HasTwo None = Unit
+
+-- two numbers that differ are two values
+numbers : (m n : ℕ) → m ≢ n → Number m ≢ Number n
+numbers m n other same = other (cc)
+
+-- a choice of two faults, and the first of two
+choose : (b : Bool) (x y : Option ClumpBad) → (b ≡ true → HasTwo x) → (b ≡ false → HasTwo y)
+    → HasTwo (if b then x else y)
+choose true x y first other = first refl
+choose false x y first other = other refl
+
+joined : (x y : Option ClumpBad) → HasTwo x → HasTwo y → HasTwo (or_else x y)
+joined None y first later = later
+joined (Some bad) y first later = first
+
+-- each test of a clump that fails tells two values
+encoding_two : (n : ℕ) → HasTwo (bad_encoding n)
+encoding_two n =
+    choose (n == 1) _ _ (λ _. tt)
+    (λ other. choose (n == 2) _ _ (λ _. numbers 1 2 (λ same. omega arith))
+    (λ _. numbers 1 n (λ same. eqb-false n 1 other (sym same))))
+
+size_two : (size uncsize room : ℕ) → HasTwo (bad_size size uncsize room)
+size_two size uncsize room =
+    choose (not (uncsize == size)) _ _ (λ other. numbers size uncsize (λ same. grind (arith)))
+    (λ _. choose (size == 0) _ _ (λ _. numbers 1 0 (λ same. omega arith))
+    (λ _. choose (nat_lt 57344 size) _ _
+    (λ large. numbers 57344 size (λ same. omega (arith, ltb-true 57344 size large)))
+    (λ _. choose (nat_lt room size) _ _
+    (λ large. numbers room size (λ same. omega (arith, ltb-true room size large)))
+    (λ _. tt))))
+
+-- a kind that is none isn't 13
+kind_two : (n : ℕ) → not (is_kind n) ≡ true → 13 ≢ n
+kind_two n none same =
+    let at : not (is_kind 13) ≡ true = ap (λ (k : ℕ). not (is_kind k)) same ∙ none in
+    absurd (cc)
+
+header_two : (bytes : List ℕ) → HasTwo (bad_header bytes)
+header_two bytes =
+    choose (nat_lt (length bytes) 38) _ _ (λ _. numbers 38 0 (λ same. omega arith))
+    (λ _. choose (not (bytes_eq (take 4 bytes) (codes "VCLP"))) _ _ (λ other same.
+    let magic : codes "VCLP" ≡ take 4 bytes = cc in
+    let equal : bytes_eq (take 4 bytes) (codes "VCLP") ≡ true =
+    (bytes_eq-Decides (take 4 bytes) (codes "VCLP")).1 (sym magic) in
+    let no : not true ≡ true = ap not (sym equal) ∙ other in
+    absurd (cc))
+    (λ _. choose (not (is_kind (slice_index bytes 4))) _ _ (λ none. numbers 13 _ (kind_two _ none))
+    (λ _. joined (bad_encoding (slice_index bytes 29)) _ (encoding_two (slice_index bytes 29))
+    (size_two (size_in bytes) (uncsize_in bytes) (length bytes - 38)))))
+
+score_two : (want found : List ℕ) → HasTwo (other_score want found)
+score_two want found =
+    choose (bytes_eq found want) _ _ (λ _. tt) (λ other same.
+    let score : record { 0 = want } ≡ record { 0 = found } = cc in
+    let equal : bytes_eq found want ≡ true =
+    (bytes_eq-Decides found want).1 (sym (ap (λ (s : Score). s.0) score)) in
+    absurd (cc))
+
+first_two : (score_of : List ℕ → List ℕ) (bytes : List ℕ) → HasTwo (first_bad score_of bytes)
+first_two score_of bytes =
+    joined (bad_header bytes) _ (header_two bytes)
+    (score_two (stored_in bytes).score (score_of (stored_in bytes).block))
+
+damaged_two : (score_of : List ℕ → List ℕ) (bytes : List ℕ) (want found : FieldValue)
+    → IsDamaged score_of bytes want found → want ≢ found
+damaged_two score_of bytes want found it same =
+    let two = subst HasTwo it.1 (first_two score_of bytes) in
+    two (ap (λ (p : FieldValue × FieldValue). p.0) it.2 ∙ same
+    ∙ sym (ap (λ (p : FieldValue × FieldValue). p.1) it.2))
+
+-- so does a clump that has another key
+key_two : (key : Key) (kind : ℕ) (score : List ℕ) (want found : FieldValue)
+    → IsOther key kind score want found → want ≢ found
+key_two key kind score want found other same = ⊎_elim
+    (λ (it : (kind ≢ key.kind) × (want ≡ Number key.kind) × (found ≡ Number kind)). it.0 (cc))
+    (λ (it : (kind ≡ key.kind) × (score ≢ key.score.0) × (want ≡ ScoreValue key.score)
+    × (found ≡ ScoreValue (record { 0 = score }))).
+    let same_score : key.score ≡ record { 0 = score } = cc in
+    it.1 (sym (ap (λ (s : Score). s.0) same_score)))
+    other
+
+-- a header can lie at an offset, or it can't
+header_cases : (len offset : ℕ) → HasHeader len offset ⊎ (¬ HasHeader len offset)
+header_cases len offset = ⊎_elim
+    (λ (below : offset < 24576). inr (λ has. omega (arith, below, has.0)))
+    (λ (above : 24576 ≤ offset). ⊎_elim
+    (λ (past : len < offset + 38). inr (λ has. omega (arith, past, has.1)))
+    (λ (within : offset + 38 ≤ len). inl (above, within))
+    (cases_lt len (offset + 38)))
+    (cases_lt offset 24576)
+
+-- A damage that is answered for a place in an arena has two values.
+pub answer_two : {D : Type 0} (score_of : List ℕ → List ℕ) (tells : Bool) (bytes : D → List ℕ)
+    (size : D → ℕ) (l : LogState D) (place : Place) (key : Key) (result : Result (List ℕ) ReadBad)
+    → IsWhole size l → IsNowhere l.queue.places place → place.arena < length l.layout
+    → AnswersRead score_of tells bytes l place key result
+    → (want found : FieldValue) → result ≡ Err (Damaged want found) → want ≢ found
+answer_two score_of tells bytes size l place key result whole none within answer want found bad =
+    let at = slice_get_there l.layout place.arena within in
+    let len = (at_slice (IsOnDisk size l.disks) l.layout _ at.0 whole.regions at.1).len in
+    let it = there size l place.arena at.0 whole at.1 in
+    ⊎_elim (λ (has : HasHeader at.0.len place.offset).
+    let stored = answer.stored at.0 it.region it.disk none it.at has in
+    ⊎_elim (damaged_two score_of stored.0 want found)
+    (λ (other : (_ ≡ None) × _). key_two key _ _ want found other.1)
+    (subst (ReadsAs score_of key stored.0) bad stored.2))
+    (λ (no : ¬ HasHeader at.0.len place.offset) (same : want ≡ found).
+    let told : Err (Damaged want found) ≡ Err (Damaged (Number 24576) (Number place.offset)) =
+    sym bad ∙ answer.outside at.0 none at.1 no in
+    let offset : 24576 ≡ place.offset = cc in
+    no (omega (arith, offset), omega (arith, offset, len)))
+    (header_cases at.0.len place.offset)

@@ -1,0 +1,147 @@
+-- How a store fails where its log does.
+use Rattle.std.proofs.Common.{◌≡◌, ◌⊎◌, ⊎_elim, inl, inr, ℕ, List, [], map, refl, sym, ◌∙◌, ap, subst, Option, Some, None, Ok, Err, Result}
+use Rattle.std.specs.Prelude.{◌↔◌, IsSome}
+use Rattle.vt_base.specs.declared.place.Place.{Place}
+use Rattle.vt_base.specs.declared.why.Why.{Why}
+use Rattle.vt_base.specs.declared.why.Why.TheVariants.{DiskFault, Stopped, Damaged, NoMemory}
+use Rattle.vt_base.specs.Protocol.{Operation, sync, RMessage, r_sync}
+use Rattle.vt_model.specs.History.{History}
+use Rattle.vt_arena.specs.declared.bad.ReadBad.{ReadBad}
+use Rattle.vt_arena.specs.declared.bad.ReadBad.TheVariants as unread
+use Rattle.vt_log.specs.declared.bad.Progress.{Progress}
+use Rattle.vt_log.specs.declared.bad.Progress.TheVariants.{Idle, Step, Durable}
+use Rattle.vt_log.specs.declared.bad.LogErr.{LogErr}
+use Rattle.vt_log.specs.declared.bad.LogErr.TheVariants as refusals
+use Rattle.vt_log.specs.Answers.{Advances}
+use Rattle.vt_log.specs.Faults.{OneHasRisen, CountsFaultAt}
+use Rattle.vt_log.specs.Log.{LogState}
+use Rattle.vt_log.specs.Reading.{CountsFault}
+use Rattle.vt_session.specs.Turns.{Cause, disk_fault, stopped, damaged, no_memory, log, section, why_of}
+use Rattle.vt_session.specs.Answered.{MayFail, ReachesParts, TakesMemory, WritesTo}
+use Rattle.vt_prog.specs.Serving.{Serves, FailsFor, GoesOn, TellsFaults, CommitsOrStops, MayNotRead, why_unread, advanced_by}
+use Rattle.vt_prog.specs.Store.{memory}
+
+-- ---- a call of the log
+
+no_number : (o : Option ℕ) → ((n : ℕ) → o ≡ Some n → ⊥) → o ≡ None
+no_number None none = refl
+no_number (Some n) none = absurd (none n refl)
+
+-- it answers, so that it hadn't stopped
+runs : {D : Type 0} (r : Result Progress LogErr) (old : LogState D)
+    → ((n : ℕ) → (r ≡ Err (refusals.Stopped n)) ↔ (old.stopped ≡ Some n))
+    → ((n : ℕ) → r ≡ Err (refusals.Stopped n) → ⊥) → old.stopped ≡ None
+runs r old stops other = no_number old.stopped (λ n is. other n ((stops n).1 is))
+
+pub runs_ok : {D : Type 0} (r : Result Progress LogErr) (progress : Progress) (old : LogState D)
+    → ((n : ℕ) → (r ≡ Err (refusals.Stopped n)) ↔ (old.stopped ≡ Some n)) → r ≡ Ok progress → old.stopped ≡ None
+runs_ok r progress old stops is = runs r old stops (λ n other. let no = sym is ∙ other in absurd (cc))
+
+pub commits : {D : Type 0} (faults : D → ℕ) (disk : ℕ) (r : Result Progress LogErr) (old new : LogState D)
+    → Advances r old new → CountsFaultAt disk r (map faults old.disks) (map faults new.disks)
+    → ((n : ℕ) → (r ≡ Err (refusals.Stopped n)) ↔ (old.stopped ≡ Some n))
+    → CommitsOrStops faults old new (advanced_by r)
+commits faults disk (Ok Idle) old new is cause stops = (cause, ap (λ (l : LogState _). l.stopped) is.1)
+commits faults disk (Ok Step) old new is cause stops =
+    (cause, is.1 ∙ sym (runs (Ok Step) old stops (λ n same. let no = same in absurd (cc))))
+commits faults disk (Ok (Durable n)) old new is cause stops =
+    (cause, is.2 ∙ sym (runs (Ok (Durable n)) old stops (λ k same. let no = same in absurd (cc))))
+commits faults disk (Err refusals.Fault) old new is cause stops =
+    (cause.0, subst (λ (o : Option ℕ). IsSome o) (sym is.1) refl)
+commits faults disk (Err (refusals.Stopped n)) old new is cause stops =
+    (is.0, (cause, ap (λ (l : LogState _). l.stopped) is.1))
+
+-- what a commit answers, a call does that makes one
+pub tells_why : {D : Type 0} (X Y : Type 0) (faults : D → ℕ) (old new : LogState D) (why : Why)
+    → CommitsOrStops {X = X} faults old new (Err why) → TellsFaults {X = Y} faults old new (Err why)
+tells_why X Y faults old new DiskFault is = is.0
+tells_why X Y faults old new (Stopped call) is = is
+tells_why X Y faults old new why is = absurd is
+
+pub tells_as_commit : {D X : Type 0} (faults : D → ℕ) (old new : LogState D) (r : Result X Why)
+    → CommitsOrStops faults old new r → TellsFaults faults old new r
+tells_as_commit faults old new (Ok x) is = is
+tells_as_commit {X = X} faults old new (Err why) is = tells_why X X faults old new why is
+
+-- ---- one call after another
+
+pub on_and_on : {D : Type 0} (faults : D → ℕ) (old now new : LogState D) → GoesOn faults old now → GoesOn faults now new → GoesOn faults old new
+on_and_on faults old now new on it = (it.0 ∙ on.0, it.1 ∙ on.1)
+
+pub then_commits : {D : Type 0} (X Y : Type 0) (faults : D → ℕ) (old now new : LogState D) (why : Why)
+    → GoesOn faults old now → CommitsOrStops {X = X} faults now new (Err why) → CommitsOrStops {X = Y} faults old new (Err why)
+then_commits X Y faults old now new DiskFault on is =
+    (subst (λ (counts : List ℕ). OneHasRisen counts (map faults new.disks)) on.0 is.0, is.1)
+then_commits X Y faults old now new (Stopped call) on is = (sym on.1 ∙ is.0, on_and_on faults old now new on is.1)
+then_commits X Y faults old now new why on is = absurd is
+
+pub then_tells : {D : Type 0} (X Y : Type 0) (faults : D → ℕ) (old now new : LogState D) (why : Why)
+    → GoesOn faults old now → TellsFaults {X = X} faults now new (Err why) → TellsFaults {X = Y} faults old new (Err why)
+then_tells X Y faults old now new DiskFault on is = subst (λ (counts : List ℕ). OneHasRisen counts (map faults new.disks)) on.0 is
+then_tells X Y faults old now new (Stopped call) on is = (sym on.1 ∙ is.0, on_and_on faults old now new on is.1)
+then_tells X Y faults old now new why on is = on_and_on faults old now new on is
+
+-- ---- reading a block
+
+pub read_tells : {D : Type 0} (X : Type 0) (faults : D → ℕ) (place : Place) (bad : ReadBad) (old new : LogState D)
+    → CountsFault bad (map faults old.disks) (map faults new.disks) → new.stopped ≡ old.stopped
+    → TellsFaults {X = X} faults old new (Err (why_unread place bad))
+read_tells X faults place unread.Fault old new cause same = cause
+read_tells X faults place (unread.Damaged want found) old new cause same = (cause, same)
+read_tells X faults place unread.NoMemory old new cause same = (cause, same)
+
+pub may_not_read : (place : Place) (bad : ReadBad) → (bad ≡ unread.Fault) ⊎ (bad ≡ unread.NoMemory)
+    → MayNotRead (why_unread place bad)
+may_not_read place bad is = ⊎_elim (λ fault. inl (ap (why_unread place) fault)) (λ memory. inr (ap (why_unread place) memory)) is
+
+-- ---- the causes
+
+module _ {D : Type 0} (score_of : List ℕ → List ℕ) (m : Operation) (reaches : ReachesParts score_of m) (faults : D → ℕ) (old new : LogState D) where
+  -- a cause for which the operation may fail
+  abbrev pub FailsBy : Why → Type 0
+  FailsBy why = (cause : Cause) × (why ≡ why_of cause) × MayFail score_of memory m cause × FailsFor faults old new cause
+
+  pub by_memory : TakesMemory m → FailsBy NoMemory
+  by_memory takes = (no_memory, refl, (reaches, takes), tt)
+
+  pub by_fault : OneHasRisen (map faults old.disks) (map faults new.disks) → FailsBy DiskFault
+  by_fault rose = (disk_fault (map faults old.disks) (map faults new.disks), refl, (reaches, (rose.which, rose.rose.1)), (refl, refl))
+
+  pub by_stop : (call : ℕ) → WritesTo score_of memory m log → old.stopped ≡ Some call → FailsBy (Stopped call)
+  by_stop call writes is = (stopped log call, refl, (reaches, writes), is)
+
+  -- a block isn't read
+  pub by_read : (X : Type 0) (why : Why) → TakesMemory m → MayNotRead why → TellsFaults {X = X} faults old new (Err why) → FailsBy why
+  by_read X why takes is tells = ⊎_elim
+      (λ fault. subst FailsBy (sym fault) (by_fault (subst (λ (w : Why). TellsFaults {X = X} faults old new (Err w)) fault tells)))
+      (λ memory. subst FailsBy (sym memory) (by_memory takes)) is
+
+  -- a commit stops
+  pub by_commit : (X : Type 0) (why : Why) → WritesTo score_of memory m log → CommitsOrStops {X = X} faults old new (Err why) → FailsBy why
+  by_commit X DiskFault writes is = by_fault is.0
+  by_commit X (Stopped call) writes is = by_stop call writes is.0
+  by_commit X why writes is = absurd is
+
+-- ---- what is answered
+
+fails_then : {D : Type 0} (faults : D → ℕ) (old now new : LogState D) (cause : Cause) → GoesOn faults old now → FailsFor faults now new cause → FailsFor faults old new cause
+fails_then faults old now new (disk_fault before after) on is = (is.0 ∙ on.0, is.1)
+fails_then faults old now new (stopped log call) on is = sym on.1 ∙ is
+fails_then faults old now new (stopped (section number) call) on is = is
+fails_then faults old now new (damaged site want found) on is = is
+fails_then faults old now new no_memory on is = tt
+
+-- a failure is the same behind calls that went well
+pub serves_then : {D X Y : Type 0} (score_of : List ℕ → List ℕ) (holds : History → Type 0) (faults : D → ℕ) (old now new : LogState D) (h : History) (m : Operation)
+    (message : X → RMessage) (other : Y → RMessage) (why : Why) → GoesOn faults old now
+    → Serves score_of holds (FailsFor faults now new) h m message (Err why) → Serves score_of holds (FailsFor faults old new) h m other (Err why)
+serves_then score_of holds faults old now new h m message other why on (inl it) = inl it
+serves_then score_of holds faults old now new h m message other why on (inr it) =
+    inr (it.0, it.1, it.2, fails_then faults old now new it.0 on it.3, it.4)
+
+pub serves_sync : {D : Type 0} (score_of : List ℕ → List ℕ) (holds : History → Type 0) (faults : D → ℕ) (old new : LogState D) (h : History) (r : Result (Unit {0}) Why)
+    → CommitsOrStops faults old new r → holds h → Serves {X = Unit {0}} score_of holds (FailsFor faults old new) h sync (λ x. r_sync) r
+serves_sync score_of holds faults old new h (Ok x) is hold = (refl, hold)
+serves_sync score_of holds faults old new h (Err why) is hold =
+    let by = by_commit score_of sync tt faults old new (Unit {0}) why refl is in
+    inr (by.0, by.1, by.2, by.3, hold)

@@ -1,0 +1,68 @@
+-- the tests of the model before those of the index
+use Rattle.std.proofs.Common.{◌≡◌, ◌<◌, ◌==◌, ℕ, zero, suc, Bool, true, false, inl, inr, Err, refl, sym, ◌∙◌, ap, subst, arith}
+use Rattle.std.specs.Option.{IfSome}
+use Rattle.std.proofs.lemmas.Bool.{true≢false}
+use Rattle.std.proofs.lemmas.Result.{err_from_is_err_and}
+use Rattle.vt_base.specs.Kind.{is_kind}
+use Rattle.vt_base.specs.declared.score.Score.{Score}
+use Rattle.vt_base.specs.Protocol.{write, r_write}
+use Rattle.vt_session.specs.Answered.{ReachesParts}
+use Rattle.vt_prog.specs.Serving.{Serves, FailsFor}
+use Rattle.vt_prog.specs.Store.{StoreState, Holds}
+use Rattle.vt_prog.proofs.Failing.{by_read, by_stop, serves_then}
+use Rattle.vt_prog.proofs.Making.{made_none, made_by_reads}
+use Rattle.vt_prog.proofs.store.LogStore.write.Goals as goal
+
+some_of : (n : ℕ) → (n == 0) ≡ false → 0 < n
+some_of zero is = absurd (true≢false is)
+some_of (suc n) is = omega arith
+
+pub returns-in_err-kind-clause-commits : goal.returns-in_err-kind-clause-commits
+returns-in_err-kind-clause-commits g c = made_none c.args.self.now.log
+
+pub returns-then-bytes-gt-MAX_BLOCK-clause-commits : goal.returns-then-bytes-gt-MAX_BLOCK-clause-commits
+returns-then-bytes-gt-MAX_BLOCK-clause-commits g c = made_none c.args.self.now.log
+
+pub returns-then-is_empty-clause-commits : goal.returns-then-is_empty-clause-commits
+returns-then-is_empty-clause-commits g c = made_none c.args.self.now.log
+
+pub returns-in-Some-clause-commits : goal.returns-in-Some-clause-commits
+returns-in-Some-clause-commits g c = made_none c.args.self.now.log
+
+pub returns-in-Some-clause-serves : goal.returns-in-Some-clause-serves
+returns-in-Some-clause-serves g c h hold =
+    let score = g.S.Scorer.score_of in
+    let m = write c.args.kind c.args.bytes.now in
+    let known : is_kind c.args.kind ≡ true = sym c.from_wire.ensures.variant ∙ sym c.in_ok-kind.ensures.variant in
+    let reaches : ReachesParts score m = record { kind = known; some = some_of _ (sym c.is_empty.ensures ∙ c.if-is_empty.false); most = c.if-bytes-gt-MAX_BLOCK.false } in
+    let stop = ap (λ (s : StoreState _). s.log.stopped) (sym c.self.view_is) ∙ sym c.stopped.ensures ∙ c.in-Some.is in
+    let by = by_stop score m reaches g.D.Disk.faults c.args.self.now.log c.args.self.now.log c.in-Some.call (inl refl) stop in
+    inr (by.0, by.1, by.2, by.3, hold)
+
+pub returns-in_err-collides-clause-commits : goal.returns-in_err-collides-clause-commits
+returns-in_err-collides-clause-commits g c = made_by_reads c.args.self.now.log c.collides.new.self.log (ap (λ (s : StoreState _). s.log) c.collides.ensures.same)
+
+pub returns-in_err-collides-clause-serves : goal.returns-in_err-collides-clause-serves
+returns-in_err-collides-clause-serves g c h hold =
+    let score = g.S.Scorer.score_of in
+    let m = write c.args.kind c.args.bytes.now in
+    let p = err_from_is_err_and c.from_residual-in_err-collides.result c.from_residual-in_err-collides.ensures.1 in
+    let known : is_kind c.args.kind ≡ true = sym c.from_wire.ensures.variant ∙ sym c.in_ok-kind.ensures.variant in
+    let reaches : ReachesParts score m = record { kind = known; some = some_of _ (sym c.is_empty.ensures ∙ c.if-is_empty.false); most = c.if-bytes-gt-MAX_BLOCK.false } in
+    let by = by_read score m reaches g.D.Disk.faults c.args.self.now.log c.collides.new.self.log Bool c.in_err-collides.field-0.0 tt (c.in_err-collides.ensures.tells h hold) c.in_err-collides.ensures.cause in
+    rw (p.1, p.2) (inr (by.0, by.1, by.2, by.3, c.collides.ensures.holds h hold))
+
+pub returns-then-branch-clause-commits : goal.returns-then-branch-clause-commits
+returns-then-branch-clause-commits g c = made_by_reads c.args.self.now.log c.collides.new.self.log (ap (λ (s : StoreState _). s.log) c.collides.ensures.same)
+
+pub returns-in_err-put-clause-serves : goal.returns-in_err-put-clause-serves
+returns-in_err-put-clause-serves g c h hold =
+    let score = g.S.Scorer.score_of in
+    let why = c.in_err-put.field-0.0 in
+    let p = err_from_is_err_and c.from_residual-in_err-put.result c.from_residual-in_err-put.ensures.1 in
+    let same : c.in_ok-kind.kind ≡ c.args.kind = subst (λ o. IfSome o (λ kind. kind ≡ c.args.kind)) c.in_ok-kind.ensures.ok_part c.from_wire.ensures.found in
+    let alone = sym (c.in_ok-collides.ensures.tells h hold) ∙ c.if-branch.false in
+    let holds = Holds score g.D.Disk.tells g.D.Disk.bytes g.D.Disk.images g.D.Disk.size c.put.new.self in
+    rw (p.1, p.2) (subst (λ (kind : ℕ). Serves {X = Score} score holds (FailsFor g.D.Disk.faults c.args.self.now.log c.put.new.self.log) h (write kind c.args.bytes.now) (λ s. r_write s.0) (Err why)) same
+    (serves_then {X = Unit {0}} {Y = Score} score holds g.D.Disk.faults c.args.self.now.log c.collides.new.self.log c.put.new.self.log h (write c.in_ok-kind.kind c.args.bytes.now)
+    (λ x. r_write c.score-score.result.0) (λ s. r_write s.0) why c.in_ok-collides.ensures.cause (c.in_err-put.ensures.serves h (c.collides.ensures.holds h hold) alone)))

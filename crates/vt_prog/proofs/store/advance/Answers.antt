@@ -1,0 +1,39 @@
+-- a log goes on unless a call of its disks fails
+use Rattle.std.proofs.Common.{Ok, refl, sym, ◌∙◌}
+use Rattle.vt_log.specs.declared.bad.Progress.TheVariants.{Step, Durable}
+use Rattle.vt_prog.proofs.Failing.{runs_ok}
+use Rattle.vt_prog.proofs.Holding.{setup_kept}
+use Rattle.vt_prog.proofs.store.advance.Goals as goal
+
+pub returns-in-Ok-Idle-clause-runs : goal.returns-in-Ok-Idle-clause-runs
+returns-in-Ok-Idle-clause-runs g c = runs_ok c.advance.result c.in-Ok-Idle.field-0 c.args.log.now c.advance.ensures.stopped c.in-Ok-Idle.is
+
+pub returns-in-Ok-Step : goal.returns-in-Ok-Step
+returns-in-Ok-Step g c =
+    let runs = runs_ok c.advance.result c.in-Ok-Step.field-0 c.args.log.now c.advance.ensures.stopped c.in-Ok-Step.is in
+    let advances = rw c.in-Ok-Step.field-0-is at c.in-Ok-Step.ensures.advances in
+    record {
+      sound = λ h tells sound. c.advance.ensures.sound h tells sound;
+      cause = (c.in-Ok-Step.ensures.cause, advances.1 ∙ sym runs);
+      advances = (Ok Step, advances, refl);
+      runs = runs;
+      lower = λ is. advances.2;
+      idle = λ is. absurd (cc);
+      setup = setup_kept c.args.log.now c.advance.new.self c.advance.ensures.kept.0 c.advance.ensures.kept.2;
+      next = c.advance.ensures.next;
+    }
+
+pub returns-in-Ok-Durable : goal.returns-in-Ok-Durable
+returns-in-Ok-Durable g c =
+    let runs = runs_ok c.advance.result c.in-Ok-Durable.field-0 c.args.log.now c.advance.ensures.stopped c.in-Ok-Durable.is in
+    let advances = rw c.in-Ok-Durable.field-0-is at c.in-Ok-Durable.ensures.advances in
+    record {
+      sound = λ h tells sound. c.advance.ensures.sound h tells sound;
+      cause = (c.in-Ok-Durable.ensures.cause, advances.2 ∙ sym runs);
+      advances = (Ok (Durable c.in-Ok-Durable.field-0-0), advances, refl);
+      runs = runs;
+      lower = λ is. advances.3;
+      idle = λ is. absurd (cc);
+      setup = setup_kept c.args.log.now c.advance.new.self c.advance.ensures.kept.0 c.advance.ensures.kept.2;
+      next = c.advance.ensures.next;
+    }
