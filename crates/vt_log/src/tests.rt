@@ -7,15 +7,11 @@ ghost use Rattle.vt_part.specs.Parts.{disk_of, table_of};
 ghost use Rattle.vt_part.specs.Table.{end_of};
 
 use super::*;
-use std::alloc::Global;
 use std::marker::Brand;
-use std::process::Abort;
 use std::sync::ledger::{Blank, Ledger};
 use std::test::Fail;
 use vt_arena::{ArenaBad, ArenaHead, BackBad, Field, ReadBad};
-use vt_base::{
-    Bytes, Failed, FieldValue, Info, Key, Kind, Place, Score, Scorer, Sha1Scorer, Text, Why,
-};
+use vt_base::{Failed, FieldValue, Info, Key, Kind, Place, Scorer, Sha1Scorer, Text, Why};
 use vt_clump::{Packed, pack};
 use vt_disk::Disk;
 use vt_memdisk::{Listed, MemDisk};
@@ -192,11 +188,12 @@ fn key_of(kind: u8, block: &[u8]) -> Result<Key, Fail> {
     })
 }
 
-fn check(holds: bool) -> Result<(), Fail> {
-    if !holds {
-        return Err("another answer")?;
+/// Goes on where this holds.
+fn see(holds: bool, otherwise: &'static str) -> Result<(), Fail> {
+    if holds {
+        return Ok(());
     }
-    Ok(())
+    Err(otherwise.into())
 }
 
 /// Advances until nothing is queued or a call fails, and gives how many calls it took.
@@ -230,11 +227,11 @@ fn put(rt: &HostRuntime, log: &mut TestLog, kind: u8, block: &[u8]) -> Result<Op
     let room = log.room(packed.len);
     match log.append(packed) {
         Ok(place) => {
-            check(room)?;
+            see(room, "a place without room")?;
             Ok(Some(place))
         }
         Err(Full) => {
-            check(!room)?;
+            see(!room, "no place where there is room")?;
             Ok(None)
         }
     }
@@ -278,10 +275,10 @@ fn count_back<L: Ledger>(log: &mut TestLog, steps: &mut Steps<L>) -> Result<u64,
             .ok()
             .ok_or("back")?
             .ok_or("early end")?;
-        check(info.number == blocks - 1 - n)?;
-        check(tail.left() == info.number)?;
+        see(info.number == blocks - 1 - n, "a step to another number")?;
+        see(tail.left() == info.number, "another count of blocks left")?;
     }
-    check(log.back(&mut tail, steps) == Ok(None))?;
+    see(log.back(&mut tail, steps) == Ok(None), "no end of a walk")?;
     Ok(blocks)
 }
 
@@ -311,12 +308,20 @@ fn crashed(rt: &HostRuntime, log: TestLog, mode: usize) -> Result<TestLog, Fail>
 
 /// So many blocks were accepted, and so many of them are committed.
 fn see_counts(log: &TestLog, front: u64, durable: u64) -> Result<(), Fail> {
-    check(log.front() == front && log.durable() == durable)
+    see(log.front() == front, "another count of accepted blocks")?;
+    see(
+        log.durable() == durable,
+        "another count of committed blocks",
+    )
 }
 
 fn see_head(log: &TestLog, arena: u32, sealed: bool, clumps: u32) -> Result<(), Fail> {
     let head = head(log, arena)?;
-    check(head.sealed == sealed && head.clumps == clumps)
+    see(
+        head.sealed == sealed,
+        "sealed where it isn't, or not where it is",
+    )?;
+    see(head.clumps == clumps, "another count of clumps")
 }
 
 /// The block of type 13 is given that was written with these bytes.
@@ -327,7 +332,7 @@ fn see_block<L: Ledger>(
     block: &[u8],
     steps: &mut Steps<L>,
 ) -> Result<(), Fail> {
-    check(read(rt, log, place, 13, block, steps)?)
+    see(read(rt, log, place, 13, block, steps)?, "another block")
 }
 
 /// Why no block is given for this place and key.
@@ -341,7 +346,10 @@ fn see_refused<L: Ledger>(
 ) -> Result<(), Fail> {
     let (want, found) = values;
     let refused = log.read(rt.alloc(), place, key, steps).err();
-    check(refused == Some(ReadBad::Damaged { want, found }))
+    see(
+        refused == Some(ReadBad::Damaged { want, found }),
+        "another refusal of a read",
+    )
 }
 
 /// What a log with `abc` at the first place answers for other places and keys.
@@ -382,7 +390,10 @@ fn abc_info() -> Result<Info, Fail> {
 /// The last block of a log is `abc`, at the first place.
 fn see_last<L: Ledger>(log: &mut TestLog, steps: &mut Steps<L>) -> Result<(), Fail> {
     let mut tail = log.tail();
-    check(log.back(&mut tail, steps) == Ok(Some(abc_info()?)))
+    see(
+        log.back(&mut tail, steps) == Ok(Some(abc_info()?)),
+        "another last block",
+    )
 }
 
 /// Queues `abc`, commits it, and reads it before and after.
@@ -391,11 +402,14 @@ fn commit_abc<L: Ledger>(
     log: &mut TestLog,
     steps: &mut Steps<L>,
 ) -> Result<(), Fail> {
-    check(put(rt, log, 13, b"abc")? == Some(FIRST_PLACE))?;
+    see(
+        put(rt, log, 13, b"abc")? == Some(FIRST_PLACE),
+        "another first place",
+    )?;
     see_counts(log, 1, 0)?;
     see_block(rt, log, FIRST_PLACE, b"abc", steps)?;
     see_last(log, steps)?;
-    check(flush(log) == Ok(6))?;
+    see(flush(log) == Ok(6), "another flush of one block")?;
     see_counts(log, 1, 1)?;
     see_block(rt, log, FIRST_PLACE, b"abc", steps)?;
     see_last(log, steps)
@@ -405,8 +419,11 @@ fn commit_abc<L: Ledger>(
 fn see_arena(log: &mut TestLog) -> Result<(), Fail> {
     see_head(log, 0, false, 1)?;
     let mut clump = [0; 41];
-    check(bytes(log, 24_576, &mut clump)? == Ok(()))?;
-    check(clump == ABC_CLUMP)
+    see(
+        bytes(log, 24_576, &mut clump)? == Ok(()),
+        "a failed reading of bytes",
+    )?;
+    see(clump == ABC_CLUMP, "another clump")
 }
 
 fn a_block_is_committed<L: Ledger>(rt: &HostRuntime, blank: Blank) -> Result<(), Fail>
@@ -429,20 +446,21 @@ fn a_block_is_queued_committed_and_read(rt: HostRuntime) -> Result<(), Fail> {
 /// A block of so many bytes gets this place, if any, in a log of one arena.
 fn see_room(rt: &HostRuntime, len: usize, place: Option<Place>) -> Result<(), Fail> {
     let mut log = log(rt, 40_960, &[])?;
-    check(log.arenas() == 1)?;
+    see(log.arenas() == 1, "another count of arenas")?;
     let block = vec![in rt.alloc(); 7; len]?;
-    check(put(rt, &mut log, 13, &block)? == place)
+    see(put(rt, &mut log, 13, &block)? == place, "another place")
 }
 
 /// So many blocks of three bytes fill a log of one arena.
 fn see_filled(rt: &HostRuntime, log: &mut TestLog) -> Result<(), Fail> {
-    check(log.arenas() == 1)?;
+    see(log.arenas() == 1, "another count of arenas")?;
     let last = Place {
         arena: 0,
         offset: LAST_OFFSET,
     };
     let (blocks, place) = fill(rt, log)?;
-    check(blocks == 124 && place == last)
+    see(blocks == 124, "another count of blocks that fill an arena")?;
+    see(place == last, "another last place")
 }
 
 #[test]
@@ -462,9 +480,12 @@ fn put_many(rt: &HostRuntime, log: &mut TestLog, blocks: u8) -> Result<(), Fail>
 
 /// A block goes to the second arena once the first one is full.
 fn turns(rt: &HostRuntime, two: &mut TestLog) -> Result<(), Fail> {
-    check(two.arenas() == 2)?;
+    see(two.arenas() == 2, "another count of arenas")?;
     put_many(rt, two, 124)?;
-    check(put(rt, two, 13, b"abc")? == Some(NEXT_PLACE))?;
+    see(
+        put(rt, two, 13, b"abc")? == Some(NEXT_PLACE),
+        "no turn to the next arena",
+    )?;
     flush(two).ok().ok_or("flush")?;
     see_head(two, 0, true, 124)?;
     see_head(two, 1, false, 1)
@@ -478,7 +499,8 @@ fn fill_both(rt: &HostRuntime, two: &mut TestLog) -> Result<(), Fail> {
         offset: LAST_OFFSET,
     };
     let (more, place) = fill(rt, two)?;
-    check(more == 123 && place == last)?;
+    see(more == 123, "another count of blocks that fill an arena")?;
+    see(place == last, "another last place")?;
     flush(two).ok().ok_or("flush")?;
     see_counts(two, 248, 248)
 }
@@ -501,7 +523,7 @@ fn see_both<L: Ledger>(
         offset: LAST_OFFSET,
     };
     see_block(rt, two, last, &[3, 0, 122], steps)?;
-    check(count_back(two, steps)? == 248)
+    see(count_back(two, steps)? == 248, "another walk")
 }
 
 /// What was committed in two arenas is there when they are mounted again.
@@ -510,7 +532,7 @@ fn is_found<L: Ledger>(rt: &HostRuntime, log: TestLog, steps: &mut Steps<L>) -> 
     fill_both(rt, &mut two)?;
     let mut two = mounted_again(rt, two)?;
     see_counts(&two, 248, 248)?;
-    check(two.base() == 1)?;
+    see(two.base() == 1, "another base")?;
     see_head(&two, 0, true, 124)?;
     see_head(&two, 1, false, 124)?;
     see_both(rt, &mut two, steps)
@@ -536,9 +558,9 @@ fn two_full_arenas_are_found_again(rt: HostRuntime) -> Result<(), Fail> {
 fn see_flush(rt: &HostRuntime, call: u64, end: Result<u64, LogErr>) -> Result<(), Fail> {
     let mut log = log(rt, 40_960, &[FIRST_CALL.saturating_add(call)])?;
     put_many(rt, &mut log, 64)?;
-    check(log.queue_full())?;
+    see(log.queue_full(), "room in a full queue")?;
     see_counts(&log, 64, 0)?;
-    check(flush(&mut log) == end)?;
+    see(flush(&mut log) == end, "another flush of 64 blocks")?;
     see_counts(&log, 64, if end.is_ok() { 64 } else { 0 })
 }
 
@@ -599,9 +621,12 @@ fn after_crash<L: Ledger>(
     advance(&mut log, u64::from(calls))?;
     let mut log = crashed(rt, log, mode)?;
     let blocks = log.front();
-    check(may_be_left(committed, calls, blocks))?;
+    see(
+        may_be_left(committed, calls, blocks),
+        "another count of blocks left",
+    )?;
     see_counts(&log, blocks, blocks)?;
-    check(count_back(&mut log, steps)? == blocks)?;
+    see(count_back(&mut log, steps)? == blocks, "another walk")?;
     Ok(log)
 }
 
@@ -661,7 +686,7 @@ fn sealing_commit<L: Ledger>(
 fn see_sealed(log: &TestLog) -> Result<(), Fail> {
     let blocks = log.front().min(3) as u32;
     let sealed = blocks >= 2;
-    check(log.base() == u32::from(sealed))?;
+    see(log.base() == u32::from(sealed), "another base")?;
     see_head(log, 0, sealed, blocks.min(2))?;
     see_head(log, 1, false, blocks.saturating_sub(2))
 }
@@ -697,12 +722,15 @@ fn see_stopped<L: Ledger>(
     steps: &mut Steps<L>,
 ) -> Result<(), Fail> {
     put(rt, log, 13, b"abc")?;
-    check(flush(log) == Err(LogErr::Fault))?;
-    check(log.advance() == Err(LogErr::Stopped(call)))?;
-    check(log.stopped() == Some(call))?;
+    see(flush(log) == Err(LogErr::Fault), "no fault")?;
+    see(
+        log.advance() == Err(LogErr::Stopped(call)),
+        "a call of a stopped log",
+    )?;
+    see(log.stopped() == Some(call), "stopped at another call")?;
     see_counts(log, 1, 0)?;
     see_block(rt, log, FIRST_PLACE, b"abc", steps)?;
-    check(count_back(log, steps)? == 1)
+    see(count_back(log, steps)? == 1, "another walk")
 }
 
 fn failed_at<L: Ledger>(rt: &HostRuntime, call: u64, steps: &mut Steps<L>) -> Result<(), Fail> {
@@ -745,15 +773,21 @@ fn see_fault<L: Ledger>(
     let refused = log
         .read(rt.alloc(), FIRST_PLACE, &key_of(13, b"abc")?, steps)
         .err();
-    check(refused == Some(ReadBad::Fault))
+    see(refused == Some(ReadBad::Fault), "no fault of a read")
 }
 
 /// A step back fails, and is made then.
 fn step_again<L: Ledger>(log: &mut TestLog, steps: &mut Steps<L>) -> Result<(), Fail> {
     let mut tail = log.tail();
-    check(log.back(&mut tail, steps) == Err(BackBad::Fault))?;
-    check(tail.left() == 1)?;
-    check(log.back(&mut tail, steps) == Ok(Some(abc_info()?)))
+    see(
+        log.back(&mut tail, steps) == Err(BackBad::Fault),
+        "no fault of a step",
+    )?;
+    see(tail.left() == 1, "a step that failed and was made")?;
+    see(
+        log.back(&mut tail, steps) == Ok(Some(abc_info()?)),
+        "another last block",
+    )
 }
 
 /// Each call that reads fails, and then does what it is asked.
@@ -766,7 +800,10 @@ fn read_again<L: Ledger>(
     see_fault(rt, log, steps)?;
     see_block(rt, log, FIRST_PLACE, b"abc", steps)?;
     step_again(log, steps)?;
-    check(bytes(log, 24_576, &mut [0; 41])? == Err(Failed))?;
+    see(
+        bytes(log, 24_576, &mut [0; 41])? == Err(Failed),
+        "no fault of bytes",
+    )?;
     see_arena(log)
 }
 
@@ -778,10 +815,13 @@ fn failing_reads<L: Ledger>(rt: &HostRuntime, blank: Blank) -> Result<(), Fail>
     let mut steps = Steps::<L>::new(blank);
     let mut log = log(rt, 40_960, &FAILING_READS)?;
     put(rt, &mut log, 13, b"abc")?;
-    check(flush(&mut log) == Ok(6))?;
+    see(flush(&mut log) == Ok(6), "another flush of one block")?;
     read_again(rt, &mut log, &mut steps)?;
-    check(put(rt, &mut log, 13, b"abd")? == Some(SECOND_PLACE))?;
-    check(flush(&mut log) == Ok(6))?;
+    see(
+        put(rt, &mut log, 13, b"abd")? == Some(SECOND_PLACE),
+        "another second place",
+    )?;
+    see(flush(&mut log) == Ok(6), "another flush of one block")?;
     see_counts(&log, 2, 2)
 }
 
@@ -800,37 +840,77 @@ fn drawn(state: &mut u64) -> u64 {
     x
 }
 
-/// A block that was taken in, with its type and place.
+/// A block that was taken in, with its key and place.
 #[derive(Drop)]
 struct Taken {
-    kind: u8,
+    key: Key,
     block: Vec<u8>,
     place: Place,
 }
 
-/// A log and a plain store side by side, and the blocks that both took.
+/// A log and a plain store side by side, the blocks that both took, and how many both refused.
 #[derive(Drop)]
 struct Sides {
     log: TestLog,
     plain: PlainStore<Sha1Scorer>,
     taken: Vec<Taken>,
+    refused: u64,
 }
 
 impl Sides {
-    /// Gives both a block.
-    fn write(&mut self, rt: &HostRuntime, kind: u8, block: Vec<u8>) -> Result<(), Fail> {
-        let wanted = self.plain.write(rt.alloc(), kind, &block);
-        match put(rt, &mut self.log, kind, &block)? {
-            Some(place) => {
-                check(wanted.is_ok())?;
-                self.taken.push(Taken { kind, block, place })?;
-                Ok(())
-            }
-            None => check(wanted.err() == Some(Why::ArenasFull)),
-        }
+    /// Two partitions, with arenas 0 to 2 and 3 to 4.
+    fn new(rt: &HostRuntime) -> Result<Sides, Fail> {
+        let log = pair(rt, 106_496, 73_728)?;
+        let arenas = Vec::from_slice(rt.alloc(), &[ARENA_LEN as u32; 5])?;
+        let sections = Vec::from_slice(rt.alloc(), &[4000])?;
+        let plain = PlainStore::new(rt.alloc(), Sha1Scorer, arenas, 0, sections);
+        let taken = Vec::new(rt.alloc());
+        Ok(Sides {
+            log,
+            plain,
+            taken,
+            refused: 0,
+        })
     }
 
-    /// Reads one of the blocks.
+    /// Gives both a block that neither has: both take it in, under its score, or both have no room.
+    fn write(&mut self, rt: &HostRuntime, kind: u8, block: Vec<u8>) -> Result<(), Fail> {
+        let key = key_of(kind, &block)?;
+        let answer = self.plain.write(rt.alloc(), kind, &block);
+        match put(rt, &mut self.log, kind, &block)? {
+            Some(place) => {
+                see(
+                    answer == Ok(key.score),
+                    "taken by the log alone, or under another score",
+                )?;
+                self.taken.push(Taken { key, block, place })?;
+            }
+            None => {
+                see(answer == Err(Why::ArenasFull), "refused by the log alone")?;
+                self.refused = self.refused.saturating_add(1);
+            }
+        }
+        Ok(())
+    }
+
+    /// The plain store answers a block that it has with its score, and adds nothing. The log has it
+    /// too, under that score, and isn't asked to take it in again.
+    fn write_again<L: Ledger>(
+        &mut self,
+        rt: &HostRuntime,
+        number: u64,
+        steps: &mut Steps<L>,
+    ) -> Result<(), Fail> {
+        if self.taken.is_empty() {
+            return Ok(());
+        }
+        let Taken { key, block, .. } = &self.taken[(number % self.taken.len() as u64) as usize];
+        let answer = self.plain.write(rt.alloc(), key.kind.wire(), block);
+        see(answer == Ok(key.score), "another score of a held block")?;
+        self.read(rt, number, steps)
+    }
+
+    /// Both give one of the blocks, the same bytes, and neither gives one that wasn't written.
     fn read<L: Ledger>(
         &mut self,
         rt: &HostRuntime,
@@ -840,54 +920,103 @@ impl Sides {
         if self.taken.is_empty() {
             return Ok(());
         }
-        let Taken { kind, block, place } = &self.taken[(number % self.taken.len() as u64) as usize];
-        check(read(rt, &mut self.log, *place, *kind, block, steps)?)
+        let Taken { key, block, place } = &self.taken[(number % self.taken.len() as u64) as usize];
+        let wanted = self.plain.read(&key.score, key.kind.wire(), 57_344);
+        see(
+            wanted == Ok(block.as_slice()),
+            "another block of the plain store",
+        )?;
+        let found = self.log.read(rt.alloc(), *place, key, steps);
+        let found = found.ok().ok_or("no block of the log")?;
+        see(wanted == Ok(found.as_slice()), "another block of the log")?;
+        let absent = key_of(key.kind.wire(), &ABSENT)?;
+        let wanted = self.plain.read(&absent.score, absent.kind.wire(), 57_344);
+        see(
+            wanted == Err(Why::Absent),
+            "an absent block of the plain store",
+        )?;
+        let values = (
+            FieldValue::Score(absent.score),
+            FieldValue::Score(key.score),
+        );
+        see_refused(rt, &mut self.log, *place, &absent, values, steps)
+    }
+
+    /// At the end all blocks are committed, both give each, and a walk gives what is known of it.
+    fn see_end<L: Ledger>(&mut self, rt: &HostRuntime, steps: &mut Steps<L>) -> Result<(), Fail> {
+        let blocks = self.taken.len() as u64;
+        see(blocks > 100, "few blocks")?;
+        see(self.refused > 0, "no block that has no room")?;
+        flush(&mut self.log).ok().ok_or("flush")?;
+        see_counts(&self.log, blocks, blocks)?;
+        for number in 0..blocks {
+            self.read(rt, number, steps)?;
+        }
+        see_walk(&mut self.log, &self.taken, steps)
     }
 }
 
-/// Two partitions, with arenas 0 to 2 and 3 to 4.
-fn both_stores(rt: &HostRuntime) -> Result<Sides, Fail> {
-    let log = pair(rt, 106_496, 73_728)?;
-    let arenas = Vec::from_slice(rt.alloc(), &[ARENA_LEN as u32; 5])?;
-    let sections = Vec::from_slice(rt.alloc(), &[4000])?;
-    let plain = PlainStore::new(rt.alloc(), Sha1Scorer, arenas, 0, sections);
-    let taken = Vec::new(rt.alloc());
-    Ok(Sides { log, plain, taken })
+/// A walk gives what is known of each of these blocks, from the last to the first.
+fn see_walk<L: Ledger>(
+    log: &mut TestLog,
+    taken: &[Taken],
+    steps: &mut Steps<L>,
+) -> Result<(), Fail> {
+    let mut tail = log.tail();
+    for n in 0..taken.len() {
+        let number = taken.len() - 1 - n;
+        let Taken { key, block, place } = &taken[number];
+        let info = Info {
+            key: *key,
+            size: u16::try_from(block.len())?,
+            place: *place,
+            number: number as u64,
+        };
+        see(
+            log.back(&mut tail, steps) == Ok(Some(info)),
+            "a step to another block",
+        )?;
+    }
+    see(log.back(&mut tail, steps) == Ok(None), "no end of a walk")
 }
 
-/// A block of a drawn length.
-fn drawn_block(rt: &HostRuntime, state: &mut u64, kind: u8, first: u8) -> Result<Vec<u8>, Fail> {
-    let n = 1 + (drawn(state) % 300) as usize;
+/// A block that is never written.
+const ABSENT: [u8; 2] = [0xff, 0xff];
+
+/// A block of a drawn length that begins with this number, so that it is like no other.
+fn numbered_block(
+    rt: &HostRuntime,
+    state: &mut u64,
+    kind: u8,
+    number: u16,
+) -> Result<Vec<u8>, Fail> {
+    let n = 2 + (drawn(state) % 300) as usize;
     let mut block = vec![in rt.alloc(); kind; n]?;
-    block[0] = first;
+    let [high, low] = number.to_be_bytes();
+    block[0] = high;
+    block[1] = low;
     Ok(block)
 }
 
-/// Writes, commits and reads one block after another.
+/// Writes, commits and reads one block after another. One time in four it also writes one that is
+/// held.
 fn write_many<L: Ledger>(
     rt: &HostRuntime,
     sides: &mut Sides,
     steps: &mut Steps<L>,
 ) -> Result<(), Fail> {
     let mut state = 1996;
-    let mut mark = 0u8;
-    for _ in 0..300 {
+    for number in 0..300u16 {
         let kind = 1 + (drawn(&mut state) % 9) as u8;
-        let block = drawn_block(rt, &mut state, kind, mark)?;
-        mark = mark.wrapping_add(1);
+        let block = numbered_block(rt, &mut state, kind, number)?;
         sides.write(rt, kind, block)?;
         advance(&mut sides.log, drawn(&mut state) % 8)?;
         sides.read(rt, drawn(&mut state), steps)?;
+        if drawn(&mut state) % 4 == 0 {
+            sides.write_again(rt, drawn(&mut state), steps)?;
+        }
     }
     Ok(())
-}
-
-/// All blocks are committed at the end, and given by a walk.
-fn see_end<L: Ledger>(log: &mut TestLog, blocks: u64, steps: &mut Steps<L>) -> Result<(), Fail> {
-    check(blocks > 100 && blocks < 300)?;
-    flush(log).ok().ok_or("flush")?;
-    see_counts(log, blocks, blocks)?;
-    check(count_back(log, steps)? == blocks)
 }
 
 fn side_by_side<L: Ledger>(rt: &HostRuntime, blank: Blank) -> Result<(), Fail>
@@ -896,10 +1025,9 @@ fn side_by_side<L: Ledger>(rt: &HostRuntime, blank: Blank) -> Result<(), Fail>
     requires some { 0 < L.parts }
 {
     let mut steps = Steps::<L>::new(blank);
-    let mut sides = both_stores(rt)?;
+    let mut sides = Sides::new(rt)?;
     write_many(rt, &mut sides, &mut steps)?;
-    let blocks = sides.taken.len() as u64;
-    see_end(&mut sides.log, blocks, &mut steps)
+    sides.see_end(rt, &mut steps)
 }
 
 #[test]
@@ -929,7 +1057,10 @@ fn see_namesakes(rt: &HostRuntime) -> Result<(), Fail> {
         first: 0,
         second: 1,
     };
-    check(refusal(rt, a, same)?.0 == LogBad::Part(bad))
+    see(
+        refusal(rt, a, same)?.0 == LogBad::Part(bad),
+        "namesakes that are mounted",
+    )
 }
 
 /// A block of the second partition can't stand behind an empty arena, and may before one.
@@ -937,14 +1068,14 @@ fn see_order(rt: &HostRuntime) -> Result<(), Fail> {
     let a = formatted(rt, 40_960, b"a", &[])?;
     let mut log = mounted(rt, formatted(rt, 40_960, b"b", &[])?)?;
     put(rt, &mut log, 13, b"abc")?;
-    check(flush(&mut log) == Ok(6))?;
+    see(flush(&mut log) == Ok(6), "another flush of one block")?;
     let part = log.into_devices().pop().ok_or("no partition")?;
     let (bad, a, b) = refusal(rt, a, part.into_devices())?;
     let order = LogBad::Order {
         arena: 1,
         clumps: 1,
     };
-    check(bad == order)?;
+    see(bad == order, "another refusal of an order")?;
     let log = mounted_pair(rt, b, a)?;
     see_counts(&log, 1, 1)?;
     see_head(&log, 0, false, 1)
@@ -966,7 +1097,10 @@ fn see_bad_head(rt: &HostRuntime, at: u64, bytes: &[u8], bad: ArenaBad) -> Resul
     let a = formatted(rt, 40_960, b"a", &[])?;
     let mut b = formatted(rt, 40_960, b"b", &[])?;
     write(&mut b, at, bytes)?;
-    check(refusal(rt, a, b)?.0 == LogBad::Arena { arena: 1, bad })
+    see(
+        refusal(rt, a, b)?.0 == LogBad::Arena { arena: 1, bad },
+        "another refusal of a head",
+    )
 }
 
 fn torn(field: Field, found: u128, want: u128) -> ArenaBad {
@@ -988,7 +1122,10 @@ fn see_bad_heads(rt: &HostRuntime) -> Result<(), Fail> {
 fn see_failing_mount(rt: &HostRuntime, call: u64, bad: LogBad) -> Result<(), Fail> {
     let part = part(rt, 40_960, b"a", &[call.saturating_add(3)])?;
     let refused = mount(rt.alloc(), vec![in rt.alloc(); part]?, Sha1Scorer);
-    check(refused.err().ok_or("mounted")?.0 == bad)
+    see(
+        refused.err().ok_or("mounted")?.0 == bad,
+        "another refusal of a disk",
+    )
 }
 
 /// The disk is synced, and two reads find the head of its arena, which isn't formatted.
