@@ -18,7 +18,7 @@ use Rattle.vt_log.specs.Log.{LogState}
 use Rattle.vt_log.specs.Reading.{CountsFault}
 use Rattle.vt_session.specs.Turns.{Cause, disk_fault, stopped, damaged, no_memory, log, section, why_of}
 use Rattle.vt_session.specs.Answered.{MayFail, ReachesParts, TakesMemory, WritesTo}
-use Rattle.vt_prog.specs.Serving.{Serves, FailsFor, GoesOn, TellsFaults, CommitsOrStops, MayNotRead, why_unread, advanced_by}
+use Rattle.vt_prog.specs.Serving.{Serves, FailsFor, NoneFailed, TellsFaults, CommitsOrStops, LeavesOrStops, MayNotRead, why_unread, advanced_by}
 use Rattle.vt_prog.specs.Store.{memory}
 
 -- ---- a call of the log
@@ -65,21 +65,28 @@ tells_as_commit {X = X} faults old new (Err why) is = tells_why X X faults old n
 
 -- ---- one call after another
 
-pub on_and_on : {D : Type 0} (faults : D → ℕ) (old now new : LogState D) → GoesOn faults old now → GoesOn faults now new → GoesOn faults old new
+pub on_and_on : {D : Type 0} (faults : D → ℕ) (old now new : LogState D) → NoneFailed faults old now → NoneFailed faults now new → NoneFailed faults old new
 on_and_on faults old now new on it = (it.0 ∙ on.0, it.1 ∙ on.1)
 
 pub then_commits : {D : Type 0} (X Y : Type 0) (faults : D → ℕ) (old now new : LogState D) (why : Why)
-    → GoesOn faults old now → CommitsOrStops {X = X} faults now new (Err why) → CommitsOrStops {X = Y} faults old new (Err why)
+    → NoneFailed faults old now → CommitsOrStops {X = X} faults now new (Err why) → CommitsOrStops {X = Y} faults old new (Err why)
 then_commits X Y faults old now new DiskFault on is =
     (subst (λ (counts : List ℕ). OneHasRisen counts (map faults new.disks)) on.0 is.0, is.1)
 then_commits X Y faults old now new (Stopped call) on is = (sym on.1 ∙ is.0, on_and_on faults old now new on is.1)
 then_commits X Y faults old now new why on is = absurd is
 
 pub then_tells : {D : Type 0} (X Y : Type 0) (faults : D → ℕ) (old now new : LogState D) (why : Why)
-    → GoesOn faults old now → TellsFaults {X = X} faults now new (Err why) → TellsFaults {X = Y} faults old new (Err why)
+    → NoneFailed faults old now → TellsFaults {X = X} faults now new (Err why) → TellsFaults {X = Y} faults old new (Err why)
 then_tells X Y faults old now new DiskFault on is = subst (λ (counts : List ℕ). OneHasRisen counts (map faults new.disks)) on.0 is
 then_tells X Y faults old now new (Stopped call) on is = (sym on.1 ∙ is.0, on_and_on faults old now new on is.1)
 then_tells X Y faults old now new why on is = on_and_on faults old now new on is
+
+-- a call that fails stops the log, and one that isn't made leaves it
+pub leaves_or_stops : {D : Type 0} (X : Type 0) (faults : D → ℕ) (old now new : LogState D) (why : Why)
+    → CommitsOrStops {X = X} faults now new (Err why) → ((call : ℕ) → now.stopped ≡ Some call → new ≡ old) → LeavesOrStops (new ≡ old) new why
+leaves_or_stops X faults old now new DiskFault is stays = inr (refl, is.1)
+leaves_or_stops X faults old now new (Stopped call) is stays = inl (stays call is.0)
+leaves_or_stops X faults old now new why is stays = absurd is
 
 -- ---- reading a block
 
@@ -124,7 +131,7 @@ module _ {D : Type 0} (score_of : List ℕ → List ℕ) (m : Operation) (reache
 
 -- ---- what is answered
 
-fails_then : {D : Type 0} (faults : D → ℕ) (old now new : LogState D) (cause : Cause) → GoesOn faults old now → FailsFor faults now new cause → FailsFor faults old new cause
+fails_then : {D : Type 0} (faults : D → ℕ) (old now new : LogState D) (cause : Cause) → NoneFailed faults old now → FailsFor faults now new cause → FailsFor faults old new cause
 fails_then faults old now new (disk_fault before after) on is = (is.0 ∙ on.0, is.1)
 fails_then faults old now new (stopped log call) on is = sym on.1 ∙ is
 fails_then faults old now new (stopped (section number) call) on is = is
@@ -133,7 +140,7 @@ fails_then faults old now new no_memory on is = tt
 
 -- a failure is the same behind calls that went well
 pub serves_then : {D X Y : Type 0} (score_of : List ℕ → List ℕ) (holds : History → Type 0) (faults : D → ℕ) (old now new : LogState D) (h : History) (m : Operation)
-    (message : X → RMessage) (other : Y → RMessage) (why : Why) → GoesOn faults old now
+    (message : X → RMessage) (other : Y → RMessage) (why : Why) → NoneFailed faults old now
     → Serves score_of holds (FailsFor faults now new) h m message (Err why) → Serves score_of holds (FailsFor faults old new) h m other (Err why)
 serves_then score_of holds faults old now new h m message other why on (inl it) = inl it
 serves_then score_of holds faults old now new h m message other why on (inr it) =

@@ -1,9 +1,11 @@
 -- How a log makes room for a block.
 use Rattle.std.proofs.Common.{◌≡◌, refl, sym, ◌∙◌, ap, subst, List}
+use Rattle.vt_base.specs.declared.place.Entry.{Entry}
 use Rattle.vt_log.specs.declared.filling.Filling.{Filling}
 use Rattle.vt_log.specs.Log.{LogState}
 use Rattle.vt_log.specs.Queue.{QueueState}
-use Rattle.vt_prog.specs.Serving.{AdvancesWhileFull, no_call, MakesRoom}
+use Rattle.vt_prog.specs.Serving.{AdvancesWhileFull, no_call, MakesRoom, SameButDisks}
+use Rattle.vt_prog.specs.Store.{StoreState}
 
 pub made_none : {D : Type 0} (old : LogState D) → MakesRoom old old
 made_none old = record { before = old; after = old; reads = refl; calls = no_call; takes = refl }
@@ -32,3 +34,10 @@ made_behind_reads old now new is made = record {
   calls = made.calls;
   takes = made.takes;
 }
+
+-- ---- nothing changes but the disks
+
+pub same_but_disks : {D : Type 0} (old new : StoreState D) → new.log ≡ record old.log { disks = new.log.disks } → new.entries ≡ old.entries → SameButDisks old new
+same_but_disks old new log entries =
+    ap (λ (l : LogState _). record { log = l; entries = new.entries }) log
+    ∙ ap (λ (es : List Entry). record { log = record old.log { disks = new.log.disks }; entries = es }) entries

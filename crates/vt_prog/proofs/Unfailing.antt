@@ -9,7 +9,7 @@ use Rattle.vt_log.specs.Faults.{OneHasRisen}
 use Rattle.vt_log.specs.Log.{LogState}
 use Rattle.vt_session.specs.Turns.{Cause, disk_fault, stopped, damaged, no_memory, log, section}
 use Rattle.vt_session.specs.Answered.{MayFail}
-use Rattle.vt_prog.specs.Serving.{Serves, FailsFor, GoesOn, TellsFaults}
+use Rattle.vt_prog.specs.Serving.{Serves, FailsFor, NoneFailed, TellsFaults}
 use Rattle.vt_prog.specs.Store.{StoreState, memory, Holds, HoldsInMemory}
 
 module _ {D : Type 0} (faults : D → ℕ) (never : (disk : D) → faults disk ≡ 0) where
@@ -24,7 +24,7 @@ module _ {D : Type 0} (faults : D → ℕ) (never : (disk : D) → faults disk �
       let is = zeros new it.which in
       ⊎_elim (λ more. omega (arith, was, is, more)) (λ full. omega (arith, is, full)) it.rose.1
 
-  goes_on : {X : Type 0} (old new : LogState D) (r : Result X Why) → TellsFaults faults old new r → GoesOn faults old new
+  goes_on : {X : Type 0} (old new : LogState D) (r : Result X Why) → TellsFaults faults old new r → NoneFailed faults old new
   goes_on old new (Ok x) is = is
   goes_on old new (Err DiskFault) is = absurd (none_rose old.disks new.disks is)
   goes_on old new (Err (Stopped call)) is = is.1
@@ -44,7 +44,7 @@ module _ {D : Type 0} (faults : D → ℕ) (never : (disk : D) → faults disk �
   only_memory score_of m old new no_memory runs may fails = refl
 
   module _ (score_of : List ℕ → List ℕ) (tells : Bool) (bytes : D → List ℕ) (images : D → List ℕ → Type 0) (size : D → ℕ) (old new : StoreState D) (runs : old.log.stopped ≡ None) where
-    in_memory : (h : History) → GoesOn faults old.log new.log → Holds score_of tells bytes images size new h → HoldsInMemory score_of tells bytes images size faults new h
+    in_memory : (h : History) → NoneFailed faults old.log new.log → Holds score_of tells bytes images size new h → HoldsInMemory score_of tells bytes images size faults new h
     in_memory h on holds = record { holds = holds; never = never; runs = on.1 ∙ runs }
 
     pub unfailing : {X : Type 0} (h : History) (m : Operation) (message : X → RMessage) (r : Result X Why) → TellsFaults faults old.log new.log r

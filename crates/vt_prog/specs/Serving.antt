@@ -57,35 +57,39 @@ FailsFor faults old new (stopped (section number) call) = ⊥
 FailsFor faults old new (damaged site want found) = ⊥
 FailsFor faults old new no_memory = ⊤
 
--- no call of the disks failed
-abbrev pub GoesOn : {D : Type 0} → (faults : D → ℕ) → (old new : LogState D) → Type 0
-GoesOn faults old new =
+-- no call of the disks failed, and the log has stopped exactly if it had
+abbrev pub NoneFailed : {D : Type 0} → (faults : D → ℕ) → (old new : LogState D) → Type 0
+NoneFailed faults old new =
     (map faults new.disks ≡ map faults old.disks) × (new.stopped ≡ old.stopped)
 
 -- Whatever the disks hold: a disk fault is told exactly where a call of one failed, and that the
 -- log has stopped only where it had, at the call of this number.
 abbrev pub TellsFaults : {D X : Type 0} → (faults : D → ℕ) → (old new : LogState D)
     → Result X Why → Type 0
-TellsFaults faults old new (Ok x) = GoesOn faults old new
+TellsFaults faults old new (Ok x) = NoneFailed faults old new
 TellsFaults faults old new (Err DiskFault) =
     OneHasRisen (map faults old.disks) (map faults new.disks)
 TellsFaults faults old new (Err (Stopped call)) =
-    (old.stopped ≡ Some call) × GoesOn faults old new
-TellsFaults faults old new (Err why) = GoesOn faults old new
+    (old.stopped ≡ Some call) × NoneFailed faults old new
+TellsFaults faults old new (Err why) = NoneFailed faults old new
 
 -- a commit goes on, or a call of it fails and stops the log, or it was stopped before
 abbrev pub CommitsOrStops : {D X : Type 0} → (faults : D → ℕ) → (old new : LogState D)
     → Result X Why → Type 0
-CommitsOrStops faults old new (Ok x) = GoesOn faults old new
+CommitsOrStops faults old new (Ok x) = NoneFailed faults old new
 CommitsOrStops faults old new (Err DiskFault) =
     OneHasRisen (map faults old.disks) (map faults new.disks) × IsSome new.stopped
 CommitsOrStops faults old new (Err (Stopped call)) =
-    (old.stopped ≡ Some call) × GoesOn faults old new
+    (old.stopped ≡ Some call) × NoneFailed faults old new
 CommitsOrStops faults old new (Err why) = ⊥
 
 -- nothing changes but the state of disks that are read
 abbrev pub SameButDisks : {D : Type 0} → (old new : StoreState D) → Type 0
 SameButDisks old new = new ≡ record old { log = record old.log { disks = new.log.disks } }
+
+-- a refusal that leaves all as it was or, where a call of a commit failed, stops the log
+abbrev pub LeavesOrStops : {D : Type 0} → (same : Type 0) → (new : LogState D) → Why → Type 0
+LeavesOrStops same new why = same ⊎ ((why ≡ DiskFault) × IsSome new.stopped)
 
 -- why a block isn't read that the log has
 abbrev pub MayNotRead : Why → Type 0
@@ -117,7 +121,7 @@ advanced_by (Err bad) = Err (why_stopped bad)
 -- the log made calls of its disks, one after another, each while its queue was full
 pub data AdvancesWhileFull {D : Type 0} (old : LogState D) : LogState D → Type 0 where
   no_call : AdvancesWhileFull old old
-  one_more : (r : Result Progress LogErr) (before after : LogState D)
+  another : (r : Result Progress LogErr) (before after : LogState D)
       → AdvancesWhileFull old before → queued before ≡ QUEUE_MAX → Advances r before after
       → AdvancesWhileFull old after
 

@@ -25,8 +25,8 @@ pub record IsEntryOf (score_of : List ℕ → List ℕ) (h : History) (i : ℕ) 
   pub size : entry.size ≡ length e.block.bytes
   pub place : place_of memory h i ≡ Some (spot_of entry.place)
 
--- The log has accepted this history, on disks that tell what they hold, and each of its blocks has
--- its entry.
+-- The log has the arenas of the store in memory and has accepted this history, on disks that tell
+-- what they hold, and each of its blocks has its entry.
 pub record Holds {D : Type 0} (score_of : List ℕ → List ℕ) (tells : Bool) (bytes : D → List ℕ)
     (images : D → List ℕ → Type 0) (size : D → ℕ) (s : StoreState D) (h : History) : Type 0 where
   pub tells_is : IsTrue tells

@@ -1,6 +1,6 @@
 //! A store over one log, whose keys are a list that is searched from the front.
 
-ghost use Rattle.std.specs.Prelude.{◌≡◌, ◌≢◌, ◌<◌, ◌≤◌, ℕ, Bool, List, [], Some, None, Ok, Err, IfOk, IfErr, OnOk, IsTrue, Result, MatchResult, length, slice_get};
+ghost use Rattle.std.specs.Prelude.{◌≡◌, ◌<◌, ◌≤◌, ℕ, Bool, List, [], Some, Ok, Err, IfOk, IfErr, OnOk, IsTrue, Result, MatchResult, length, slice_get};
 ghost use Rattle.vt_base.specs.Kind.{IsKind};
 ghost use Rattle.vt_base.specs.Protocol.{read, write, sync, r_read, r_write, r_sync};
 ghost use Rattle.vt_model.specs.History.{History, Accepted, IsBlock};
@@ -10,12 +10,12 @@ ghost use Rattle.vt_arena.specs.declared.bad.ReadBad.{ReadBad};
 ghost use Rattle.vt_log.specs.declared.TheConstants.{QUEUE_MAX};
 ghost use Rattle.vt_log.specs.declared.bad.LogErr.{LogErr};
 ghost use Rattle.vt_log.specs.declared.bad.Progress.{Progress};
-ghost use Rattle.vt_log.specs.Answers.{Advances};
+ghost use Rattle.vt_log.specs.Answers.{Advances, OnlyReads};
 ghost use Rattle.vt_log.specs.Log.{queued, setup_of, next_filling};
 ghost use Rattle.vt_log.specs.Owed.{owed};
 ghost use Rattle.vt_log.specs.Reading.{AnswersRead};
 ghost use Rattle.vt_log.specs.Sound.{IsSound};
-ghost use Rattle.vt_prog.specs.Serving.{CommitsOrStops, AdvancesWhileFull, advanced_by, why_stopped, why_unread};
+ghost use Rattle.vt_prog.specs.Serving.{CommitsOrStops, LeavesOrStops, AdvancesWhileFull, advanced_by, why_stopped, why_unread};
 
 use crate::entries::{crowd, find_key, find_score};
 use std::alloc::Global;
@@ -51,7 +51,7 @@ impl<D: Disk, L: Ledger, S: Scorer> Model for LogStore<D, L, S> {
 
 impl<D: Disk, L: Ledger, S: Scorer> LogStore<D, L, S> {
     ghost use Rattle.vt_prog.specs.Store.{StoreState, memory, IsEntryOf, Holds};
-    ghost use Rattle.vt_prog.specs.Serving.{Serves, FailsFor, TellsFaults, MayNotRead, SameButDisks, MakesRoom, block_or_why};
+    ghost use Rattle.vt_prog.specs.Serving.{Serves, FailsFor, TellsFaults, MayNotRead, SameButDisks, LeavesOrStops, MakesRoom, block_or_why};
 
     /// The store of a log without blocks.
     pub fn new(alloc: Global, scorer: S, log: Log<D, S>, steps: Steps<L>) -> Self
@@ -75,9 +75,12 @@ impl<D: Disk, L: Ledger, S: Scorer> LogStore<D, L, S> {
         ensures cause { TellsFaults D.faults self.old.log self.new.log result }
 
         // Device calls that commit are made only while the queue is full, and none for a block that
-        // is refused.
+        // is held or refused.
         ensures commits { MakesRoom self.old.log self.new.log }
-        ensures refused { IfErr result (λ why. why ≢ Why.DiskFault → SameButDisks self.old self.new) }
+        ensures refused { IfErr result
+            (LeavesOrStops (SameButDisks self.old self.new) self.new.log) }
+        ensures kept { self.new.entries ≡ self.old.entries
+            → IfOk result (λ _. SameButDisks self.old self.new) }
 
         // A log that has stopped takes no block.
         ensures stopped { (call : ℕ) → self.old.log.stopped ≡ Some call
@@ -110,7 +113,9 @@ impl<D: Disk, L: Ledger, S: Scorer> LogStore<D, L, S> {
             (FailsFor D.faults self.old.log self.new.log)
             h (read score.now.0 kind count) (λ block. r_read block) result }
         ensures cause { TellsFaults D.faults self.old.log self.new.log result }
-        ensures same { SameButDisks self.old self.new }
+        ensures reads { OnlyReads S.score_of D.tells D.bytes D.images D.size D.calls 2
+            self.old.log self.new.log }
+        ensures entries { self.new.entries ≡ self.old.entries }
         ensures most { IfOk result (λ block. length block ≤ 57344) }
     {
         let kind = Kind::from_wire(kind).ok_or(Why::BadType)?;
@@ -140,6 +145,8 @@ impl<D: Disk, L: Ledger, S: Scorer> LogStore<D, L, S> {
             h sync (λ _. r_sync) result }
         ensures cause { CommitsOrStops D.faults self.old.log self.new.log result }
         ensures durable { OnOk result (queued self.new.log ≡ 0) }
+        ensures stopped { (call : ℕ) → self.old.log.stopped ≡ Some call
+            → (result ≡ Err (Why.Stopped call)) × (self.new ≡ self.old) }
     {
         commit(&mut self.log)
     }
@@ -155,7 +162,9 @@ impl<D: Disk, L: Ledger, S: Scorer> LogStore<D, L, S> {
             → Holds S.score_of D.tells D.bytes D.images D.size self.old h
             → Holds S.score_of D.tells D.bytes D.images D.size self.new h }
         ensures cause { TellsFaults D.faults self.old.log self.new.log result }
-        ensures same { SameButDisks self.old self.new }
+        ensures reads { OnlyReads S.score_of D.tells D.bytes D.images D.size D.calls 2
+            self.old.log self.new.log }
+        ensures entries { self.new.entries ≡ self.old.entries }
     {
         if *score == self.scorer.score(&[]) {
             return Ok(true);
@@ -182,7 +191,9 @@ impl<D: Disk, L: Ledger, S: Scorer> LogStore<D, L, S> {
             h (write key.kind bytes.now) (λ _. r_write key.score.0) result }
         ensures cause { TellsFaults D.faults self.old.log self.new.log result }
         ensures commits { MakesRoom self.old.log self.new.log }
-        ensures refused { IfErr result (λ why. why ≢ Why.DiskFault → self.new ≡ self.old) }
+        ensures refused { IfErr result (LeavesOrStops (self.new ≡ self.old) self.new.log) }
+        ensures kept { self.new.entries ≡ self.old.entries
+            → IfOk result (λ _. self.new ≡ self.old) }
     {
         if find_key(&self.entries, &key).is_some() {
             return Ok(());
@@ -208,7 +219,9 @@ impl<D: Disk, L: Ledger, S: Scorer> LogStore<D, L, S> {
             → Holds S.score_of D.tells D.bytes D.images D.size self.old h
             → Holds S.score_of D.tells D.bytes D.images D.size self.new h }
         ensures cause { TellsFaults D.faults self.old.log self.new.log result }
-        ensures same { SameButDisks self.old self.new }
+        ensures reads { OnlyReads S.score_of D.tells D.bytes D.images D.size D.calls 2
+            self.old.log self.new.log }
+        ensures entries { self.new.entries ≡ self.old.entries }
         ensures most { IfOk result (λ block. length block ≤ 57344) }
     {
         match self
@@ -236,7 +249,9 @@ impl<D: Disk, L: Ledger, S: Scorer> LogStore<D, L, S> {
             h (write key.kind bytes.now) (λ _. r_write key.score.0) result }
         ensures cause { TellsFaults D.faults self.old.log self.new.log result }
         ensures commits { MakesRoom self.old.log self.new.log }
-        ensures refused { IfErr result (λ why. why ≢ Why.DiskFault → self.new ≡ self.old) }
+        ensures refused { IfErr result (LeavesOrStops (self.new ≡ self.old) self.new.log) }
+        ensures kept { self.new.entries ≡ self.old.entries
+            → IfOk result (λ _. self.new ≡ self.old) }
     {
         if !self.log.room(bytes.len() as u32) {
             return Err(Why::ArenasFull);
@@ -270,7 +285,7 @@ fn make_room<D: Disk, S: Scorer>(log: &mut Log<D, S>) -> Result<(), Why>
         → IsSound S.score_of D.bytes D.images D.size log.new h }
     ensures cause { CommitsOrStops D.faults log.old log.new result }
     ensures room { OnOk result (queued log.new < QUEUE_MAX) }
-    ensures refused { IfErr result (λ why. why ≢ Why.DiskFault → log.new ≡ log.old) }
+    ensures refused { IfErr result (LeavesOrStops (log.new ≡ log.old) log.new) }
 
     // Each device call is made while there is no room. Where blocks go stays.
     ensures full { AdvancesWhileFull log.old log.new }
@@ -290,6 +305,8 @@ fn commit<D: Disk, S: Scorer>(log: &mut Log<D, S>) -> Result<(), Why>
         → IsSound S.score_of D.bytes D.images D.size log.new h }
     ensures cause { CommitsOrStops D.faults log.old log.new result }
     ensures none { OnOk result (queued log.new ≡ 0) }
+    ensures stopped { (call : ℕ) → log.old.stopped ≡ Some call
+        → (result ≡ Err (Why.Stopped call)) × (log.new ≡ log.old) }
     ensures setup { setup_of log.new ≡ setup_of log.old }
 {
     while advance(log)? {}
@@ -304,7 +321,8 @@ fn advance<D: Disk, S: Scorer>(log: &mut Log<D, S>) -> Result<bool, Why>
     ensures cause { CommitsOrStops D.faults log.old log.new result }
     ensures advances { (r : Result Progress LogErr) × Advances r log.old log.new
         × (result ≡ advanced_by r) }
-    ensures runs { OnOk result (log.old.stopped ≡ None) }
+    ensures stopped { (call : ℕ) → log.old.stopped ≡ Some call
+        → (result ≡ Err (Why.Stopped call)) × (log.new ≡ log.old) }
     ensures lower { result ≡ Ok Bool.true → owed log.new < owed log.old }
     ensures idle { result ≡ Ok Bool.false → (log.new ≡ log.old) × (queued log.old ≡ 0) }
     ensures setup { setup_of log.new ≡ setup_of log.old }

@@ -1,12 +1,18 @@
 -- a log goes on unless a call of its disks fails
-use Rattle.std.proofs.Common.{Ok, refl, sym, ◌∙◌}
+use Rattle.std.proofs.Common.{◌≡◌, Ok, Err, Some, Result, refl, sym, ◌∙◌, ap, subst}
+use Rattle.vt_log.specs.declared.bad.LogErr.{LogErr}
+use Rattle.vt_log.specs.declared.bad.LogErr.TheVariants.{Stopped}
+use Rattle.vt_log.specs.declared.bad.Progress.{Progress}
 use Rattle.vt_log.specs.declared.bad.Progress.TheVariants.{Step, Durable}
+use Rattle.vt_log.specs.Answers.{Advances}
+use Rattle.vt_prog.specs.Serving.{why_stopped}
 use Rattle.vt_prog.proofs.Failing.{runs_ok}
 use Rattle.vt_prog.proofs.Holding.{setup_kept}
 use Rattle.vt_prog.proofs.store.advance.Goals as goal
 
-pub returns-in-Ok-Idle-clause-runs : goal.returns-in-Ok-Idle-clause-runs
-returns-in-Ok-Idle-clause-runs g c = runs_ok c.advance.result c.in-Ok-Idle.field-0 c.args.log.now c.advance.ensures.stopped c.in-Ok-Idle.is
+pub returns-in-Ok-Idle-clause-stopped : goal.returns-in-Ok-Idle-clause-stopped
+returns-in-Ok-Idle-clause-stopped g c call is =
+    let no = sym (runs_ok c.advance.result c.in-Ok-Idle.field-0 c.args.log.now c.advance.ensures.stopped c.in-Ok-Idle.is) ∙ is in absurd (cc)
 
 pub returns-in-Ok-Step : goal.returns-in-Ok-Step
 returns-in-Ok-Step g c =
@@ -16,7 +22,7 @@ returns-in-Ok-Step g c =
       sound = λ h tells sound. c.advance.ensures.sound h tells sound;
       cause = (c.in-Ok-Step.ensures.cause, advances.1 ∙ sym runs);
       advances = (Ok Step, advances, refl);
-      runs = runs;
+      stopped = λ call is. let no = sym runs ∙ is in absurd (cc);
       lower = λ is. advances.2;
       idle = λ is. absurd (cc);
       setup = setup_kept c.args.log.now c.advance.new.self c.advance.ensures.kept.0 c.advance.ensures.kept.2;
@@ -31,9 +37,16 @@ returns-in-Ok-Durable g c =
       sound = λ h tells sound. c.advance.ensures.sound h tells sound;
       cause = (c.in-Ok-Durable.ensures.cause, advances.2 ∙ sym runs);
       advances = (Ok (Durable c.in-Ok-Durable.field-0-0), advances, refl);
-      runs = runs;
+      stopped = λ call is. let no = sym runs ∙ is in absurd (cc);
       lower = λ is. advances.3;
       idle = λ is. absurd (cc);
       setup = setup_kept c.args.log.now c.advance.new.self c.advance.ensures.kept.0 c.advance.ensures.kept.2;
       next = c.advance.ensures.next;
     }
+
+pub returns-in-Err-clause-stopped : goal.returns-in-Err-clause-stopped
+returns-in-Err-clause-stopped g c call is =
+    let told = (c.advance.ensures.stopped call).1 is in
+    let same : c.in-Err.bad ≡ Stopped call = (let both = sym c.in-Err.is ∙ told in cc) in
+    let kept = subst (λ (r : Result Progress LogErr). Advances r c.args.log.now c.advance.new.self) told c.advance.ensures.advances in
+    (ap Err (c.why_stopped.ensures ∙ ap why_stopped same), kept.1)

@@ -1,5 +1,5 @@
 -- the log takes the block, and the list its entry; or no arena has room
-use Rattle.std.proofs.Common.{◌≡◌, length, List, ℕ, [], ◌∷◌, ◌++◌, inl, inr, Err, refl, sym, ◌∙◌, ap, subst}
+use Rattle.std.proofs.Common.{◌≡◌, ⊎_elim, length, List, ℕ, [], ◌∷◌, ◌++◌, inl, inr, Err, refl, sym, ◌∙◌, ap, subst, arith, length-append}
 use Rattle.std.proofs.lemmas.Result.{err_from_is_err_and}
 use Rattle.vt_base.specs.Kind.{IsKind}
 use Rattle.vt_base.specs.declared.place.Entry.{Entry}
@@ -64,3 +64,23 @@ returns-clause-serves g c h hold pass =
           (appended score g.D.Disk.tells g.D.Disk.bytes g.D.Disk.images g.D.Disk.size _ h made c.in-Ok.packed c.args.key.kind c.args.bytes.now c.in-Ok.ensures.len passes
           c.append.new.self c.in-Ok-append.place entry appends is (ap setup_of takes.new_is) c.requires.score refl refl refl),
     )
+
+pub returns-in_default-reserve-clause-refused : goal.returns-in_default-reserve-clause-refused
+returns-in_default-reserve-clause-refused g c =
+    inl (ap (λ (es : List Entry). record { log = c.self.inside.log; entries = es }) c.in_default-reserve.ensures.items ∙ c.self.view_is)
+
+pub returns-in_err-make_room-clause-refused : goal.returns-in_err-make_room-clause-refused
+returns-in_err-make_room-clause-refused g c =
+    let p = err_from_is_err_and c.from_residual.result c.from_residual.ensures.1 in
+    rw (p.1, p.2) (⊎_elim
+    (λ same. inl (ap (λ (l : LogState _). record { log = l; entries = c.reserve.new.self.items }) same
+    ∙ ap (λ (es : List Entry). record { log = c.self.inside.log; entries = es }) c.in-Ok-reserve.ensures.items ∙ c.self.view_is))
+    (λ stops. inr stops) c.in_err-make_room.ensures.refused)
+
+-- one more entry
+pub returns-clause-kept : goal.returns-clause-kept
+returns-clause-kept g c entries =
+    let entry : Entry = record { key = c.args.key; size = length c.args.bytes.now; place = c.in-Ok-append.place } in
+    let items = c.in-Ok-push.ensures.items ∙ ap (λ (es : List Entry). es ++ entry ∷ []) c.in-Ok-reserve.ensures.items in
+    let was = ap (λ (s : StoreState _). length s.entries) c.self.view_is in
+    absurd (omega (arith, ap length (sym items ∙ entries), length-append c.self.inside.entries.items (entry ∷ []), was))

@@ -3,6 +3,7 @@ use Rattle.std.proofs.Common.{◌≡◌, sym, ◌∙◌, ap, subst, List, ℕ, O
 use Rattle.std.specs.Prelude.{MatchResult}
 use Rattle.vt_base.specs.declared.why.Why.{Why}
 use Rattle.vt_arena.specs.declared.bad.ReadBad.{ReadBad}
+use Rattle.vt_log.specs.Answers.{OnlyReads}
 use Rattle.vt_log.specs.Log.{LogState, setup_of}
 use Rattle.vt_log.specs.Reading.{AnswersRead}
 use Rattle.vt_model.specs.Places.{Setup, place_of}
@@ -51,3 +52,7 @@ returns-clause-answer g c =
       | in-Ok w ↦ (Ok w.in-Ok.block, w.in-Ok.ensures.answer, w.result-is)
       | in-Err w ↦ (Err w.in-Err.bad, w.in-Err.ensures.answer, w.result-is ∙ ap Err w.why_unread.ensures)
     ])
+
+pub returns-clause-reads : goal.returns-clause-reads
+returns-clause-reads g c =
+    subst (λ (s : StoreState _). OnlyReads g.S.Scorer.score_of g.D.Disk.tells g.D.Disk.bytes g.D.Disk.images g.D.Disk.size g.D.Disk.calls 2 s.log c.read.new.self) c.self.view_is c.read.ensures.reads

@@ -1,6 +1,7 @@
 -- a commit answers the sync
-use Rattle.std.proofs.Common.{sym, subst}
+use Rattle.std.proofs.Common.{sym, ◌∙◌, ap, subst}
 use Rattle.vt_base.specs.Protocol.{sync, r_sync}
+use Rattle.vt_log.specs.Log.{LogState}
 use Rattle.vt_prog.specs.Serving.{Serves, FailsFor}
 use Rattle.vt_prog.specs.Store.{StoreState, Holds}
 use Rattle.vt_prog.proofs.Failing.{serves_sync}
@@ -16,3 +17,8 @@ returns-clause-serves g c h hold =
     subst (λ (s : StoreState _). Serves {X = Unit {0}} score holds (FailsFor g.D.Disk.faults s.log c.commit.new.log) h sync (λ x. r_sync) c.commit.result) c.self.view_is
     (serves_sync score holds g.D.Disk.faults c.self.inside.log c.commit.new.log h c.commit.result c.commit.ensures.cause
     (with_log score g.D.Disk.tells g.D.Disk.bytes g.D.Disk.images g.D.Disk.size _ c.commit.new.log h was (c.commit.ensures.sound h was.tells_is was.sound) c.commit.ensures.setup))
+
+pub returns-clause-stopped : goal.returns-clause-stopped
+returns-clause-stopped g c call is =
+    let it = c.commit.ensures.stopped call (ap (λ (s : StoreState _). s.log.stopped) c.self.view_is ∙ is) in
+    (it.0, ap (λ (l : LogState _). record { log = l; entries = c.self.inside.entries.items }) it.1 ∙ c.self.view_is)

@@ -1,5 +1,5 @@
 -- the tests of the model before those of the index
-use Rattle.std.proofs.Common.{◌≡◌, ◌<◌, ◌==◌, ℕ, zero, suc, Bool, true, false, inl, inr, Err, refl, sym, ◌∙◌, ap, subst, arith}
+use Rattle.std.proofs.Common.{◌≡◌, ⊎_elim, ◌<◌, ◌==◌, ℕ, zero, suc, Bool, true, false, inl, inr, Err, refl, sym, ◌∙◌, ap, subst, arith}
 use Rattle.std.specs.Option.{IfSome}
 use Rattle.std.proofs.lemmas.Bool.{true≢false}
 use Rattle.std.proofs.lemmas.Result.{err_from_is_err_and}
@@ -7,10 +7,10 @@ use Rattle.vt_base.specs.Kind.{is_kind}
 use Rattle.vt_base.specs.declared.score.Score.{Score}
 use Rattle.vt_base.specs.Protocol.{write, r_write}
 use Rattle.vt_session.specs.Answered.{ReachesParts}
-use Rattle.vt_prog.specs.Serving.{Serves, FailsFor}
+use Rattle.vt_prog.specs.Serving.{Serves, FailsFor, SameButDisks}
 use Rattle.vt_prog.specs.Store.{StoreState, Holds}
 use Rattle.vt_prog.proofs.Failing.{by_read, by_stop, serves_then}
-use Rattle.vt_prog.proofs.Making.{made_none, made_by_reads}
+use Rattle.vt_prog.proofs.Making.{made_none, made_by_reads, same_but_disks}
 use Rattle.vt_prog.proofs.store.LogStore.write.Goals as goal
 
 some_of : (n : ℕ) → (n == 0) ≡ false → 0 < n
@@ -40,7 +40,7 @@ returns-in-Some-clause-serves g c h hold =
     inr (by.0, by.1, by.2, by.3, hold)
 
 pub returns-in_err-collides-clause-commits : goal.returns-in_err-collides-clause-commits
-returns-in_err-collides-clause-commits g c = made_by_reads c.args.self.now.log c.collides.new.self.log (ap (λ (s : StoreState _). s.log) c.collides.ensures.same)
+returns-in_err-collides-clause-commits g c = made_by_reads c.args.self.now.log c.collides.new.self.log c.collides.ensures.reads.same
 
 pub returns-in_err-collides-clause-serves : goal.returns-in_err-collides-clause-serves
 returns-in_err-collides-clause-serves g c h hold =
@@ -53,7 +53,7 @@ returns-in_err-collides-clause-serves g c h hold =
     rw (p.1, p.2) (inr (by.0, by.1, by.2, by.3, c.collides.ensures.holds h hold))
 
 pub returns-then-branch-clause-commits : goal.returns-then-branch-clause-commits
-returns-then-branch-clause-commits g c = made_by_reads c.args.self.now.log c.collides.new.self.log (ap (λ (s : StoreState _). s.log) c.collides.ensures.same)
+returns-then-branch-clause-commits g c = made_by_reads c.args.self.now.log c.collides.new.self.log c.collides.ensures.reads.same
 
 pub returns-in_err-put-clause-serves : goal.returns-in_err-put-clause-serves
 returns-in_err-put-clause-serves g c h hold =
@@ -66,3 +66,24 @@ returns-in_err-put-clause-serves g c h hold =
     rw (p.1, p.2) (subst (λ (kind : ℕ). Serves {X = Score} score holds (FailsFor g.D.Disk.faults c.args.self.now.log c.put.new.self.log) h (write kind c.args.bytes.now) (λ s. r_write s.0) (Err why)) same
     (serves_then {X = Unit {0}} {Y = Score} score holds g.D.Disk.faults c.args.self.now.log c.collides.new.self.log c.put.new.self.log h (write c.in_ok-kind.kind c.args.bytes.now)
     (λ x. r_write c.score-score.result.0) (λ s. r_write s.0) why c.in_ok-collides.ensures.cause (c.in_err-put.ensures.serves h (c.collides.ensures.holds h hold) alone)))
+
+pub returns-in_err-collides-clause-refused : goal.returns-in_err-collides-clause-refused
+returns-in_err-collides-clause-refused g c =
+    let p = err_from_is_err_and c.from_residual-in_err-collides.result c.from_residual-in_err-collides.ensures.1 in
+    rw (p.1, p.2) (inl (same_but_disks c.args.self.now c.collides.new.self c.collides.ensures.reads.same c.collides.ensures.entries))
+
+pub returns-then-branch-clause-refused : goal.returns-then-branch-clause-refused
+returns-then-branch-clause-refused g c = inl (same_but_disks c.args.self.now c.collides.new.self c.collides.ensures.reads.same c.collides.ensures.entries)
+
+pub returns-in_err-put-clause-refused : goal.returns-in_err-put-clause-refused
+returns-in_err-put-clause-refused g c =
+    let p = err_from_is_err_and c.from_residual-in_err-put.result c.from_residual-in_err-put.ensures.1 in
+    let read = same_but_disks c.args.self.now c.collides.new.self c.collides.ensures.reads.same c.collides.ensures.entries in
+    rw (p.1, p.2) (⊎_elim
+    (λ same. inl (subst (SameButDisks c.args.self.now) (sym same) read))
+    (λ stops. inr stops) c.in_err-put.ensures.refused)
+
+pub returns-clause-kept : goal.returns-clause-kept
+returns-clause-kept g c entries =
+    let read = same_but_disks c.args.self.now c.collides.new.self c.collides.ensures.reads.same c.collides.ensures.entries in
+    subst (SameButDisks c.args.self.now) (sym (c.in_ok-put.ensures.kept (entries ∙ sym c.collides.ensures.entries))) read
