@@ -1,5 +1,6 @@
-//! A log: the arenas of all partitions, filled and committed one after another, and before them a
-//! queue of blocks that are accepted and not yet committed.
+//! A log: the arenas of all partitions, filled and committed one after another (Quinlan and
+//! Dorward, "Venti: a new approach to archival storage", FAST 2002), and before them a queue of
+//! blocks that are accepted and not yet committed.
 #![tactic(auto)]
 
 mod back;

@@ -35,7 +35,7 @@ pub struct Log<D: Disk, S: Scorer> {
     pub(crate) parts: Vec<Part<D>>,
     pub(crate) scorer: S,
     pub(crate) layout: Layout,
-    /// Each arena's head, as mounted or last committed.
+    /// Each arena's head, as mounted or last committed. The selectors are those at mounting.
     pub(crate) heads: Vec<Found>,
     pub(crate) base: u32,
     pub(crate) committing: u32,

@@ -1,6 +1,6 @@
 -- How a store fails where its log does.
 use Rattle.std.proofs.Common.{◌≡◌, ◌⊎◌, ⊎_elim, inl, inr, ℕ, List, [], map, refl, sym, ◌∙◌, ap, subst, Option, Some, None, Ok, Err, Result}
-use Rattle.std.specs.Prelude.{◌↔◌, IsSome}
+use Rattle.std.specs.Prelude.{◌↔◌, IsSome, IfErr}
 use Rattle.vt_base.specs.declared.place.Place.{Place}
 use Rattle.vt_base.specs.declared.why.Why.{Why}
 use Rattle.vt_base.specs.declared.why.Why.TheVariants.{DiskFault, Stopped, Damaged, NoMemory}
@@ -18,7 +18,7 @@ use Rattle.vt_log.specs.Log.{LogState}
 use Rattle.vt_log.specs.Reading.{CountsFault}
 use Rattle.vt_session.specs.Turns.{Cause, disk_fault, stopped, damaged, no_memory, log, section, why_of}
 use Rattle.vt_session.specs.Answered.{MayFail, ReachesParts, TakesMemory, WritesTo}
-use Rattle.vt_prog.specs.Serving.{Serves, FailsFor, NoneFailed, TellsFaults, CommitsOrStops, LeavesOrStops, MayNotRead, why_unread, advanced_by}
+use Rattle.vt_prog.specs.Serving.{Serves, FailsFor, NoneFailed, TellsFaults, CommitsOrStops, LeavesOrStops, MayNotRead, why_unread, block_or_why, advanced_by}
 use Rattle.vt_prog.specs.Store.{memory}
 
 -- ---- a call of the log
@@ -100,6 +100,17 @@ read_tells X faults place unread.NoMemory old new cause same = (cause, same)
 pub may_not_read : (place : Place) (bad : ReadBad) → (bad ≡ unread.Fault) ⊎ (bad ≡ unread.NoMemory)
     → MayNotRead (why_unread place bad)
 may_not_read place bad is = ⊎_elim (λ fault. inl (ap (why_unread place) fault)) (λ memory. inr (ap (why_unread place) memory)) is
+
+-- an answer that hands a failure to read on tells why
+pub tells_unread : {X : Type 0} (place : Place) (r : Result (List ℕ) ReadBad) (block : Result (List ℕ) Why) (result : Result X Why) → block ≡ block_or_why place r
+    → ((why : Why) → block ≡ Err why → result ≡ Err why) → IfErr r (λ bad. result ≡ Err (why_unread place bad))
+tells_unread place (Ok it) block result is hands = tt
+tells_unread place (Err bad) block result is hands = hands (why_unread place bad) is
+
+pub unread_on : {X Y : Type 0} (place : Place) (r : Result (List ℕ) ReadBad) (first : Result X Why) (result : Result Y Why) → IfErr r (λ bad. first ≡ Err (why_unread place bad))
+    → ((why : Why) → first ≡ Err why → result ≡ Err why) → IfErr r (λ bad. result ≡ Err (why_unread place bad))
+unread_on place (Ok it) first result is hands = tt
+unread_on place (Err bad) first result is hands = hands (why_unread place bad) is
 
 -- ---- the causes
 

@@ -1,5 +1,6 @@
 -- How a store over one log serves: by the model's answers, and where its disks fail.
-use Rattle.std.specs.Prelude.{ℕ, ◌≡◌, ◌⊎◌, ⊤, Bool, IsSome, Some, List, map, Result, Ok, Err}
+use Rattle.std.specs.Prelude.{ℕ, ◌≡◌, ◌⊎◌, ⊤, Bool, IsSome, IfErr, Some, List, map, Result, Ok, Err}
+use Rattle.vt_base.specs.declared.place.Entry.{Entry}
 use Rattle.vt_base.specs.declared.place.Place.{Place}
 use Rattle.vt_base.specs.declared.why.Site.TheVariants.{Clump}
 use Rattle.vt_base.specs.declared.why.Why.{Why}
@@ -17,6 +18,7 @@ use Rattle.vt_log.specs.declared.bad.Progress.TheVariants.{Idle, Step, Durable}
 use Rattle.vt_log.specs.Answers.{Advances}
 use Rattle.vt_log.specs.Faults.{OneHasRisen}
 use Rattle.vt_log.specs.Log.{LogState, queued}
+use Rattle.vt_log.specs.Reading.{AnswersRead}
 use Rattle.vt_session.specs.Turns.{Cause, disk_fault, stopped, damaged, no_memory, log, section, why_of}
 use Rattle.vt_session.specs.Answered.{MayFail}
 use Rattle.vt_prog.specs.Store.{StoreState, memory}
@@ -105,6 +107,21 @@ why_unread place (ReadDamaged want found) = Damaged (Clump place) want found
 abbrev pub block_or_why : Place → Result (List ℕ) ReadBad → Result (List ℕ) Why
 block_or_why place (Ok block) = Ok block
 block_or_why place (Err bad) = Err (why_unread place bad)
+
+-- Whatever the disks hold: the block of this entry is given as the log gives it, or it is told why
+-- the log doesn't.
+abbrev pub GivesEntry : {D : Type 0} → (score_of : List ℕ → List ℕ) → (tells : Bool)
+    → (bytes : D → List ℕ) → LogState D → Entry → Result (List ℕ) Why → Type 0
+GivesEntry score_of tells bytes l entry result =
+    (r : Result (List ℕ) ReadBad) × AnswersRead score_of tells bytes l entry.place entry.key r
+    × (result ≡ block_or_why entry.place r)
+
+-- where the log doesn't give it, this answer tells why
+abbrev pub TellsUnread : {D X : Type 0} → (score_of : List ℕ → List ℕ) → (tells : Bool)
+    → (bytes : D → List ℕ) → LogState D → Entry → Result X Why → Type 0
+TellsUnread score_of tells bytes l entry result =
+    (r : Result (List ℕ) ReadBad) × AnswersRead score_of tells bytes l entry.place entry.key r
+    × IfErr r (λ bad. result ≡ Err (why_unread entry.place bad))
 
 -- why the log doesn't go on
 abbrev pub why_stopped : LogErr → Why

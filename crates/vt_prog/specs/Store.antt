@@ -1,5 +1,6 @@
 -- A store over one log: what it keeps, and which history that stands for.
-use Rattle.std.specs.Prelude.{ℕ, ◌≡◌, Bool, IsTrue, None, Some, List, [], ◌∷◌, length, slice_get}
+use Rattle.std.specs.Prelude.{ℕ, ◌≡◌, ◌==◌, ◌&&◌, Bool, IsTrue, Option, None, Some, List, [], ◌∷◌, length, slice_get, find}
+use Rattle.std.specs.Str.{bytes_eq}
 use Rattle.vt_base.specs.declared.place.Entry.{Entry}
 use Rattle.vt_model.specs.History.{History, Accepted}
 use Rattle.vt_model.specs.Places.{Setup, place_of}
@@ -16,6 +17,14 @@ memory = record { arenas = 1048576 ∷ []; base = 0; sections = 4 ∷ [] }
 pub record StoreState (D : Type 0) : Type 0 where
   pub log : LogState D
   pub entries : List Entry
+
+-- the first entry with this key, and the first with this score
+abbrev pub entry_of_key : List Entry → (score : List ℕ) → (kind : ℕ) → Option Entry
+entry_of_key entries score kind =
+    find (λ e. bytes_eq e.key.score.0 score && e.key.kind == kind) entries
+
+abbrev pub entry_of_score : List Entry → (score : List ℕ) → Option Entry
+entry_of_score entries score = find (λ e. bytes_eq e.key.score.0 score) entries
 
 -- the key of a block, its length, and where the entry says that it stands
 pub record IsEntryOf (score_of : List ℕ → List ℕ) (h : History) (i : ℕ) (e : Accepted)

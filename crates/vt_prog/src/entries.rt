@@ -1,9 +1,9 @@
 //! The index of the store in memory: entries that are searched from the front.
 
-ghost use Rattle.std.specs.Prelude.{◌≡◌, ◌==◌, ◌&&◌, find, count_by};
+ghost use Rattle.std.specs.Prelude.{◌≡◌, ◌==◌, count_by};
 ghost use Rattle.std.specs.Option.{option_copied};
-ghost use Rattle.std.specs.Str.{bytes_eq};
 ghost use Rattle.vt_model.specs.Places.{bucket_of};
+ghost use Rattle.vt_prog.specs.Store.{entry_of_key, entry_of_score};
 
 use vt_base::{Entry, Key, Score};
 use vt_model::bucket_of;
@@ -14,16 +14,14 @@ const BUCKETS: u128 = 4;
 /// The first entry with this key.
 pub fn find_key<'a>(entries: &'a [Entry], key: &Key) -> Option<&'a Entry>
     ensures { let k = key.now in
-        option_copied result
-        ≡ find (λ e. bytes_eq e.key.score.0 k.score.0 && e.key.kind == k.kind) entries.now }
+        option_copied result ≡ entry_of_key entries.now k.score.0 k.kind }
 {
     entries.iter().find(|e| e.key == *key)
 }
 
 /// The first entry with this score, of whatever type.
 pub fn find_score<'a>(entries: &'a [Entry], score: &Score) -> Option<&'a Entry>
-    ensures { let s = score.now.0 in
-        option_copied result ≡ find (λ e. bytes_eq e.key.score.0 s) entries.now }
+    ensures { option_copied result ≡ entry_of_score entries.now score.now.0 }
 {
     entries.iter().find(|e| e.key.score == *score)
 }

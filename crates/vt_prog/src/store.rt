@@ -1,19 +1,17 @@
 //! A store over one log, whose keys are a list that is searched from the front.
 
-ghost use Rattle.std.specs.Prelude.{◌≡◌, ◌<◌, ◌≤◌, ℕ, Bool, List, [], Some, Ok, Err, IfOk, IfErr, OnOk, IsTrue, Result, MatchResult, length, slice_get};
+ghost use Rattle.std.specs.Prelude.{◌≡◌, ◌≢◌, ◌<◌, ◌≤◌, ℕ, Bool, [], Some, None, Ok, Err, IfOk, IfErr, OnOk, IsTrue, Result, MatchResult, length, slice_get};
 ghost use Rattle.vt_base.specs.Kind.{IsKind};
 ghost use Rattle.vt_base.specs.Protocol.{read, write, sync, r_read, r_write, r_sync};
 ghost use Rattle.vt_model.specs.History.{History, Accepted, IsBlock};
 ghost use Rattle.vt_model.specs.Places.{next_arena};
 ghost use Rattle.vt_model.specs.Answer.{answer_to_write, adds, collides};
-ghost use Rattle.vt_arena.specs.declared.bad.ReadBad.{ReadBad};
 ghost use Rattle.vt_log.specs.declared.TheConstants.{QUEUE_MAX};
 ghost use Rattle.vt_log.specs.declared.bad.LogErr.{LogErr};
 ghost use Rattle.vt_log.specs.declared.bad.Progress.{Progress};
 ghost use Rattle.vt_log.specs.Answers.{Advances, OnlyReads};
 ghost use Rattle.vt_log.specs.Log.{queued, setup_of, next_filling};
 ghost use Rattle.vt_log.specs.Owed.{owed};
-ghost use Rattle.vt_log.specs.Reading.{AnswersRead};
 ghost use Rattle.vt_log.specs.Sound.{IsSound};
 ghost use Rattle.vt_prog.specs.Serving.{CommitsOrStops, LeavesOrStops, AdvancesWhileFull, advanced_by, why_stopped, why_unread};
 
@@ -50,8 +48,8 @@ impl<D: Disk, L: Ledger, S: Scorer> Model for LogStore<D, L, S> {
 }
 
 impl<D: Disk, L: Ledger, S: Scorer> LogStore<D, L, S> {
-    ghost use Rattle.vt_prog.specs.Store.{StoreState, memory, IsEntryOf, Holds};
-    ghost use Rattle.vt_prog.specs.Serving.{Serves, FailsFor, TellsFaults, MayNotRead, SameButDisks, LeavesOrStops, MakesRoom, block_or_why};
+    ghost use Rattle.vt_prog.specs.Store.{StoreState, memory, entry_of_key, entry_of_score, IsEntryOf, Holds};
+    ghost use Rattle.vt_prog.specs.Serving.{Serves, FailsFor, TellsFaults, MayNotRead, GivesEntry, TellsUnread, SameButDisks, LeavesOrStops, MakesRoom};
 
     /// The store of a log without blocks.
     pub fn new(alloc: Global, scorer: S, log: Log<D, S>, steps: Steps<L>) -> Self
@@ -73,6 +71,12 @@ impl<D: Disk, L: Ledger, S: Scorer> LogStore<D, L, S> {
             (FailsFor D.faults self.old.log self.new.log)
             h (write kind bytes.now) (λ score. r_write score.0) result }
         ensures cause { TellsFaults D.faults self.old.log self.new.log result }
+
+        ensures unread { (entry : Entry) → self.old.log.stopped ≡ None
+            → IsBlock (record { kind = kind; bytes = bytes.now })
+            → S.score_of bytes.now ≢ S.score_of []
+            → entry_of_score self.old.entries (S.score_of bytes.now) ≡ Some entry
+            → TellsUnread S.score_of D.tells D.bytes self.old.log entry result }
 
         // Device calls that commit are made only while the queue is full, and none for a block that
         // is held or refused.
@@ -116,6 +120,9 @@ impl<D: Disk, L: Ledger, S: Scorer> LogStore<D, L, S> {
         ensures reads { OnlyReads S.score_of D.tells D.bytes D.images D.size D.calls 2
             self.old.log self.new.log }
         ensures entries { self.new.entries ≡ self.old.entries }
+        ensures answer { (entry : Entry) → IsKind kind → score.now.0 ≢ S.score_of []
+            → entry_of_key self.old.entries score.now.0 kind ≡ Some entry → entry.size ≤ count
+            → GivesEntry S.score_of D.tells D.bytes self.old.log entry result }
         ensures most { IfOk result (λ block. length block ≤ 57344) }
     {
         let kind = Kind::from_wire(kind).ok_or(Why::BadType)?;
@@ -158,6 +165,9 @@ impl<D: Disk, L: Ledger, S: Scorer> LogStore<D, L, S> {
         ensures tells { (h : History)
             → Holds S.score_of D.tells D.bytes D.images D.size self.old h
             → MatchResult result (λ it. it ≡ collides S.score_of h bytes.now) MayNotRead }
+        ensures unread { (entry : Entry) → score.now.0 ≢ S.score_of []
+            → entry_of_score self.old.entries score.now.0 ≡ Some entry
+            → TellsUnread S.score_of D.tells D.bytes self.old.log entry result }
         ensures holds { (h : History)
             → Holds S.score_of D.tells D.bytes D.images D.size self.old h
             → Holds S.score_of D.tells D.bytes D.images D.size self.new h }
@@ -211,10 +221,7 @@ impl<D: Disk, L: Ledger, S: Scorer> LogStore<D, L, S> {
             → slice_get h i ≡ Some e → IsEntryOf S.score_of h i e entry.now
             → MatchResult result (λ block. block ≡ e.block.bytes) MayNotRead }
 
-        // Whatever the disks hold, the answer is the log's.
-        ensures answer { (r : Result (List ℕ) ReadBad)
-            × AnswersRead S.score_of D.tells D.bytes self.old.log entry.now.place entry.now.key r
-            × (result ≡ block_or_why entry.now.place r) }
+        ensures answer { GivesEntry S.score_of D.tells D.bytes self.old.log entry.now result }
         ensures holds { (h : History)
             → Holds S.score_of D.tells D.bytes D.images D.size self.old h
             → Holds S.score_of D.tells D.bytes D.images D.size self.new h }

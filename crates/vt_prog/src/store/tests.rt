@@ -127,18 +127,24 @@ fn see_stopped<L: Ledger>(
     Ok(())
 }
 
-/// The same where the call fails that makes room in a full queue: the block is refused.
-fn see_full_queue<L: Ledger>(rt: &impl Abort, alloc: Global, blank: Blank) -> Result<(), Fail>
+/// The same where a call fails that makes room in a full queue: the block is refused.
+fn see_full_queue<L: Ledger>(
+    rt: &impl Abort,
+    alloc: Global,
+    call: u64,
+    blank: Blank,
+) -> Result<(), Fail>
+    requires call { call < COMMIT_CALLS }
     requires name { blank.name ≡ L.name }
     requires parts { blank.parts ≡ L.parts }
     requires some { 0 < L.parts }
 {
-    let mut store = failing_store::<L>(alloc, &[FIRST_CALL], blank)?;
+    let mut store = failing_store::<L>(alloc, &[FIRST_CALL + call], blank)?;
     for number in 0..64 {
         assert!(rt; store.write(alloc, 13, &[number, 1, 2]).is_ok());
     }
     assert_eq!(rt; store.write(alloc, 13, b"abc"), Err(Why::DiskFault));
-    assert_eq!(rt; store.write(alloc, 13, b"abc"), Err(Why::Stopped(0)));
+    assert_eq!(rt; store.write(alloc, 13, b"abc"), Err(Why::Stopped(call)));
     assert_eq!(rt;
         store.read(alloc, &Sha1Scorer.score(b"abc"), 13, 3).err(),
         Some(Why::Absent)
@@ -180,8 +186,9 @@ fn commits(rt: HostRuntime) -> Result<(), Fail> {
 fn a_failed_commit_stops_the_store(rt: HostRuntime) -> Result<(), Fail> {
     for call in 0..COMMIT_CALLS {
         see_stopped::<Brand>(&rt, rt.alloc(), call, Blank::new(1))?;
+        see_full_queue::<Brand>(&rt, rt.alloc(), call, Blank::new(1))?;
     }
-    see_full_queue::<Brand>(&rt, rt.alloc(), Blank::new(1))
+    Ok(())
 }
 
 #[test]

@@ -2,12 +2,10 @@
 use Rattle.std.proofs.Common.{◌≡◌, sym, ◌∙◌, ap, subst, List, ℕ, Ok, Err, Result}
 use Rattle.std.specs.Prelude.{MatchResult}
 use Rattle.vt_base.specs.declared.why.Why.{Why}
-use Rattle.vt_arena.specs.declared.bad.ReadBad.{ReadBad}
 use Rattle.vt_log.specs.Answers.{OnlyReads}
 use Rattle.vt_log.specs.Log.{LogState, setup_of}
-use Rattle.vt_log.specs.Reading.{AnswersRead}
 use Rattle.vt_model.specs.Places.{Setup, place_of}
-use Rattle.vt_prog.specs.Serving.{TellsFaults, MayNotRead, block_or_why}
+use Rattle.vt_prog.specs.Serving.{TellsFaults, MayNotRead, GivesEntry}
 use Rattle.vt_prog.specs.Store.{StoreState, Holds}
 use Rattle.vt_prog.proofs.Failing.{read_tells, may_not_read}
 use Rattle.vt_prog.proofs.Holding.{with_log}
@@ -45,9 +43,7 @@ returns-clause-cause g c =
 
 pub returns-clause-answer : goal.returns-clause-answer
 returns-clause-answer g c =
-    let place = c.args.entry.now.place in
-    subst (λ (s : StoreState _). (r : Result (List ℕ) ReadBad) × AnswersRead g.S.Scorer.score_of g.D.Disk.tells g.D.Disk.bytes s.log place c.args.entry.now.key r
-    × (c.match-read.result ≡ block_or_why place r)) c.self.view_is
+    subst (λ (s : StoreState _). GivesEntry g.S.Scorer.score_of g.D.Disk.tells g.D.Disk.bytes s.log c.args.entry.now c.match-read.result) c.self.view_is
     (elim c.match-read.branch [
       | in-Ok w ↦ (Ok w.in-Ok.block, w.in-Ok.ensures.answer, w.result-is)
       | in-Err w ↦ (Err w.in-Err.bad, w.in-Err.ensures.answer, w.result-is ∙ ap Err w.why_unread.ensures)

@@ -1,15 +1,16 @@
 -- the tests of the model before those of the index
-use Rattle.std.proofs.Common.{◌≡◌, ⊎_elim, ◌<◌, ◌==◌, ℕ, zero, suc, Bool, true, false, inl, inr, Err, refl, sym, ◌∙◌, ap, subst, arith}
+use Rattle.std.proofs.Common.{◌≡◌, ⊎_elim, ◌<◌, ◌==◌, ℕ, zero, suc, Bool, true, false, inl, inr, length, Ok, Err, refl, sym, ◌∙◌, ap, subst, arith}
 use Rattle.std.specs.Option.{IfSome}
-use Rattle.std.proofs.lemmas.Bool.{true≢false}
+use Rattle.std.proofs.lemmas.Bool.{true≢false, ne_eqb}
 use Rattle.std.proofs.lemmas.Result.{err_from_is_err_and}
 use Rattle.vt_base.specs.Kind.{is_kind}
 use Rattle.vt_base.specs.declared.score.Score.{Score}
+use Rattle.vt_base.specs.declared.why.Why.TheVariants.{Collision}
 use Rattle.vt_base.specs.Protocol.{write, r_write}
 use Rattle.vt_session.specs.Answered.{ReachesParts}
 use Rattle.vt_prog.specs.Serving.{Serves, FailsFor, SameButDisks}
-use Rattle.vt_prog.specs.Store.{StoreState, Holds}
-use Rattle.vt_prog.proofs.Failing.{by_read, by_stop, serves_then}
+use Rattle.vt_prog.specs.Store.{StoreState, entry_of_score, Holds}
+use Rattle.vt_prog.proofs.Failing.{by_read, by_stop, serves_then, unread_on}
 use Rattle.vt_prog.proofs.Making.{made_none, made_by_reads, same_but_disks}
 use Rattle.vt_prog.proofs.store.LogStore.write.Goals as goal
 
@@ -87,3 +88,58 @@ pub returns-clause-kept : goal.returns-clause-kept
 returns-clause-kept g c entries =
     let read = same_but_disks c.args.self.now c.collides.new.self c.collides.ensures.reads.same c.collides.ensures.entries in
     subst (SameButDisks c.args.self.now) (sym (c.in_ok-put.ensures.kept (entries ∙ sym c.collides.ensures.entries))) read
+
+-- ---- what isn't read is told
+
+pub returns-in_err-kind-clause-unread : goal.returns-in_err-kind-clause-unread
+returns-in_err-kind-clause-unread g c entry runs block nonzero found =
+    absurd (true≢false (sym block.kind ∙ sym c.from_wire.ensures.variant ∙ sym c.in_err-kind.ensures.variant))
+
+pub returns-then-bytes-gt-MAX_BLOCK-clause-unread : goal.returns-then-bytes-gt-MAX_BLOCK-clause-unread
+returns-then-bytes-gt-MAX_BLOCK-clause-unread g c entry runs block nonzero found = absurd (omega (arith, block.most, c.if-bytes-gt-MAX_BLOCK.true))
+
+pub returns-then-is_empty-clause-unread : goal.returns-then-is_empty-clause-unread
+returns-then-is_empty-clause-unread g c entry runs block nonzero found =
+    absurd (true≢false (c.if-is_empty.ensures ∙ ne_eqb (length c.args.bytes.now) 0 (λ none. omega (arith, none, block.some))))
+
+pub returns-in-Some-clause-unread : goal.returns-in-Some-clause-unread
+returns-in-Some-clause-unread g c entry runs block nonzero found =
+    let stop = ap (λ (s : StoreState _). s.log.stopped) (sym c.self.view_is) ∙ sym c.stopped.ensures ∙ c.in-Some.is in
+    let both = sym runs ∙ stop in absurd (cc)
+
+pub returns-in_err-collides-clause-unread : goal.returns-in_err-collides-clause-unread
+returns-in_err-collides-clause-unread g c entry runs block nonzero found =
+    let p = err_from_is_err_and c.from_residual-in_err-collides.result c.from_residual-in_err-collides.ensures.1 in
+    let it = c.collides.ensures.unread entry (λ zero. nonzero (sym c.score-score.ensures ∙ zero)) (ap (entry_of_score c.args.self.now.entries) c.score-score.ensures ∙ found) in (
+      it.0,
+      it.1,
+      unread_on {X = Bool} {Y = Score} entry.place it.0 c.collides.result c.from_residual-in_err-collides.result it.2
+          (λ why same. p.1 ∙ ap Err (p.2 ∙ (let both = sym c.in_err-collides.was ∙ same in cc))),
+    )
+
+pub returns-then-branch-clause-unread : goal.returns-then-branch-clause-unread
+returns-then-branch-clause-unread g c entry runs block nonzero found =
+    let it = c.collides.ensures.unread entry (λ zero. nonzero (sym c.score-score.ensures ∙ zero)) (ap (entry_of_score c.args.self.now.entries) c.score-score.ensures ∙ found) in (
+      it.0,
+      it.1,
+      unread_on {X = Bool} {Y = Score} entry.place it.0 c.collides.result (Err Collision) it.2
+          (λ why same. let both = sym c.in_ok-collides.was ∙ same in absurd (cc)),
+    )
+
+pub returns-in_err-put-clause-unread : goal.returns-in_err-put-clause-unread
+returns-in_err-put-clause-unread g c entry runs block nonzero found =
+    let it = c.collides.ensures.unread entry (λ zero. nonzero (sym c.score-score.ensures ∙ zero)) (ap (entry_of_score c.args.self.now.entries) c.score-score.ensures ∙ found) in (
+      it.0,
+      it.1,
+      unread_on {X = Bool} {Y = Score} entry.place it.0 c.collides.result c.from_residual-in_err-put.result it.2
+          (λ why same. let both = sym c.in_ok-collides.was ∙ same in absurd (cc)),
+    )
+
+pub returns-clause-unread : goal.returns-clause-unread
+returns-clause-unread g c entry runs block nonzero found =
+    let it = c.collides.ensures.unread entry (λ zero. nonzero (sym c.score-score.ensures ∙ zero)) (ap (entry_of_score c.args.self.now.entries) c.score-score.ensures ∙ found) in (
+      it.0,
+      it.1,
+      unread_on {X = Bool} {Y = Score} entry.place it.0 c.collides.result (Ok c.score-score.result) it.2
+          (λ why same. let both = sym c.in_ok-collides.was ∙ same in absurd (cc)),
+    )
