@@ -72,6 +72,7 @@ impl<D: Disk, L: Ledger, S: Scorer> LogStore<D, L, S> {
             h (write kind bytes.now) (λ score. r_write score.0) result }
         ensures cause { TellsFaults D.faults self.old.log self.new.log result }
 
+        // Where a block of the same score isn't read, whatever the disks hold, it is told why.
         ensures unread { (entry : Entry) → self.old.log.stopped ≡ None
             → IsBlock (record { kind = kind; bytes = bytes.now })
             → S.score_of bytes.now ≢ S.score_of []
@@ -109,7 +110,7 @@ impl<D: Disk, L: Ledger, S: Scorer> LogStore<D, L, S> {
         Ok(score)
     }
 
-    /// The bytes of a block, of which the reader takes `count` at most.
+    /// The bytes of a block, if it has `count` at most.
     pub fn read(&mut self, alloc: Global, score: &Score, kind: u8, count: u32) -> Result<Bytes, Why>
         ensures serves { (h : History)
             → Holds S.score_of D.tells D.bytes D.images D.size self.old h
@@ -120,6 +121,8 @@ impl<D: Disk, L: Ledger, S: Scorer> LogStore<D, L, S> {
         ensures reads { OnlyReads S.score_of D.tells D.bytes D.images D.size D.calls 2
             self.old.log self.new.log }
         ensures entries { self.new.entries ≡ self.old.entries }
+
+        // Whatever the disks hold, an entry's block is given as the log gives it.
         ensures answer { (entry : Entry) → IsKind kind → score.now.0 ≢ S.score_of []
             → entry_of_key self.old.entries score.now.0 kind ≡ Some entry → entry.size ≤ count
             → GivesEntry S.score_of D.tells D.bytes self.old.log entry result }
