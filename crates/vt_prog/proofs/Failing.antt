@@ -1,9 +1,9 @@
 -- How a store fails where its log does.
-use Rattle.std.proofs.Common.{◌≡◌, ◌⊎◌, ⊎_elim, inl, inr, ℕ, List, [], map, refl, sym, ◌∙◌, ap, subst, Option, Some, None, Ok, Err, Result}
+use Rattle.std.proofs.Common.{◌≡◌, ◌⊎◌, ⊎_elim, inl, inr, ℕ, List, map, refl, sym, ◌∙◌, ap, subst, Option, Some, None, Ok, Err, Result}
 use Rattle.std.specs.Prelude.{◌↔◌, IsSome, IfErr}
 use Rattle.vt_base.specs.declared.place.Place.{Place}
 use Rattle.vt_base.specs.declared.why.Why.{Why}
-use Rattle.vt_base.specs.declared.why.Why.TheVariants.{DiskFault, Stopped, Damaged, NoMemory}
+use Rattle.vt_base.specs.declared.why.Why.TheVariants.{DiskFault, Stopped, NoMemory}
 use Rattle.vt_base.specs.Protocol.{Operation, sync, RMessage, r_sync}
 use Rattle.vt_model.specs.History.{History}
 use Rattle.vt_arena.specs.declared.bad.ReadBad.{ReadBad}

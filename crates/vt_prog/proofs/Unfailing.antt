@@ -1,8 +1,8 @@
 -- On disks of which no call fails, want of memory is a store's only failure.
-use Rattle.std.proofs.Common.{◌≡◌, ⊎_elim, inl, inr, ℕ, zero, suc, Bool, List, [], ◌∷◌, map, refl, sym, ◌∙◌, ap, subst, arith, None, Ok, Err, Result}
+use Rattle.std.proofs.Common.{◌≡◌, ⊎_elim, inl, inr, ℕ, zero, suc, Bool, List, [], ◌∷◌, map, refl, sym, ◌∙◌, ap, arith, None, Ok, Err, Result}
 use Rattle.std.specs.Prelude.{slice_index}
 use Rattle.vt_base.specs.declared.why.Why.{Why}
-use Rattle.vt_base.specs.declared.why.Why.TheVariants.{DiskFault, Stopped, Damaged, NoMemory}
+use Rattle.vt_base.specs.declared.why.Why.TheVariants.{DiskFault, Stopped}
 use Rattle.vt_base.specs.Protocol.{Operation, RMessage}
 use Rattle.vt_model.specs.History.{History}
 use Rattle.vt_log.specs.Faults.{OneHasRisen}

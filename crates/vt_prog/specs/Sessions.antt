@@ -9,7 +9,7 @@ use Rattle.vt_session.specs.declared.Ended.{Ended}
 use Rattle.vt_session.specs.declared.Ended.TheVariants.{Closed, Cut, Spent, ReadFault, WriteFault, NoMemory}
 use Rattle.vt_session.specs.Heard.{Item, Heard}
 use Rattle.vt_session.specs.Hearing.{Hearing, HearsOn}
-use Rattle.vt_session.specs.Turns.{Turn, Cause, no_memory, item_of_turn, items_of, spelled_turn, pieces_of, causes_of, cause_of}
+use Rattle.vt_session.specs.Turns.{Turn, Cause, no_memory, items_of, spelled_turn, pieces_of, causes_of}
 use Rattle.vt_session.specs.Answered.{AnsweredAlone, no_faults}
 use Rattle.vt_session.specs.Talk.{Alone, Took, HearsAll, EndsByInput, EndsInLast}
 use Rattle.vt_prog.specs.declared.input.Reading.{Reading}
@@ -26,15 +26,6 @@ fails (cause ∷ causes) = true
 abbrev pub OnlyMemory : List Cause → Type 0
 OnlyMemory causes = AllByRecursion (λ cause. cause ≡ no_memory) causes
 
--- an item was answered, by one turn, which says this
-pub record Answers (score : List ℕ → List ℕ) (c : Setup) (item : Item) (old new : History) (ran_out ran_out' : Bool) (said : List ℕ) : Type 0 where
-  pub turn : Turn
-  pub item_is : item_of_turn turn ≡ item
-  pub answered : AnsweredAlone score c old (turn ∷ []) new
-  pub said_is : said ≡ spelled_turn turn
-  pub memory : OnlyMemory (cause_of turn)
-  pub ran : ran_out' ≡ (ran_out || fails (cause_of turn))
-
 -- Bytes went out, and with those that still wait they are what waited before and what was said; where a write failed,
 -- they begin it.
 abbrev pub Writes : {T : Type 0} → Result T Failed → (written waiting written' waiting' said : List ℕ) → Type 0
@@ -50,16 +41,8 @@ pub record SoFar (score : List ℕ → List ℕ) (c : Setup) (at_first now : Hea
   pub memory : OnlyMemory (causes_of turns)
   pub ran : ran_out' ≡ (ran_out || fails (causes_of turns))
 
--- Whatever history a store held, the item was answered on it, and the store holds what that leaves.
-pub record TakesTurn (score : List ℕ → List ℕ) (holds : History → Type 0) (item : Item)
-    (old : History) (ran_out ran_out' : Bool) (writes : (said : List ℕ) → Type 0) : Type 0 where
-  pub history : History
-  pub said : List ℕ
-  pub holds_it : holds history
-  pub answers : Answers score memory item old history ran_out ran_out' said
-  pub written : writes said
-
--- the items between two hearings were
+-- Whatever history a store held, the items between two hearings were answered on it, and the store
+-- holds what that leaves.
 pub record TakesTurns (score : List ℕ → List ℕ) (holds : History → Type 0)
     (at_first now : Hearing) (old : History) (ran_out ran_out' : Bool)
     (writes : (said : List ℕ) → Type 0) : Type 0 where

@@ -1,27 +1,37 @@
 //! Answering what a session hears.
 
-ghost use Rattle.std.specs.Prelude.{◌≡◌, ◌++◌, ◌||◌, ◌<◌, ⊤, ℕ, List, [], ◌∷◌, Some, None, Ok, IsTrue, IfOk, IfSome, length};
+ghost use Rattle.std.specs.Prelude.{◌≡◌, ◌≢◌, ◌<◌, ℕ, List, [], ◌∷◌, Some, None, Ok, IsTrue, IfOk, IfSome, length};
 ghost use Rattle.vt_base.specs.Faults.{HasCause};
-ghost use Rattle.vt_base.specs.Protocol.{read, write, sync, r_refused};
+ghost use Rattle.vt_base.specs.Protocol.{sync};
 ghost use Rattle.vt_model.specs.History.{History};
 ghost use Rattle.vt_log.specs.Log.{queued};
 ghost use Rattle.vt_session.specs.Heard.{Item, asked};
-ghost use Rattle.vt_session.specs.Hearing.{over, left_len, HearsOn, IsHeard, MatchMessage};
-ghost use Rattle.vt_wire.specs.Messages.{spelled};
-ghost use Rattle.vt_wire.specs.Views.{message_of};
-ghost use Rattle.vt_prog.specs.Sessions.{Writes, TakesTurn, TakesTurns, AnswersAll};
-ghost use Rattle.vt_prog.specs.Serving.{tells_no_memory};
+ghost use Rattle.vt_session.specs.Hearing.{over, left_len, HearsOn, IsHeard};
+ghost use Rattle.vt_wire.specs.Messages.{FitsReply};
+ghost use Rattle.vt_wire.specs.Views.{message_of, reply_of};
+ghost use Rattle.vt_prog.specs.Sessions.{Writes, TakesTurns, AnswersAll};
+ghost use Rattle.vt_prog.specs.Serving.{reply_to, ServesMessage};
 ghost use Rattle.vt_prog.specs.Store.{HoldsInMemory};
 
 use crate::output::Output;
 use crate::store::LogStore;
 use std::alloc::Global;
 use std::sync::ledger::Ledger;
-use vt_base::{Failed, Score, Scorer, Why, why_text};
+use vt_base::{Bytes, Failed, Score, Scorer, Why, why_text};
 use vt_disk::Disk;
 use vt_out::Sink;
 use vt_session::{Ended, Next, Parsed};
 use vt_wire::{Reply, Request, rule_text};
+
+/// What is said to a message that the store does not refuse.
+#[derive(Drop)]
+enum Said {
+    Hello,
+    Ping,
+    Synced,
+    Score(Score),
+    Block(Bytes),
+}
 
 /// Answers everything that is heard, in order, and writes it, unless a write fails. It gives the
 /// end that is heard, and says whether memory ran out in a request.
@@ -91,147 +101,62 @@ fn answer_next<D: Disk, L: Ledger, S: Scorer, K: Sink>(
             Ok(None)
         }
         Next::Message(tag, request) => {
-            answer(alloc, store, tag, &request, sink, output, ran_out)?;
+            let answer = ask(alloc, store, &request);
+            *ran_out |= matches!(answer, Err(Why::NoMemory));
+            output.add(sink, tag, &reply(&answer))?;
             Ok(None)
         }
     }
 }
 
-/// Answers a message that no rule refuses.
-fn answer<D: Disk, L: Ledger, S: Scorer, K: Sink>(
+/// What the store answers to a message that no rule refuses.
+fn ask<D: Disk, L: Ledger, S: Scorer>(
     alloc: Global,
     store: &mut LogStore<D, L, S>,
-    tag: u8,
     request: &Request<'_>,
-    sink: &mut K,
-    output: &mut Output,
-    ran_out: &mut bool,
-) -> Result<(), Failed>
-    requires known { MatchMessage tag (message_of request.now) (λ item. ⊤) }
-    ensures answered { MatchMessage tag (message_of request.now) (λ item. (h : History)
+) -> Result<Said, Why>
+    requires known { request.now ≢ Request.Goodbye }
+    ensures answered { (h : History)
         → HoldsInMemory S.score_of D.tells D.bytes D.images D.size D.faults store.old h
-        → TakesTurn S.score_of
+        → ServesMessage S.score_of
         (HoldsInMemory S.score_of D.tells D.bytes D.images D.size D.faults store.new)
-        item h ran_out.old ran_out.new
-        (λ said. IsTrue K.tells → Writes result
-        (K.written sink.old) output.old (K.written sink.new) output.new said)) }
+        h (message_of request.now) result }
 
     // After a sync every block is committed, and none is queued.
     ensures durable { request.now ≡ Request.Sync → (h : History)
         → HoldsInMemory S.score_of D.tells D.bytes D.images D.size D.faults store.old h
         → (queued store.new.log ≡ 0) × (store.new.log.durable ≡ length h) }
-    ensures cause { HasCause result (K.faults sink.old) (K.faults sink.new) }
+    ensures fits { FitsReply (reply_to result) }
 {
     match *request {
-        Request::Hello { .. } => output.add(sink, tag, &Reply::Hello),
-        Request::Ping => output.add(sink, tag, &Reply::Ping),
-        Request::Sync => answer_sync(store, tag, sink, output, ran_out),
+        Request::Hello { .. } => Ok(Said::Hello),
+        Request::Ping => Ok(Said::Ping),
+        Request::Sync => {
+            store.sync()?;
+            Ok(Said::Synced)
+        }
         Request::Read { score, kind, count } => {
-            answer_read(
-                alloc, store, tag, &score, kind, count, sink, output, ran_out,
-            )
+            let block = store.read(alloc, &score, kind, count)?;
+            Ok(Said::Block(block))
         }
         Request::Write { kind, bytes } => {
-            answer_write(alloc, store, tag, kind, bytes, sink, output, ran_out)
+            let score = store.write(alloc, kind, bytes)?;
+            Ok(Said::Score(score))
         }
         Request::Goodbye => unreachable!(),
     }
 }
 
-/// Answers a read.
-fn answer_read<D: Disk, L: Ledger, S: Scorer, K: Sink>(
-    alloc: Global,
-    store: &mut LogStore<D, L, S>,
-    tag: u8,
-    score: &Score,
-    kind: u8,
-    count: u32,
-    sink: &mut K,
-    output: &mut Output,
-    ran_out: &mut bool,
-) -> Result<(), Failed>
-    ensures answered { (h : History)
-        → HoldsInMemory S.score_of D.tells D.bytes D.images D.size D.faults store.old h
-        → TakesTurn S.score_of
-        (HoldsInMemory S.score_of D.tells D.bytes D.images D.size D.faults store.new)
-        (asked tag (read score.now.0 kind count)) h ran_out.old ran_out.new
-        (λ said. IsTrue K.tells → Writes result
-        (K.written sink.old) output.old (K.written sink.new) output.new said) }
-    ensures cause { HasCause result (K.faults sink.old) (K.faults sink.new) }
+/// The reply that says what the store answers.
+fn reply(answer: &Result<Said, Why>) -> Reply<'_>
+    ensures { reply_of result ≡ reply_to answer.now }
 {
-    match store.read(alloc, score, kind, count) {
-        Ok(block) => output.add(sink, tag, &Reply::Read(block.as_slice())),
-        Err(why) => refuse(tag, &why, sink, output, ran_out),
+    match answer {
+        Ok(Said::Hello) => Reply::Hello,
+        Ok(Said::Ping) => Reply::Ping,
+        Ok(Said::Synced) => Reply::Sync,
+        Ok(Said::Score(score)) => Reply::Write(*score),
+        Ok(Said::Block(block)) => Reply::Read(block.as_slice()),
+        Err(why) => Reply::Error(why_text(why).as_bytes()),
     }
-}
-
-/// Answers a write.
-fn answer_write<D: Disk, L: Ledger, S: Scorer, K: Sink>(
-    alloc: Global,
-    store: &mut LogStore<D, L, S>,
-    tag: u8,
-    kind: u8,
-    bytes: &[u8],
-    sink: &mut K,
-    output: &mut Output,
-    ran_out: &mut bool,
-) -> Result<(), Failed>
-    ensures answered { (h : History)
-        → HoldsInMemory S.score_of D.tells D.bytes D.images D.size D.faults store.old h
-        → TakesTurn S.score_of
-        (HoldsInMemory S.score_of D.tells D.bytes D.images D.size D.faults store.new)
-        (asked tag (write kind bytes.now)) h ran_out.old ran_out.new
-        (λ said. IsTrue K.tells → Writes result
-        (K.written sink.old) output.old (K.written sink.new) output.new said) }
-    ensures cause { HasCause result (K.faults sink.old) (K.faults sink.new) }
-{
-    match store.write(alloc, kind, bytes) {
-        Ok(score) => output.add(sink, tag, &Reply::Write(score)),
-        Err(why) => refuse(tag, &why, sink, output, ran_out),
-    }
-}
-
-/// Answers a sync.
-fn answer_sync<D: Disk, L: Ledger, S: Scorer, K: Sink>(
-    store: &mut LogStore<D, L, S>,
-    tag: u8,
-    sink: &mut K,
-    output: &mut Output,
-    ran_out: &mut bool,
-) -> Result<(), Failed>
-    ensures answered { (h : History)
-        → HoldsInMemory S.score_of D.tells D.bytes D.images D.size D.faults store.old h
-        → TakesTurn S.score_of
-        (HoldsInMemory S.score_of D.tells D.bytes D.images D.size D.faults store.new)
-        (asked tag sync) h ran_out.old ran_out.new
-        (λ said. IsTrue K.tells → Writes result
-        (K.written sink.old) output.old (K.written sink.new) output.new said) }
-
-    // After it every block is committed, and none is queued.
-    ensures durable { (h : History)
-        → HoldsInMemory S.score_of D.tells D.bytes D.images D.size D.faults store.old h
-        → (queued store.new.log ≡ 0) × (store.new.log.durable ≡ length h) }
-    ensures cause { HasCause result (K.faults sink.old) (K.faults sink.new) }
-{
-    match store.sync() {
-        Ok(()) => output.add(sink, tag, &Reply::Sync),
-        Err(why) => refuse(tag, &why, sink, output, ran_out),
-    }
-}
-
-/// Says why the store did not do what was asked.
-fn refuse<K: Sink>(
-    tag: u8,
-    why: &Why,
-    sink: &mut K,
-    output: &mut Output,
-    ran_out: &mut bool,
-) -> Result<(), Failed>
-    ensures ran { ran_out.new ≡ (ran_out.old || tells_no_memory why.now) }
-    ensures written { IsTrue K.tells → Writes result (K.written sink.old) output.old
-        (K.written sink.new) output.new (spelled tag (r_refused why.now)) }
-    ensures cause { HasCause result (K.faults sink.old) (K.faults sink.new) }
-{
-    *ran_out |= matches!(why, Why::NoMemory);
-    output.add(sink, tag, &Reply::Error(why_text(why).as_bytes()))
 }

@@ -1,5 +1,5 @@
 -- a log goes on unless a call of its disks fails
-use Rattle.std.proofs.Common.{◌≡◌, Ok, Err, Some, Result, refl, sym, ◌∙◌, ap, subst}
+use Rattle.std.proofs.Common.{◌≡◌, Ok, Err, Result, refl, sym, ◌∙◌, ap, subst}
 use Rattle.vt_log.specs.declared.bad.LogErr.{LogErr}
 use Rattle.vt_log.specs.declared.bad.LogErr.TheVariants.{Stopped}
 use Rattle.vt_log.specs.declared.bad.Progress.{Progress}
