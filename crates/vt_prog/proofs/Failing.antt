@@ -1,6 +1,6 @@
 -- How a store fails where its log does.
 use Rattle.std.proofs.Common.{◌≡◌, ◌⊎◌, ⊎_elim, inl, inr, ℕ, List, map, refl, sym, ◌∙◌, ap, subst, Option, Some, None, Ok, Err, Result}
-use Rattle.std.specs.Prelude.{◌↔◌, IsSome, IfErr}
+use Rattle.std.specs.Prelude.{◌↔◌, IfErr}
 use Rattle.vt_base.specs.declared.place.Place.{Place}
 use Rattle.vt_base.specs.declared.why.Why.{Why}
 use Rattle.vt_base.specs.declared.why.Why.TheVariants.{DiskFault, Stopped, NoMemory}
@@ -9,16 +9,14 @@ use Rattle.vt_model.specs.History.{History}
 use Rattle.vt_arena.specs.declared.bad.ReadBad.{ReadBad}
 use Rattle.vt_arena.specs.declared.bad.ReadBad.TheVariants as unread
 use Rattle.vt_log.specs.declared.bad.Progress.{Progress}
-use Rattle.vt_log.specs.declared.bad.Progress.TheVariants.{Idle, Step, Durable}
 use Rattle.vt_log.specs.declared.bad.LogErr.{LogErr}
 use Rattle.vt_log.specs.declared.bad.LogErr.TheVariants as refusals
-use Rattle.vt_log.specs.Answers.{Advances}
-use Rattle.vt_log.specs.Faults.{OneHasRisen, CountsFaultAt}
+use Rattle.vt_log.specs.Faults.{OneHasRisen}
 use Rattle.vt_log.specs.Log.{LogState}
 use Rattle.vt_log.specs.Reading.{CountsFault}
 use Rattle.vt_session.specs.Turns.{Cause, disk_fault, stopped, damaged, no_memory, log, section, why_of}
 use Rattle.vt_session.specs.Answered.{MayFail, ReachesParts, TakesMemory, WritesTo}
-use Rattle.vt_prog.specs.Serving.{Serves, FailsFor, NoneFailed, TellsFaults, CommitsOrStops, LeavesOrStops, MayNotRead, why_unread, block_or_why, advanced_by}
+use Rattle.vt_prog.specs.Serving.{Serves, FailsFor, NoneFailed, TellsFaults, CommitsOrStops, LeavesOrStops, MayNotRead, why_unread, block_or_why}
 use Rattle.vt_prog.specs.Store.{memory}
 
 -- ---- a call of the log
@@ -37,20 +35,6 @@ pub runs_ok : {D : Type 0} (r : Result Progress LogErr) (progress : Progress) (o
     → ((n : ℕ) → (r ≡ Err (refusals.Stopped n)) ↔ (old.stopped ≡ Some n)) → r ≡ Ok progress → old.stopped ≡ None
 runs_ok r progress old stops is = runs r old stops (λ n other. let no = sym is ∙ other in absurd (cc))
 
-pub commits : {D : Type 0} (faults : D → ℕ) (disk : ℕ) (r : Result Progress LogErr) (old new : LogState D)
-    → Advances r old new → CountsFaultAt disk r (map faults old.disks) (map faults new.disks)
-    → ((n : ℕ) → (r ≡ Err (refusals.Stopped n)) ↔ (old.stopped ≡ Some n))
-    → CommitsOrStops faults old new (advanced_by r)
-commits faults disk (Ok Idle) old new is cause stops = (cause, ap (λ (l : LogState _). l.stopped) is.1)
-commits faults disk (Ok Step) old new is cause stops =
-    (cause, is.1 ∙ sym (runs (Ok Step) old stops (λ n same. let no = same in absurd (cc))))
-commits faults disk (Ok (Durable n)) old new is cause stops =
-    (cause, is.2 ∙ sym (runs (Ok (Durable n)) old stops (λ k same. let no = same in absurd (cc))))
-commits faults disk (Err refusals.Fault) old new is cause stops =
-    (cause.0, subst (λ (o : Option ℕ). IsSome o) (sym is.1) refl)
-commits faults disk (Err (refusals.Stopped n)) old new is cause stops =
-    (is.0, (cause, ap (λ (l : LogState _). l.stopped) is.1))
-
 -- what a commit answers, a call does that makes one
 pub tells_why : {D : Type 0} (X Y : Type 0) (faults : D → ℕ) (old new : LogState D) (why : Why)
     → CommitsOrStops {X = X} faults old new (Err why) → TellsFaults {X = Y} faults old new (Err why)
@@ -67,19 +51,6 @@ tells_as_commit {X = X} faults old new (Err why) is = tells_why X X faults old n
 
 pub on_and_on : {D : Type 0} (faults : D → ℕ) (old now new : LogState D) → NoneFailed faults old now → NoneFailed faults now new → NoneFailed faults old new
 on_and_on faults old now new on it = (it.0 ∙ on.0, it.1 ∙ on.1)
-
-pub then_commits : {D : Type 0} (X Y : Type 0) (faults : D → ℕ) (old now new : LogState D) (why : Why)
-    → NoneFailed faults old now → CommitsOrStops {X = X} faults now new (Err why) → CommitsOrStops {X = Y} faults old new (Err why)
-then_commits X Y faults old now new DiskFault on is =
-    (subst (λ (counts : List ℕ). OneHasRisen counts (map faults new.disks)) on.0 is.0, is.1)
-then_commits X Y faults old now new (Stopped call) on is = (sym on.1 ∙ is.0, on_and_on faults old now new on is.1)
-then_commits X Y faults old now new why on is = absurd is
-
-pub then_tells : {D : Type 0} (X Y : Type 0) (faults : D → ℕ) (old now new : LogState D) (why : Why)
-    → NoneFailed faults old now → TellsFaults {X = X} faults now new (Err why) → TellsFaults {X = Y} faults old new (Err why)
-then_tells X Y faults old now new DiskFault on is = subst (λ (counts : List ℕ). OneHasRisen counts (map faults new.disks)) on.0 is
-then_tells X Y faults old now new (Stopped call) on is = (sym on.1 ∙ is.0, on_and_on faults old now new on is.1)
-then_tells X Y faults old now new why on is = on_and_on faults old now new on is
 
 -- a call that fails stops the log, and one that isn't made leaves it
 pub leaves_or_stops : {D : Type 0} (X : Type 0) (faults : D → ℕ) (old now new : LogState D) (why : Why)
