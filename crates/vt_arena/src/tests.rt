@@ -96,7 +96,7 @@ impl Rig {
 
     /// Stages a block of type 13, where that may be done.
     fn stage(&mut self, alloc: Global, block: &[u8]) -> Result<bool, Fail> {
-        let kind = Kind::from_wire(Kind::DATA).ok_or("no type")?;
+        let kind = Kind::DATA;
         if block.is_empty() || block.len() > 57_344 {
             return Ok(false);
         }
@@ -179,7 +179,7 @@ impl Rig {
         match self.read(alloc, offset) {
             Ok(clump) => {
                 clump.bytes.as_slice() == block
-                    && clump.kind.wire() == Kind::DATA
+                    && clump.kind == Kind::DATA
                     && clump.time == 0
             }
             Err(_) => false,
@@ -429,7 +429,7 @@ fn info_of(block: &[u8], number: u64, offset: u32) -> Option<Info> {
     Some(Info {
         key: Key {
             score: Sha1Scorer.score(block),
-            kind: Kind::from_wire(Kind::DATA)?,
+            kind: Kind::DATA,
         },
         size: block.len().min(8) as u16,
         place: Place {

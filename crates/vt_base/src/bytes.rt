@@ -7,7 +7,7 @@ use std::alloc::Global;
 use std::marker::Model;
 
 /// Bytes in memory, as a block's or a frame's.
-#[derive(Drop)]
+#[derive(Drop, Debug)]
 pub struct Bytes {
     content: Vec<u8>,
 }
@@ -64,7 +64,7 @@ impl Bytes {
 }
 
 /// Text in memory: a name, a word or a line. It is bytes, and isn't tested for UTF-8.
-#[derive(Drop)]
+#[derive(Drop, Debug)]
 pub struct Text {
     content: Vec<u8>,
 }

@@ -5,8 +5,8 @@ ghost use Rattle.vt_base.specs.Kind.{IsKind, is_kind};
 
 use std::marker::Model;
 
-/// The type of a block (venti(6)), which contracts see as its number: 1 a root, 2 a directory, 3 to 9 pointer
-/// blocks of depth 1 to 7, 13 data.
+/// The type of a block (venti(6)), which contracts see as its number: 1 a root, 2 a directory, 3 to
+/// 9 pointer blocks of depth 1 to 7, 13 data.
 #[derive(Clone, Copy, Debug, PartialEq, Eq, PartialOrd, Ord, Hash)]
 pub struct Kind {
     number: u8,
@@ -26,11 +26,14 @@ impl Model for Kind {
 }
 
 impl Kind {
-    pub const ROOT: u8 = 1;
+    /// A root.
+    pub const ROOT: Kind = Kind { number: 1 };
 
-    pub const DIRECTORY: u8 = 2;
+    /// A block of a directory stream.
+    pub const DIRECTORY: Kind = Kind { number: 2 };
 
-    pub const DATA: u8 = 13;
+    /// A block of data.
+    pub const DATA: Kind = Kind { number: 13 };
 
     /// The block type of this number; None exactly where it is not 1 to 9 or 13.
     pub fn from_wire(number: u8) -> Option<Self>
@@ -51,3 +54,9 @@ impl Kind {
         self.number
     }
 }
+
+const _: () = prove!(Kind::ROOT.number == 1);
+
+const _: () = prove!(Kind::DIRECTORY.number == 2);
+
+const _: () = prove!(Kind::DATA.number == 13);

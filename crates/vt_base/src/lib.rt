@@ -1,23 +1,31 @@
-//! What the whole store shares: scores and what computes them, block types, keys, places, bytes and text, and
-//! why a request was not done.
+//! What the whole store shares: scores and what computes them, block types, keys, places, bytes and
+//! text, what a store answers, and why a request was not done.
 #![tactic(auto)]
 
+mod answer;
 mod bytes;
 mod key;
 mod kind;
+mod mount;
 mod place;
+mod printed;
 mod score;
 mod why;
 
+pub use answer::{Answer, Said};
 pub use bytes::{Bytes, Text};
 pub use key::Key;
 pub use kind::Kind;
+pub use mount::{MountBad, MountField};
 pub use place::{Entry, Info, Place};
+pub use printed::{BadScore, parse_score, score_text};
 pub use score::{Score, Scorer, Sha1Scorer, ShortScorer};
 pub use why::{Failed, FieldValue, NoMemory, Site, Why, why_text};
 
 /// The most bytes that a block may have, 56 KiB (venti(6)).
 pub const MAX_BLOCK: usize = 57_344;
+
+const _: () = prove!(MAX_BLOCK == 56 * 1024);
 
 #[cfg(test)]
 mod tests;

@@ -1,8 +1,8 @@
 //! Vectors from outside, and each call once.
 
 use crate::{
-    Bytes, Entry, FieldValue, Info, Key, Kind, Place, Score, Scorer, Sha1Scorer, ShortScorer, Site,
-    Text, Why, why_text,
+    BadScore, Bytes, Entry, FieldValue, Info, Key, Kind, Place, Score, Scorer, Sha1Scorer,
+    ShortScorer, Site, Text, Why, parse_score, score_text, why_text,
 };
 use std::test::Fail;
 
@@ -34,7 +34,8 @@ fn kinds(rt: HostRuntime) {
             "{number}"
         );
     }
-    assert!(rt; [Kind::ROOT, Kind::DIRECTORY, Kind::DATA] == [1, 2, 13]);
+    let named = [Kind::ROOT, Kind::DIRECTORY, Kind::DATA].map(|kind| kind.wire());
+    assert_eq!(rt; named, [1, 2, 13]);
 }
 
 /// The texts of the refusals.
@@ -84,25 +85,23 @@ fn bytes_and_text(rt: HostRuntime) -> Result<(), Fail> {
 
 /// Keys are in order by score, and then by type.
 #[test]
-fn keys(rt: HostRuntime) -> Result<(), Fail> {
-    let root = Kind::from_wire(Kind::ROOT).ok_or("root")?;
-    let data = Kind::from_wire(Kind::DATA).ok_or("data")?;
+fn keys(rt: HostRuntime) {
     let low = Score([1; 20]);
     let high = Score([2; 20]);
     let key = Key {
         score: low,
-        kind: data,
+        kind: Kind::DATA,
     };
     assert!(rt;
         key < Key {
             score: high,
-            kind: root
+            kind: Kind::ROOT
         }
     );
     assert!(rt;
         Key {
             score: low,
-            kind: root
+            kind: Kind::ROOT
         } < key
     );
     let place = Place {
@@ -121,5 +120,43 @@ fn keys(rt: HostRuntime) -> Result<(), Fail> {
         number: 0,
     };
     assert!(rt; info.key == entry.key && info.size == entry.size && info.place == entry.place);
+}
+
+/// Scores as text, behind a label or without one, and the first byte that can't stand there.
+#[test]
+fn score_texts(rt: HostRuntime) -> Result<(), Fail> {
+    let abc = Sha1Scorer.score(b"abc");
+    let digits = b"a9993e364706816aba3e25717850c26c9cd0d89d";
+    assert_eq!(rt; score_text(rt.alloc(), &abc)?.as_slice(), digits.as_slice());
+    for label in [b"".as_slice(), b"vac:", b"ext2:", b"ab:", b"0:"] {
+        let mut text = Vec::from_slice(rt.alloc(), label)?;
+        text.extend_from_slice(digits)?;
+        assert_eq!(rt; parse_score(&text), Ok(abc));
+    }
+    let upper = b"vac:A9993E364706816ABA3E25717850C26C9CD0D89D";
+    assert_eq!(rt; parse_score(upper), Ok(abc));
+    for (text, at) in [
+        (b"".as_slice(), 0),
+        (b"a9993e364706816aba3e25717850c26c9cd0d89", 39),
+        (b"a9993e364706816aba3e25717850c26c9cd0d89d ", 40),
+        (b"VAC:a9993e364706816aba3e25717850c26c9cd0d89d", 0),
+        (b":a9993e364706816aba3e25717850c26c9cd0d89d", 0),
+        (b"vac::a9993e364706816aba3e25717850c26c9cd0d89d", 4),
+        (b"vac:a9993e364706816aba3e25717850c26c9cd0d89g", 43),
+        (b"vac:a9993e364706816aba3e25717850c26c9cd0d89d0", 44),
+        (b"vac", 0),
+        (b"abc", 3),
+    ] {
+        assert_eq!(rt; parse_score(text), Err(BadScore { at }));
+    }
     Ok(())
 }
+
+/// A scorer may cross threads, be shared by them, and be let go.
+#[test]
+fn scorers_are_handed_on(_rt: HostRuntime) {
+    hand_on(Sha1Scorer);
+    hand_on(ShortScorer);
+}
+
+fn hand_on<S: Scorer + Send + Sync + Drop>(_scorer: S) {}

@@ -34,7 +34,8 @@ impl<T: Drop> From<AllocFailed<T>> for NoMemory {
     }
 }
 
-/// What stands in a field, or should stand there.
+/// What stands in a field, or should stand there. Numbers have 128 bits, since sums of fields as read
+/// can pass 64.
 #[derive(Clone, Copy, Debug, PartialEq, Eq)]
 pub enum FieldValue {
     Number(u128),
@@ -43,8 +44,8 @@ pub enum FieldValue {
     Magic([u8; 4]),
 }
 
-/// Where damage was found: in the clump that stands or should stand at a place of the log, or in the frame of the
-/// index bucket of this number.
+/// Where damage was found: in the clump that stands or should stand at a place of the log, or in the
+/// frame of the index bucket of this number.
 #[derive(Clone, Copy, Debug, PartialEq, Eq)]
 pub enum Site {
     Clump(Place),

@@ -13,7 +13,8 @@ use Rattle.std.proofs.lemmas.List.Edits.{length-insert, get_or-insert_below, get
 use Rattle.vt_base.specs.declared.place.Entry.{Entry}
 use Rattle.vt_base.specs.declared.key.Key.{Key}
 use Rattle.vt_bucket.specs.Buckets.{Puts}
-use Rattle.vt_bucket.specs.Order.{key_cmp, IsBelow, IsAscending}
+use Rattle.vt_bucket.specs.Order.{IsBelow, IsAscending}
+use Rattle.vt_base.specs.Key.{key_cmp}
 use Rattle.vt_bucket.proofs.Keys.{absent_at, not_below_itself}
 
 below_by_keys : (a b x y : Entry) → a.key ≡ x.key → b.key ≡ y.key → IsBelow x y → IsBelow a b

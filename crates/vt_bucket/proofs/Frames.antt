@@ -16,7 +16,8 @@ use Rattle.vt_bucket.specs.declared.decoding.BucketBad.{BucketBad}
 use Rattle.vt_bucket.specs.declared.decoding.BucketBad.TheVariants.{Magic, Number, Count, Order}
 use Rattle.vt_bucket.specs.Frame.{cell, cells, IsEntry, BeginsWith, IsFrame, header}
 use Rattle.vt_bucket.specs.Faults.{FaultIs, HasEntries, HasMagic, magic_in, number_in, count_in}
-use Rattle.vt_bucket.specs.Order.{key_cmp, IsBelow, IsAscending}
+use Rattle.vt_bucket.specs.Order.{IsBelow, IsAscending}
+use Rattle.vt_base.specs.Key.{key_cmp}
 use Rattle.vt_bucket.proofs.Cells.{one_entry, one_list, each_push, cells_push, kind-cell}
 use Rattle.vt_bucket.proofs.Keys.{ascending_push}
 

@@ -14,7 +14,8 @@ use Rattle.std.specs.declared.cmp.Ordering.TheVariants.{Less, Equal, Greater}
 use Rattle.std.proofs.lemmas.Cmp.{ranked, then_total, on_total, nat_list_cmp_total, nat_cmp_total, tied_itself}
 use Rattle.vt_base.specs.declared.key.Key.{Key}
 use Rattle.vt_base.specs.declared.place.Entry.{Entry}
-use Rattle.vt_bucket.specs.Order.{key_cmp, IsBelow, IsAscending}
+use Rattle.vt_bucket.specs.Order.{IsBelow, IsAscending}
+use Rattle.vt_base.specs.Key.{key_cmp}
 
 pub key_total : IsTotalOrder key_cmp
 key_total = then_total (on_total (λ (k : Key). k.score.0) nat_list_cmp_total) (on_total (λ (k : Key). k.kind) nat_cmp_total)

@@ -5,7 +5,8 @@ ghost use Rattle.std.specs.List.{All, Contains};
 ghost use Rattle.std.specs.declared.cmp.Ordering.{Ordering};
 ghost use Rattle.vt_base.specs.declared.place.Entry.{Entry};
 ghost use Rattle.vt_bucket.specs.Buckets.{number_of, entries_of, Puts};
-ghost use Rattle.vt_bucket.specs.Order.{IsAscending, key_cmp};
+ghost use Rattle.vt_bucket.specs.Order.{IsAscending};
+ghost use Rattle.vt_base.specs.Key.{key_cmp};
 
 use crate::{Bucket, ROOM};
 use std::cmp::Ordering;
@@ -81,13 +82,10 @@ impl Bucket {
 
 /// What stands in a table before entries are written there. It isn't read, so any entries would do.
 pub fn blank_table() -> [Entry; ROOM] {
-    let Some(kind) = Kind::from_wire(Kind::DATA) else {
-        unreachable!();
-    };
     let blank = Entry {
         key: Key {
             score: Score([0; 20]),
-            kind,
+            kind: Kind::DATA,
         },
         size: 0,
         place: Place {

@@ -21,7 +21,7 @@ const CLUMP: [u8; 41] = *b"VCLP\x0d\x00\x03\x00\x03\
 
 #[test]
 fn a_block_is_packed(rt: HostRuntime) -> Result<(), Fail> {
-    let kind = Kind::from_wire(Kind::DATA).ok_or("no type")?;
+    let kind = Kind::DATA;
     let packed = pack(rt.alloc(), kind, b"abc", Sha1Scorer.score(b"abc"), 0)?;
     assert_eq!(rt; packed.bytes.as_slice(), CLUMP.as_slice());
     assert_eq!(rt; packed.kind, kind);

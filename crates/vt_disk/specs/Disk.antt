@@ -1,7 +1,8 @@
 -- What the calls of a disk do to its bytes, and what a crash may leave of them. Venti asks of a
 -- disk that it stores blocks and syncs them (Quinlan and Dorward 2002); what a crash may leave
 -- between two syncs is this project's model.
-use Rattle.std.specs.Prelude.{◌≡◌, ◌⊎◌, ℕ, ◌+◌, ◌-◌, ◌%◌, ◌^◌, ◌<◌, ◌≤◌, min, List, ◌++◌, length, take, drop, slice_index}
+use Rattle.std.specs.Prelude.{◌≡◌, ◌⊎◌, ℕ, ◌+◌, ◌%◌, ◌<◌, ◌≤◌, List, ◌++◌, length, take, drop, slice_index}
+pub use Rattle.vt_base.specs.Faults.{IsOneMore}
 
 -- Which bytes a write of n bytes from `start` on touches: until the next sync, a crash may leave
 -- anything there.
@@ -40,7 +41,3 @@ ChangesAt P old new = (c : List ℕ) → new c → (d : List ℕ) × old d × Sa
 -- what a crash may leave at a moment within a call: what it may leave before the call or after it
 abbrev pub WithinCall : (before after : List ℕ → Type 0) → List ℕ → Type 0
 WithinCall before after c = before c ⊎ after c
-
--- a count of calls rose by one, or stands at the end of its type
-abbrev pub IsOneMore : ℕ → ℕ → Type 0
-IsOneMore old new = new ≡ min (old + 1) (2 ^ 64 - 1)

@@ -1,2 +1,4 @@
+pub mod Calls
 pub mod Disk
+pub mod Members
 pub mod Region

@@ -11,7 +11,8 @@ use Rattle.std.specs.declared.cmp.Ordering.TheVariants.{Less, Equal, Greater}
 use Rattle.vt_base.specs.declared.key.Key.{Key}
 use Rattle.vt_base.specs.declared.place.Entry.{Entry}
 use Rattle.vt_bucket.specs.Buckets.{Puts}
-use Rattle.vt_bucket.specs.Order.{IsAscending, key_cmp}
+use Rattle.vt_bucket.specs.Order.{IsAscending}
+use Rattle.vt_base.specs.Key.{key_cmp}
 use Rattle.vt_bucket.proofs.Keys.{equal_keys, not_below_itself, turned}
 use Rattle.vt_model.specs.Places.{bucket_of}
 use Rattle.vt_isect.specs.Merging.{Merges, HasKey, HasKeys, IsAbsent, IsOf, Joined}

@@ -39,7 +39,7 @@ fn see(holds: bool, otherwise: &'static str) -> Result<(), Fail> {
 
 /// An entry whose score begins with these bytes.
 fn entry(first: u8, second: u8, offset: u32) -> Result<Entry, Fail> {
-    let kind = Kind::from_wire(Kind::DATA).ok_or("no type")?;
+    let kind = Kind::DATA;
     let mut score = [0; 20];
     score[0] = first;
     score[1] = second;

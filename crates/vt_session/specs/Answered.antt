@@ -2,9 +2,8 @@
 -- does. Blocks are only ever added (Quinlan and Dorward 2002), so a reply is about a prefix.
 use Rattle.std.specs.Prelude.{ℕ, ◌≡◌, ◌≢◌, ◌+◌, ◌-◌, ◌^◌, ◌<◌, ◌≤◌, ◌⊎◌, ⊤, Option, Some, None, List, [], ◌∷◌, length, take, slice_get, slice_index, Contains}
 use Rattle.std.specs.List.{AllByRecursion}
+use Rattle.vt_base.specs.Damage.{SameForm}
 use Rattle.vt_base.specs.Kind.{IsKind}
-use Rattle.vt_base.specs.declared.why.FieldValue.{FieldValue}
-use Rattle.vt_base.specs.declared.why.FieldValue.TheVariants.{Number, Score, Magic}
 use Rattle.vt_base.specs.Protocol.{Operation, ping, read, write, sync}
 use Rattle.vt_model.specs.History.{History, Accepted, IsBlock}
 use Rattle.vt_model.specs.Places.{Setup, section_of_score}
@@ -42,13 +41,6 @@ TakesMemory ping = ⊥
 TakesMemory (read s kind count) = ⊤
 TakesMemory (write kind bytes) = ⊤
 TakesMemory sync = ⊥
-
--- two values of one field
-abbrev pub SameForm : FieldValue → FieldValue → Type 0
-SameForm (Number a) (Number b) = ⊤
-SameForm (Score a) (Score b) = ⊤
-SameForm (Magic a) (Magic b) = ⊤
-SameForm a b = ⊥
 
 -- no count fell
 abbrev pub NoneFell : List ℕ → List ℕ → Type 0

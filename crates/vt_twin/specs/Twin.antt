@@ -1,7 +1,8 @@
 -- A twin as its calls see it.
-use Rattle.std.specs.Prelude.{◌≡◌, ℕ, ◌+◌, ◌-◌, ◌^◌, min, List, [], Option, Some, None, is_some, if◌then◌else◌, Result, Ok, Err}
+use Rattle.std.specs.Prelude.{◌≡◌, ℕ, ◌+◌, ◌-◌, List, [], Option, Some, None, is_some, if◌then◌else◌, Result, Ok, Err}
 use Rattle.std.specs.Option.{option_map_or}
 use Rattle.vt_base.specs.Faults.{HasRisen}
+pub use Rattle.vt_base.specs.Faults.{one_more}
 use Rattle.vt_twin.specs.declared.step.Step.{Step}
 use Rattle.vt_twin.specs.declared.step.Step.TheVariants.{More, Done}
 use Rattle.vt_twin.specs.declared.step.TwinErr.{TwinErr}
@@ -55,10 +56,6 @@ with_change frame t = record t { change = Some (record { frame = frame; made = 0
 -- the twin whose buffer was handed back
 abbrev pub without_spare : TwinState → TwinState
 without_spare t = record t { spare = None }
-
--- a count of calls, raised by one; it stands still at the end of its type
-abbrev pub one_more : ℕ → ℕ
-one_more n = min (n + 1) (2 ^ 64 - 1)
 
 -- the twin after a call of the change that succeeded and wasn't the last
 abbrev pub after_call : TwinState → TwinState

@@ -4,7 +4,7 @@ use Rattle.std.specs.declared.cmp.Ordering.TheVariants.{Less}
 use Rattle.std.proofs.lemmas.List.Sorted.{answers_always}
 use Rattle.vt_base.specs.declared.place.Entry.{Entry}
 use Rattle.vt_base.specs.declared.key.Key.{Key}
-use Rattle.vt_bucket.specs.Order.{key_cmp}
+use Rattle.vt_base.specs.Key.{key_cmp}
 use Rattle.vt_bucket.proofs.Keys.{searched}
 use Rattle.vt_bucket.proofs.holding.place.Goals as goal
 
