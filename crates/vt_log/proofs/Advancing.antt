@@ -4,6 +4,7 @@ use Rattle.std.specs.Option.{option_map_or}
 use Rattle.std.specs.Prelude.{IsTrue, IsFalse, slice_get, if◌then◌else◌}
 use Rattle.std.proofs.lemmas.Bool.{cases_eq}
 use Rattle.std.proofs.lemmas.Option.{slice_get_within, slice_get_cases}
+use Rattle.vt_log.specs.Members.{DiskOf}
 use Rattle.vt_disk.specs.declared.region.Region.{Region}
 use Rattle.vt_disk.specs.Disk.{IsOneMore}
 use Rattle.vt_twin.specs.Twin.{one_more}
@@ -58,8 +59,8 @@ batch_begins {D = D} old m new prep stays rest = stays (prep.batch rest) (omega 
     rests = ⊎_elim (λ (same : m ≡ old). subst (λ (l : LogState D). IsFalse (is_committing l.arena)) (sym same) rest) (λ (still : IsFalse (is_committing m.arena)). still) prep.begun
 
 -- where nothing is queued there is no commit to be had
-pub batch_of_none : {D : Type 0} (size : D → ℕ) (l : LogState D) → IsWhole size l → queued l ≡ 0 → TakesAll l
-batch_of_none size l whole idle = at l.queue.waiting refl
+pub batch_of_none : {D : Type 0} (disk : DiskOf D) (l : LogState D) → IsWhole disk l → queued l ≡ 0 → TakesAll l
+batch_of_none disk l whole idle = at l.queue.waiting refl
   where
     at : (ws : List Waiting) → l.queue.waiting ≡ ws → TakesAll l
     at [] none = record {
@@ -74,19 +75,19 @@ stand_as_prepared {D = D} score_of old m files h prep it = subst (λ (k : LogSta
 pub at_as_prepared : {D : Type 0} (old m : LogState D) (r : ArenaRegion) (region : Region) (disk : D) → Prepares old m → IsAt old old.committing r region disk → IsAt m m.committing r region disk
 at_as_prepared {D = D} old m r region disk prep at = subst (λ (k : LogState D). IsAt k k.committing r region disk) (sym prep.same) (record { arena = at.arena; region_is = at.region_is; disk_is = at.disk_is })
 
-pub within_as_prepared : {D : Type 0} (images : D → List ℕ → Type 0) (old m : LogState D) (ds : List D) (files : List (List ℕ)) → Prepares old m → AreWithinCall images old.disks ds files → AreWithinCall images m.disks ds files
-within_as_prepared {D = D} images old m ds files prep left = subst (λ (k : LogState D). AreWithinCall images k.disks ds files) (sym prep.same) left
+pub within_as_prepared : {D : Type 0} (disk : DiskOf D) (old m : LogState D) (ds : List D) (files : List (List ℕ)) → Prepares old m → AreWithinCall disk old.disks ds files → AreWithinCall disk m.disks ds files
+within_as_prepared {D = D} disk old m ds files prep left = subst (λ (k : LogState D). AreWithinCall disk k.disks ds files) (sym prep.same) left
 
-pub call_as_prepared : {D : Type 0} (calls : D → ℕ) (old m new : LogState D) → Prepares old m
-    → ((before after : D) → slice_get m.disks (disk_in_use m) ≡ Some before → slice_get new.disks (disk_in_use m) ≡ Some after → IsOneMore (calls before) (calls after))
-    → (before after : D) → slice_get old.disks (disk_in_use old) ≡ Some before → slice_get new.disks (disk_in_use old) ≡ Some after → IsOneMore (calls before) (calls after)
-call_as_prepared {D = D} calls old m new prep it =
-    subst (λ (k : LogState D). (before after : D) → slice_get k.disks (disk_in_use k) ≡ Some before → slice_get new.disks (disk_in_use k) ≡ Some after → IsOneMore (calls before) (calls after))
+pub call_as_prepared : {D : Type 0} (disk : DiskOf D) (old m new : LogState D) → Prepares old m
+    → ((before after : D) → slice_get m.disks (disk_in_use m) ≡ Some before → slice_get new.disks (disk_in_use m) ≡ Some after → IsOneMore (disk.calls before) (disk.calls after))
+    → (before after : D) → slice_get old.disks (disk_in_use old) ≡ Some before → slice_get new.disks (disk_in_use old) ≡ Some after → IsOneMore (disk.calls before) (disk.calls after)
+call_as_prepared {D = D} disk old m new prep it =
+    subst (λ (k : LogState D). (before after : D) → slice_get k.disks (disk_in_use k) ≡ Some before → slice_get new.disks (disk_in_use k) ≡ Some after → IsOneMore (disk.calls before) (disk.calls after))
     prep.same it
 
 -- where something is queued, an arena is committed in, and its disk is there
-pub committing_there : {D : Type 0} (size : D → ℕ) (l : LogState D) → IsWhole size l → 0 < queued l → l.committing < length l.layout
-committing_there size l whole some = ⊎_elim
+pub committing_there : {D : Type 0} (disk : DiskOf D) (l : LogState D) → IsWhole disk l → 0 < queued l → l.committing < length l.layout
+committing_there disk l whole some = ⊎_elim
     (λ (past : l.committing ≡ length l.layout). absurd (at l.queue.waiting whole.queue (omega (arith, some, whole.places, ap (λ (ps : List Packed). length ps) (whole.none past).0)) past))
     (λ (other : l.committing ≢ length l.layout). let most = whole.committing in omega (arith, most, other))
     (cases_eq l.committing (length l.layout))
@@ -97,12 +98,12 @@ committing_there size l whole some = ⊎_elim
         let there = fits_within l.layout (turned_to l.heads w.arena (filled_as l.committing l.arena.next)) w.packed.len fill.2 in
         omega (arith, past, fill.0, slice_get_within l.layout _ there.0 there.1, turned_arena l.heads w.arena (filled_as l.committing l.arena.next))
 
-pub in_use : {D : Type 0} (size : D → ℕ) (l : LogState D) → IsWhole size l → 0 < queued l → disk_in_use l < length l.disks
-in_use size l whole some = ⊎_elim
+pub in_use : {D : Type 0} (disk : DiskOf D) (l : LogState D) → IsWhole disk l → 0 < queued l → disk_in_use l < length l.disks
+in_use disk l whole some = ⊎_elim
     (λ (it : (x : ArenaRegion) × (l.committing < length l.layout) × (slice_get l.layout l.committing ≡ Some x) × (get_or l.layout l.committing x ≡ x)).
-    let on = at_slice (IsOnDisk size l.disks) l.layout l.committing it.0 whole.regions it.2 in
-    rw it.2 (slice_get_within l.disks it.0.part on.disk on.has))
-    (λ (past : (length l.layout ≤ l.committing) × (slice_get l.layout l.committing ≡ None)). absurd (omega (arith, past.0, committing_there size l whole some)))
+    let on = at_slice (IsOnDisk disk l.disks) l.layout l.committing it.0 whole.regions it.2 in
+    rw it.2 (slice_get_within l.disks it.0.part on.device on.has))
+    (λ (past : (length l.layout ≤ l.committing) × (slice_get l.layout l.committing ≡ None)). absurd (omega (arith, past.0, committing_there disk l whole some)))
     (slice_get_cases l.layout l.committing).1
 
 -- ---- where the next block goes
@@ -121,14 +122,14 @@ next_same old new n layout filling head =
     ∙ ap (λ (o : Option Found). next_by old.layout old.filling o n) head
 
 -- no commit reaches the arena behind the one that is being filled
-pub next_kept : {D : Type 0} (size : D → ℕ) (r : Result Progress LogErr) (old new : LogState D) (n : ℕ) → IsWhole size old → Advances r old new
+pub next_kept : {D : Type 0} (disk : DiskOf D) (r : Result Progress LogErr) (old new : LogState D) (n : ℕ) → IsWhole disk old → Advances r old new
     → new.layout ≡ old.layout → new.filling ≡ old.filling → next_filling new n ≡ next_filling old n
-next_kept size (Ok Idle) old new n whole it layout filling = ap (λ (l : LogState _). next_filling l n) it.1
-next_kept size (Ok Step) old new n whole it layout filling =
+next_kept disk (Ok Idle) old new n whole it layout filling = ap (λ (l : LogState _). next_filling l n) it.1
+next_kept disk (Ok Step) old new n whole it layout filling =
     next_same old new n layout filling (ap (λ (found : List Found). slice_get found (old.filling.arena + 1)) it.0.heads)
-next_kept size (Ok (Durable blocks)) old new n whole it layout filling =
+next_kept disk (Ok (Durable blocks)) old new n whole it layout filling =
     let reached = fill_arena old.layout old.heads (filled_as old.committing old.arena.next) old.filling old.queue.waiting whole.queue in
     next_same old new n layout filling (it.0.heads (old.filling.arena + 1) (λ same. omega (arith, same, reached.0)))
-next_kept size (Err Fault) old new n whole it layout filling =
+next_kept disk (Err Fault) old new n whole it layout filling =
     next_same old new n layout filling (ap (λ (found : List Found). slice_get found (old.filling.arena + 1)) it.0.heads)
-next_kept size (Err (Stopped call)) old new n whole it layout filling = ap (λ (l : LogState _). next_filling l n) it.1
+next_kept disk (Err (Stopped call)) old new n whole it layout filling = ap (λ (l : LogState _). next_filling l n) it.1

@@ -6,6 +6,7 @@ use Rattle.std.proofs.lemmas.Option.{slice_get_within}
 use Rattle.vt_base.specs.declared.key.Key.{Key}
 use Rattle.vt_base.specs.declared.place.Place.{Place}
 use Rattle.vt_base.specs.declared.why.FieldValue.TheVariants.{Number}
+use Rattle.vt_log.specs.Members.{DiskOf}
 use Rattle.vt_disk.specs.declared.region.Region.{Region}
 use Rattle.vt_clump.specs.declared.packed.Packed.{Packed}
 use Rattle.vt_clump.specs.declared.reading.Clump.{Clump}
@@ -94,11 +95,11 @@ not_free l place none within has free = ⊎_elim
     free
 
 -- what is answered for a queued place, for one in no arena, and for one in an arena
-pub answers_queued : {D : Type 0} (score_of : List ℕ → List ℕ) (tells : Bool) (bytes : D → List ℕ)
+pub answers_queued : {D : Type 0} (score_of : List ℕ → List ℕ) (disk : DiskOf D)
     (l : LogState D) (place : Place) (key : Key) (result : Result (List ℕ) ReadBad) (index : ℕ)
     (p : Packed) → IsFirstAt l.queue.places place index → slice_get (packed_of l) index ≡ Some p
-    → GivesPacked key p result → AnswersRead score_of tells bytes l place key result
-answers_queued score_of tells bytes l place key result index p first at gives = record {
+    → GivesPacked key p result → AnswersRead score_of disk l place key result
+answers_queued score_of disk l place key result index p first at gives = record {
   queued = λ i here. (
     p,
     subst (λ (k : ℕ). slice_get (packed_of l) k ≡ Some p)
@@ -107,37 +108,36 @@ answers_queued score_of tells bytes l place key result index p first at gives = 
   );
   nowhere = λ none. absurd (none index first.at);
   outside = λ r none. absurd (none index first.at);
-  stored = λ r region disk none. absurd (none index first.at);
+  stored = λ r region device none. absurd (none index first.at);
 }
 
-pub answers_nowhere : {D : Type 0} (score_of : List ℕ → List ℕ) (tells : Bool)
-    (bytes : D → List ℕ) (l : LogState D) (place : Place) (key : Key)
+pub answers_nowhere : {D : Type 0} (score_of : List ℕ → List ℕ) (disk : DiskOf D) (l : LogState D) (place : Place) (key : Key)
     (result : Result (List ℕ) ReadBad) → IsNowhere l.queue.places place
     → length l.layout ≤ place.arena
     → result ≡ Err (Damaged (Number (length l.layout - 1)) (Number place.arena))
-    → AnswersRead score_of tells bytes l place key result
-answers_nowhere score_of tells bytes l place key result none past is = record {
+    → AnswersRead score_of disk l place key result
+answers_nowhere score_of disk l place key result none past is = record {
   queued = λ i here. absurd (none i here.at);
   nowhere = λ _ _. is;
   outside = λ r _ at. absurd (omega (arith, past, slice_get_within l.layout place.arena r at));
-  stored = λ r region disk _ at.
+  stored = λ r region device _ at.
       absurd (omega (arith, past, slice_get_within l.layout place.arena r at.arena));
 }
 
-pub answers_there : {D : Type 0} (score_of : List ℕ → List ℕ) (tells : Bool) (bytes : D → List ℕ)
+pub answers_there : {D : Type 0} (score_of : List ℕ → List ℕ) (disk : DiskOf D)
     (l : LogState D) (place : Place) (key : Key) (result : Result (List ℕ) ReadBad)
     → IsNowhere l.queue.places place → place.arena < length l.layout
     → ((r : ArenaRegion) → slice_get l.layout place.arena ≡ Some r
     → ¬ HasHeader r.len place.offset
     → result ≡ Err (Damaged (Number HEAD_LEN) (Number place.offset)))
-    → ((r : ArenaRegion) (region : Region) (disk : D) → IsAt l place.arena r region disk
+    → ((r : ArenaRegion) (region : Region) (device : D) → IsAt l place.arena r region device
     → HasHeader r.len place.offset → (clump : List ℕ)
-    × (IsTrue tells → clump ≡ clump_at region place.offset (bytes disk))
+    × (IsTrue disk.tells → clump ≡ clump_at region place.offset (disk.bytes device))
     × ReadsAs score_of key clump result)
-    → AnswersRead score_of tells bytes l place key result
-answers_there score_of tells bytes l place key result none within outside stored = record {
+    → AnswersRead score_of disk l place key result
+answers_there score_of disk l place key result none within outside stored = record {
   queued = λ i here. absurd (none i here.at);
   nowhere = λ _ past. absurd (omega (arith, within, past));
   outside = λ r _. outside r;
-  stored = λ r region disk _. stored r region disk;
+  stored = λ r region device _. stored r region device;
 }

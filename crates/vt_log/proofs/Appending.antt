@@ -8,6 +8,7 @@ use Rattle.std.proofs.lemmas.List.Elements.{All-push, All-head, All-tail, All-we
 use Rattle.std.proofs.lemmas.List.Sums.{sum_by-append}
 use Rattle.std.proofs.lemmas.Option.{slice_get_within, slice_get_cases, same_Some}
 use Rattle.vt_base.specs.declared.place.Place.{Place}
+use Rattle.vt_log.specs.Members.{DiskOf}
 use Rattle.vt_clump.specs.declared.packed.Packed.{Packed}
 use Rattle.vt_clump.specs.Clumps.{IsPacked, stored_of}
 use Rattle.vt_model.specs.declared.TheConstants.{HEAD_LEN}
@@ -87,9 +88,9 @@ next_is l n f is = at (fits_in l.layout l.filling n) refl (fits_in l.layout next
     at false here false there e = absurd (cc)
 
 -- a log in memory stays whole
-pub append_whole : {D : Type 0} (size : D → ℕ) (l : LogState D) (packed : Packed) (place : Place) (f : Filling) → IsWhole size l
-    → queued l < 64 → next_filling l packed.len ≡ Some f → place.arena ≡ f.arena → IsWhole size (with_appended packed place f l)
-append_whole size l packed place f whole room is arena = record {
+pub append_whole : {D : Type 0} (disk : DiskOf D) (l : LogState D) (packed : Packed) (place : Place) (f : Filling) → IsWhole disk l
+    → queued l < 64 → next_filling l packed.len ≡ Some f → place.arena ≡ f.arena → IsWhole disk (with_appended packed place f l)
+append_whole disk l packed place f whole room is arena = record {
   many_disks = whole.many_disks;
   layout = whole.layout;
   regions = whole.regions;
@@ -147,9 +148,9 @@ fits_same l f lengths n filled =
     (omega (arith, filled.used, filled.clumps, sum_by-append block_room lengths (n ∷ []), length-append lengths (n ∷ [])))
 
 -- the next arena is untouched
-pub found_empty : {D : Type 0} (score_of : List ℕ → List ℕ) (bytes : D → List ℕ) (images : D → List ℕ → Type 0) (size : D → ℕ) (l : LogState D) (h : History) (i : ℕ)
-    → IsSound score_of bytes images size l h → l.committing < i → IsFilledBy [] (found_filling l.heads i)
-found_empty score_of bytes images size l h i sound behind = ⊎_elim
+pub found_empty : {D : Type 0} (score_of : List ℕ → List ℕ) (disk : DiskOf D) (l : LogState D) (h : History) (i : ℕ)
+    → IsSound score_of disk l h → l.committing < i → IsFilledBy [] (found_filling l.heads i)
+found_empty score_of disk l h i sound behind = ⊎_elim
     (λ (it : (x : Found) × (i < length l.heads) × (slice_get l.heads i ≡ Some x) × (get_or l.heads i x ≡ x)).
     let r = slice_get_other l.layout l.heads i it.0 sound.whole.many it.2 in
     let a = slice_get_other sound.contents l.layout i r.0 (sym sound.many) r.1 in
@@ -165,9 +166,9 @@ found_empty score_of bytes images size l h i sound behind = ⊎_elim
     (slice_get_cases l.heads i).1
 
 -- what fills the next arena is what the history has there
-pub next_filled : {D : Type 0} (score_of : List ℕ → List ℕ) (bytes : D → List ℕ) (images : D → List ℕ → Type 0) (size : D → ℕ) (l : LogState D) (h : History) (n : ℕ) (f : Filling)
-    → IsSound score_of bytes images size l h → IsNextFilling l n f → IsFilledBy (lengths_in f.arena h) f
-next_filled score_of bytes images size l h n f sound next = ⊎_elim
+pub next_filled : {D : Type 0} (score_of : List ℕ → List ℕ) (disk : DiskOf D) (l : LogState D) (h : History) (n : ℕ) (f : Filling)
+    → IsSound score_of disk l h → IsNextFilling l n f → IsFilledBy (lengths_in f.arena h) f
+next_filled score_of disk l h n f sound next = ⊎_elim
     (λ (here : (fits_in l.layout l.filling n ≡ true) × (f ≡ l.filling)).
     subst (λ (g : Filling). IsFilledBy (lengths_in g.arena h) g) (sym here.1) sound.filling)
     (λ (there : (fits_in l.layout l.filling n ≡ false) × (f ≡ found_filling l.heads (l.filling.arena + 1))).
@@ -175,19 +176,19 @@ next_filled score_of bytes images size l h n f sound next = ⊎_elim
     let below = fill_arena l.layout l.heads _ l.filling l.queue.waiting sound.whole.queue in
     let none : lengths_in f.arena h ≡ [] = lengths_none f.arena h (All-weaker (λ (e : Accepted). e.arena ≤ l.filling.arena) (λ (e : Accepted). e.arena < f.arena)
     (λ e least. omega (arith, least, arena)) h sound.arenas) in
-    rw none (subst (IsFilledBy []) (sym there.1) (found_empty score_of bytes images size l h (l.filling.arena + 1) sound (omega (arith, below.0)))))
+    rw none (subst (IsFilledBy []) (sym there.1) (found_empty score_of disk l h (l.filling.arena + 1) sound (omega (arith, below.0)))))
     next.which
 
 -- the next arena of the model is the one that is found
-pub next_arena_is : {D : Type 0} (score_of : List ℕ → List ℕ) (bytes : D → List ℕ) (images : D → List ℕ → Type 0) (size : D → ℕ) (l : LogState D) (h : History) (n : ℕ)
-    → IsSound score_of bytes images size l h → next_arena (setup_of l) h n ≡ option_map (λ f. f.arena) (next_filling l n)
-next_arena_is score_of bytes images size l h n sound =
+pub next_arena_is : {D : Type 0} (score_of : List ℕ → List ℕ) (disk : DiskOf D) (l : LogState D) (h : History) (n : ℕ)
+    → IsSound score_of disk l h → next_arena (setup_of l) h n ≡ option_map (λ f. f.arena) (next_filling l n)
+next_arena_is score_of disk l h n sound =
     let a = l.filling.arena in
     let next : Filling = found_filling l.heads (a + 1) in
     let below = fill_arena l.layout l.heads _ l.filling l.queue.waiting sound.whole.queue in
     let here = fits_same l l.filling (lengths_in a h) n sound.filling in
     let there : fits_in l.layout next n ≡ fits (setup_of l) (a + 1) (n ∷ []) =
-    fits_same l next [] n (found_empty score_of bytes images size l h (a + 1) sound (omega (arith, below.0)))
+    fits_same l next [] n (found_empty score_of disk l h (a + 1) sound (omega (arith, below.0)))
     ∙ ap (λ (k : ℕ). fits (setup_of l) k (n ∷ [])) (found_arena l.heads (a + 1)) in
     let start : next_arena (setup_of l) h n ≡ cond (fits (setup_of l) a (lengths_in a h ++ n ∷ [])) (Some a) (cond (fits (setup_of l) (a + 1) (n ∷ [])) (Some (a + 1)) None) =
     ap (λ (k : ℕ). cond (fits (setup_of l) k (lengths_in k h ++ n ∷ [])) (Some k) (cond (fits (setup_of l) (k + 1) (n ∷ [])) (Some (k + 1)) None)) (sym sound.last) in
@@ -202,34 +203,34 @@ next_arena_is score_of bytes images size l h n sound =
     at false true next = refl
     at false false next = refl
 
-pub has_next_is : {D : Type 0} (score_of : List ℕ → List ℕ) (bytes : D → List ℕ) (images : D → List ℕ → Type 0) (size : D → ℕ) (l : LogState D) (h : History) (n : ℕ)
-    → IsSound score_of bytes images size l h → has_next l n ≡ is_some (next_arena (setup_of l) h n)
-has_next_is score_of bytes images size l h n sound =
-    at (next_filling l n) ∙ sym (ap (λ (o : Option ℕ). is_some o) (next_arena_is score_of bytes images size l h n sound))
+pub has_next_is : {D : Type 0} (score_of : List ℕ → List ℕ) (disk : DiskOf D) (l : LogState D) (h : History) (n : ℕ)
+    → IsSound score_of disk l h → has_next l n ≡ is_some (next_arena (setup_of l) h n)
+has_next_is score_of disk l h n sound =
+    at (next_filling l n) ∙ sym (ap (λ (o : Option ℕ). is_some o) (next_arena_is score_of disk l h n sound))
   where
     at : (o : Option Filling) → is_some o ≡ is_some (option_map (λ (f : Filling). f.arena) o)
     at None = refl
     at (Some f) = refl
 
 -- the disks stay sound, for the history with the block
-pub append_sound : {D : Type 0} (score_of : List ℕ → List ℕ) (bytes : D → List ℕ) (images : D → List ℕ → Type 0) (size : D → ℕ) (l : LogState D) (h : History)
-    (packed : Packed) (place : Place) (f : Filling) → IsPacked score_of packed → IsSound score_of bytes images size l h
+pub append_sound : {D : Type 0} (score_of : List ℕ → List ℕ) (disk : DiskOf D) (l : LogState D) (h : History)
+    (packed : Packed) (place : Place) (f : Filling) → IsPacked score_of packed → IsSound score_of disk l h
     → queued l < 64 → next_filling l packed.len ≡ Some f → place ≡ record { arena = f.arena; offset = 24576 + f.used }
     → (next_arena (setup_of l) h packed.len ≡ Some f.arena)
     × (place_of (setup_of l) (h ++ accepted place.arena (stored_of packed) ∷ []) (length h) ≡ Some (spot_of place))
-    × IsSound score_of bytes images size (with_appended packed place f l) (h ++ accepted place.arena (stored_of packed) ∷ [])
-append_sound score_of bytes images size l h packed place f well sound room is place_is = (
-  next_arena_is score_of bytes images size l h packed.len sound ∙ ap (λ (o : Option Filling). option_map (λ (f : Filling). f.arena) o) is,
+    × IsSound score_of disk (with_appended packed place f l) (h ++ accepted place.arena (stored_of packed) ∷ [])
+append_sound score_of disk l h packed place f well sound room is place_is = (
+  next_arena_is score_of disk l h packed.len sound ∙ ap (λ (o : Option Filling). option_map (λ (f : Filling). f.arena) o) is,
   stands,
   record {
-    whole = append_whole size l packed place f sound.whole room is arena;
+    whole = append_whole disk l packed place f sound.whole room is arena;
     contents = sound.contents;
     many = sound.many;
     split = sound.split;
-    current = λ r region disk a at has. sound.current r region disk a (record { arena = at.arena; region_is = at.region_is; disk_is = at.disk_is }) has;
-    others = λ i r region disk a other at has. sound.others i r region disk a other (record { arena = at.arena; region_is = at.region_is; disk_is = at.disk_is }) has;
+    current = λ r region device a at has. sound.current r region device a (record { arena = at.arena; region_is = at.region_is; disk_is = at.disk_is }) has;
+    others = λ i r region device a other at has. sound.others i r region device a other (record { arena = at.arena; region_is = at.region_is; disk_is = at.disk_is }) has;
     heads = sound.heads;
-    selectors = λ i r region disk found behind at has. sound.selectors i r region disk found behind (record { arena = at.arena; region_is = at.region_is; disk_is = at.disk_is }) has;
+    selectors = λ i r region device found behind at has. sound.selectors i r region device found behind (record { arena = at.arena; region_is = at.region_is; disk_is = at.disk_is }) has;
     committed = take-append-le l.durable h (e ∷ []) inside ∙ sound.committed;
     queued = drop-append-le l.durable h (e ∷ []) inside ∙ ap (λ (q : History). q ++ e ∷ []) sound.queued
         ∙ append_assoc (map (accepted l.committing) (added_by l.arena)) (map waiting_block l.queue.waiting) (e ∷ [])
@@ -263,7 +264,7 @@ append_sound score_of bytes images size l h packed place f well sound room is pl
     inside = omega (arith, sound.front)
 
     fills : IsFilledBy (lengths_in f.arena h) f
-    fills = next_filled score_of bytes images size l h packed.len f sound next
+    fills = next_filled score_of disk l h packed.len f sound next
 
     stands : place_of (setup_of l) (h ++ e ∷ []) (length h) ≡ Some (spot_of place)
     stands = place_of-push (setup_of l) h e
@@ -300,12 +301,12 @@ append_sound score_of bytes images size l h packed place f well sound room is pl
             (leb_tells (length l.queue.places) i)
 
 -- the same of a log that is known by its fields
-pub append_at : {D : Type 0} (score_of : List ℕ → List ℕ) (bytes : D → List ℕ) (images : D → List ℕ → Type 0) (size : D → ℕ) (l m : LogState D) (h : History)
-    (packed : Packed) (place : Place) (f : Filling) → l ≡ m → IsPacked score_of packed → IsSound score_of bytes images size m h
+pub append_at : {D : Type 0} (score_of : List ℕ → List ℕ) (disk : DiskOf D) (l m : LogState D) (h : History)
+    (packed : Packed) (place : Place) (f : Filling) → l ≡ m → IsPacked score_of packed → IsSound score_of disk m h
     → queued m < 64 → next_filling m packed.len ≡ Some f → place ≡ record { arena = f.arena; offset = 24576 + f.used }
     → (next_arena (setup_of m) h packed.len ≡ Some f.arena)
     × (place_of (setup_of m) (h ++ accepted place.arena (stored_of packed) ∷ []) (length h) ≡ Some (spot_of place))
-    × IsSound score_of bytes images size (with_appended packed place f l) (h ++ accepted place.arena (stored_of packed) ∷ [])
-append_at {D = D} score_of bytes images size l m h packed place f same well sound room is place_is =
-    let it = append_sound score_of bytes images size m h packed place f well sound room is place_is in
-    (it.0, it.1, subst (λ (k : LogState D). IsSound score_of bytes images size (with_appended packed place f k) (h ++ accepted place.arena (stored_of packed) ∷ [])) (sym same) it.2)
+    × IsSound score_of disk (with_appended packed place f l) (h ++ accepted place.arena (stored_of packed) ∷ [])
+append_at {D = D} score_of disk l m h packed place f same well sound room is place_is =
+    let it = append_sound score_of disk m h packed place f well sound room is place_is in
+    (it.0, it.1, subst (λ (k : LogState D). IsSound score_of disk (with_appended packed place f k) (h ++ accepted place.arena (stored_of packed) ∷ [])) (sym same) it.2)

@@ -8,6 +8,7 @@ use Rattle.std.proofs.lemmas.Bool.Decides.{leb_tells}
 use Rattle.std.proofs.lemmas.List.{length-set}
 use Rattle.std.proofs.lemmas.List.Elements.{All-weaker}
 use Rattle.std.proofs.lemmas.Option.{slice_get_within, get_or_from_slice_get, same_Some}
+use Rattle.vt_log.specs.Members.{DiskOf}
 use Rattle.vt_disk.specs.declared.region.Region.{Region}
 use Rattle.vt_disk.specs.Disk.{SameBut, WithinCall}
 use Rattle.vt_disk.specs.Region.{Inside, ChangesWithin, region_bytes}
@@ -73,20 +74,20 @@ fault_keeps a = at (nat_lt a.written (pieces a)) (twin_after_fault (changing a))
     at false t = record { len = refl; number = refl; head = refl; next = refl; staged = refl }
 
 -- the regions stay on their disks
-pub on_disk_set : {D : Type 0} (size : D → ℕ) (ds : List D) (i : ℕ) (d e : D) (r : ArenaRegion) → slice_get ds i ≡ Some d → size e ≡ size d → IsOnDisk size ds r → IsOnDisk size (set ds i e) r
-on_disk_set size ds i d e r at same on = ⊎_elim
+pub on_disk_set : {D : Type 0} (disk : DiskOf D) (ds : List D) (i : ℕ) (d e : D) (r : ArenaRegion) → slice_get ds i ≡ Some d → disk.size e ≡ disk.size d → IsOnDisk disk ds r → IsOnDisk disk (set ds i e) r
+on_disk_set disk ds i d e r at same on = ⊎_elim
     (λ (here : r.part ≡ i).
-    let disk : d ≡ on.disk = same_Some d on.disk (sym at ∙ sym (ap (slice_get ds) here) ∙ on.has) in
+    let device : d ≡ on.device = same_Some d on.device (sym at ∙ sym (ap (slice_get ds) here) ∙ on.has) in
     record {
-      disk = e;
+      device = e;
       has = ap (slice_get (set ds i e)) here ∙ slice_get_set_same ds i e (slice_get_within ds i d at);
-      within = omega (arith, on.within, same, ap size disk);
+      within = omega (arith, on.within, same, ap disk.size device);
       small = on.small;
       aligned = on.aligned;
       len = on.len;
     })
     (λ (other : r.part ≢ i). record {
-      disk = on.disk;
+      device = on.device;
       has = slice_get_set_other ds i r.part e other ∙ on.has;
       within = on.within;
       small = on.small;
@@ -96,13 +97,13 @@ on_disk_set size ds i d e r at same on = ⊎_elim
     (cases_eq r.part i)
 
 -- a log in memory stays whole by a call that ends no commit
-pub call_whole : {D : Type 0} (size : D → ℕ) (l : LogState D) (i : ℕ) (d e : D) (b : ArenaState) (calls : ℕ) (stopped : Option ℕ) → IsWhole size l → IsReady l → KeepsArena l.arena b
-    → (stopped ≡ None → b.stopped ≡ None) → slice_get l.disks i ≡ Some d → size e ≡ size d
-    → IsWhole size (record l { disks = set l.disks i e; arena = b; calls = calls; stopped = stopped })
-call_whole size l i d e b calls stopped whole ready keeps runs at same = record {
+pub call_whole : {D : Type 0} (disk : DiskOf D) (l : LogState D) (i : ℕ) (d e : D) (b : ArenaState) (calls : ℕ) (stopped : Option ℕ) → IsWhole disk l → IsReady l → KeepsArena l.arena b
+    → (stopped ≡ None → b.stopped ≡ None) → slice_get l.disks i ≡ Some d → disk.size e ≡ disk.size d
+    → IsWhole disk (record l { disks = set l.disks i e; arena = b; calls = calls; stopped = stopped })
+call_whole disk l i d e b calls stopped whole ready keeps runs at same = record {
   many_disks = length-set l.disks i e ∙ whole.many_disks;
   layout = whole.layout;
-  regions = All-weaker (IsOnDisk size l.disks) (IsOnDisk size (set l.disks i e)) (λ r on. on_disk_set size l.disks i d e r at same on) l.layout whole.regions;
+  regions = All-weaker (IsOnDisk disk l.disks) (IsOnDisk disk (set l.disks i e)) (λ r on. on_disk_set disk l.disks i d e r at same on) l.layout whole.regions;
   apart = whole.apart;
   few = whole.few;
   many = whole.many;
@@ -142,22 +143,22 @@ apart_at layout i j r q pairs other at_i at_j part = ⊎_elim
         (subst (λ (y : ArenaRegion). IsBefore (get_or layout i r) y) (get_or_from_slice_get layout j q r at_j) (pairs i j r lt (slice_get_within layout j q at_j)))
 
 -- what a call of this arena's commit does to its disk: only its region changes
-pub record ChangesRegion {D : Type 0} (bytes : D → List ℕ) (images : D → List ℕ → Type 0) (size : D → ℕ) (region : Region) (before after : D) : Type 0 where
-  pub size_is : size after ≡ size before
-  pub images_are : ChangesWithin region (images before) (images after)
-  pub bytes_are : SameBut (Inside region) (bytes before) (bytes after)
+pub record ChangesRegion {D : Type 0} (disk : DiskOf D) (region : Region) (before after : D) : Type 0 where
+  pub size_is : disk.size after ≡ disk.size before
+  pub images_are : ChangesWithin region (disk.images before) (disk.images after)
+  pub bytes_are : SameBut (Inside region) (disk.bytes before) (disk.bytes after)
 
 -- Any other arena stays what it is: settled, with the same bytes and the same selector.
-pub record StaysAt {D : Type 0} (score_of : List ℕ → List ℕ) (bytes : D → List ℕ) (images : D → List ℕ → Type 0) (region : Region) (before after : D) : Type 0 where
-  pub settled : IsSettled region (bytes before) (images before) → IsSettled region (bytes after) (images after)
-  pub arena : (number : ℕ) (a : Content) → IsArena score_of region number a (bytes before) → IsArena score_of region number a (bytes after)
-  pub selector : named_number region FRAME_LEN (bytes after) ≡ named_number region FRAME_LEN (bytes before)
+pub record StaysAt {D : Type 0} (score_of : List ℕ → List ℕ) (disk : DiskOf D) (region : Region) (before after : D) : Type 0 where
+  pub settled : IsSettled region (disk.bytes before) (disk.images before) → IsSettled region (disk.bytes after) (disk.images after)
+  pub arena : (number : ℕ) (a : Content) → IsArena score_of region number a (disk.bytes before) → IsArena score_of region number a (disk.bytes after)
+  pub selector : named_number region FRAME_LEN (disk.bytes after) ≡ named_number region FRAME_LEN (disk.bytes before)
 
-pub others_stay : {D : Type 0} (score_of : List ℕ → List ℕ) (bytes : D → List ℕ) (images : D → List ℕ → Type 0) (size : D → ℕ) (l : LogState D) (r : ArenaRegion) (region : Region) (d e : D)
-    → IsWhole size l → IsAt l l.committing r region d → ChangesRegion bytes images size region d e
+pub others_stay : {D : Type 0} (score_of : List ℕ → List ℕ) (disk : DiskOf D) (l : LogState D) (r : ArenaRegion) (region : Region) (d e : D)
+    → IsWhole disk l → IsAt l l.committing r region d → ChangesRegion disk region d e
     → (i : ℕ) (q : ArenaRegion) (other : Region) (before after : D) → i ≢ l.committing → IsAt l i q other before → slice_get (set l.disks r.part e) q.part ≡ Some after
-    → StaysAt score_of bytes images other before after
-others_stay {D = D} score_of bytes images size l r region d e whole at changes i q other before after not_this there_at now = ⊎_elim
+    → StaysAt score_of disk other before after
+others_stay {D = D} score_of disk l r region d e whole at changes i q other before after not_this there_at now = ⊎_elim
     (λ (same : q.part ≡ r.part).
     let was : d ≡ before = same_Some d before (sym at.disk_is ∙ sym (ap (slice_get l.disks) same) ∙ there_at.disk_is) in
     let is : e ≡ after = same_Some e after (sym (slice_get_set_same l.disks r.part e (slice_get_within l.disks r.part d at.disk_is)) ∙ sym (ap (slice_get (set l.disks r.part e)) same) ∙ now) in
@@ -165,17 +166,17 @@ others_stay {D = D} score_of bytes images size l r region d e whole at changes i
     let clear : (k : ℕ) → Inside region k → ¬ Inside other k = λ k inside there. ⊎_elim
     (λ (h : q.at + q.len ≤ r.at). omega (arith, h, inside.0, there.1, at.region_is.start, there_at.region_is.start, there_at.region_is.len))
     (λ (h : r.at + r.len ≤ q.at). omega (arith, h, inside.1, there.0, at.region_is.start, at.region_is.len, there_at.region_is.start)) gap in
-    let long : 24576 ≤ other.len = region_long size l i q other before whole there_at in
-    let stay : region_bytes other (bytes e) ≡ region_bytes other (bytes d) =
-    part_same (Inside region) other.start other.len (bytes d) (bytes e) changes.bytes_are (λ k above below inside. clear k inside (above, below)) in
-    subst (λ (x : D). StaysAt score_of bytes images other x after) was (subst (λ (x : D). StaysAt score_of bytes images other d x) is (record {
-      settled = settled_elsewhere other region (bytes d) (bytes e) (images d) (images e) clear changes.bytes_are changes.images_are;
-      arena = λ number a. arena_in_region score_of other number a (bytes d) (bytes e) long stay;
-      selector = named_in_region other (bytes d) (bytes e) long stay;
+    let long : 24576 ≤ other.len = region_long disk l i q other before whole there_at in
+    let stay : region_bytes other (disk.bytes e) ≡ region_bytes other (disk.bytes d) =
+    part_same (Inside region) other.start other.len (disk.bytes d) (disk.bytes e) changes.bytes_are (λ k above below inside. clear k inside (above, below)) in
+    subst (λ (x : D). StaysAt score_of disk other x after) was (subst (λ (x : D). StaysAt score_of disk other d x) is (record {
+      settled = settled_elsewhere other region (disk.bytes d) (disk.bytes e) (disk.images d) (disk.images e) clear changes.bytes_are changes.images_are;
+      arena = λ number a. arena_in_region score_of other number a (disk.bytes d) (disk.bytes e) long stay;
+      selector = named_in_region other (disk.bytes d) (disk.bytes e) long stay;
     })))
     (λ (different : q.part ≢ r.part).
     let same : before ≡ after = same_Some before after (sym there_at.disk_is ∙ sym (slice_get_set_other l.disks r.part q.part e different) ∙ now) in
-    subst (λ (x : D). StaysAt score_of bytes images other before x) same (record { settled = λ h. h; arena = λ number a h. h; selector = refl }))
+    subst (λ (x : D). StaysAt score_of disk other before x) same (record { settled = λ h. h; arena = λ number a h. h; selector = refl }))
     (cases_eq q.part r.part)
 
 -- the disk of an arena was one before
@@ -187,32 +188,32 @@ at_before l k i q other after part e layout disks at =
     (was.0, record { arena = sym (ap (λ rs. slice_get rs i) layout) ∙ at.arena; region_is = at.region_is; disk_is = was.1 }, now)
 
 -- a disk stays sound by a call that ends no commit
-pub call_sound : {D : Type 0} (score_of : List ℕ → List ℕ) (bytes : D → List ℕ) (images : D → List ℕ → Type 0) (size : D → ℕ) (l : LogState D) (h : History)
-    (r : ArenaRegion) (region : Region) (d e : D) (b : ArenaState) (calls : ℕ) (stopped : Option ℕ) → (sound : IsSound score_of bytes images size l h) → IsReady l → KeepsArena l.arena b
-    → (stopped ≡ None → b.stopped ≡ None) → IsAt l l.committing r region d → ChangesRegion bytes images size region d e
-    → ((a : Content) → slice_get sound.contents l.committing ≡ Some a → IsSoundArena score_of b region a (bytes e) (images e))
-    → IsSound score_of bytes images size (record l { disks = set l.disks r.part e; arena = b; calls = calls; stopped = stopped }) h
-call_sound {D = D} score_of bytes images size l h r region d e b calls stopped sound ready keeps runs at changes stays = record {
-  whole = call_whole size l r.part d e b calls stopped sound.whole ready keeps runs at.disk_is changes.size_is;
+pub call_sound : {D : Type 0} (score_of : List ℕ → List ℕ) (disk : DiskOf D) (l : LogState D) (h : History)
+    (r : ArenaRegion) (region : Region) (d e : D) (b : ArenaState) (calls : ℕ) (stopped : Option ℕ) → (sound : IsSound score_of disk l h) → IsReady l → KeepsArena l.arena b
+    → (stopped ≡ None → b.stopped ≡ None) → IsAt l l.committing r region d → ChangesRegion disk region d e
+    → ((a : Content) → slice_get sound.contents l.committing ≡ Some a → IsSoundArena score_of b region a (disk.bytes e) (disk.images e))
+    → IsSound score_of disk (record l { disks = set l.disks r.part e; arena = b; calls = calls; stopped = stopped }) h
+call_sound {D = D} score_of disk l h r region d e b calls stopped sound ready keeps runs at changes stays = record {
+  whole = call_whole disk l r.part d e b calls stopped sound.whole ready keeps runs at.disk_is changes.size_is;
   contents = sound.contents;
   many = sound.many;
   split = sound.split;
-  current = λ q other disk a there_at has.
+  current = λ q other device a there_at has.
       let r_is : r ≡ q = same_Some r q (sym at.arena ∙ there_at.arena) in
       let part : q.part ≡ r.part = ap (λ (x : ArenaRegion). x.part) (sym r_is) in
-      let disk_is : e ≡ disk = same_Some e disk (sym (slice_get_set_same l.disks r.part e (slice_get_within l.disks r.part d at.disk_is)) ∙ sym (ap (slice_get (set l.disks r.part e)) part) ∙ there_at.disk_is) in
+      let disk_is : e ≡ device = same_Some e device (sym (slice_get_set_same l.disks r.part e (slice_get_within l.disks r.part d at.disk_is)) ∙ sym (ap (slice_get (set l.disks r.part e)) part) ∙ there_at.disk_is) in
       let region_is : region ≡ other = same_region region other
       (at.region_is.start ∙ ap (λ (x : ArenaRegion). x.at) r_is ∙ sym there_at.region_is.start) (at.region_is.len ∙ ap (λ (x : ArenaRegion). x.len) r_is ∙ sym there_at.region_is.len) in
-      subst (λ (x : Region). IsSoundArena score_of b x a (bytes disk) (images disk)) region_is (subst (λ (x : D). IsSoundArena score_of b region a (bytes x) (images x)) disk_is (stays a has));
-  others = λ i q other disk a not_this there_at has.
-      let was = at_before l _ i q other disk r.part e refl refl there_at in
+      subst (λ (x : Region). IsSoundArena score_of b x a (disk.bytes device) (disk.images device)) region_is (subst (λ (x : D). IsSoundArena score_of b region a (disk.bytes x) (disk.images x)) disk_is (stays a has));
+  others = λ i q other device a not_this there_at has.
+      let was = at_before l _ i q other device r.part e refl refl there_at in
       let rest = sound.others i q other was.0 a not_this was.1 has in
-      let stay = others_stay score_of bytes images size l r region d e sound.whole at changes i q other was.0 disk not_this was.1 was.2 in
+      let stay = others_stay score_of disk l r region d e sound.whole at changes i q other was.0 device not_this was.1 was.2 in
       (stay.settled rest.0, stay.arena q.number a rest.1);
   heads = sound.heads;
-  selectors = λ i q other disk found behind there_at has.
-      let was = at_before l _ i q other disk r.part e refl refl there_at in
-      let stay = others_stay score_of bytes images size l r region d e sound.whole at changes i q other was.0 disk (λ same. omega (arith, behind, same)) was.1 was.2 in
+  selectors = λ i q other device found behind there_at has.
+      let was = at_before l _ i q other device r.part e refl refl there_at in
+      let stay = others_stay score_of disk l r region d e sound.whole at changes i q other was.0 device (λ same. omega (arith, behind, same)) was.1 was.2 in
       sound.selectors i q other was.0 found behind was.1 has ∙ sym stay.selector;
   committed = sound.committed;
   queued = sound.queued ∙ sym (ap (λ (ps : List Packed). map (accepted l.committing) (map stored_of ps) ++ map waiting_block l.queue.waiting) keeps.staged);
@@ -225,21 +226,21 @@ call_sound {D = D} score_of bytes images size l h r region d e b calls stopped s
 }
 
 -- A crash at any moment of a call leaves disks that stand for a prefix.
-pub call_stands : {D : Type 0} (score_of : List ℕ → List ℕ) (bytes : D → List ℕ) (images : D → List ℕ → Type 0) (size : D → ℕ) (l : LogState D) (h : History)
-    (r : ArenaRegion) (region : Region) (d e : D) (Began : Type 0) (files : List (List ℕ)) → (sound : IsSound score_of bytes images size l h)
-    → IsAt l l.committing r region d → ChangesRegion bytes images size region d e
-    → ((a : Content) → slice_get sound.contents l.committing ≡ Some a → (c : List ℕ) → WithinCall (images d) (images e) c
+pub call_stands : {D : Type 0} (score_of : List ℕ → List ℕ) (disk : DiskOf D) (l : LogState D) (h : History)
+    (r : ArenaRegion) (region : Region) (d e : D) (Began : Type 0) (files : List (List ℕ)) → (sound : IsSound score_of disk l h)
+    → IsAt l l.committing r region d → ChangesRegion disk region d e
+    → ((a : Content) → slice_get sound.contents l.committing ≡ Some a → (c : List ℕ) → WithinCall (disk.images d) (disk.images e) c
     → GivesOldOrNext Began score_of region l.arena.number a (next_content l.arena a) c)
-    → AreWithinCall images l.disks (set l.disks r.part e) files → StandForPrefix score_of l files h
-call_stands {D = D} score_of bytes images size l h r region d e Began files sound at changes crashes left =
-    stand_for_prefix score_of bytes images size l h files sound left.many
-    (λ q other disk a file there_at has of.
+    → AreWithinCall disk l.disks (set l.disks r.part e) files → StandForPrefix score_of l files h
+call_stands {D = D} score_of disk l h r region d e Began files sound at changes crashes left =
+    stand_for_prefix score_of disk l h files sound left.many
+    (λ q other device a file there_at has of.
     let r_is : r ≡ q = same_Some r q (sym at.arena ∙ there_at.arena) in
-    let d_is : d ≡ disk = same_Some d disk (sym at.disk_is ∙ ap (λ (x : ArenaRegion). slice_get l.disks x.part) r_is ∙ there_at.disk_is) in
+    let d_is : d ≡ device = same_Some d device (sym at.disk_is ∙ ap (λ (x : ArenaRegion). slice_get l.disks x.part) r_is ∙ there_at.disk_is) in
     let region_is : region ≡ other = same_region region other
     (at.region_is.start ∙ ap (λ (x : ArenaRegion). x.at) r_is ∙ sym there_at.region_is.start) (at.region_is.len ∙ ap (λ (x : ArenaRegion). x.len) r_is ∙ sym there_at.region_is.len) in
-    let number : l.arena.number ≡ q.number = number_is size l q sound.whole there_at.arena in
-    let moment : WithinCall (images d) (images e) file = left.each r.part d e file at.disk_is (slice_get_set_same l.disks r.part e (slice_get_within l.disks r.part d at.disk_is))
+    let number : l.arena.number ≡ q.number = number_is disk l q sound.whole there_at.arena in
+    let moment : WithinCall (disk.images d) (disk.images e) file = left.each r.part d e file at.disk_is (slice_get_set_same l.disks r.part e (slice_get_within l.disks r.part d at.disk_is))
     (ap (λ (x : ArenaRegion). slice_get files x.part) r_is ∙ of) in
     ⊎_elim
     (λ (old : IsArena score_of region l.arena.number a file).
@@ -247,21 +248,21 @@ call_stands {D = D} score_of bytes images size l h r region d e Began files soun
     (λ (next : Began × IsArena score_of region l.arena.number (next_content l.arena a) file).
     inr (subst (λ (x : Region). IsArena score_of x q.number (next_content l.arena a) file) region_is (subst (λ (n : ℕ). IsArena score_of region n (next_content l.arena a) file) number next.1)))
     (crashes a has file moment))
-    (λ i q other disk a file not_this there_at has of.
-    let after = slice_get_other (set l.disks r.part e) l.disks q.part disk (sym (length-set l.disks r.part e)) there_at.disk_is in
-    let stay = others_stay score_of bytes images size l r region d e sound.whole at changes i q other disk after.0 not_this there_at after.1 in
-    let rest = sound.others i q other disk a not_this there_at has in
-    let long : 24576 ≤ other.len = region_long size l i q other disk sound.whole there_at in
+    (λ i q other device a file not_this there_at has of.
+    let after = slice_get_other (set l.disks r.part e) l.disks q.part device (sym (length-set l.disks r.part e)) there_at.disk_is in
+    let stay = others_stay score_of disk l r region d e sound.whole at changes i q other device after.0 not_this there_at after.1 in
+    let rest = sound.others i q other device a not_this there_at has in
+    let long : 24576 ≤ other.len = region_long disk l i q other device sound.whole there_at in
     ⊎_elim
-    (λ (was : images disk file). arena_in_region score_of other q.number a (bytes disk) file long (rest.0 file was) rest.1)
-    (λ (is : images after.0 file). arena_in_region score_of other q.number a (bytes after.0) file long (stay.settled rest.0 file is) (stay.arena q.number a rest.1))
-    (left.each q.part disk after.0 file there_at.disk_is after.1 of))
+    (λ (was : disk.images device file). arena_in_region score_of other q.number a (disk.bytes device) file long (rest.0 file was) rest.1)
+    (λ (is : disk.images after.0 file). arena_in_region score_of other q.number a (disk.bytes after.0) file long (stay.settled rest.0 file is) (stay.arena q.number a rest.1))
+    (left.each q.part device after.0 file there_at.disk_is after.1 of))
 
 -- and where no call is made
-pub rest_stands : {D : Type 0} (score_of : List ℕ → List ℕ) (bytes : D → List ℕ) (images : D → List ℕ → Type 0) (size : D → ℕ) (l : LogState D) (h : History)
-    (files : List (List ℕ)) (ds : List D) → IsSound score_of bytes images size l h → ds ≡ l.disks → AreWithinCall images l.disks ds files → StandForPrefix score_of l files h
-rest_stands score_of bytes images size l h files ds sound same left =
-    moment_stands score_of bytes images size l h files sound (record {
+pub rest_stands : {D : Type 0} (score_of : List ℕ → List ℕ) (disk : DiskOf D) (l : LogState D) (h : History)
+    (files : List (List ℕ)) (ds : List D) → IsSound score_of disk l h → ds ≡ l.disks → AreWithinCall disk l.disks ds files → StandForPrefix score_of l files h
+rest_stands score_of disk l h files ds sound same left =
+    moment_stands score_of disk l h files sound (record {
       many = left.many;
-      each = λ i disk file at of. ⊎_elim (λ (was : images disk file). was) (λ (is : images disk file). is) (left.each i disk disk file at (ap (λ xs. slice_get xs i) same ∙ at) of);
+      each = λ i device file at of. ⊎_elim (λ (was : disk.images device file). was) (λ (is : disk.images device file). is) (left.each i device device file at (ap (λ xs. slice_get xs i) same ∙ at) of);
     })

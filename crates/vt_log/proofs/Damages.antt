@@ -10,6 +10,7 @@ use Rattle.vt_base.specs.declared.score.Score.{Score}
 use Rattle.vt_base.specs.declared.why.FieldValue.{FieldValue}
 use Rattle.vt_base.specs.declared.why.FieldValue.TheVariants.{Number, Score as ScoreValue}
 use Rattle.vt_base.specs.Kind.{is_kind}
+use Rattle.vt_log.specs.Members.{DiskOf}
 use Rattle.vt_clump.specs.declared.reading.ClumpBad.{ClumpBad}
 use Rattle.vt_clump.specs.Faults.{or_else, bad_encoding, bad_size, bad_header, other_score, first_bad}
 use Rattle.vt_clump.specs.Spelling.{size_in, uncsize_in, stored_in}
@@ -121,15 +122,14 @@ header_cases len offset = ⊎_elim
     (cases_lt offset 24576)
 
 -- A damage that is answered for a place in an arena has two values.
-pub answer_two : {D : Type 0} (score_of : List ℕ → List ℕ) (tells : Bool) (bytes : D → List ℕ)
-    (size : D → ℕ) (l : LogState D) (place : Place) (key : Key) (result : Result (List ℕ) ReadBad)
-    → IsWhole size l → IsNowhere l.queue.places place → place.arena < length l.layout
-    → AnswersRead score_of tells bytes l place key result
+pub answer_two : {D : Type 0} (score_of : List ℕ → List ℕ) (disk : DiskOf D) (l : LogState D) (place : Place) (key : Key) (result : Result (List ℕ) ReadBad)
+    → IsWhole disk l → IsNowhere l.queue.places place → place.arena < length l.layout
+    → AnswersRead score_of disk l place key result
     → (want found : FieldValue) → result ≡ Err (Damaged want found) → want ≢ found
-answer_two score_of tells bytes size l place key result whole none within answer want found bad =
+answer_two score_of disk l place key result whole none within answer want found bad =
     let at = slice_get_there l.layout place.arena within in
-    let len = (at_slice (IsOnDisk size l.disks) l.layout _ at.0 whole.regions at.1).len in
-    let it = there size l place.arena at.0 whole at.1 in
+    let len = (at_slice (IsOnDisk disk l.disks) l.layout _ at.0 whole.regions at.1).len in
+    let it = there disk l place.arena at.0 whole at.1 in
     ⊎_elim (λ (has : HasHeader at.0.len place.offset).
     let stored = answer.stored at.0 it.region it.disk none it.at has in
     ⊎_elim (damaged_two score_of stored.0 want found)

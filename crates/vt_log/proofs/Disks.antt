@@ -6,6 +6,7 @@ use Rattle.std.proofs.lemmas.List.{map-set, length-set, length-map, get_or-map, 
 use Rattle.std.proofs.lemmas.List.Sums.{sum_by-set}
 use Rattle.std.proofs.lemmas.Option.{slice_get_within, get_or_from_slice_get, same_Some}
 use Rattle.vt_base.specs.Faults.{HasRisen, HasCause}
+use Rattle.vt_log.specs.Members.{DiskOf}
 use Rattle.vt_disk.specs.Disk.{AreAmong}
 use Rattle.vt_part.specs.declared.part.Part.{Part}
 use Rattle.vt_part.specs.Parts.{disk_of, table_of, tables_of}
@@ -50,19 +51,19 @@ risen_set f xs i x y at risen =
       refl,
     )
 
-pub hold_set : {D : Type 0} (bytes : D → List ℕ) (images : D → List ℕ → Type 0) (size : D → ℕ) (ds : List D) (i : ℕ) (d e : D) → slice_get ds i ≡ Some d
-    → bytes e ≡ bytes d → AreAmong (images e) (images d) → size e ≡ size d → HoldTheSame bytes images size ds (set ds i e)
-hold_set {D = D} bytes images size ds i d e at same_bytes among same_size = record {
-  bytes_are = map_same bytes ds i d e at same_bytes;
-  sizes_are = map_same size ds i d e at same_size;
+pub hold_set : {D : Type 0} (disk : DiskOf D) (ds : List D) (i : ℕ) (d e : D) → slice_get ds i ≡ Some d
+    → disk.bytes e ≡ disk.bytes d → AreAmong (disk.images e) (disk.images d) → disk.size e ≡ disk.size d → HoldTheSame disk ds (set ds i e)
+hold_set {D = D} disk ds i d e at same_bytes among same_size = record {
+  bytes_are = map_same disk.bytes ds i d e at same_bytes;
+  sizes_are = map_same disk.size ds i d e at same_size;
   images_are = λ j before after was is. ⊎_elim
       (λ (here : j ≡ i).
       let b : d ≡ before = same_Some d before (sym at ∙ sym (ap (slice_get ds) here) ∙ was) in
       let a : e ≡ after = same_Some e after (sym (slice_get_set_same ds i e (slice_get_within ds i d at)) ∙ sym (ap (slice_get (set ds i e)) here) ∙ is) in
-      subst (λ (x : D). AreAmong (images after) (images x)) b (subst (λ (x : D). AreAmong (images x) (images d)) a among))
+      subst (λ (x : D). AreAmong (disk.images after) (disk.images x)) b (subst (λ (x : D). AreAmong (disk.images x) (disk.images d)) a among))
       (λ (other : j ≢ i).
       let same : before ≡ after = same_Some before after (sym was ∙ sym (slice_get_set_other ds i j e other) ∙ is) in
-      λ c left. subst (λ (x : D). images x c) (sym same) left)
+      λ c left. subst (λ (x : D). disk.images x c) (sym same) left)
       (cases_eq j i);
 }
 

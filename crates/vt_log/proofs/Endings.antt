@@ -9,6 +9,7 @@ use Rattle.std.proofs.lemmas.List.Elements.{All-weaker}
 use Rattle.std.proofs.lemmas.List.Sums.{sum_by-set}
 use Rattle.std.proofs.lemmas.Option.{slice_get_within, get_or_from_slice_get, same_Some}
 use Rattle.vt_base.specs.declared.place.Place.{Place}
+use Rattle.vt_log.specs.Members.{DiskOf}
 use Rattle.vt_disk.specs.declared.region.Region.{Region}
 use Rattle.vt_clump.specs.declared.packed.Packed.{Packed}
 use Rattle.vt_clump.specs.Clumps.{stored_of}
@@ -114,14 +115,14 @@ ended l part e found b calls = record l {
   calls = calls;
 }
 
-pub ended_whole : {D : Type 0} (size : D → ℕ) (l : LogState D) (r : ArenaRegion) (found : Found) (d e : D) (b : ArenaState) (calls : ℕ) → IsWhole size l → EndsArena l.arena b
+pub ended_whole : {D : Type 0} (disk : DiskOf D) (l : LogState D) (r : ArenaRegion) (found : Found) (d e : D) (b : ArenaState) (calls : ℕ) → IsWhole disk l → EndsArena l.arena b
     → l.arena.next.sealed ≡ false → slice_get l.layout l.committing ≡ Some r → slice_get l.heads l.committing ≡ Some found
-    → b.head.used + directory_room b.head.clumps ≤ arena_room r.len → slice_get l.disks r.part ≡ Some d → size e ≡ size d
-    → IsWhole size (ended l r.part e found b calls)
-ended_whole size l r found d e b calls whole ends unsealed here has fit at same = record {
+    → b.head.used + directory_room b.head.clumps ≤ arena_room r.len → slice_get l.disks r.part ≡ Some d → disk.size e ≡ disk.size d
+    → IsWhole disk (ended l r.part e found b calls)
+ended_whole disk l r found d e b calls whole ends unsealed here has fit at same = record {
   many_disks = length-set l.disks r.part e ∙ whole.many_disks;
   layout = whole.layout;
-  regions = All-weaker (IsOnDisk size l.disks) (IsOnDisk size (set l.disks r.part e)) (λ q on. on_disk_set size l.disks r.part d e q at same on) l.layout whole.regions;
+  regions = All-weaker (IsOnDisk disk l.disks) (IsOnDisk disk (set l.disks r.part e)) (λ q on. on_disk_set disk l.disks r.part d e q at same on) l.layout whole.regions;
   apart = whole.apart;
   few = whole.few;
   many = length-set l.heads l.committing _ ∙ whole.many;
@@ -175,26 +176,26 @@ ended_whole size l r found d e b calls whole ends unsealed here has fit at same 
     new_head = slice_get_set_same l.heads l.committing (record found { head = b.head }) (slice_get_within l.heads l.committing found has)
 
 -- what the last call leaves of what an arena holds: what its commit made of it, synced
-pub record CommitsIn {D : Type 0} (score_of : List ℕ → List ℕ) (bytes : D → List ℕ) (images : D → List ℕ → Type 0) (b : ArenaState) (region : Region) (next : Content) (e : D) : Type 0 where
-  pub sound : IsSoundArena score_of b region next (bytes e) (images e)
-  pub settled : IsSettled region (bytes e) (images e)
-  pub arena : IsArena score_of region b.number next (bytes e)
+pub record CommitsIn {D : Type 0} (score_of : List ℕ → List ℕ) (disk : DiskOf D) (b : ArenaState) (region : Region) (next : Content) (e : D) : Type 0 where
+  pub sound : IsSoundArena score_of b region next (disk.bytes e) (disk.images e)
+  pub settled : IsSettled region (disk.bytes e) (disk.images e)
+  pub arena : IsArena score_of region b.number next (disk.bytes e)
 
 -- what is known where the last call was made
-pub record IsEnding {D : Type 0} (score_of : List ℕ → List ℕ) (bytes : D → List ℕ) (images : D → List ℕ → Type 0) (size : D → ℕ) (l : LogState D)
+pub record IsEnding {D : Type 0} (score_of : List ℕ → List ℕ) (disk : DiskOf D) (l : LogState D)
     (r : ArenaRegion) (found : Found) (region : Region) (d e : D) (b : ArenaState) : Type 0 where
   pub ends : EndsArena l.arena b
   pub has : slice_get l.heads l.committing ≡ Some found
   pub at : IsAt l l.committing r region d
-  pub changes : ChangesRegion bytes images size region d e
+  pub changes : ChangesRegion disk region d e
   pub fit : b.head.used + directory_room b.head.clumps ≤ arena_room r.len
 
 -- the blocks with those that were staged
-pub committed_next : {D : Type 0} (score_of : List ℕ → List ℕ) (bytes : D → List ℕ) (images : D → List ℕ → Type 0) (size : D → ℕ) (l : LogState D) (h : History) (a : Content)
-    → (sound : IsSound score_of bytes images size l h) → slice_get sound.contents l.committing ≡ Some a
+pub committed_next : {D : Type 0} (score_of : List ℕ → List ℕ) (disk : DiskOf D) (l : LogState D) (h : History) (a : Content)
+    → (sound : IsSound score_of disk l h) → slice_get sound.contents l.committing ≡ Some a
     → (take (l.durable + length l.arena.staged) h ≡ blocks_from 0 (set sound.contents l.committing (next_content l.arena a)))
     × (drop (l.durable + length l.arena.staged) h ≡ map waiting_block l.queue.waiting) × (l.durable + length l.arena.staged ≤ length h)
-committed_next score_of bytes images size l h a sound is = (
+committed_next score_of disk l h a sound is = (
   subst (λ (k : ℕ). take (l.durable + k) h ≡ blocks_from 0 (set sound.contents l.committing (next_content l.arena a))) count
       (longer_prefix h l.durable added (map waiting_block l.queue.waiting) inside sound.queued
       ∙ ap (λ (q : History). q ++ added) sound.committed
@@ -214,79 +215,79 @@ committed_next score_of bytes images size l h a sound is = (
     inside = omega (arith, sound.front)
 
 -- an arena that isn't committed in stays what it is
-pub kept_others : {D : Type 0} (score_of : List ℕ → List ℕ) (bytes : D → List ℕ) (images : D → List ℕ → Type 0) (size : D → ℕ) (l k : LogState D) (h : History)
-    (r : ArenaRegion) (found : Found) (region : Region) (d e : D) (b : ArenaState) (next : Content) → (sound : IsSound score_of bytes images size l h)
-    → IsEnding score_of bytes images size l r found region d e b → k.layout ≡ l.layout → k.disks ≡ set l.disks r.part e
-    → (i : ℕ) (q : ArenaRegion) (other : Region) (disk : D) (c : Content) → i ≢ l.committing → IsAt k i q other disk → slice_get (set sound.contents l.committing next) i ≡ Some c
-    → IsSettled other (bytes disk) (images disk) × IsArena score_of other q.number c (bytes disk)
-kept_others score_of bytes images size l k h r found region d e b next sound ending layout disks i q other disk c not_this there_at content =
-    let was = at_before l k i q other disk r.part e layout disks there_at in
+pub kept_others : {D : Type 0} (score_of : List ℕ → List ℕ) (disk : DiskOf D) (l k : LogState D) (h : History)
+    (r : ArenaRegion) (found : Found) (region : Region) (d e : D) (b : ArenaState) (next : Content) → (sound : IsSound score_of disk l h)
+    → IsEnding score_of disk l r found region d e b → k.layout ≡ l.layout → k.disks ≡ set l.disks r.part e
+    → (i : ℕ) (q : ArenaRegion) (other : Region) (device : D) (c : Content) → i ≢ l.committing → IsAt k i q other device → slice_get (set sound.contents l.committing next) i ≡ Some c
+    → IsSettled other (disk.bytes device) (disk.images device) × IsArena score_of other q.number c (disk.bytes device)
+kept_others score_of disk l k h r found region d e b next sound ending layout disks i q other device c not_this there_at content =
+    let was = at_before l k i q other device r.part e layout disks there_at in
     let rest = sound.others i q other was.0 c not_this was.1 (sym (slice_get_set_other sound.contents l.committing i next not_this) ∙ content) in
-    let stay = others_stay score_of bytes images size l r region d e sound.whole ending.at ending.changes i q other was.0 disk not_this was.1 was.2 in
+    let stay = others_stay score_of disk l r region d e sound.whole ending.at ending.changes i q other was.0 device not_this was.1 was.2 in
     (stay.settled rest.0, stay.arena q.number c rest.1)
 
 -- the heads are those of what is committed
-pub kept_heads : {D : Type 0} (score_of : List ℕ → List ℕ) (bytes : D → List ℕ) (images : D → List ℕ → Type 0) (size : D → ℕ) (l : LogState D) (h : History)
-    (r : ArenaRegion) (found : Found) (region : Region) (d e : D) (b : ArenaState) (next : Content) → (sound : IsSound score_of bytes images size l h)
-    → IsEnding score_of bytes images size l r found region d e b → l.committing < length sound.contents → b.head ≡ head_of score_of b.number next
+pub kept_heads : {D : Type 0} (score_of : List ℕ → List ℕ) (disk : DiskOf D) (l : LogState D) (h : History)
+    (r : ArenaRegion) (found : Found) (region : Region) (d e : D) (b : ArenaState) (next : Content) → (sound : IsSound score_of disk l h)
+    → IsEnding score_of disk l r found region d e b → l.committing < length sound.contents → b.head ≡ head_of score_of b.number next
     → (i : ℕ) (q : ArenaRegion) (f : Found) (c : Content) → slice_get l.layout i ≡ Some q → slice_get (set l.heads l.committing (record found { head = b.head })) i ≡ Some f
     → slice_get (set sound.contents l.committing next) i ≡ Some c → f.head ≡ head_of score_of q.number c
-kept_heads score_of bytes images size l h r found region d e b next sound ending within head i q f c q_at f_at c_at = ⊎_elim
+kept_heads score_of disk l h r found region d e b next sound ending within head i q f c q_at f_at c_at = ⊎_elim
     (λ (is : i ≡ l.committing).
     let q_is : r ≡ q = same_Some r q (sym ending.at.arena ∙ sym (ap (slice_get l.layout) is) ∙ q_at) in
     let f_is : record found { head = b.head } ≡ f = same_Some _ f (sym (slice_get_set_same l.heads l.committing (record found { head = b.head }) (slice_get_within l.heads l.committing found ending.has))
     ∙ sym (ap (slice_get (set l.heads l.committing (record found { head = b.head }))) is) ∙ f_at) in
     let c_is : next ≡ c = same_Some next c (sym (slice_get_set_same sound.contents l.committing next within) ∙ sym (ap (slice_get (set sound.contents l.committing next)) is) ∙ c_at) in
-    let number : b.number ≡ q.number = ending.ends.number ∙ number_is size l r sound.whole ending.at.arena ∙ ap (λ (x : ArenaRegion). x.number) q_is in
+    let number : b.number ≡ q.number = ending.ends.number ∙ number_is disk l r sound.whole ending.at.arena ∙ ap (λ (x : ArenaRegion). x.number) q_is in
     ap (λ (x : Found). x.head) (sym f_is) ∙ head ∙ ap (λ (n : ℕ). head_of score_of n next) number ∙ ap (head_of score_of q.number) c_is)
     (λ (not_this : i ≢ l.committing). sound.heads i q f c q_at (sym (slice_get_set_other l.heads l.committing i (record found { head = b.head }) not_this) ∙ f_at)
     (sym (slice_get_set_other sound.contents l.committing i next not_this) ∙ c_at))
     (cases_eq i l.committing)
 
-pub kept_selectors : {D : Type 0} (score_of : List ℕ → List ℕ) (bytes : D → List ℕ) (images : D → List ℕ → Type 0) (size : D → ℕ) (l k : LogState D) (h : History)
-    (r : ArenaRegion) (found : Found) (region : Region) (d e : D) (b : ArenaState) → (sound : IsSound score_of bytes images size l h)
-    → IsEnding score_of bytes images size l r found region d e b → k.layout ≡ l.layout → k.disks ≡ set l.disks r.part e
-    → (i : ℕ) (q : ArenaRegion) (other : Region) (disk : D) (f : Found) → l.committing < i → IsAt k i q other disk → slice_get (set l.heads l.committing (record found { head = b.head })) i ≡ Some f
-    → f.selector % 2 ≡ named_number other FRAME_LEN (bytes disk)
-kept_selectors score_of bytes images size l k h r found region d e b sound ending layout disks i q other disk f behind there_at f_at =
+pub kept_selectors : {D : Type 0} (score_of : List ℕ → List ℕ) (disk : DiskOf D) (l k : LogState D) (h : History)
+    (r : ArenaRegion) (found : Found) (region : Region) (d e : D) (b : ArenaState) → (sound : IsSound score_of disk l h)
+    → IsEnding score_of disk l r found region d e b → k.layout ≡ l.layout → k.disks ≡ set l.disks r.part e
+    → (i : ℕ) (q : ArenaRegion) (other : Region) (device : D) (f : Found) → l.committing < i → IsAt k i q other device → slice_get (set l.heads l.committing (record found { head = b.head })) i ≡ Some f
+    → f.selector % 2 ≡ named_number other FRAME_LEN (disk.bytes device)
+kept_selectors score_of disk l k h r found region d e b sound ending layout disks i q other device f behind there_at f_at =
     let not_this : i ≢ l.committing = λ same. omega (arith, behind, same) in
-    let was = at_before l k i q other disk r.part e layout disks there_at in
-    let stay = others_stay score_of bytes images size l r region d e sound.whole ending.at ending.changes i q other was.0 disk not_this was.1 was.2 in
+    let was = at_before l k i q other device r.part e layout disks there_at in
+    let stay = others_stay score_of disk l r region d e sound.whole ending.at ending.changes i q other was.0 device not_this was.1 was.2 in
     sound.selectors i q other was.0 f behind was.1 (sym (slice_get_set_other l.heads l.committing i (record found { head = b.head }) not_this) ∙ f_at) ∙ sym stay.selector
 
-kept_places : {D : Type 0} (score_of : List ℕ → List ℕ) (bytes : D → List ℕ) (images : D → List ℕ → Type 0) (size : D → ℕ) (l : LogState D) (h : History) → IsSound score_of bytes images size l h
+kept_places : {D : Type 0} (score_of : List ℕ → List ℕ) (disk : DiskOf D) (l : LogState D) (h : History) → IsSound score_of disk l h
     → (i : ℕ) (place : Place) → slice_get (drop (length l.arena.staged) l.queue.places) i ≡ Some place → place_of (setup_of l) h (l.durable + length l.arena.staged + i) ≡ Some (spot_of place)
-kept_places score_of bytes images size l h sound i place is =
+kept_places score_of disk l h sound i place is =
     ap (place_of (setup_of l) h) (let z : l.durable + length l.arena.staged + i ≡ l.durable + (length l.arena.staged + i) = omega arith in z)
     ∙ sound.places (length l.arena.staged + i) place (sym (slice_get_drop (length l.arena.staged) i l.queue.places) ∙ is)
 
 -- the disks stay sound by the last call, where it doesn't seal
-pub ended_sound : {D : Type 0} (score_of : List ℕ → List ℕ) (bytes : D → List ℕ) (images : D → List ℕ → Type 0) (size : D → ℕ) (l : LogState D) (h : History)
-    (r : ArenaRegion) (found : Found) (region : Region) (d e : D) (b : ArenaState) (calls : ℕ) (a : Content) → (sound : IsSound score_of bytes images size l h)
-    → IsEnding score_of bytes images size l r found region d e b → l.arena.next.sealed ≡ false → slice_get sound.contents l.committing ≡ Some a
-    → IsSoundArena score_of b region (next_content l.arena a) (bytes e) (images e) → IsSound score_of bytes images size (ended l r.part e found b calls) h
-ended_sound {D = D} score_of bytes images size l h r found region d e b calls a sound ending unsealed content stays = record {
-  whole = ended_whole size l r found d e b calls sound.whole ending.ends unsealed ending.at.arena ending.has ending.fit ending.at.disk_is ending.changes.size_is;
+pub ended_sound : {D : Type 0} (score_of : List ℕ → List ℕ) (disk : DiskOf D) (l : LogState D) (h : History)
+    (r : ArenaRegion) (found : Found) (region : Region) (d e : D) (b : ArenaState) (calls : ℕ) (a : Content) → (sound : IsSound score_of disk l h)
+    → IsEnding score_of disk l r found region d e b → l.arena.next.sealed ≡ false → slice_get sound.contents l.committing ≡ Some a
+    → IsSoundArena score_of b region (next_content l.arena a) (disk.bytes e) (disk.images e) → IsSound score_of disk (ended l r.part e found b calls) h
+ended_sound {D = D} score_of disk l h r found region d e b calls a sound ending unsealed content stays = record {
+  whole = ended_whole disk l r found d e b calls sound.whole ending.ends unsealed ending.at.arena ending.has ending.fit ending.at.disk_is ending.changes.size_is;
   contents = set sound.contents l.committing next;
   many = length-set sound.contents l.committing next ∙ sound.many;
   split = split_set l.committing sound.contents next within sound.split unsealed;
-  current = λ q other disk c there_at c_at.
+  current = λ q other device c there_at c_at.
       let r_is : r ≡ q = same_Some r q (sym ending.at.arena ∙ there_at.arena) in
       let part : q.part ≡ r.part = ap (λ (x : ArenaRegion). x.part) (sym r_is) in
-      let disk_is : e ≡ disk = same_Some e disk (sym (slice_get_set_same l.disks r.part e (slice_get_within l.disks r.part d ending.at.disk_is)) ∙ sym (ap (slice_get (set l.disks r.part e)) part) ∙ there_at.disk_is) in
+      let disk_is : e ≡ device = same_Some e device (sym (slice_get_set_same l.disks r.part e (slice_get_within l.disks r.part d ending.at.disk_is)) ∙ sym (ap (slice_get (set l.disks r.part e)) part) ∙ there_at.disk_is) in
       let region_is : region ≡ other = same_region region other
       (ending.at.region_is.start ∙ ap (λ (x : ArenaRegion). x.at) r_is ∙ sym there_at.region_is.start) (ending.at.region_is.len ∙ ap (λ (x : ArenaRegion). x.len) r_is ∙ sym there_at.region_is.len) in
       let c_is : next ≡ c = same_Some next c (sym (slice_get_set_same sound.contents l.committing next within) ∙ c_at) in
-      subst (λ (x : Content). IsSoundArena score_of b other x (bytes disk) (images disk)) c_is
-      (subst (λ (x : Region). IsSoundArena score_of b x next (bytes disk) (images disk)) region_is (subst (λ (x : D). IsSoundArena score_of b region next (bytes x) (images x)) disk_is stays));
-  others = λ i q other disk c not_this there_at c_at. kept_others score_of bytes images size l _ h r found region d e b next sound ending refl refl i q other disk c not_this there_at c_at;
-  heads = kept_heads score_of bytes images size l h r found region d e b next sound ending within stays.head;
-  selectors = λ i q other disk f behind there_at f_at. kept_selectors score_of bytes images size l _ h r found region d e b sound ending refl refl i q other disk f behind there_at f_at;
+      subst (λ (x : Content). IsSoundArena score_of b other x (disk.bytes device) (disk.images device)) c_is
+      (subst (λ (x : Region). IsSoundArena score_of b x next (disk.bytes device) (disk.images device)) region_is (subst (λ (x : D). IsSoundArena score_of b region next (disk.bytes x) (disk.images x)) disk_is stays));
+  others = λ i q other device c not_this there_at c_at. kept_others score_of disk l _ h r found region d e b next sound ending refl refl i q other device c not_this there_at c_at;
+  heads = kept_heads score_of disk l h r found region d e b next sound ending within stays.head;
+  selectors = λ i q other device f behind there_at f_at. kept_selectors score_of disk l _ h r found region d e b sound ending refl refl i q other device f behind there_at f_at;
   committed = blocks.0;
   queued = blocks.1 ∙ sym (ap (λ (ps : List Packed). map (accepted l.committing) (map stored_of ps) ++ map waiting_block l.queue.waiting) ending.ends.staged);
   front = omega (arith, sound.front, sound.whole.places, length-drop (length l.arena.staged) l.queue.places);
   packed = sound.packed;
-  places = kept_places score_of bytes images size l h sound;
+  places = kept_places score_of disk l h sound;
   filling = sound.filling;
   last = sound.last;
   arenas = sound.arenas;
@@ -299,7 +300,7 @@ ended_sound {D = D} score_of bytes images size l h r found region d e b calls a 
     within = slice_get_within sound.contents l.committing a content
 
     blocks : (take (l.durable + length l.arena.staged) h ≡ blocks_from 0 (set sound.contents l.committing next)) × (drop (l.durable + length l.arena.staged) h ≡ map waiting_block l.queue.waiting) × (l.durable + length l.arena.staged ≤ length h)
-    blocks = committed_next score_of bytes images size l h a sound content
+    blocks = committed_next score_of disk l h a sound content
 
 -- the log after the last call, where the arena is sealed: the next one is committed in
 abbrev pub turned : {D : Type 0} → LogState D → (part : ℕ) → (e : D) → (found : Found) → (b : ArenaState) → (calls len : ℕ) → (next : Found) → LogState D
@@ -309,8 +310,8 @@ turned l part e found b calls len next = record (ended l part e found b calls) {
 }
 
 -- the arena is there for which a block waits
-pub next_there : {D : Type 0} (size : D → ℕ) (l : LogState D) → IsWhole size l → l.arena.next.sealed ≡ true → l.committing + 1 < length l.layout
-next_there size l whole sealed = at l.queue.waiting (whole.way sealed) whole.queue
+pub next_there : {D : Type 0} (disk : DiskOf D) (l : LogState D) → IsWhole disk l → l.arena.next.sealed ≡ true → l.committing + 1 < length l.layout
+next_there disk l whole sealed = at l.queue.waiting (whole.way sealed) whole.queue
   where
     at : (ws : List Waiting) → WaitsFor (l.committing + 1) ws → Fill l.layout l.heads (filled_as l.committing l.arena.next) ws l.filling → l.committing + 1 < length l.layout
     at [] waits fill = absurd waits
@@ -318,15 +319,15 @@ next_there size l whole sealed = at l.queue.waiting (whole.way sealed) whole.que
         let there = fits_within l.layout (turned_to l.heads w.arena (filled_as l.committing l.arena.next)) w.packed.len fill.2 in
         omega (arith, waits, slice_get_within l.layout _ there.0 there.1, turned_arena l.heads w.arena (filled_as l.committing l.arena.next))
 
-pub turned_whole : {D : Type 0} (size : D → ℕ) (l : LogState D) (r q : ArenaRegion) (found next : Found) (d e : D) (b : ArenaState) (calls len : ℕ) → IsWhole size l → EndsArena l.arena b
+pub turned_whole : {D : Type 0} (disk : DiskOf D) (l : LogState D) (r q : ArenaRegion) (found next : Found) (d e : D) (b : ArenaState) (calls len : ℕ) → IsWhole disk l → EndsArena l.arena b
     → l.arena.next.sealed ≡ true → slice_get l.layout l.committing ≡ Some r → slice_get l.heads l.committing ≡ Some found
-    → b.head.used + directory_room b.head.clumps ≤ arena_room r.len → slice_get l.disks r.part ≡ Some d → size e ≡ size d
+    → b.head.used + directory_room b.head.clumps ≤ arena_room r.len → slice_get l.disks r.part ≡ Some d → disk.size e ≡ disk.size d
     → slice_get l.layout (l.committing + 1) ≡ Some q → slice_get l.heads (l.committing + 1) ≡ Some next → len ≡ q.len
-    → IsWhole size (turned l r.part e found b calls len next)
-turned_whole size l r q found next d e b calls len whole ends sealed here has fit at same next_here next_has len_is = record {
+    → IsWhole disk (turned l r.part e found b calls len next)
+turned_whole disk l r q found next d e b calls len whole ends sealed here has fit at same next_here next_has len_is = record {
   many_disks = length-set l.disks r.part e ∙ whole.many_disks;
   layout = whole.layout;
-  regions = All-weaker (IsOnDisk size l.disks) (IsOnDisk size (set l.disks r.part e)) (λ q on. on_disk_set size l.disks r.part d e q at same on) l.layout whole.regions;
+  regions = All-weaker (IsOnDisk disk l.disks) (IsOnDisk disk (set l.disks r.part e)) (λ q on. on_disk_set disk l.disks r.part d e q at same on) l.layout whole.regions;
   apart = whole.apart;
   few = whole.few;
   many = length-set l.heads l.committing _ ∙ whole.many;
@@ -344,7 +345,7 @@ turned_whole size l r q found next d e b calls len whole ends sealed here has fi
   unsealed = λ i other least other_at.
       whole.unsealed i other (omega (arith, least)) (sym (slice_get_set_other l.heads l.committing i (record found { head = b.head }) (λ same. omega (arith, least, same))) ∙ other_at);
   base = omega (arith, whole.base);
-  committing = omega (arith, next_there size l whole sealed);
+  committing = omega (arith, next_there disk l whole sealed);
   arena = λ s other s_at other_at.
       let s_is : q ≡ s = same_Some q s (sym next_here ∙ s_at) in
       let other_is : next ≡ other = same_Some next other (sym next_has ∙ sym (slice_get_set_other l.heads l.committing (l.committing + 1) (record found { head = b.head }) (λ same. omega (arith, same))) ∙ other_at) in
@@ -353,7 +354,7 @@ turned_whole size l r q found next d e b calls len whole ends sealed here has fi
         number = (whole.heads (l.committing + 1) q next next_here next_has).number ∙ ap (λ (x : ArenaRegion). x.number) s_is;
         head = ap (λ (f : Found). f.head) other_is;
       };
-  none = λ past. absurd (omega (arith, past, next_there size l whole sealed));
+  none = λ past. absurd (omega (arith, past, next_there disk l whole sealed));
   number = refl;
   clumps = omega arith;
   runs = λ runs. refl;
@@ -381,62 +382,62 @@ turned_whole size l r q found next d e b calls len whole ends sealed here has fi
     new_head = slice_get_set_same l.heads l.committing (record found { head = b.head }) (slice_get_within l.heads l.committing found has)
 
 -- and the disks sound
-pub turned_sound : {D : Type 0} (score_of : List ℕ → List ℕ) (bytes : D → List ℕ) (images : D → List ℕ → Type 0) (size : D → ℕ) (l : LogState D) (h : History)
-    (r q : ArenaRegion) (found next_found : Found) (region : Region) (d e : D) (b : ArenaState) (calls len : ℕ) (a : Content) → (sound : IsSound score_of bytes images size l h)
-    → IsEnding score_of bytes images size l r found region d e b → l.arena.next.sealed ≡ true → slice_get sound.contents l.committing ≡ Some a
+pub turned_sound : {D : Type 0} (score_of : List ℕ → List ℕ) (disk : DiskOf D) (l : LogState D) (h : History)
+    (r q : ArenaRegion) (found next_found : Found) (region : Region) (d e : D) (b : ArenaState) (calls len : ℕ) (a : Content) → (sound : IsSound score_of disk l h)
+    → IsEnding score_of disk l r found region d e b → l.arena.next.sealed ≡ true → slice_get sound.contents l.committing ≡ Some a
     → slice_get l.layout (l.committing + 1) ≡ Some q → slice_get l.heads (l.committing + 1) ≡ Some next_found → len ≡ q.len
-    → CommitsIn score_of bytes images b region (next_content l.arena a) e → IsSound score_of bytes images size (turned l r.part e found b calls len next_found) h
-turned_sound {D = D} score_of bytes images size l h r q found next_found region d e b calls len a sound ending sealed content next_here next_has len_is commits = record {
+    → CommitsIn score_of disk b region (next_content l.arena a) e → IsSound score_of disk (turned l r.part e found b calls len next_found) h
+turned_sound {D = D} score_of disk l h r q found next_found region d e b calls len a sound ending sealed content next_here next_has len_is commits = record {
   whole = whole;
   contents = cs;
   many = length-set sound.contents l.committing next ∙ sound.many;
   split = split_sealed l.committing sound.contents next within sound.split sealed;
-  current = λ s other disk c there_at c_at.
+  current = λ s other device c there_at c_at.
       let s_is : q ≡ s = same_Some q s (sym next_here ∙ there_at.arena) in
       let not_this : l.committing + 1 ≢ l.committing = λ same. omega (arith, same) in
-      let rests = kept_others score_of bytes images size l k h r found region d e b next sound ending refl refl (l.committing + 1) s other disk c not_this (record { arena = there_at.arena; region_is = there_at.region_is; disk_is = there_at.disk_is }) c_at in
-      let selector = kept_selectors score_of bytes images size l k h r found region d e b sound ending refl refl (l.committing + 1) s other disk next_found (omega arith) (record { arena = there_at.arena; region_is = there_at.region_is; disk_is = there_at.disk_is }) later_next in
-      let head : next_found.head ≡ head_of score_of s.number c = kept_heads score_of bytes images size l h r found region d e b next sound ending within commits.sound.head (l.committing + 1) s next_found c there_at.arena later_next c_at in
+      let rests = kept_others score_of disk l k h r found region d e b next sound ending refl refl (l.committing + 1) s other device c not_this (record { arena = there_at.arena; region_is = there_at.region_is; disk_is = there_at.disk_is }) c_at in
+      let selector = kept_selectors score_of disk l k h r found region d e b sound ending refl refl (l.committing + 1) s other device next_found (omega arith) (record { arena = there_at.arena; region_is = there_at.region_is; disk_is = there_at.disk_is }) later_next in
+      let head : next_found.head ≡ head_of score_of s.number c = kept_heads score_of disk l h r found region d e b next sound ending within commits.sound.head (l.committing + 1) s next_found c there_at.arena later_next c_at in
       let untouched = at_drop IsUntouched (l.committing + 1) sound.contents (l.committing + 1) c sound.split.behind (omega arith) (sym (slice_get_set_other sound.contents l.committing (l.committing + 1) next not_this) ∙ c_at) in
       let empty_head : next_found.head ≡ head_of score_of s.number (record { sealed = c.sealed; stored = [] }) =
       head ∙ ap (λ (stored : List Stored). head_of score_of s.number (record { sealed = c.sealed; stored = stored })) untouched.1 in
-      let on = at_slice (IsOnDisk size (set l.disks r.part e)) l.layout (l.committing + 1) s whole.regions there_at.arena in
-      let disk_is : on.disk ≡ disk = same_Some on.disk disk (sym on.has ∙ there_at.disk_is) in
+      let on = at_slice (IsOnDisk disk (set l.disks r.part e)) l.layout (l.committing + 1) s whole.regions there_at.arena in
+      let disk_is : on.device ≡ device = same_Some on.device device (sym on.has ∙ there_at.disk_is) in
       let stand : CanStand s.number other.len next_found.head = record {
         version = ap (λ (h : ArenaHead). h.version) empty_head;
         number_is = ap (λ (h : ArenaHead). h.number) empty_head;
         chain = ap (λ (h : ArenaHead). length h.chain.0) empty_head;
         fit = omega (arith, (sound.whole.heads (l.committing + 1) q next_found next_here next_has).fit, ap (λ (x : ArenaRegion). x.len) s_is, there_at.region_is.len);
       } in
-      let is_region : IsRegion other (size disk) = record {
-        within = omega (arith, on.within, there_at.region_is.start, there_at.region_is.len, ap size disk_is);
+      let is_region : IsRegion other (disk.size device) = record {
+        within = omega (arith, on.within, there_at.region_is.start, there_at.region_is.len, ap disk.size disk_is);
         aligned = ap (λ (n : ℕ). n % 512) there_at.region_is.start ∙ on.aligned;
         len = (omega (arith, on.len.0, there_at.region_is.len), omega (arith, on.len.1, there_at.region_is.len));
       } in
-      subst (λ (n : ℕ). IsSoundArena score_of (fresh_arena n (next_found.selector % 2) next_found.head) other c (bytes disk) (images disk))
+      subst (λ (n : ℕ). IsSoundArena score_of (fresh_arena n (next_found.selector % 2) next_found.head) other c (disk.bytes device) (disk.images device))
       (there_at.region_is.len ∙ sym (ap (λ (x : ArenaRegion). x.len) s_is) ∙ sym len_is)
-      (fresh_sound score_of other (size disk) s.number (next_found.selector % 2) c next_found.head (bytes disk) (images disk) is_region rests.0 rests.1 selector head stand);
-  others = λ i s other disk c not_next there_at c_at. ⊎_elim
+      (fresh_sound score_of other (disk.size device) s.number (next_found.selector % 2) c next_found.head (disk.bytes device) (disk.images device) is_region rests.0 rests.1 selector head stand);
+  others = λ i s other device c not_next there_at c_at. ⊎_elim
       (λ (is : i ≡ l.committing).
       let r_is : r ≡ s = same_Some r s (sym ending.at.arena ∙ sym (ap (slice_get l.layout) is) ∙ there_at.arena) in
       let part : s.part ≡ r.part = ap (λ (x : ArenaRegion). x.part) (sym r_is) in
-      let disk_is : e ≡ disk = same_Some e disk (sym (slice_get_set_same l.disks r.part e (slice_get_within l.disks r.part d ending.at.disk_is)) ∙ sym (ap (slice_get (set l.disks r.part e)) part) ∙ there_at.disk_is) in
+      let disk_is : e ≡ device = same_Some e device (sym (slice_get_set_same l.disks r.part e (slice_get_within l.disks r.part d ending.at.disk_is)) ∙ sym (ap (slice_get (set l.disks r.part e)) part) ∙ there_at.disk_is) in
       let region_is : region ≡ other = same_region region other
       (ending.at.region_is.start ∙ ap (λ (x : ArenaRegion). x.at) r_is ∙ sym there_at.region_is.start) (ending.at.region_is.len ∙ ap (λ (x : ArenaRegion). x.len) r_is ∙ sym there_at.region_is.len) in
       let c_is : next ≡ c = same_Some next c (sym (slice_get_set_same sound.contents l.committing next within) ∙ sym (ap (slice_get cs) is) ∙ c_at) in
-      let number : b.number ≡ s.number = ending.ends.number ∙ number_is size l r sound.whole ending.at.arena ∙ ap (λ (x : ArenaRegion). x.number) r_is in
-      subst (λ (x : Region). IsSettled x (bytes disk) (images disk) × IsArena score_of x s.number c (bytes disk)) region_is
-      (subst (λ (x : D). IsSettled region (bytes x) (images x) × IsArena score_of region s.number c (bytes x)) disk_is
-      (commits.settled, subst (λ (n : ℕ). IsArena score_of region n c (bytes e)) number (subst (λ (x : Content). IsArena score_of region b.number x (bytes e)) c_is commits.arena))))
-      (λ (not_this : i ≢ l.committing). kept_others score_of bytes images size l k h r found region d e b next sound ending refl refl i s other disk c not_this there_at c_at)
+      let number : b.number ≡ s.number = ending.ends.number ∙ number_is disk l r sound.whole ending.at.arena ∙ ap (λ (x : ArenaRegion). x.number) r_is in
+      subst (λ (x : Region). IsSettled x (disk.bytes device) (disk.images device) × IsArena score_of x s.number c (disk.bytes device)) region_is
+      (subst (λ (x : D). IsSettled region (disk.bytes x) (disk.images x) × IsArena score_of region s.number c (disk.bytes x)) disk_is
+      (commits.settled, subst (λ (n : ℕ). IsArena score_of region n c (disk.bytes e)) number (subst (λ (x : Content). IsArena score_of region b.number x (disk.bytes e)) c_is commits.arena))))
+      (λ (not_this : i ≢ l.committing). kept_others score_of disk l k h r found region d e b next sound ending refl refl i s other device c not_this there_at c_at)
       (cases_eq i l.committing);
-  heads = kept_heads score_of bytes images size l h r found region d e b next sound ending within commits.sound.head;
-  selectors = λ i s other disk f behind there_at f_at. kept_selectors score_of bytes images size l k h r found region d e b sound ending refl refl i s other disk f (omega (arith, behind)) there_at f_at;
+  heads = kept_heads score_of disk l h r found region d e b next sound ending within commits.sound.head;
+  selectors = λ i s other device f behind there_at f_at. kept_selectors score_of disk l k h r found region d e b sound ending refl refl i s other device f (omega (arith, behind)) there_at f_at;
   committed = blocks.0;
   queued = blocks.1;
   front = omega (arith, sound.front, sound.whole.places, length-drop (length l.arena.staged) l.queue.places);
   packed = sound.packed;
-  places = kept_places score_of bytes images size l h sound;
+  places = kept_places score_of disk l h sound;
   filling = sound.filling;
   last = sound.last;
   arenas = sound.arenas;
@@ -451,8 +452,8 @@ turned_sound {D = D} score_of bytes images size l h r q found next_found region 
     cs : List Content
     cs = set sound.contents l.committing next
 
-    whole : IsWhole size k
-    whole = turned_whole size l r q found next_found d e b calls len sound.whole ending.ends sealed ending.at.arena ending.has ending.fit ending.at.disk_is ending.changes.size_is next_here next_has len_is
+    whole : IsWhole disk k
+    whole = turned_whole disk l r q found next_found d e b calls len sound.whole ending.ends sealed ending.at.arena ending.has ending.fit ending.at.disk_is ending.changes.size_is next_here next_has len_is
 
     within : l.committing < length sound.contents
     within = slice_get_within sound.contents l.committing a content
@@ -461,4 +462,4 @@ turned_sound {D = D} score_of bytes images size l h r q found next_found region 
     later_next = slice_get_set_other l.heads l.committing (l.committing + 1) (record found { head = b.head }) (λ same. omega (arith, same)) ∙ next_has
 
     blocks : (take (l.durable + length l.arena.staged) h ≡ blocks_from 0 cs) × (drop (l.durable + length l.arena.staged) h ≡ map waiting_block l.queue.waiting) × (l.durable + length l.arena.staged ≤ length h)
-    blocks = committed_next score_of bytes images size l h a sound content
+    blocks = committed_next score_of disk l h a sound content

@@ -5,6 +5,7 @@ use borrow.Author.Tests.{leb-true}
 use Rattle.std.proofs.lemmas.Bool.Decides.{eqb_tells}
 use Rattle.std.proofs.lemmas.List.{get_or-map, get_or_past, length-map}
 use Rattle.std.proofs.lemmas.Option.{slice_get_within, slice_get_cases}
+use Rattle.vt_log.specs.Members.{DiskOf}
 use Rattle.vt_part.specs.declared.layout.ArenaRegion.{ArenaRegion}
 use Rattle.vt_arena.specs.declared.head.Found.{Found}
 use Rattle.vt_log.specs.declared.filling.Filling.{Filling}
@@ -65,11 +66,11 @@ fill_arena layout heads from to (w ∷ ws) fill =
     (omega (arith, rest.0, is, fill.0), λ _. rest.1 (omega (arith, below)))
 
 -- what a block fits has small numbers
-pub fits_small : {D : Type 0} (size : D → ℕ) (l : LogState D) (f : Filling) (n : ℕ) → IsWhole size l → fits_in l.layout f n ≡ true
+pub fits_small : {D : Type 0} (disk : DiskOf D) (l : LogState D) (f : Filling) (n : ℕ) → IsWhole disk l → fits_in l.layout f n ≡ true
     → (f.used + n + 38 < 2147483648) × (f.clumps + 1 < 4294967296)
-fits_small size l f n whole fit =
+fits_small disk l f n whole fit =
     let there = fits_within l.layout f n fit in
-    let on = at_slice (IsOnDisk size l.disks) l.layout f.arena there.0 whole.regions there.1 in
+    let on = at_slice (IsOnDisk disk l.disks) l.layout f.arena there.0 whole.regions there.1 in
     (omega (arith, there.2, on.len.1), omega (arith, there.2, on.len.1))
 
 -- no arena has room

@@ -5,6 +5,7 @@ use Rattle.std.proofs.lemmas.Bool.{cases_eq}
 use Rattle.std.proofs.lemmas.List.{length-map, length_push, map-append, drop_more, drop_all, map_more, length-take-le}
 use Rattle.std.proofs.lemmas.Option.{slice_get_within, slice_get-get_or, slice_get-map, same_Some, get_or_from_slice_get}
 use Rattle.vt_base.specs.Faults.{HasRisen}
+use Rattle.vt_log.specs.Members.{DiskOf}
 use Rattle.vt_disk.specs.declared.region.Region.{Region}
 use Rattle.vt_disk.specs.Disk.{AreAmong, Only, part as part_of}
 use Rattle.vt_twin.specs.Frames.{named_number}
@@ -76,118 +77,118 @@ room_past layout heads arena len current head a past none fresh = record {
 
 -- ---- partitions that are read
 
-module _ {D : Type 0} (tells : Bool) (bytes : D → List ℕ) (images : D → List ℕ → Type 0) (size calls : D → ℕ) where
-  pub hold_refl : (ds : List D) → HoldTheSame bytes images size ds ds
+module _ {D : Type 0} (disk : DiskOf D) where
+  pub hold_refl : (ds : List D) → HoldTheSame disk ds ds
   hold_refl ds = record {
     bytes_are = refl;
     sizes_are = refl;
     images_are = λ i before after was is.
         let same : before ≡ after = same_Some before after (sym was ∙ is) in
-        λ c left. subst (λ (d : D). images d c) (sym same) left;
+        λ c left. subst (λ (d : D). disk.images d c) (sym same) left;
   }
 
-  pub hold_then : (ds es fs : List D) → HoldTheSame bytes images size ds es → HoldTheSame bytes images size es fs → HoldTheSame bytes images size ds fs
+  pub hold_then : (ds es fs : List D) → HoldTheSame disk ds es → HoldTheSame disk es fs → HoldTheSame disk ds fs
   hold_then ds es fs one two = record {
     bytes_are = two.bytes_are ∙ one.bytes_are;
     sizes_are = two.sizes_are ∙ one.sizes_are;
     images_are = λ i before after was is.
-        let mid = slice_get_other es ds i before (sym (map_long size ds es one.sizes_are)) was in
+        let mid = slice_get_other es ds i before (sym (map_long disk.size ds es one.sizes_are)) was in
         λ c left. one.images_are i before mid.0 was mid.1 c (two.images_are i mid.0 after mid.1 is c left);
   }
 
-  pub read_refl : (ps : List (Part D)) → AreRead tells bytes images size calls 0 ps ps
+  pub read_refl : (ps : List (Part D)) → AreRead disk 0 ps ps
   read_refl ps = record { tables = refl; disks = hold_refl (disks_of ps); calls_most = λ told. omega arith }
 
-  pub read_then : (m n k : ℕ) (ps qs rs : List (Part D)) → m + n ≤ k → AreRead tells bytes images size calls m ps qs → AreRead tells bytes images size calls n qs rs
-      → AreRead tells bytes images size calls k ps rs
+  pub read_then : (m n k : ℕ) (ps qs rs : List (Part D)) → m + n ≤ k → AreRead disk m ps qs → AreRead disk n qs rs
+      → AreRead disk k ps rs
   read_then m n k ps qs rs most one two = record {
     tables = two.tables ∙ one.tables;
     disks = hold_then (disks_of ps) (disks_of qs) (disks_of rs) one.disks two.disks;
     calls_most = λ told. omega (arith, most, one.calls_most told, two.calls_most told);
   }
 
-  pub read_more : (m k : ℕ) (ps qs : List (Part D)) → m ≤ k → AreRead tells bytes images size calls m ps qs → AreRead tells bytes images size calls k ps qs
+  pub read_more : (m k : ℕ) (ps qs : List (Part D)) → m ≤ k → AreRead disk m ps qs → AreRead disk k ps qs
   read_more m k ps qs most read = record { tables = read.tables; disks = read.disks; calls_most = λ told. omega (arith, most, read.calls_most told) }
 
   -- one disk is read or synced
-  pub read_set : (n i : ℕ) (ps : List (Part D)) (p : Part D) (d : D) → slice_get ps i ≡ Some p → bytes d ≡ bytes (disk_of p) → AreAmong (images d) (images (disk_of p)) → size d ≡ size (disk_of p)
-      → (IsTrue tells → calls d ≤ calls (disk_of p) + n) → AreRead tells bytes images size calls n ps (set ps i (record p { disk = d }))
+  pub read_set : (n i : ℕ) (ps : List (Part D)) (p : Part D) (d : D) → slice_get ps i ≡ Some p → disk.bytes d ≡ disk.bytes (disk_of p) → AreAmong (disk.images d) (disk.images (disk_of p)) → disk.size d ≡ disk.size (disk_of p)
+      → (IsTrue disk.tells → disk.calls d ≤ disk.calls (disk_of p) + n) → AreRead disk n ps (set ps i (record p { disk = d }))
   read_set n i ps p d at same_bytes among same_size most =
       let was : slice_get (disks_of ps) i ≡ Some (disk_of p) = slice_get-map (λ (part : Part D). disk_of part) ps i ∙ rw at in
       let is = parts_disks ps i p d in
       record {
         tables = parts_tables ps i p d at;
-        disks = subst (λ (ds : List D). HoldTheSame bytes images size (disks_of ps) ds) (sym is) (hold_set bytes images size (disks_of ps) i (disk_of p) d was same_bytes among same_size);
-        calls_most = λ told. subst (λ (ds : List D). sum_by calls ds ≤ sum_by calls (disks_of ps) + n) (sym is) (calls_set calls (disks_of ps) i (disk_of p) d n was (most told));
+        disks = subst (λ (ds : List D). HoldTheSame disk (disks_of ps) ds) (sym is) (hold_set disk (disks_of ps) i (disk_of p) d was same_bytes among same_size);
+        calls_most = λ told. subst (λ (ds : List D). sum_by disk.calls ds ≤ sum_by disk.calls (disks_of ps) + n) (sym is) (calls_set disk.calls (disks_of ps) i (disk_of p) d n was (most told));
       }
 
   -- what is settled stays settled
-  pub settled_held : (ds es : List D) → HoldTheSame bytes images size ds es → All (λ disk. Only (bytes disk) (images disk)) ds → All (λ disk. Only (bytes disk) (images disk)) es
+  pub settled_held : (ds es : List D) → HoldTheSame disk ds es → All (λ device. Only (disk.bytes device) (disk.images device)) ds → All (λ device. Only (disk.bytes device) (disk.images device)) es
   settled_held ds es hold settled i d within =
       let e : D = get_or es i d in
       let at : slice_get es i ≡ Some e = slice_get-get_or es i d within in
-      let was = slice_get_other ds es i e (map_long size ds es hold.sizes_are) at in
-      λ c left. at_slice (λ disk. Only (bytes disk) (images disk)) ds i was.0 settled was.1 c (hold.images_are i was.0 e was.1 at c left) ∙ sym (map_there bytes ds es i was.0 e hold.bytes_are was.1 at)
+      let was = slice_get_other ds es i e (map_long disk.size ds es hold.sizes_are) at in
+      λ c left. at_slice (λ device. Only (disk.bytes device) (disk.images device)) ds i was.0 settled was.1 c (hold.images_are i was.0 e was.1 at c left) ∙ sym (map_there disk.bytes ds es i was.0 e hold.bytes_are was.1 at)
 
   -- each disk that was synced is settled
-  pub settled_more : (ps : List (Part D)) (i : ℕ) (p : Part D) (d : D) → slice_get ps i ≡ Some p → Only (bytes d) (images d)
-      → ((k : ℕ) (e : D) → k < i → slice_get (disks_of ps) k ≡ Some e → Only (bytes e) (images e))
-      → (k : ℕ) (e : D) → k < i + 1 → slice_get (disks_of (set ps i (record p { disk = d }))) k ≡ Some e → Only (bytes e) (images e)
+  pub settled_more : (ps : List (Part D)) (i : ℕ) (p : Part D) (d : D) → slice_get ps i ≡ Some p → Only (disk.bytes d) (disk.images d)
+      → ((k : ℕ) (e : D) → k < i → slice_get (disks_of ps) k ≡ Some e → Only (disk.bytes e) (disk.images e))
+      → (k : ℕ) (e : D) → k < i + 1 → slice_get (disks_of (set ps i (record p { disk = d }))) k ≡ Some e → Only (disk.bytes e) (disk.images e)
   settled_more ps i p d at settled before k e less is =
       let there : slice_get (set (disks_of ps) i d) k ≡ Some e = ap (λ (ds : List D). slice_get ds k) (sym (parts_disks ps i p d)) ∙ is in
       ⊎_elim
       (λ (here : k ≡ i).
       let within : i < length (disks_of ps) = omega (arith, slice_get_within ps i p at, length-map ps (λ (part : Part D). disk_of part)) in
       let same : d ≡ e = same_Some d e (sym (slice_get_set_same (disks_of ps) i d within) ∙ sym (ap (slice_get (set (disks_of ps) i d)) here) ∙ there) in
-      subst (λ (x : D). Only (bytes x) (images x)) same settled)
+      subst (λ (x : D). Only (disk.bytes x) (disk.images x)) same settled)
       (λ (other : k ≢ i). before k e (omega (arith, less, other)) (sym (slice_get_set_other (disks_of ps) i k d other) ∙ there))
       (cases_eq k i)
 
-  pub settled_all : (ds : List D) (n : ℕ) → length ds ≤ n → ((k : ℕ) (e : D) → k < n → slice_get ds k ≡ Some e → Only (bytes e) (images e))
-      → All (λ disk. Only (bytes disk) (images disk)) ds
+  pub settled_all : (ds : List D) (n : ℕ) → length ds ≤ n → ((k : ℕ) (e : D) → k < n → slice_get ds k ≡ Some e → Only (disk.bytes e) (disk.images e))
+      → All (λ device. Only (disk.bytes device) (disk.images device)) ds
   settled_all ds n many settled k d within = settled k (get_or ds k d) (omega (arith, many, within)) (slice_get-get_or ds k d within)
 
 -- ---- one arena
 
 -- the partition of a region is there, with its disk
-pub record IsPartOf {D : Type 0} (size : D → ℕ) (ps : List (Part D)) (r : ArenaRegion) : Type 0 where
+pub record IsPartOf {D : Type 0} (disk : DiskOf D) (ps : List (Part D)) (r : ArenaRegion) : Type 0 where
   pub below : r.part < length ps
-  pub part_is : (p : Part D) → slice_get ps r.part ≡ Some p → (r.at + r.len ≤ size (disk_of p))
+  pub part_is : (p : Part D) → slice_get ps r.part ≡ Some p → (r.at + r.len ≤ disk.size (disk_of p))
 
 disk_at : {D : Type 0} (ps : List (Part D)) (i : ℕ) (p : Part D) (d : D) → slice_get ps i ≡ Some p → slice_get (disks_of ps) i ≡ Some d → disk_of p ≡ d
 disk_at {D = D} ps i p d at is =
     same_Some (disk_of p) d (sym (slice_get-map (λ (part : Part D). disk_of part) ps i ∙ ap (option_map (λ (part : Part D). disk_of part)) at) ∙ is)
 
-pub part_of_region : {D : Type 0} (size : D → ℕ) (ps : List (Part D)) (r : ArenaRegion) → IsOnDisk size (disks_of ps) r → IsPartOf size ps r
-part_of_region {D = D} size ps r on = record {
-  below = omega (arith, slice_get_within (disks_of ps) r.part on.disk on.has, length-map ps (λ (part : Part D). disk_of part));
-  part_is = λ p at. omega (arith, on.within, ap size (disk_at ps r.part p on.disk at on.has));
+pub part_of_region : {D : Type 0} (disk : DiskOf D) (ps : List (Part D)) (r : ArenaRegion) → IsOnDisk disk (disks_of ps) r → IsPartOf disk ps r
+part_of_region {D = D} disk ps r on = record {
+  below = omega (arith, slice_get_within (disks_of ps) r.part on.device on.has, length-map ps (λ (part : Part D). disk_of part));
+  part_is = λ p at. omega (arith, on.within, ap disk.size (disk_at ps r.part p on.device at on.has));
 }
 
 -- the file of a partition
-file_at : {D : Type 0} (bytes : D → List ℕ) (ps : List (Part D)) (i : ℕ) (p : Part D) (file : List ℕ) → slice_get ps i ≡ Some p → slice_get (map bytes (disks_of ps)) i ≡ Some file → bytes (disk_of p) ≡ file
-file_at {D = D} bytes ps i p file at is =
-    same_Some (bytes (disk_of p)) file (sym (slice_get-map bytes (disks_of ps) i ∙ ap (option_map bytes) (slice_get-map (λ (part : Part D). disk_of part) ps i ∙ ap (option_map (λ (part : Part D). disk_of part)) at)) ∙ is)
+file_at : {D : Type 0} (disk : DiskOf D) (ps : List (Part D)) (i : ℕ) (p : Part D) (file : List ℕ) → slice_get ps i ≡ Some p → slice_get (map disk.bytes (disks_of ps)) i ≡ Some file → disk.bytes (disk_of p) ≡ file
+file_at {D = D} disk ps i p file at is =
+    same_Some (disk.bytes (disk_of p)) file (sym (slice_get-map disk.bytes (disks_of ps) i ∙ ap (option_map disk.bytes) (slice_get-map (λ (part : Part D). disk_of part) ps i ∙ ap (option_map (λ (part : Part D). disk_of part)) at)) ∙ is)
 
-pub fields_for : {D : Type 0} (bytes : D → List ℕ) (ps : List (Part D)) (r : ArenaRegion) (p : Part D) (region : Region) (fields : List ℕ) → slice_get ps r.part ≡ Some p
-    → fields ≡ fields_at region (bytes (disk_of p)) → IsRegionOf r region → AreFieldsAt (map bytes (disks_of ps)) r fields
-fields_for bytes ps r p region fields at is place other file other_place file_is =
+pub fields_for : {D : Type 0} (disk : DiskOf D) (ps : List (Part D)) (r : ArenaRegion) (p : Part D) (region : Region) (fields : List ℕ) → slice_get ps r.part ≡ Some p
+    → fields ≡ fields_at region (disk.bytes (disk_of p)) → IsRegionOf r region → AreFieldsAt (map disk.bytes (disks_of ps)) r fields
+fields_for disk ps r p region fields at is place other file other_place file_is =
     is
-    ∙ ap (fields_at region) (file_at bytes ps r.part p file at file_is)
+    ∙ ap (fields_at region) (file_at disk ps r.part p file at file_is)
     ∙ ap (λ (x : Region). fields_at x file) (same_region region other (place.start ∙ sym other_place.start) (place.len ∙ sym other_place.len))
 
 -- what finding it gives
-pub found_for : {D : Type 0} (tells : Bool) (bytes : D → List ℕ) (ps : List (Part D)) (r : ArenaRegion) (p : Part D) (region : Region) (found : Found) → slice_get ps r.part ≡ Some p
+pub found_for : {D : Type 0} (disk : DiskOf D) (ps : List (Part D)) (r : ArenaRegion) (p : Part D) (region : Region) (found : Found) → slice_get ps r.part ≡ Some p
     → CanStand r.number r.len found.head
-    → (IsTrue tells → found.selector % 2 ≡ named_number region FRAME_LEN (bytes (disk_of p)))
-    → ((score_of : List ℕ → List ℕ) (a : Content) → IsTrue tells → IsArena score_of region r.number a (bytes (disk_of p)) → found.head ≡ head_of score_of r.number a)
-    → IsRegionOf r region → (disk : D) → slice_get (disks_of ps) r.part ≡ Some disk → IsFound tells r (bytes disk) found
-found_for {D = D} tells bytes ps r p region found at stands selector head place disk is =
-    subst (λ (d : D). IsFound tells r (bytes d) found) (disk_at ps r.part p disk at is) (record {
+    → (IsTrue disk.tells → found.selector % 2 ≡ named_number region FRAME_LEN (disk.bytes (disk_of p)))
+    → ((score_of : List ℕ → List ℕ) (a : Content) → IsTrue disk.tells → IsArena score_of region r.number a (disk.bytes (disk_of p)) → found.head ≡ head_of score_of r.number a)
+    → IsRegionOf r region → (device : D) → slice_get (disks_of ps) r.part ≡ Some device → IsFound disk.tells r (disk.bytes device) found
+found_for {D = D} disk ps r p region found at stands selector head place device is =
+    subst (λ (d : D). IsFound disk.tells r (disk.bytes d) found) (disk_at ps r.part p device at is) (record {
       stands = stands;
-      selector = λ other told other_place. selector told ∙ ap (λ (x : Region). named_number x FRAME_LEN (bytes (disk_of p))) (same other other_place);
+      selector = λ other told other_place. selector told ∙ ap (λ (x : Region). named_number x FRAME_LEN (disk.bytes (disk_of p))) (same other other_place);
       head = λ score_of other a told other_place arena.
-          head score_of a told (subst (λ (x : Region). IsArena score_of x r.number a (bytes (disk_of p))) (sym (same other other_place)) arena);
+          head score_of a told (subst (λ (x : Region). IsArena score_of x r.number a (disk.bytes (disk_of p))) (sym (same other other_place)) arena);
     })
   where
     same : (other : Region) → IsRegionOf r other → region ≡ other
@@ -287,13 +288,13 @@ fields_are files layout = record {
       slice_get-map (fields_there files) layout i ∙ ap (option_map (fields_there files)) at ∙ ap (λ (l : List ℕ). Some l) (there_is files r region file place is);
 }
 
-pub fields_one : {D : Type 0} (bytes : D → List ℕ) (size : D → ℕ) (ds : List D) (r : ArenaRegion) (fields : List ℕ) → IsOnDisk size ds r → AreFieldsAt (map bytes ds) r fields
-    → fields ≡ fields_there (map bytes ds) r
-fields_one bytes size ds r fields on are =
+pub fields_one : {D : Type 0} (disk : DiskOf D) (ds : List D) (r : ArenaRegion) (fields : List ℕ) → IsOnDisk disk ds r → AreFieldsAt (map disk.bytes ds) r fields
+    → fields ≡ fields_there (map disk.bytes ds) r
+fields_one disk ds r fields on are =
     let region : Region = record { start = r.at; len = r.len; in_range = on.small } in
     let place : IsRegionOf r region = record { start = refl; len = refl } in
-    let is : slice_get (map bytes ds) r.part ≡ Some (bytes on.disk) = slice_get-map bytes ds r.part ∙ ap (option_map bytes) on.has in
-    are region (bytes on.disk) place is ∙ sym (there_is (map bytes ds) r region (bytes on.disk) place is)
+    let is : slice_get (map disk.bytes ds) r.part ≡ Some (disk.bytes on.device) = slice_get-map disk.bytes ds r.part ∙ ap (option_map disk.bytes) on.has in
+    are region (disk.bytes on.device) place is ∙ sym (there_is (map disk.bytes ds) r region (disk.bytes on.device) place is)
 
 -- the fields of the heads that were found
 abbrev pub fields_of_all : List Found → List (List ℕ)
@@ -349,29 +350,29 @@ passes_all layout heads behind i passes past = record {
 }
 
 -- the next one is refused
-pub stops : {D : Type 0} (tells : Bool) (bytes : D → List ℕ) (size : D → ℕ) (ds : List D) (layout : List ArenaRegion) (heads : List Found) (behind : Bool) (i : ℕ) (r : ArenaRegion) (bad : LogBad)
-    → All (IsOnDisk size ds) layout → Passes layout heads behind i → (IsTrue tells → fields_of_all heads ≡ map (fields_there (map bytes ds)) (take i layout))
+pub stops : {D : Type 0} (disk : DiskOf D) (ds : List D) (layout : List ArenaRegion) (heads : List Found) (behind : Bool) (i : ℕ) (r : ArenaRegion) (bad : LogBad)
+    → All (IsOnDisk disk ds) layout → Passes layout heads behind i → (IsTrue disk.tells → fields_of_all heads ≡ map (fields_there (map disk.bytes ds)) (take i layout))
     → slice_get layout i ≡ Some r
-    → (fields : List ℕ) × (IsTrue tells → AreFieldsAt (map bytes ds) r fields) × FindsNext behind i r fields (Err bad)
-    → (fields : List (List ℕ)) × (IsTrue tells → AreFields layout (map bytes ds) fields) × RefusesArenas layout fields bad
-stops {D = D} tells bytes size ds layout heads behind i r bad regions passes so_far at answer =
-    let rest : List (List ℕ) = map (fields_there (map bytes ds)) (drop (i + 1) layout) in (
+    → (fields : List ℕ) × (IsTrue disk.tells → AreFieldsAt (map disk.bytes ds) r fields) × FindsNext behind i r fields (Err bad)
+    → (fields : List (List ℕ)) × (IsTrue disk.tells → AreFields layout (map disk.bytes ds) fields) × RefusesArenas layout fields bad
+stops {D = D} disk ds layout heads behind i r bad regions passes so_far at answer =
+    let rest : List (List ℕ) = map (fields_there (map disk.bytes ds)) (drop (i + 1) layout) in (
       fields_of_all heads ++ answer.0 ∷ rest,
-      λ told. subst (AreFields layout (map bytes ds)) (sym (whole told)) (fields_are (map bytes ds) layout),
+      λ told. subst (AreFields layout (map disk.bytes ds)) (sym (whole told)) (fields_are (map disk.bytes ds) layout),
       refuses bad answer.2,
     )
   where
-    on : IsOnDisk size ds r
-    on = at_slice (IsOnDisk size ds) layout i r regions at
+    on : IsOnDisk disk ds r
+    on = at_slice (IsOnDisk disk ds) layout i r regions at
 
-    whole : (told : IsTrue tells) → fields_of_all heads ++ answer.0 ∷ map (fields_there (map bytes ds)) (drop (i + 1) layout) ≡ map (fields_there (map bytes ds)) layout
+    whole : (told : IsTrue disk.tells) → fields_of_all heads ++ answer.0 ∷ map (fields_there (map disk.bytes ds)) (drop (i + 1) layout) ≡ map (fields_there (map disk.bytes ds)) layout
     whole told =
-        (λ j. so_far told j ++ fields_one bytes size ds r answer.0 on (answer.1 told) j ∷ map (fields_there (map bytes ds)) (drop (i + 1) layout))
-        ∙ sym (map-append (fields_there (map bytes ds)) (take i layout) (r ∷ drop (i + 1) layout))
-        ∙ ap (λ (rs : List ArenaRegion). map (fields_there (map bytes ds)) (take i layout ++ rs)) (sym (drop_at layout i r at))
-        ∙ ap (map (fields_there (map bytes ds))) (take-append-drop i layout)
+        (λ j. so_far told j ++ fields_one disk ds r answer.0 on (answer.1 told) j ∷ map (fields_there (map disk.bytes ds)) (drop (i + 1) layout))
+        ∙ sym (map-append (fields_there (map disk.bytes ds)) (take i layout) (r ∷ drop (i + 1) layout))
+        ∙ ap (λ (rs : List ArenaRegion). map (fields_there (map disk.bytes ds)) (take i layout ++ rs)) (sym (drop_at layout i r at))
+        ∙ ap (map (fields_there (map disk.bytes ds))) (take-append-drop i layout)
 
-    refuses : (bad : LogBad) → FindsNext behind i r answer.0 (Err bad) → RefusesArenas layout (fields_of_all heads ++ answer.0 ∷ map (fields_there (map bytes ds)) (drop (i + 1) layout)) bad
+    refuses : (bad : LogBad) → FindsNext behind i r answer.0 (Err bad) → RefusesArenas layout (fields_of_all heads ++ answer.0 ∷ map (fields_there (map disk.bytes ds)) (drop (i + 1) layout)) bad
     refuses (PartRefused it) is = is
     refuses (Arena j it) is = passes_stop layout heads behind i r answer.0 _ (Arena j it) passes at is
     refuses (Order j clumps) is = passes_stop layout heads behind i r answer.0 _ (Order j clumps) passes at is
@@ -428,38 +429,38 @@ found_none tells layout files heads none = subst (AreFound tells (take 0 layout)
 })
 
 -- a region is still there
-pub on_held : {D : Type 0} (bytes : D → List ℕ) (images : D → List ℕ → Type 0) (size : D → ℕ) (ds es : List D) (r : ArenaRegion) → HoldTheSame bytes images size ds es → IsOnDisk size ds r → IsOnDisk size es r
-on_held bytes images size ds es r hold on =
-    let now = slice_get_other es ds r.part on.disk (sym (map_long size ds es hold.sizes_are)) on.has in record {
-      disk = now.0;
+pub on_held : {D : Type 0} (disk : DiskOf D) (ds es : List D) (r : ArenaRegion) → HoldTheSame disk ds es → IsOnDisk disk ds r → IsOnDisk disk es r
+on_held disk ds es r hold on =
+    let now = slice_get_other es ds r.part on.device (sym (map_long disk.size ds es hold.sizes_are)) on.has in record {
+      device = now.0;
       has = now.1;
-      within = omega (arith, on.within, map_there size ds es r.part on.disk now.0 hold.sizes_are on.has now.1);
+      within = omega (arith, on.within, map_there disk.size ds es r.part on.device now.0 hold.sizes_are on.has now.1);
       small = on.small;
       aligned = on.aligned;
       len = on.len;
     }
 
 -- what is found is told by the file
-pub found_file : {D : Type 0} (tells : Bool) (bytes : D → List ℕ) (ds : List D) (files : List (List ℕ)) (r : ArenaRegion) (found : Found) → map bytes ds ≡ files
-    → ((disk : D) → slice_get ds r.part ≡ Some disk → IsFound tells r (bytes disk) found) → (file : List ℕ) → slice_get files r.part ≡ Some file → IsFound tells r file found
-found_file {D = D} tells bytes ds files r found same finds file at =
-    let disk = slice_get_other ds files r.part file (ap (λ (fs : List (List ℕ)). length fs) (sym same) ∙ length-map ds bytes) at in
-    let is : bytes disk.0 ≡ file = same_Some (bytes disk.0) file (sym (slice_get-map bytes ds r.part ∙ ap (option_map bytes) disk.1) ∙ ap (λ (fs : List (List ℕ)). slice_get fs r.part) same ∙ at) in
-    subst (λ (f : List ℕ). IsFound tells r f found) is (finds disk.0 disk.1)
+pub found_file : {D : Type 0} (disk : DiskOf D) (ds : List D) (files : List (List ℕ)) (r : ArenaRegion) (found : Found) → map disk.bytes ds ≡ files
+    → ((device : D) → slice_get ds r.part ≡ Some device → IsFound disk.tells r (disk.bytes device) found) → (file : List ℕ) → slice_get files r.part ≡ Some file → IsFound disk.tells r file found
+found_file {D = D} disk ds files r found same finds file at =
+    let device = slice_get_other ds files r.part file (ap (λ (fs : List (List ℕ)). length fs) (sym same) ∙ length-map ds disk.bytes) at in
+    let is : disk.bytes device.0 ≡ file = same_Some (disk.bytes device.0) file (sym (slice_get-map disk.bytes ds r.part ∙ ap (option_map disk.bytes) device.1) ∙ ap (λ (fs : List (List ℕ)). slice_get fs r.part) same ∙ at) in
+    subst (λ (f : List ℕ). IsFound disk.tells r f found) is (finds device.0 device.1)
 
-pub fields_more : {D : Type 0} (bytes : D → List ℕ) (size : D → ℕ) (ds : List D) (layout : List ArenaRegion) (heads : List Found) (i : ℕ) (r : ArenaRegion) (found : Found) → All (IsOnDisk size ds) layout
-    → slice_get layout i ≡ Some r → AreFieldsAt (map bytes ds) r (fields_of found.head) → fields_of_all heads ≡ map (fields_there (map bytes ds)) (take i layout)
-    → fields_of_all (heads ++ found ∷ []) ≡ map (fields_there (map bytes ds)) (take (i + 1) layout)
-fields_more bytes size ds layout heads i r found regions at are so_far =
+pub fields_more : {D : Type 0} (disk : DiskOf D) (ds : List D) (layout : List ArenaRegion) (heads : List Found) (i : ℕ) (r : ArenaRegion) (found : Found) → All (IsOnDisk disk ds) layout
+    → slice_get layout i ≡ Some r → AreFieldsAt (map disk.bytes ds) r (fields_of found.head) → fields_of_all heads ≡ map (fields_there (map disk.bytes ds)) (take i layout)
+    → fields_of_all (heads ++ found ∷ []) ≡ map (fields_there (map disk.bytes ds)) (take (i + 1) layout)
+fields_more disk ds layout heads i r found regions at are so_far =
     map-append (λ (x : Found). fields_of x.head) heads (found ∷ [])
-    ∙ (λ j. so_far j ++ fields_one bytes size ds r (fields_of found.head) (at_slice (IsOnDisk size ds) layout i r regions at) are j ∷ [])
-    ∙ ap (λ (q : ArenaRegion). map (fields_there (map bytes ds)) (take i layout) ++ fields_there (map bytes ds) q ∷ []) (sym (get_or_from_slice_get layout i r r at))
-    ∙ sym (map_more (fields_there (map bytes ds)) layout i r (slice_get_within layout i r at))
+    ∙ (λ j. so_far j ++ fields_one disk ds r (fields_of found.head) (at_slice (IsOnDisk disk ds) layout i r regions at) are j ∷ [])
+    ∙ ap (λ (q : ArenaRegion). map (fields_there (map disk.bytes ds)) (take i layout) ++ fields_there (map disk.bytes ds) q ∷ []) (sym (get_or_from_slice_get layout i r r at))
+    ∙ sym (map_more (fields_there (map disk.bytes ds)) layout i r (slice_get_within layout i r at))
 
 -- a head that was found can stand in its region
-pub found_stands : {D : Type 0} (tells : Bool) (bytes : D → List ℕ) (size : D → ℕ) (ds : List D) (rs : List ArenaRegion) (heads : List Found) (i : ℕ) (r : ArenaRegion) (found : Found)
-    → All (IsOnDisk size ds) rs → AreFound tells rs (map bytes ds) heads → slice_get rs i ≡ Some r → slice_get heads i ≡ Some found
+pub found_stands : {D : Type 0} (disk : DiskOf D) (ds : List D) (rs : List ArenaRegion) (heads : List Found) (i : ℕ) (r : ArenaRegion) (found : Found)
+    → All (IsOnDisk disk ds) rs → AreFound disk.tells rs (map disk.bytes ds) heads → slice_get rs i ≡ Some r → slice_get heads i ≡ Some found
     → IsArenaLen r.len × CanStand r.number r.len found.head
-found_stands {D = D} tells bytes size ds rs heads i r found regions are at at_found =
-    let on = at_slice (IsOnDisk size ds) rs i r regions at in
-    (on.len, (are.each i r (bytes on.disk) found at (slice_get-map bytes ds r.part ∙ ap (option_map bytes) on.has) at_found).stands)
+found_stands {D = D} disk ds rs heads i r found regions are at at_found =
+    let on = at_slice (IsOnDisk disk ds) rs i r regions at in
+    (on.len, (are.each i r (disk.bytes on.device) found at (slice_get-map disk.bytes ds r.part ∙ ap (option_map disk.bytes) on.has) at_found).stands)

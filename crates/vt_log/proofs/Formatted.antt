@@ -7,6 +7,7 @@ use Rattle.std.proofs.lemmas.List.Elements.{All-map}
 use Rattle.std.proofs.lemmas.List.Sums.{sum_by_more}
 use Rattle.std.proofs.lemmas.Option.{slice_get_within, slice_get-get_or, slice_get-map, same_Some, get_or_from_slice_get}
 use Rattle.vt_base.specs.Faults.{HasRisen}
+use Rattle.vt_log.specs.Members.{DiskOf}
 use Rattle.vt_disk.specs.declared.region.Region.{Region}
 use Rattle.vt_disk.specs.Disk.{IsAligned, ChangesAt, Only}
 use Rattle.vt_disk.specs.Region.{region_bytes}
@@ -55,11 +56,11 @@ changes_wider P Q before after wider changes c left =
     let from = changes c left in
     (from.0, from.1, same_wider P Q wider from.0 c from.2)
 
-pub heads_then : {D : Type 0} (tells : Bool) (bytes : D → List ℕ) (images : D → List ℕ → Type 0) (t : Table) (a b c : D)
-    → ChangesInHeads tells bytes images t a b → ChangesInHeads tells bytes images t b c → ChangesInHeads tells bytes images t a c
-heads_then tells bytes images t a b c one two = (
-  λ told. same_then (InHeads t) (bytes a) (bytes b) (bytes c) (one.0 told) (two.0 told),
-  changes_then (InHeads t) (images a) (images b) (images c) one.1 two.1,
+pub heads_then : {D : Type 0} (disk : DiskOf D) (t : Table) (a b c : D)
+    → ChangesInHeads disk t a b → ChangesInHeads disk t b c → ChangesInHeads disk t a c
+heads_then disk t a b c one two = (
+  λ told. same_then (InHeads t) (disk.bytes a) (disk.bytes b) (disk.bytes c) (one.0 told) (two.0 told),
+  changes_then (InHeads t) (disk.images a) (disk.images b) (disk.images c) one.1 two.1,
 )
 
 -- a head that is written leaves the arenas before it
@@ -104,28 +105,28 @@ module _ {D : Type 0} (ps : List (Part D)) (i : ℕ) (p q : Part D) (at : slice_
   pub calls_part : (f : D → ℕ) (k : ℕ) → f (disk_of q) ≤ f (disk_of p) + k → sum_by f (disks_of (set ps i q)) ≤ sum_by f (disks_of ps) + k
   calls_part f k most = subst (λ (ds : List D). sum_by f ds ≤ sum_by f (disks_of ps) + k) (sym disks_set) (calls_set f (disks_of ps) i (disk_of p) (disk_of q) k disk_there most)
 
-  pub stays_set : (tells : Bool) (bytes : D → List ℕ) (images : D → List ℕ → Type 0) (old : List (Part D)) → tables_of ps ≡ tables_of old
-      → ((k : ℕ) (before after : Part D) → slice_get old k ≡ Some before → slice_get ps k ≡ Some after → ChangesInHeads tells bytes images (table_of before) (disk_of before) (disk_of after))
-      → ChangesInHeads tells bytes images (table_of p) (disk_of p) (disk_of q)
+  pub stays_set : (disk : DiskOf D) (old : List (Part D)) → tables_of ps ≡ tables_of old
+      → ((k : ℕ) (before after : Part D) → slice_get old k ≡ Some before → slice_get ps k ≡ Some after → ChangesInHeads disk (table_of before) (disk_of before) (disk_of after))
+      → ChangesInHeads disk (table_of p) (disk_of p) (disk_of q)
       → (k : ℕ) (before after : Part D) → slice_get old k ≡ Some before → slice_get (set ps i q) k ≡ Some after
-      → ChangesInHeads tells bytes images (table_of before) (disk_of before) (disk_of after)
-  stays_set tells bytes images old tables stays step k before after was is = ⊎_elim
+      → ChangesInHeads disk (table_of before) (disk_of before) (disk_of after)
+  stays_set disk old tables stays step k before after was is = ⊎_elim
       (λ (here : k ≡ i).
       let there : slice_get ps k ≡ Some p = ap (slice_get ps) here ∙ at in
       let same : q ≡ after = same_Some q after (sym (slice_get_set_same ps i q (slice_get_within ps i p at)) ∙ sym (ap (slice_get (set ps i q)) here) ∙ is) in
       let table : table_of p ≡ table_of before = map_there (λ (part : Part D). table_of part) old ps k before p tables was there in
-      subst (λ (x : Part D). ChangesInHeads tells bytes images (table_of before) (disk_of before) (disk_of x)) same
-      (heads_then tells bytes images (table_of before) (disk_of before) (disk_of p) (disk_of q) (stays k before p was there)
-      (subst (λ (t : Table). ChangesInHeads tells bytes images t (disk_of p) (disk_of q)) table step)))
+      subst (λ (x : Part D). ChangesInHeads disk (table_of before) (disk_of before) (disk_of x)) same
+      (heads_then disk (table_of before) (disk_of before) (disk_of p) (disk_of q) (stays k before p was there)
+      (subst (λ (t : Table). ChangesInHeads disk t (disk_of p) (disk_of q)) table step)))
       (λ (other : k ≢ i). stays k before after was (sym (slice_get_set_other ps i k q other) ∙ is))
       (cases_eq k i)
 
-  pub empty_set : (bytes : D → List ℕ) (images : D → List ℕ → Type 0) → ((k : ℕ) (part : Part D) → k < i → slice_get ps k ≡ Some part → IsEmpty bytes images part) → IsEmpty bytes images q
-      → (k : ℕ) (part : Part D) → k < i + 1 → slice_get (set ps i q) k ≡ Some part → IsEmpty bytes images part
-  empty_set bytes images before new k part less is = ⊎_elim
+  pub empty_set : (disk : DiskOf D) → ((k : ℕ) (part : Part D) → k < i → slice_get ps k ≡ Some part → IsEmpty disk part) → IsEmpty disk q
+      → (k : ℕ) (part : Part D) → k < i + 1 → slice_get (set ps i q) k ≡ Some part → IsEmpty disk part
+  empty_set disk before new k part less is = ⊎_elim
       (λ (here : k ≡ i).
       let same : q ≡ part = same_Some q part (sym (slice_get_set_same ps i q (slice_get_within ps i p at)) ∙ sym (ap (slice_get (set ps i q)) here) ∙ is) in
-      subst (IsEmpty bytes images) same new)
+      subst (IsEmpty disk) same new)
       (λ (other : k ≢ i). before k part (omega (arith, less, other)) (sym (slice_get_set_other ps i k q other) ∙ is))
       (cases_eq k i)
 
@@ -139,14 +140,14 @@ count_more {D = D} old ps i p same at =
     ∙ ap (λ (t : Table). arena_count (take i (tables_of old)) + t.count) (get_or_from_slice_get (tables_of old) i (table_of p) (table_of p) there)
 
 -- a partition keeps its room
-pub room_kept : {D : Type 0} (size : D → ℕ) (old ps : List (Part D)) (i : ℕ) (p : Part D) → tables_of ps ≡ tables_of old → map size (disks_of ps) ≡ map size (disks_of old)
-    → All (λ part. end_of (table_of part) ≤ size (disk_of part)) old → slice_get ps i ≡ Some p → end_of (table_of p) ≤ size (disk_of p)
-room_kept {D = D} size old ps i p tables sizes rooms at =
+pub room_kept : {D : Type 0} (disk : DiskOf D) (old ps : List (Part D)) (i : ℕ) (p : Part D) → tables_of ps ≡ tables_of old → map disk.size (disks_of ps) ≡ map disk.size (disks_of old)
+    → All (λ part. end_of (table_of part) ≤ disk.size (disk_of part)) old → slice_get ps i ≡ Some p → end_of (table_of p) ≤ disk.size (disk_of p)
+room_kept {D = D} disk old ps i p tables sizes rooms at =
     let many : length ps ≡ length old = sym (length-map ps (λ (part : Part D). table_of part)) ∙ ap (λ (ts : List Table). length ts) tables ∙ length-map old (λ (part : Part D). table_of part) in
     let was = slice_get_other old ps i p many at in
     let table : table_of p ≡ table_of was.0 = map_there (λ (part : Part D). table_of part) old ps i was.0 p tables was.1 at in
-    let long : size (disk_of p) ≡ size (disk_of was.0) = map_there size (disks_of old) (disks_of ps) i (disk_of was.0) (disk_of p) sizes (disk_there old i was.0 was.0 was.1) (disk_there ps i p p at) in
-    omega (arith, at_slice (λ (part : Part D). end_of (table_of part) ≤ size (disk_of part)) old i was.0 rooms was.1, ap end_of table, long)
+    let long : disk.size (disk_of p) ≡ disk.size (disk_of was.0) = map_there disk.size (disks_of old) (disks_of ps) i (disk_of was.0) (disk_of p) sizes (disk_there old i was.0 was.0 was.1) (disk_there ps i p p at) in
+    omega (arith, at_slice (λ (part : Part D). end_of (table_of part) ≤ disk.size (disk_of part)) old i was.0 rooms was.1, ap end_of table, long)
 
 -- ---- a log without blocks
 
@@ -164,9 +165,9 @@ empty_first : (layout : List ArenaRegion) → 0 ≡ first_unsealed (empties layo
 empty_first [] = refl
 empty_first (r ∷ rest) = refl
 
-pub empty_log : {D : Type 0} (score_of : List ℕ → List ℕ) (bytes : D → List ℕ) (images : D → List ℕ → Type 0) (size : D → ℕ) (ps : List (Part D)) (files : List (List ℕ)) → All (IsOnDisk size (disks_of ps)) (layout_of (tables_of ps))
-    → ((k : ℕ) (part : Part D) → slice_get ps k ≡ Some part → IsEmpty bytes images part) → AreImages images (disks_of ps) files → IsLog score_of (layout_of (tables_of ps)) files [] 0
-empty_log {D = D} score_of bytes images size ps files regions none are = record {
+pub empty_log : {D : Type 0} (score_of : List ℕ → List ℕ) (disk : DiskOf D) (ps : List (Part D)) (files : List (List ℕ)) → All (IsOnDisk disk (disks_of ps)) (layout_of (tables_of ps))
+    → ((k : ℕ) (part : Part D) → slice_get ps k ≡ Some part → IsEmpty disk part) → AreImages disk (disks_of ps) files → IsLog score_of (layout_of (tables_of ps)) files [] 0
+empty_log {D = D} score_of disk ps files regions none are = record {
   contents = empties (layout_of (tables_of ps));
   arenas = record {
     many = length-map (layout_of (tables_of ps)) (λ (r : ArenaRegion). empty);
@@ -182,7 +183,7 @@ empty_log {D = D} score_of bytes images size ps files regions none are = record 
     each i r a at has =
         let layout = layout_of (tables_of ps) in
         let a_is : empty ≡ a = same_Some empty a (sym (slice_get-map (λ (r : ArenaRegion). empty) layout i ∙ ap (option_map (λ (r : ArenaRegion). empty)) at) ∙ has) in
-        let on = at_slice (IsOnDisk size (disks_of ps)) layout i r regions at in
+        let on = at_slice (IsOnDisk disk (disks_of ps)) layout i r regions at in
         let is = at_slice (IsArenaOfTable (tables_of ps)) layout i r (layouts_have_arenas (tables_of ps)) at in
         let t : Table = is.0 in
         let p = slice_get_other ps (tables_of ps) r.part t (length-map ps (λ (part : Part D). table_of part)) is.1 in
@@ -199,11 +200,11 @@ empty_log {D = D} score_of bytes images size ps files regions none are = record 
           record { region = region; place = record { start = refl; len = refl }; arena = subst (λ (x : Content). IsArena score_of region r.number x file.0) a_is own },
         )
 
-pub settled_parts : {D : Type 0} (bytes : D → List ℕ) (images : D → List ℕ → Type 0) (ps : List (Part D)) → ((k : ℕ) (part : Part D) → slice_get ps k ≡ Some part → IsEmpty bytes images part)
-    → All (λ disk. Only (bytes disk) (images disk)) (disks_of ps)
-settled_parts {D = D} bytes images ps none k d within =
+pub settled_parts : {D : Type 0} (disk : DiskOf D) (ps : List (Part D)) → ((k : ℕ) (part : Part D) → slice_get ps k ≡ Some part → IsEmpty disk part)
+    → All (λ device. Only (disk.bytes device) (disk.images device)) (disks_of ps)
+settled_parts {D = D} disk ps none k d within =
     let e : D = get_or (disks_of ps) k d in
     let at : slice_get (disks_of ps) k ≡ Some e = slice_get-get_or (disks_of ps) k d within in
     let p = slice_get_other ps (disks_of ps) k e (length-map ps (λ (part : Part D). disk_of part)) at in
     let same : disk_of p.0 ≡ e = same_Some (disk_of p.0) e (sym (disk_there ps k p.0 p.0 p.1) ∙ at) in
-    subst (λ (x : D). Only (bytes x) (images x)) same (none k p.0 p.1).settled
+    subst (λ (x : D). Only (disk.bytes x) (disk.images x)) same (none k p.0 p.1).settled

@@ -4,6 +4,7 @@ use Rattle.std.specs.Prelude.{slice_get}
 use Rattle.std.proofs.lemmas.List.{length-map}
 use Rattle.std.proofs.lemmas.List.Elements.{All-weaker}
 use Rattle.std.proofs.lemmas.Option.{slice_get_within, slice_get-map, slice_get-get_or, same_Some}
+use Rattle.vt_log.specs.Members.{DiskOf}
 use Rattle.vt_disk.specs.declared.region.Region.{Region}
 use Rattle.vt_disk.specs.Disk.{AreAmong}
 use Rattle.vt_disk.specs.Region.{region_bytes}
@@ -60,17 +61,17 @@ map_long : {X Y : Type 0} (f : X → Y) (xs ys : List X) → map f ys ≡ map f 
 map_long {Y = Y} f xs ys same = sym (length-map ys f) ∙ ap (λ (zs : List Y). length zs) same ∙ length-map xs f
 
 -- a log stays whole and sound where its disks hold the same
-pub hold_whole : {D : Type 0} (bytes : D → List ℕ) (images : D → List ℕ → Type 0) (size : D → ℕ) (l : LogState D) (ds : List D) → IsWhole size l → HoldTheSame bytes images size l.disks ds
-    → IsWhole size (record l { disks = ds })
-hold_whole bytes images size l ds whole hold = record {
-  many_disks = map_long size l.disks ds hold.sizes_are ∙ whole.many_disks;
+pub hold_whole : {D : Type 0} (disk : DiskOf D) (l : LogState D) (ds : List D) → IsWhole disk l → HoldTheSame disk l.disks ds
+    → IsWhole disk (record l { disks = ds })
+hold_whole disk l ds whole hold = record {
+  many_disks = map_long disk.size l.disks ds hold.sizes_are ∙ whole.many_disks;
   layout = whole.layout;
-  regions = All-weaker (IsOnDisk size l.disks) (IsOnDisk size ds) (λ r on.
-      let now = slice_get_other ds l.disks r.part on.disk (sym (map_long size l.disks ds hold.sizes_are)) on.has in
+  regions = All-weaker (IsOnDisk disk l.disks) (IsOnDisk disk ds) (λ r on.
+      let now = slice_get_other ds l.disks r.part on.device (sym (map_long disk.size l.disks ds hold.sizes_are)) on.has in
       record {
-        disk = now.0;
+        device = now.0;
         has = now.1;
-        within = omega (arith, on.within, map_at size l.disks ds r.part on.disk now.0 hold.sizes_are on.has now.1);
+        within = omega (arith, on.within, map_at disk.size l.disks ds r.part on.device now.0 hold.sizes_are on.has now.1);
         small = on.small;
         aligned = on.aligned;
         len = on.len;
@@ -101,29 +102,29 @@ was_at l ds i r region disk many at =
     let was = slice_get_other l.disks ds r.part disk many at.disk_is in
     (was.0, record { arena = at.arena; region_is = at.region_is; disk_is = was.1 })
 
-pub hold_sound : {D : Type 0} (score_of : List ℕ → List ℕ) (bytes : D → List ℕ) (images : D → List ℕ → Type 0) (size : D → ℕ) (l : LogState D) (ds : List D) (h : History)
-    → HoldTheSame bytes images size l.disks ds → IsSound score_of bytes images size l h → IsSound score_of bytes images size (record l { disks = ds }) h
-hold_sound {D = D} score_of bytes images size l ds h hold sound = record {
-  whole = hold_whole bytes images size l ds sound.whole hold;
+pub hold_sound : {D : Type 0} (score_of : List ℕ → List ℕ) (disk : DiskOf D) (l : LogState D) (ds : List D) (h : History)
+    → HoldTheSame disk l.disks ds → IsSound score_of disk l h → IsSound score_of disk (record l { disks = ds }) h
+hold_sound {D = D} score_of disk l ds h hold sound = record {
+  whole = hold_whole disk l ds sound.whole hold;
   contents = sound.contents;
   many = sound.many;
   split = sound.split;
-  current = λ r region disk a at has.
-      let was = was_at l ds l.committing r region disk many at in
-      let same : bytes disk ≡ bytes was.0 = map_at bytes l.disks ds r.part was.0 disk hold.bytes_are was.1.disk_is at.disk_is in
-      subst (λ (b : List ℕ). IsSoundArena score_of l.arena region a b (images disk)) (sym same)
-      (among_arena score_of l.arena region a (bytes was.0) (images was.0) (images disk) (hold.images_are r.part was.0 disk was.1.disk_is at.disk_is) (sound.current r region was.0 a was.1 has));
-  others = λ i r region disk a other at has.
-      let was = was_at l ds i r region disk many at in
-      let same : bytes disk ≡ bytes was.0 = map_at bytes l.disks ds r.part was.0 disk hold.bytes_are was.1.disk_is at.disk_is in
+  current = λ r region device a at has.
+      let was = was_at l ds l.committing r region device many at in
+      let same : disk.bytes device ≡ disk.bytes was.0 = map_at disk.bytes l.disks ds r.part was.0 device hold.bytes_are was.1.disk_is at.disk_is in
+      subst (λ (b : List ℕ). IsSoundArena score_of l.arena region a b (disk.images device)) (sym same)
+      (among_arena score_of l.arena region a (disk.bytes was.0) (disk.images was.0) (disk.images device) (hold.images_are r.part was.0 device was.1.disk_is at.disk_is) (sound.current r region was.0 a was.1 has));
+  others = λ i r region device a other at has.
+      let was = was_at l ds i r region device many at in
+      let same : disk.bytes device ≡ disk.bytes was.0 = map_at disk.bytes l.disks ds r.part was.0 device hold.bytes_are was.1.disk_is at.disk_is in
       let rests = sound.others i r region was.0 a other was.1 has in (
-        λ c left. rests.0 c (hold.images_are r.part was.0 disk was.1.disk_is at.disk_is c left) ∙ sym (ap (region_bytes region) same),
+        λ c left. rests.0 c (hold.images_are r.part was.0 device was.1.disk_is at.disk_is c left) ∙ sym (ap (region_bytes region) same),
         subst (λ (b : List ℕ). IsArena score_of region r.number a b) (sym same) rests.1,
       );
   heads = sound.heads;
-  selectors = λ i r region disk found behind at has.
-      let was = was_at l ds i r region disk many at in
-      let same : bytes disk ≡ bytes was.0 = map_at bytes l.disks ds r.part was.0 disk hold.bytes_are was.1.disk_is at.disk_is in
+  selectors = λ i r region device found behind at has.
+      let was = was_at l ds i r region device many at in
+      let same : disk.bytes device ≡ disk.bytes was.0 = map_at disk.bytes l.disks ds r.part was.0 device hold.bytes_are was.1.disk_is at.disk_is in
       sound.selectors i r region was.0 found behind was.1 has ∙ sym (ap (named_number region FRAME_LEN) same);
   committed = sound.committed;
   queued = sound.queued;
@@ -136,7 +137,7 @@ hold_sound {D = D} score_of bytes images size l ds h hold sound = record {
 }
   where
     many : length ds ≡ length l.disks
-    many = map_long size l.disks ds hold.sizes_are
+    many = map_long disk.size l.disks ds hold.sizes_are
 
 -- the log with this disk in a partition
 abbrev pub with_disk : {D : Type 0} → List (Part D) → ℕ → Part D → D → LogState D → LogState D
@@ -146,19 +147,19 @@ with_disk ps i p d l = record l {
 }
 
 -- what a read leaves of a log that has these partitions
-pub record IsReadOnly {D : Type 0} (score_of : List ℕ → List ℕ) (bytes : D → List ℕ) (images : D → List ℕ → Type 0) (size : D → ℕ) (i : ℕ) (old d : D) (m k : LogState D) : Type 0 where
+pub record IsReadOnly {D : Type 0} (score_of : List ℕ → List ℕ) (disk : DiskOf D) (i : ℕ) (old d : D) (m k : LogState D) : Type 0 where
   pub same : k ≡ record m { disks = k.disks }
   pub disks_are : k.disks ≡ set m.disks i d
   pub was : slice_get m.disks i ≡ Some old
-  pub hold : HoldTheSame bytes images size m.disks k.disks
-  pub whole : IsWhole size m → IsWhole size k
-  pub sound : (h : History) → IsSound score_of bytes images size m h → IsSound score_of bytes images size k h
+  pub hold : HoldTheSame disk m.disks k.disks
+  pub whole : IsWhole disk m → IsWhole disk k
+  pub sound : (h : History) → IsSound score_of disk m h → IsSound score_of disk k h
 
-pub read_only : {D : Type 0} (score_of : List ℕ → List ℕ) (bytes : D → List ℕ) (images : D → List ℕ → Type 0) (size : D → ℕ) (ps : List (Part D)) (i : ℕ) (p : Part D) (d : D) (l m : LogState D)
+pub read_only : {D : Type 0} (score_of : List ℕ → List ℕ) (disk : DiskOf D) (ps : List (Part D)) (i : ℕ) (p : Part D) (d : D) (l m : LogState D)
     → l ≡ m → l.disks ≡ map (λ part. disk_of part) ps → l.tables ≡ tables_of ps → slice_get ps i ≡ Some p
-    → bytes d ≡ bytes (disk_of p) → AreAmong (images d) (images (disk_of p)) → size d ≡ size (disk_of p)
-    → IsReadOnly score_of bytes images size i (disk_of p) d m (with_disk ps i p d l)
-read_only {D = D} score_of bytes images size ps i p d l m view disks tables at same_bytes among same_size =
+    → disk.bytes d ≡ disk.bytes (disk_of p) → AreAmong (disk.images d) (disk.images (disk_of p)) → disk.size d ≡ disk.size (disk_of p)
+    → IsReadOnly score_of disk i (disk_of p) d m (with_disk ps i p d l)
+read_only {D = D} score_of disk ps i p d l m view disks tables at same_bytes among same_size =
     record { same = same; disks_are = disks_are; was = was; hold = hold; whole = whole; sound = sound }
   where
     k : LogState D
@@ -179,19 +180,19 @@ read_only {D = D} score_of bytes images size ps i p d l m view disks tables at s
     was : slice_get m.disks i ≡ Some (disk_of p)
     was = ap (λ (x : LogState D). slice_get x.disks i) (sym view) ∙ ap (λ (ds : List D). slice_get ds i) disks ∙ slice_get-map (λ (part : Part D). disk_of part) ps i ∙ ap (option_map (λ (part : Part D). disk_of part)) at
 
-    hold : HoldTheSame bytes images size m.disks (map (λ (part : Part D). disk_of part) (set ps i (record p { disk = d })))
-    hold = subst (λ (ds : List D). HoldTheSame bytes images size m.disks ds) (sym disks_are) (hold_set bytes images size m.disks i (disk_of p) d was same_bytes among same_size)
+    hold : HoldTheSame disk m.disks (map (λ (part : Part D). disk_of part) (set ps i (record p { disk = d })))
+    hold = subst (λ (ds : List D). HoldTheSame disk m.disks ds) (sym disks_are) (hold_set disk m.disks i (disk_of p) d was same_bytes among same_size)
 
-    whole : IsWhole size m → IsWhole size (with_disk ps i p d l)
-    whole is = subst (IsWhole size) (sym same) (hold_whole bytes images size m _ is hold)
+    whole : IsWhole disk m → IsWhole disk (with_disk ps i p d l)
+    whole is = subst (IsWhole disk) (sym same) (hold_whole disk m _ is hold)
 
-    sound : (h : History) → IsSound score_of bytes images size m h → IsSound score_of bytes images size (with_disk ps i p d l) h
-    sound h is = subst (λ (x : LogState D). IsSound score_of bytes images size x h) (sym same) (hold_sound score_of bytes images size m _ h hold is)
+    sound : (h : History) → IsSound score_of disk m h → IsSound score_of disk (with_disk ps i p d l) h
+    sound h is = subst (λ (x : LogState D). IsSound score_of disk x h) (sym same) (hold_sound score_of disk m _ h hold is)
 
 -- a partition is there for each arena
-pub part_there : {D : Type 0} (size : D → ℕ) (ps : List (Part D)) (l : LogState D) (arena : ℕ) (r dr : ArenaRegion) → IsWhole size l → l.disks ≡ map (λ part. disk_of part) ps → arena < length l.layout
+pub part_there : {D : Type 0} (disk : DiskOf D) (ps : List (Part D)) (l : LogState D) (arena : ℕ) (r dr : ArenaRegion) → IsWhole disk l → l.disks ≡ map (λ part. disk_of part) ps → arena < length l.layout
     → r ≡ get_or l.layout arena dr → r.part < length ps
-part_there {D = D} size ps l arena r dr whole disks within r_is =
-    let on = at_slice (IsOnDisk size l.disks) l.layout arena (get_or l.layout arena dr) whole.regions (slice_get-get_or l.layout arena dr within) in
-    let below = slice_get_within l.disks _ on.disk on.has in
+part_there {D = D} disk ps l arena r dr whole disks within r_is =
+    let on = at_slice (IsOnDisk disk l.disks) l.layout arena (get_or l.layout arena dr) whole.regions (slice_get-get_or l.layout arena dr within) in
+    let below = slice_get_within l.disks _ on.device on.has in
     omega (arith, below, ap (λ (ds : List D). length ds) disks, length-map ps (λ (part : Part D). disk_of part), ap (λ (x : ArenaRegion). x.part) r_is)

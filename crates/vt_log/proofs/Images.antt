@@ -5,6 +5,7 @@ use Rattle.std.proofs.lemmas.Bool.{cases_eq}
 use Rattle.std.proofs.lemmas.List.{length-set, length-drop}
 use Rattle.std.proofs.lemmas.List.Elements.{All-weaker}
 use Rattle.std.proofs.lemmas.Option.{slice_get_within, slice_get_cases, same_Some}
+use Rattle.vt_log.specs.Members.{DiskOf}
 use Rattle.vt_disk.specs.declared.region.Region.{Region}
 use Rattle.vt_model.specs.History.{Accepted, History}
 use Rattle.vt_model.specs.Places.{last_arena}
@@ -32,12 +33,12 @@ pub record IsThere {D : Type 0} (l : LogState D) (i : ℕ) (r : ArenaRegion) : T
   pub disk : D
   pub at : IsAt l i r region disk
 
-pub there : {D : Type 0} (size : D → ℕ) (l : LogState D) (i : ℕ) (r : ArenaRegion) → IsWhole size l → slice_get l.layout i ≡ Some r → IsThere l i r
-there size l i r whole is =
-    let on = at_slice (IsOnDisk size l.disks) l.layout i r whole.regions is in
+pub there : {D : Type 0} (disk : DiskOf D) (l : LogState D) (i : ℕ) (r : ArenaRegion) → IsWhole disk l → slice_get l.layout i ≡ Some r → IsThere l i r
+there disk l i r whole is =
+    let on = at_slice (IsOnDisk disk l.disks) l.layout i r whole.regions is in
     record {
       region = record { start = r.at; len = r.len; in_range = on.small };
-      disk = on.disk;
+      disk = on.device;
       at = record { arena = is; region_is = record { start = refl; len = refl }; disk_is = on.has };
     }
 
@@ -50,18 +51,18 @@ waits_below layout heads from to (w ∷ ws) arena fill waits =
 
 -- The files stand for what is committed, where each arena is what it was; and for that with what is
 -- staged, where the one that is committed in is what its commit makes of it.
-pub stand_for_prefix : {D : Type 0} (score_of : List ℕ → List ℕ) (bytes : D → List ℕ) (images : D → List ℕ → Type 0) (size : D → ℕ) (l : LogState D) (h : History)
-    (files : List (List ℕ)) → (sound : IsSound score_of bytes images size l h) → length files ≡ length l.disks
-    → ((r : ArenaRegion) (region : Region) (disk : D) (a : Content) (file : List ℕ) → IsAt l l.committing r region disk → slice_get sound.contents l.committing ≡ Some a
+pub stand_for_prefix : {D : Type 0} (score_of : List ℕ → List ℕ) (disk : DiskOf D) (l : LogState D) (h : History)
+    (files : List (List ℕ)) → (sound : IsSound score_of disk l h) → length files ≡ length l.disks
+    → ((r : ArenaRegion) (region : Region) (device : D) (a : Content) (file : List ℕ) → IsAt l l.committing r region device → slice_get sound.contents l.committing ≡ Some a
     → slice_get files r.part ≡ Some file → IsArena score_of region r.number a file ⊎ IsArena score_of region r.number (next_content l.arena a) file)
-    → ((i : ℕ) (r : ArenaRegion) (region : Region) (disk : D) (a : Content) (file : List ℕ) → i ≢ l.committing → IsAt l i r region disk → slice_get sound.contents i ≡ Some a
+    → ((i : ℕ) (r : ArenaRegion) (region : Region) (device : D) (a : Content) (file : List ℕ) → i ≢ l.committing → IsAt l i r region device → slice_get sound.contents i ≡ Some a
     → slice_get files r.part ≡ Some file → IsArena score_of region r.number a file)
     → StandForPrefix score_of l files h
-stand_for_prefix {D = D} score_of bytes images size l h files sound many gives rest =
+stand_for_prefix {D = D} score_of disk l h files sound many gives rest =
     ⊎_elim
     (λ (it : (a : Content) × (l.committing < length sound.contents) × (slice_get sound.contents l.committing ≡ Some a) × (get_or sound.contents l.committing a ≡ a)).
     let r = slice_get_other l.layout sound.contents l.committing it.0 sound.many it.2 in
-    let t = there size l l.committing r.0 sound.whole r.1 in
+    let t = there disk l l.committing r.0 sound.whole r.1 in
     let file = slice_get_other files l.disks r.0.part t.disk (sym many) t.at.disk_is in
     ⊎_elim
     (λ (old : IsArena score_of t.region r.0.number it.0 file.0).
@@ -98,7 +99,7 @@ stand_for_prefix {D = D} score_of bytes images size l h files sound many gives r
       each = λ i r a at content. ⊎_elim
           (λ (same : i ≡ l.committing). current r a (sym (ap (slice_get l.layout) same) ∙ at) (sym (ap (slice_get cs) same) ∙ content))
           (λ (other : i ≢ l.committing).
-          let t = there size l i r sound.whole at in
+          let t = there disk l i r sound.whole at in
           let file = slice_get_other files l.disks r.part t.disk (sym many) t.at.disk_is in
           (file.0, file.1, record { region = t.region; place = t.at.region_is; arena = rest i r t.region t.disk a file.0 other t.at (sym (others i other) ∙ content) file.1 }))
           (cases_eq i l.committing);
@@ -171,30 +172,30 @@ stand_for_prefix {D = D} score_of bytes images size l h files sound many gives r
             (split_sealed l.committing sound.contents next within sound.split sealed) (omega (arith, long, within)) (omega (arith, sound.whole.base)) waits are
 
 -- the arena in memory has the number of the region's arena
-pub number_is : {D : Type 0} (size : D → ℕ) (l : LogState D) (r : ArenaRegion) → IsWhole size l → slice_get l.layout l.committing ≡ Some r → l.arena.number ≡ r.number
-number_is size l r whole at =
+pub number_is : {D : Type 0} (disk : DiskOf D) (l : LogState D) (r : ArenaRegion) → IsWhole disk l → slice_get l.layout l.committing ≡ Some r → l.arena.number ≡ r.number
+number_is disk l r whole at =
     let found = slice_get_other l.heads l.layout l.committing r (sym whole.many) at in
     (whole.arena r found.0 at found.1).number
 
 -- a region that an arena has
-pub region_long : {D : Type 0} (size : D → ℕ) (l : LogState D) (i : ℕ) (r : ArenaRegion) (region : Region) (disk : D) → IsWhole size l → IsAt l i r region disk → 24576 ≤ region.len
-region_long size l i r region disk whole at =
-    let on = at_slice (IsOnDisk size l.disks) l.layout i r whole.regions at.arena in
+pub region_long : {D : Type 0} (disk : DiskOf D) (l : LogState D) (i : ℕ) (r : ArenaRegion) (region : Region) (device : D) → IsWhole disk l → IsAt l i r region device → 24576 ≤ region.len
+region_long disk l i r region device whole at =
+    let on = at_slice (IsOnDisk disk l.disks) l.layout i r whole.regions at.arena in
     omega (arith, at.region_is.len, on.len.0)
 
 -- between two calls
-pub moment_stands : {D : Type 0} (score_of : List ℕ → List ℕ) (bytes : D → List ℕ) (images : D → List ℕ → Type 0) (size : D → ℕ) (l : LogState D) (h : History)
-    (files : List (List ℕ)) → IsSound score_of bytes images size l h → AreImages images l.disks files → StandForPrefix score_of l files h
-moment_stands score_of bytes images size l h files sound left =
-    stand_for_prefix score_of bytes images size l h files sound left.many
-    (λ r region disk a file at content of.
-    let number = number_is size l r sound.whole at.arena in
+pub moment_stands : {D : Type 0} (score_of : List ℕ → List ℕ) (disk : DiskOf D) (l : LogState D) (h : History)
+    (files : List (List ℕ)) → IsSound score_of disk l h → AreImages disk l.disks files → StandForPrefix score_of l files h
+moment_stands score_of disk l h files sound left =
+    stand_for_prefix score_of disk l h files sound left.many
+    (λ r region device a file at content of.
+    let number = number_is disk l r sound.whole at.arena in
     ⊎_elim
     (λ (old : IsArena score_of region l.arena.number a file). inl (subst (λ (n : ℕ). IsArena score_of region n a file) number old))
     (λ (next : HasBegunSelector l.arena × IsArena score_of region l.arena.number (next_content l.arena a) file).
     inr (subst (λ (n : ℕ). IsArena score_of region n (next_content l.arena a) file) number next.1))
-    (arena_gives score_of l.arena region a (bytes disk) (images disk) (sound.current r region disk a at content) file (left.each r.part disk file at.disk_is of)))
-    (λ i r region disk a file other at content of.
-    let rests = sound.others i r region disk a other at content in
-    arena_in_region score_of region r.number a (bytes disk) file (region_long size l i r region disk sound.whole at)
-    (rests.0 file (left.each r.part disk file at.disk_is of)) rests.1)
+    (arena_gives score_of l.arena region a (disk.bytes device) (disk.images device) (sound.current r region device a at content) file (left.each r.part device file at.disk_is of)))
+    (λ i r region device a file other at content of.
+    let rests = sound.others i r region device a other at content in
+    arena_in_region score_of region r.number a (disk.bytes device) file (region_long disk l i r region device sound.whole at)
+    (rests.0 file (left.each r.part device file at.disk_is of)) rests.1)

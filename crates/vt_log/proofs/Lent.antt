@@ -3,6 +3,7 @@ use Rattle.std.proofs.Common.{◌≡◌, ℕ, ◌+◌, ◌^◌, ◌<◌, ◌≤�
 use Rattle.std.specs.Prelude.{slice_get, sum_by, MatchResult}
 use Rattle.std.proofs.lemmas.List.{get_or_default, set-get_or}
 use Rattle.std.proofs.lemmas.Option.{slice_get_read, get_or_from_slice_get, same_Some}
+use Rattle.vt_log.specs.Members.{DiskOf}
 use Rattle.vt_disk.specs.declared.region.Region.{Region}
 use Rattle.vt_disk.specs.Disk.{AreAmong}
 use Rattle.vt_arena.specs.declared.bad.ReadBad.{ReadBad}
@@ -38,23 +39,23 @@ abbrev pub no_region : ArenaRegion
 no_region = record { part = 0; number = 0; at = 0; len = 0 }
 
 -- an arena has this region, on this disk, and another disk is there after the call
-pub record IsLent {D : Type 0} (score_of : List ℕ → List ℕ) (bytes : D → List ℕ) (images : D → List ℕ → Type 0) (size : D → ℕ) (arena : ℕ) (r : ArenaRegion) (d e : D) (m k : LogState D) : Type 0 where
-  pub only : IsReadOnly score_of bytes images size r.part d e m k
+pub record IsLent {D : Type 0} (score_of : List ℕ → List ℕ) (disk : DiskOf D) (arena : ℕ) (r : ArenaRegion) (d e : D) (m k : LogState D) : Type 0 where
+  pub only : IsReadOnly score_of disk r.part d e m k
   pub layout : slice_get m.layout arena ≡ Some r
   pub r_one : (q : ArenaRegion) → slice_get m.layout arena ≡ Some q → q ≡ r
   pub small : r.at + r.len < 2 ^ 64
-  pub fits : r.at + r.len ≤ size d
-  pub region_one : (q : ArenaRegion) (other : Region) (disk : D) → IsAt m arena q other disk → (it : r.at + r.len < 2 ^ 64) → region_at r it ≡ other
-  pub disk_one : (q : ArenaRegion) (other : Region) (disk : D) → IsAt m arena q other disk → d ≡ disk
+  pub fits : r.at + r.len ≤ disk.size d
+  pub region_one : (q : ArenaRegion) (other : Region) (device : D) → IsAt m arena q other device → (it : r.at + r.len < 2 ^ 64) → region_at r it ≡ other
+  pub disk_one : (q : ArenaRegion) (other : Region) (device : D) → IsAt m arena q other device → d ≡ device
   pub spares : (q : ArenaRegion) → slice_get m.layout arena ≡ Some q → Spares q.part m.disks k.disks
-  pub reads : (tells : Bool) (calls : D → ℕ) (n : ℕ) → (IsTrue tells → calls e ≤ calls d + n)
-      → OnlyReads score_of tells bytes images size calls n m k
+  pub reads : (n : ℕ) → (IsTrue disk.tells → disk.calls e ≤ disk.calls d + n)
+      → OnlyReads score_of disk n m k
 
-pub lent : {D : Type 0} (score_of : List ℕ → List ℕ) (bytes : D → List ℕ) (images : D → List ℕ → Type 0) (size : D → ℕ) (ps : List (Part D)) (arena : ℕ) (r dr : ArenaRegion) (p : Part D) (e : D)
-    (l m : LogState D) → IsWhole size l → l ≡ m → l.disks ≡ map (λ part. disk_of part) ps → l.tables ≡ tables_of ps → arena < length m.layout → r ≡ get_or l.layout arena dr → p ≡ get_or ps r.part p
-    → bytes e ≡ bytes (disk_of p) → AreAmong (images e) (images (disk_of p)) → size e ≡ size (disk_of p)
-    → IsLent score_of bytes images size arena r (disk_of p) e m (with_disk ps r.part p e l)
-lent {D = D} score_of bytes images size ps arena r dr p e l m whole view disks tables within r_is p_is same_bytes among same_size = record {
+pub lent : {D : Type 0} (score_of : List ℕ → List ℕ) (disk : DiskOf D) (ps : List (Part D)) (arena : ℕ) (r dr : ArenaRegion) (p : Part D) (e : D)
+    (l m : LogState D) → IsWhole disk l → l ≡ m → l.disks ≡ map (λ part. disk_of part) ps → l.tables ≡ tables_of ps → arena < length m.layout → r ≡ get_or l.layout arena dr → p ≡ get_or ps r.part p
+    → disk.bytes e ≡ disk.bytes (disk_of p) → AreAmong (disk.images e) (disk.images (disk_of p)) → disk.size e ≡ disk.size (disk_of p)
+    → IsLent score_of disk arena r (disk_of p) e m (with_disk ps r.part p e l)
+lent {D = D} score_of disk ps arena r dr p e l m whole view disks tables within r_is p_is same_bytes among same_size = record {
   only = only;
   layout = layout;
   r_one = λ q at. same q at;
@@ -62,20 +63,20 @@ lent {D = D} score_of bytes images size ps arena r dr p e l m whole view disks t
   fits = omega (
     arith,
     on.within,
-    ap size (same_Some on.disk (disk_of p)
+    ap disk.size (same_Some on.device (disk_of p)
         (sym on.has ∙ ap (λ (x : LogState D). slice_get x.disks r.part) view ∙ only.was)),
   );
-  region_one = λ q other disk at it. same_region (region_at r it) other
+  region_one = λ q other device at it. same_region (region_at r it) other
       (ap (λ (x : ArenaRegion). x.at) (sym (same q at.arena)) ∙ sym at.region_is.start) (ap (λ (x : ArenaRegion). x.len) (sym (same q at.arena)) ∙ sym at.region_is.len);
-  disk_one = λ q other disk at. same_Some (disk_of p) disk (sym only.was ∙ ap (λ (x : ArenaRegion). slice_get m.disks x.part) (sym (same q at.arena)) ∙ at.disk_is);
+  disk_one = λ q other device at. same_Some (disk_of p) device (sym only.was ∙ ap (λ (x : ArenaRegion). slice_get m.disks x.part) (sym (same q at.arena)) ∙ at.disk_is);
   spares = λ q at. subst (λ (x : ArenaRegion). Spares x.part m.disks (with_disk ps r.part p e l).disks) (sym (same q at))
       (subst (λ (ds : List D). Spares r.part m.disks ds) (sym only.disks_are) (spares_set m.disks r.part e));
-  reads = λ tells calls n at_most. record {
+  reads = λ n at_most. record {
     same = only.same;
     sound = only.sound;
     disks = only.hold;
-    calls = λ told. subst (λ (ds : List D). sum_by calls ds ≤ sum_by calls m.disks + n) (sym only.disks_are)
-        (calls_set calls m.disks r.part (disk_of p) e n only.was (at_most told));
+    calls = λ told. subst (λ (ds : List D). sum_by disk.calls ds ≤ sum_by disk.calls m.disks + n) (sym only.disks_are)
+        (calls_set disk.calls m.disks r.part (disk_of p) e n only.was (at_most told));
   };
 }
   where
@@ -83,13 +84,13 @@ lent {D = D} score_of bytes images size ps arena r dr p e l m whole view disks t
     inside = subst (λ (x : LogState D). arena < length x.layout) (sym view) within
 
     below : r.part < length ps
-    below = part_there size ps l arena r dr whole disks inside r_is
+    below = part_there disk ps l arena r dr whole disks inside r_is
 
-    on : IsOnDisk size l.disks r
-    on = at_slice (IsOnDisk size l.disks) l.layout arena r whole.regions (slice_get_read l.layout (length l.layout) arena r refl inside (r_is ∙ get_or_default l.layout arena dr r inside))
+    on : IsOnDisk disk l.disks r
+    on = at_slice (IsOnDisk disk l.disks) l.layout arena r whole.regions (slice_get_read l.layout (length l.layout) arena r refl inside (r_is ∙ get_or_default l.layout arena dr r inside))
 
-    only : IsReadOnly score_of bytes images size r.part (disk_of p) e m (with_disk ps r.part p e l)
-    only = read_only score_of bytes images size ps r.part p e l m view disks tables (slice_get_read ps (length ps) r.part p refl below p_is) same_bytes among same_size
+    only : IsReadOnly score_of disk r.part (disk_of p) e m (with_disk ps r.part p e l)
+    only = read_only score_of disk ps r.part p e l m view disks tables (slice_get_read ps (length ps) r.part p refl below p_is) same_bytes among same_size
 
     same : (q : ArenaRegion) → slice_get m.layout arena ≡ Some q → q ≡ r
     same q at = sym (get_or_from_slice_get m.layout arena q dr at) ∙ ap (λ (x : LogState D). get_or x.layout arena dr) (sym view) ∙ sym r_is
@@ -132,8 +133,8 @@ read_whole score_of (Ok clump) whole =
 read_whole score_of (Err bad) whole = tt
 
 -- a disk that is the same leaves the log the same
-pub unchanged : {D : Type 0} (score_of : List ℕ → List ℕ) (bytes : D → List ℕ) (images : D → List ℕ → Type 0) (size : D → ℕ) (i : ℕ) (d e : D) (m k : LogState D)
-    → IsReadOnly score_of bytes images size i d e m k → e ≡ d → k ≡ m
-unchanged {D = D} score_of bytes images size i d e m k only same =
+pub unchanged : {D : Type 0} (score_of : List ℕ → List ℕ) (disk : DiskOf D) (i : ℕ) (d e : D) (m k : LogState D)
+    → IsReadOnly score_of disk i d e m k → e ≡ d → k ≡ m
+unchanged {D = D} score_of disk i d e m k only same =
     let disks : k.disks ≡ m.disks = only.disks_are ∙ ap (λ (x : D). set m.disks i x) (same ∙ sym (get_or_from_slice_get m.disks i d d only.was)) ∙ set-get_or m.disks i d in
     only.same ∙ ap (λ (ds : List D). record m { disks = ds }) disks

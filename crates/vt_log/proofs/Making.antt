@@ -5,6 +5,7 @@ use Rattle.std.specs.Option.{option_map_or}
 use Rattle.std.proofs.lemmas.List.{drop_at, length-set}
 use Rattle.std.proofs.lemmas.Option.{slice_get_within, slice_get-map, slice_get-get_or, slice_get_read, same_Some}
 use Rattle.vt_base.specs.Faults.{HasRisen}
+use Rattle.vt_log.specs.Members.{DiskOf}
 use Rattle.vt_disk.specs.declared.region.Region.{Region}
 use Rattle.vt_disk.specs.Disk.{SameBut, WithinCall, Only, IsOneMore}
 use Rattle.vt_disk.specs.Region.{Inside, ChangesWithin, region_bytes}
@@ -47,38 +48,38 @@ use Rattle.vt_log.proofs.Memory.{slice_get_other, at_slice, slice_get_set_same, 
 use Rattle.vt_log.proofs.Owing.{step_made, call_owed, ended_owed, turned_owed}
 
 -- what a call of an arena's commit tells
-pub record IsAdvanced {D : Type 0} (score_of : List ℕ → List ℕ) (bytes : D → List ℕ) (images : D → List ℕ → Type 0) (size calls_of faults_of : D → ℕ) (tells : Bool)
+pub record IsAdvanced {D : Type 0} (score_of : List ℕ → List ℕ) (disk : DiskOf D)
     (a : ArenaState) (region : Region) (d e : D) (b : ArenaState) (step : Result Step TwinErr) : Type 0 where
-  pub sound : (old : Content) → IsTrue tells → IsSoundArena score_of a region old (bytes d) (images d) → IsSoundArena score_of b region (content_after step a old) (bytes e) (images e)
-  pub crash : (old : Content) → IsTrue tells → IsSoundArena score_of a region old (bytes d) (images d) → (c : List ℕ) → WithinCall (images d) (images e) c
+  pub sound : (old : Content) → IsTrue disk.tells → IsSoundArena score_of a region old (disk.bytes d) (disk.images d) → IsSoundArena score_of b region (content_after step a old) (disk.bytes e) (disk.images e)
+  pub crash : (old : Content) → IsTrue disk.tells → IsSoundArena score_of a region old (disk.bytes d) (disk.images d) → (c : List ℕ) → WithinCall (disk.images d) (disk.images e) c
       → GivesOldOrNext (commit_calls a ≤ calls_made a + 2) score_of region a.number old (next_content a old) c
-  pub last : (old : Content) → IsTrue tells → IsSoundArena score_of a region old (bytes d) (images d) → step ≡ Ok Done → (c : List ℕ) → images e c → IsArena score_of region a.number (next_content a old) c
-  pub settled : IsTrue tells → step ≡ Ok Done → Only (bytes e) (images e)
+  pub last : (old : Content) → IsTrue disk.tells → IsSoundArena score_of a region old (disk.bytes d) (disk.images d) → step ≡ Ok Done → (c : List ℕ) → disk.images e c → IsArena score_of region a.number (next_content a old) c
+  pub settled : IsTrue disk.tells → step ≡ Ok Done → Only (disk.bytes e) (disk.images e)
   pub steps : Advances step a b
   pub left : calls_made a < commit_calls a
   pub done : step ≡ Ok Done → calls_made a + 1 ≡ commit_calls a
   pub stopped : (n : ℕ) → step ≡ Err (TwinStopped n) → a.stopped ≡ Some n
-  pub faults_are : CountsFault step (faults_of d) (faults_of e)
-  pub calls_are : IsTrue tells → a.stopped ≡ None → IsOneMore (calls_of d) (calls_of e)
-  pub images_are : ChangesWithin region (images d) (images e)
-  pub bytes_are : IsTrue tells → SameBut (Inside region) (bytes d) (bytes e)
-  pub size_is : size e ≡ size d
+  pub faults_are : CountsFault step (disk.faults d) (disk.faults e)
+  pub calls_are : IsTrue disk.tells → a.stopped ≡ None → IsOneMore (disk.calls d) (disk.calls e)
+  pub images_are : ChangesWithin region (disk.images d) (disk.images e)
+  pub bytes_are : IsTrue disk.tells → SameBut (Inside region) (disk.bytes d) (disk.bytes e)
+  pub size_is : disk.size e ≡ disk.size d
 
 -- what is known once the device call was made
-pub record IsCalled {D : Type 0} (score_of : List ℕ → List ℕ) (bytes : D → List ℕ) (images : D → List ℕ → Type 0) (size calls_of faults_of : D → ℕ) (tells : Bool)
+pub record IsCalled {D : Type 0} (score_of : List ℕ → List ℕ) (disk : DiskOf D)
     (l : LogState D) (r : ArenaRegion) (region : Region) (d e : D) (b : ArenaState) (step : Result Step TwinErr) : Type 0 where
-  pub whole : IsWhole size l
+  pub whole : IsWhole disk l
   pub runs : l.stopped ≡ None
   pub ready : IsReady l
   pub at : IsAt l l.committing r region d
-  pub made : IsAdvanced score_of bytes images size calls_of faults_of tells l.arena region d e b step
+  pub made : IsAdvanced score_of disk l.arena region d e b step
 
 -- what the clauses say of it
-pub record IsMade {D : Type 0} (score_of : List ℕ → List ℕ) (bytes : D → List ℕ) (images : D → List ℕ → Type 0) (size calls_of faults_of : D → ℕ) (tells : Bool)
+pub record IsMade {D : Type 0} (score_of : List ℕ → List ℕ) (disk : DiskOf D)
     (l k : LogState D) (result : Result Progress LogErr) : Type 0 where
-  pub whole : IsWhole size k
-  pub sound : (h : History) → IsTrue tells → IsSound score_of bytes images size l h → IsSound score_of bytes images size k h
-  pub crash : (h : History) → IsTrue tells → IsSound score_of bytes images size l h → (files : List (List ℕ)) → AreWithinCall images l.disks k.disks files → StandForPrefix score_of l files h
+  pub whole : IsWhole disk k
+  pub sound : (h : History) → IsTrue disk.tells → IsSound score_of disk l h → IsSound score_of disk k h
+  pub crash : (h : History) → IsTrue disk.tells → IsSound score_of disk l h → (files : List (List ℕ)) → AreWithinCall disk l.disks k.disks files → StandForPrefix score_of l files h
   pub makes : MakesOrEnds result l k
   pub batch : TakesAll l → calls_made l.arena + 1 < commit_calls l.arena → TakesAll k
   pub last : (n : ℕ) → result ≡ Ok (Durable n) → calls_made l.arena + 1 ≡ commit_calls l.arena
@@ -86,10 +87,10 @@ pub record IsMade {D : Type 0} (score_of : List ℕ → List ℕ) (bytes : D →
   pub spares : Spares (disk_in_use l) l.disks k.disks
   pub in_use : disk_in_use l < length l.disks
   pub within : (q : ArenaRegion) (other : Region) (before after : D) → IsAt l l.committing q other before → slice_get k.disks q.part ≡ Some after
-      → ChangesWithin other (images before) (images after) × (IsTrue tells → SameBut (Inside other) (bytes before) (bytes after))
-  pub sizes : map size k.disks ≡ map size l.disks
-  pub one_call : IsTrue tells → (before after : D) → slice_get l.disks (disk_in_use l) ≡ Some before → slice_get k.disks (disk_in_use l) ≡ Some after → IsOneMore (calls_of before) (calls_of after)
-  pub cause : CountsFaultAt (disk_in_use l) result (map faults_of l.disks) (map faults_of k.disks)
+      → ChangesWithin other (disk.images before) (disk.images after) × (IsTrue disk.tells → SameBut (Inside other) (disk.bytes before) (disk.bytes after))
+  pub sizes : map disk.size k.disks ≡ map disk.size l.disks
+  pub one_call : IsTrue disk.tells → (before after : D) → slice_get l.disks (disk_in_use l) ≡ Some before → slice_get k.disks (disk_in_use l) ≡ Some after → IsOneMore (disk.calls before) (disk.calls after)
+  pub cause : CountsFaultAt (disk_in_use l) result (map disk.faults l.disks) (map disk.faults k.disks)
 
 -- ---- the disks
 
@@ -109,30 +110,30 @@ use_is : {D : Type 0} (l : LogState D) (r : ArenaRegion) → slice_get l.layout 
 use_is l r at = ap (λ (o : Option ArenaRegion). option_map_or (λ (x : ArenaRegion). x.part) o 0) at
 
 -- what a call of the disk of the arena's partition does to the disks
-record IsOneCall {D : Type 0} (bytes : D → List ℕ) (images : D → List ℕ → Type 0) (size calls_of faults_of : D → ℕ) (tells : Bool) (l : LogState D) (ds : List D) (result : Result Progress LogErr) : Type 0 where
+record IsOneCall {D : Type 0} (disk : DiskOf D) (l : LogState D) (ds : List D) (result : Result Progress LogErr) : Type 0 where
   spares : Spares (disk_in_use l) l.disks ds
   in_use : disk_in_use l < length l.disks
   within : (q : ArenaRegion) (other : Region) (before after : D) → IsAt l l.committing q other before → slice_get ds q.part ≡ Some after
-      → ChangesWithin other (images before) (images after) × (IsTrue tells → SameBut (Inside other) (bytes before) (bytes after))
-  sizes : map size ds ≡ map size l.disks
-  one_call : IsTrue tells → (before after : D) → slice_get l.disks (disk_in_use l) ≡ Some before → slice_get ds (disk_in_use l) ≡ Some after → IsOneMore (calls_of before) (calls_of after)
-  cause : CountsFaultAt (disk_in_use l) result (map faults_of l.disks) (map faults_of ds)
+      → ChangesWithin other (disk.images before) (disk.images after) × (IsTrue disk.tells → SameBut (Inside other) (disk.bytes before) (disk.bytes after))
+  sizes : map disk.size ds ≡ map disk.size l.disks
+  one_call : IsTrue disk.tells → (before after : D) → slice_get l.disks (disk_in_use l) ≡ Some before → slice_get ds (disk_in_use l) ≡ Some after → IsOneMore (disk.calls before) (disk.calls after)
+  cause : CountsFaultAt (disk_in_use l) result (map disk.faults l.disks) (map disk.faults ds)
 
-one_call : {D : Type 0} (score_of : List ℕ → List ℕ) (bytes : D → List ℕ) (images : D → List ℕ → Type 0) (size calls_of faults_of : D → ℕ) (tells : Bool)
+one_call : {D : Type 0} (score_of : List ℕ → List ℕ) (disk : DiskOf D)
     (l : LogState D) (r : ArenaRegion) (region : Region) (d e : D) (b : ArenaState) (step : Result Step TwinErr) (result : Result Progress LogErr)
-    → IsCalled score_of bytes images size calls_of faults_of tells l r region d e b step → CountsOne result (faults_of d) (faults_of e)
-    → IsOneCall bytes images size calls_of faults_of tells l (set l.disks r.part e) result
-one_call {D = D} score_of bytes images size calls_of faults_of tells l r region d e b step result it cause = record {
+    → IsCalled score_of disk l r region d e b step → CountsOne result (disk.faults d) (disk.faults e)
+    → IsOneCall disk l (set l.disks r.part e) result
+one_call {D = D} score_of disk l r region d e b step result it cause = record {
   spares = subst (λ (n : ℕ). Spares n l.disks (set l.disks r.part e)) (sym used) (spares_set l.disks r.part e);
   in_use = omega (arith, used, there);
   within = within;
-  sizes = map_same size l.disks r.part d e it.at.disk_is it.made.size_is;
+  sizes = map_same disk.size l.disks r.part d e it.at.disk_is it.made.size_is;
   one_call = λ told before after was now.
       let d_is : d ≡ before = same_Some d before (sym it.at.disk_is ∙ sym (ap (slice_get l.disks) used) ∙ was) in
       let e_is : e ≡ after = same_Some e after (sym (slice_get_set_same l.disks r.part e there) ∙ sym (ap (slice_get (set l.disks r.part e)) used) ∙ now) in
-      subst (λ (x : D). IsOneMore (calls_of before) (calls_of x)) e_is
-      (subst (λ (x : D). IsOneMore (calls_of x) (calls_of e)) d_is (it.made.calls_are told (it.whole.runs it.runs)));
-  cause = subst (λ (n : ℕ). CountsFaultAt n result (map faults_of l.disks) (map faults_of (set l.disks r.part e))) (sym used) (cause_at faults_of l.disks r.part d e result it.at.disk_is cause);
+      subst (λ (x : D). IsOneMore (disk.calls before) (disk.calls x)) e_is
+      (subst (λ (x : D). IsOneMore (disk.calls x) (disk.calls e)) d_is (it.made.calls_are told (it.whole.runs it.runs)));
+  cause = subst (λ (n : ℕ). CountsFaultAt n result (map disk.faults l.disks) (map disk.faults (set l.disks r.part e))) (sym used) (cause_at disk.faults l.disks r.part d e result it.at.disk_is cause);
 }
   where
     used : disk_in_use l ≡ r.part
@@ -142,29 +143,29 @@ one_call {D = D} score_of bytes images size calls_of faults_of tells l r region 
     there = slice_get_within l.disks r.part d it.at.disk_is
 
     within : (q : ArenaRegion) (other : Region) (before after : D) → IsAt l l.committing q other before → slice_get (set l.disks r.part e) q.part ≡ Some after
-        → ChangesWithin other (images before) (images after) × (IsTrue tells → SameBut (Inside other) (bytes before) (bytes after))
+        → ChangesWithin other (disk.images before) (disk.images after) × (IsTrue disk.tells → SameBut (Inside other) (disk.bytes before) (disk.bytes after))
     within q other before after there_at now =
         let r_is : r ≡ q = same_Some r q (sym it.at.arena ∙ there_at.arena) in
         let d_is : d ≡ before = same_Some d before (sym it.at.disk_is ∙ ap (λ (x : ArenaRegion). slice_get l.disks x.part) r_is ∙ there_at.disk_is) in
         let e_is : e ≡ after = same_Some e after (sym (slice_get_set_same l.disks r.part e there) ∙ ap (λ (x : ArenaRegion). slice_get (set l.disks r.part e) x.part) r_is ∙ now) in
         let region_is : region ≡ other = same_region region other
         (it.at.region_is.start ∙ ap (λ (x : ArenaRegion). x.at) r_is ∙ sym there_at.region_is.start) (it.at.region_is.len ∙ ap (λ (x : ArenaRegion). x.len) r_is ∙ sym there_at.region_is.len) in
-        subst (λ (x : Region). ChangesWithin x (images before) (images after) × (IsTrue tells → SameBut (Inside x) (bytes before) (bytes after))) region_is
-        (subst (λ (x : D). ChangesWithin region (images before) (images x) × (IsTrue tells → SameBut (Inside region) (bytes before) (bytes x))) e_is
-        (subst (λ (x : D). ChangesWithin region (images x) (images e) × (IsTrue tells → SameBut (Inside region) (bytes x) (bytes e))) d_is (it.made.images_are, it.made.bytes_are)))
+        subst (λ (x : Region). ChangesWithin x (disk.images before) (disk.images after) × (IsTrue disk.tells → SameBut (Inside x) (disk.bytes before) (disk.bytes after))) region_is
+        (subst (λ (x : D). ChangesWithin region (disk.images before) (disk.images x) × (IsTrue disk.tells → SameBut (Inside region) (disk.bytes before) (disk.bytes x))) e_is
+        (subst (λ (x : D). ChangesWithin region (disk.images x) (disk.images e) × (IsTrue disk.tells → SameBut (Inside region) (disk.bytes x) (disk.bytes e))) d_is (it.made.images_are, it.made.bytes_are)))
 
-changes : {D : Type 0} (score_of : List ℕ → List ℕ) (bytes : D → List ℕ) (images : D → List ℕ → Type 0) (size calls_of faults_of : D → ℕ) (tells : Bool)
+changes : {D : Type 0} (score_of : List ℕ → List ℕ) (disk : DiskOf D)
     (l : LogState D) (r : ArenaRegion) (region : Region) (d e : D) (b : ArenaState) (step : Result Step TwinErr)
-    → IsCalled score_of bytes images size calls_of faults_of tells l r region d e b step → IsTrue tells → ChangesRegion bytes images size region d e
-changes score_of bytes images size calls_of faults_of tells l r region d e b step it told = record { size_is = it.made.size_is; images_are = it.made.images_are; bytes_are = it.made.bytes_are told }
+    → IsCalled score_of disk l r region d e b step → IsTrue disk.tells → ChangesRegion disk region d e
+changes score_of disk l r region d e b step it told = record { size_is = it.made.size_is; images_are = it.made.images_are; bytes_are = it.made.bytes_are told }
 
 -- a crash at any moment of the call
-stands : {D : Type 0} (score_of : List ℕ → List ℕ) (bytes : D → List ℕ) (images : D → List ℕ → Type 0) (size calls_of faults_of : D → ℕ) (tells : Bool)
+stands : {D : Type 0} (score_of : List ℕ → List ℕ) (disk : DiskOf D)
     (l : LogState D) (r : ArenaRegion) (region : Region) (d e : D) (b : ArenaState) (step : Result Step TwinErr)
-    → IsCalled score_of bytes images size calls_of faults_of tells l r region d e b step
-    → (h : History) → IsTrue tells → IsSound score_of bytes images size l h → (files : List (List ℕ)) → AreWithinCall images l.disks (set l.disks r.part e) files → StandForPrefix score_of l files h
-stands score_of bytes images size calls_of faults_of tells l r region d e b step it h told sound files left =
-    call_stands score_of bytes images size l h r region d e (commit_calls l.arena ≤ calls_made l.arena + 2) files sound it.at (changes score_of bytes images size calls_of faults_of tells l r region d e b step it told)
+    → IsCalled score_of disk l r region d e b step
+    → (h : History) → IsTrue disk.tells → IsSound score_of disk l h → (files : List (List ℕ)) → AreWithinCall disk l.disks (set l.disks r.part e) files → StandForPrefix score_of l files h
+stands score_of disk l r region d e b step it h told sound files left =
+    call_stands score_of disk l h r region d e (commit_calls l.arena ≤ calls_made l.arena + 2) files sound it.at (changes score_of disk l r region d e b step it told)
     (λ a has c moment. it.made.crash a told (sound.current r region d a it.at has) c moment) left
 
 -- ---- a call that ends no commit
@@ -189,15 +190,15 @@ takes_all l part e b calls stopped keeps all = record {
 }
 
 -- its last call isn't made yet
-pub more_made : {D : Type 0} (score_of : List ℕ → List ℕ) (bytes : D → List ℕ) (images : D → List ℕ → Type 0) (size calls_of faults_of : D → ℕ) (tells : Bool)
+pub more_made : {D : Type 0} (score_of : List ℕ → List ℕ) (disk : DiskOf D)
     (l : LogState D) (r : ArenaRegion) (region : Region) (d e : D) (b : ArenaState)
-    → IsCalled score_of bytes images size calls_of faults_of tells l r region d e b (Ok More)
-    → IsMade score_of bytes images size calls_of faults_of tells l (called l r.part e b (one_more l.calls) l.stopped) (Ok StepMade)
-more_made score_of bytes images size calls_of faults_of tells l r region d e b it = record {
-  whole = call_whole size l r.part d e b (one_more l.calls) l.stopped it.whole it.ready keeps runs it.at.disk_is it.made.size_is;
-  sound = λ h told sound. call_sound score_of bytes images size l h r region d e b (one_more l.calls) l.stopped sound it.ready keeps runs it.at
-      (changes score_of bytes images size calls_of faults_of tells l r region d e b (Ok More) it told) (λ a has. it.made.sound a told (sound.current r region d a it.at has));
-  crash = stands score_of bytes images size calls_of faults_of tells l r region d e b (Ok More) it;
+    → IsCalled score_of disk l r region d e b (Ok More)
+    → IsMade score_of disk l (called l r.part e b (one_more l.calls) l.stopped) (Ok StepMade)
+more_made score_of disk l r region d e b it = record {
+  whole = call_whole disk l r.part d e b (one_more l.calls) l.stopped it.whole it.ready keeps runs it.at.disk_is it.made.size_is;
+  sound = λ h told sound. call_sound score_of disk l h r region d e b (one_more l.calls) l.stopped sound it.ready keeps runs it.at
+      (changes score_of disk l r region d e b (Ok More) it told) (λ a has. it.made.sound a told (sound.current r region d a it.at has));
+  crash = stands score_of disk l r region d e b (Ok More) it;
   makes = (makes_call l r.part e b l.stopped keeps, it.runs, call_owed l b (set l.disks r.part e) (one_more l.calls) l.stopped keeps.staged keeps.next it.ready made it.made.left);
   batch = λ all more. takes_all l r.part e b (one_more l.calls) l.stopped keeps all;
   last = λ n is. absurd (cc);
@@ -210,8 +211,8 @@ more_made score_of bytes images size calls_of faults_of tells l r region d e b i
   cause = one.cause;
 }
   where
-    one : IsOneCall bytes images size calls_of faults_of tells l (set l.disks r.part e) (Ok StepMade)
-    one = one_call score_of bytes images size calls_of faults_of tells l r region d e b (Ok More) (Ok StepMade) it it.made.faults_are
+    one : IsOneCall disk l (set l.disks r.part e) (Ok StepMade)
+    one = one_call score_of disk l r region d e b (Ok More) (Ok StepMade) it it.made.faults_are
 
     keeps : KeepsArena l.arena b
     keeps = subst (λ (x : ArenaState). KeepsArena l.arena x) (sym it.made.steps) (step_keeps l.arena).0
@@ -223,16 +224,16 @@ more_made score_of bytes images size calls_of faults_of tells l r region d e b i
     made = ap (λ (x : ArenaState). calls_made x) it.made.steps ∙ step_made l.arena
 
 -- it failed
-pub fault_made : {D : Type 0} (score_of : List ℕ → List ℕ) (bytes : D → List ℕ) (images : D → List ℕ → Type 0) (size calls_of faults_of : D → ℕ) (tells : Bool)
+pub fault_made : {D : Type 0} (score_of : List ℕ → List ℕ) (disk : DiskOf D)
     (l : LogState D) (r : ArenaRegion) (region : Region) (d e : D) (b : ArenaState) (err : TwinErr)
-    → IsCalled score_of bytes images size calls_of faults_of tells l r region d e b (Err err)
-    → IsMade score_of bytes images size calls_of faults_of tells l (called l r.part e b (one_more l.calls) (Some l.calls)) (Err Fault)
-fault_made score_of bytes images size calls_of faults_of tells l r region d e b (TwinStopped n) it = absurd (let off = it.made.stopped n refl in let on = it.whole.runs it.runs in cc)
-fault_made score_of bytes images size calls_of faults_of tells l r region d e b TwinFault it = record {
-  whole = call_whole size l r.part d e b (one_more l.calls) (Some l.calls) it.whole it.ready keeps runs it.at.disk_is it.made.size_is;
-  sound = λ h told sound. call_sound score_of bytes images size l h r region d e b (one_more l.calls) (Some l.calls) sound it.ready keeps runs it.at
-      (changes score_of bytes images size calls_of faults_of tells l r region d e b (Err TwinFault) it told) (λ a has. it.made.sound a told (sound.current r region d a it.at has));
-  crash = stands score_of bytes images size calls_of faults_of tells l r region d e b (Err TwinFault) it;
+    → IsCalled score_of disk l r region d e b (Err err)
+    → IsMade score_of disk l (called l r.part e b (one_more l.calls) (Some l.calls)) (Err Fault)
+fault_made score_of disk l r region d e b (TwinStopped n) it = absurd (let off = it.made.stopped n refl in let on = it.whole.runs it.runs in cc)
+fault_made score_of disk l r region d e b TwinFault it = record {
+  whole = call_whole disk l r.part d e b (one_more l.calls) (Some l.calls) it.whole it.ready keeps runs it.at.disk_is it.made.size_is;
+  sound = λ h told sound. call_sound score_of disk l h r region d e b (one_more l.calls) (Some l.calls) sound it.ready keeps runs it.at
+      (changes score_of disk l r region d e b (Err TwinFault) it told) (λ a has. it.made.sound a told (sound.current r region d a it.at has));
+  crash = stands score_of disk l r region d e b (Err TwinFault) it;
   makes = (makes_call l r.part e b (Some l.calls) keeps, refl);
   batch = λ all more. takes_all l r.part e b (one_more l.calls) (Some l.calls) keeps all;
   last = λ n is. absurd (cc);
@@ -245,8 +246,8 @@ fault_made score_of bytes images size calls_of faults_of tells l r region d e b 
   cause = one.cause;
 }
   where
-    one : IsOneCall bytes images size calls_of faults_of tells l (set l.disks r.part e) (Err Fault)
-    one = one_call score_of bytes images size calls_of faults_of tells l r region d e b (Err TwinFault) (Err Fault) it it.made.faults_are
+    one : IsOneCall disk l (set l.disks r.part e) (Err Fault)
+    one = one_call score_of disk l r region d e b (Err TwinFault) (Err Fault) it it.made.faults_are
 
     keeps : KeepsArena l.arena b
     keeps = subst (λ (x : ArenaState). KeepsArena l.arena x) (sym it.made.steps) (fault_keeps l.arena)
@@ -261,25 +262,25 @@ pub record IsLast {D : Type 0} (l : LogState D) (r : ArenaRegion) (found : Found
   pub has : slice_get l.heads l.committing ≡ Some found
   pub fit : b.head.used + directory_room b.head.clumps ≤ arena_room r.len
 
-content_there : {D : Type 0} (score_of : List ℕ → List ℕ) (bytes : D → List ℕ) (images : D → List ℕ → Type 0) (size : D → ℕ) (l : LogState D) (h : History) (r : ArenaRegion)
-    → (sound : IsSound score_of bytes images size l h) → slice_get l.layout l.committing ≡ Some r → (a : Content) × (slice_get sound.contents l.committing ≡ Some a)
-content_there score_of bytes images size l h r sound at = slice_get_other sound.contents l.layout l.committing r (sym sound.many) at
+content_there : {D : Type 0} (score_of : List ℕ → List ℕ) (disk : DiskOf D) (l : LogState D) (h : History) (r : ArenaRegion)
+    → (sound : IsSound score_of disk l h) → slice_get l.layout l.committing ≡ Some r → (a : Content) × (slice_get sound.contents l.committing ≡ Some a)
+content_there score_of disk l h r sound at = slice_get_other sound.contents l.layout l.committing r (sym sound.many) at
 
-ends_arena : {D : Type 0} (score_of : List ℕ → List ℕ) (bytes : D → List ℕ) (images : D → List ℕ → Type 0) (size calls_of faults_of : D → ℕ) (tells : Bool)
+ends_arena : {D : Type 0} (score_of : List ℕ → List ℕ) (disk : DiskOf D)
     (l : LogState D) (r : ArenaRegion) (region : Region) (d e : D) (b : ArenaState)
-    → IsCalled score_of bytes images size calls_of faults_of tells l r region d e b (Ok Done) → EndsArena l.arena b
-ends_arena score_of bytes images size calls_of faults_of tells l r region d e b it =
+    → IsCalled score_of disk l r region d e b (Ok Done) → EndsArena l.arena b
+ends_arena score_of disk l r region d e b it =
     subst (λ (x : ArenaState). EndsArena l.arena x) (sym it.made.steps) (last_ends l.arena (it.whole.runs it.runs))
 
-is_ending : {D : Type 0} (score_of : List ℕ → List ℕ) (bytes : D → List ℕ) (images : D → List ℕ → Type 0) (size calls_of faults_of : D → ℕ) (tells : Bool)
+is_ending : {D : Type 0} (score_of : List ℕ → List ℕ) (disk : DiskOf D)
     (l : LogState D) (r : ArenaRegion) (found : Found) (region : Region) (d e : D) (b : ArenaState)
-    → IsCalled score_of bytes images size calls_of faults_of tells l r region d e b (Ok Done) → IsLast l r found b → IsTrue tells
-    → IsEnding score_of bytes images size l r found region d e b
-is_ending score_of bytes images size calls_of faults_of tells l r found region d e b it last told = record {
-  ends = ends_arena score_of bytes images size calls_of faults_of tells l r region d e b it;
+    → IsCalled score_of disk l r region d e b (Ok Done) → IsLast l r found b → IsTrue disk.tells
+    → IsEnding score_of disk l r found region d e b
+is_ending score_of disk l r found region d e b it last told = record {
+  ends = ends_arena score_of disk l r region d e b it;
   has = last.has;
   at = it.at;
-  changes = changes score_of bytes images size calls_of faults_of tells l r region d e b (Ok Done) it told;
+  changes = changes score_of disk l r region d e b (Ok Done) it told;
   fit = last.fit;
 }
 
@@ -306,18 +307,18 @@ ends_commit l found b m has head_is calls heads durable staged waiting places = 
         gone ∙ sym (drop_at l.arena.staged (map (λ (w : Waiting). w.packed) l.queue.waiting) (length l.arena.staged) refl)
 
 -- and the arena isn't sealed
-pub ended_made : {D : Type 0} (score_of : List ℕ → List ℕ) (bytes : D → List ℕ) (images : D → List ℕ → Type 0) (size calls_of faults_of : D → ℕ) (tells : Bool)
+pub ended_made : {D : Type 0} (score_of : List ℕ → List ℕ) (disk : DiskOf D)
     (l : LogState D) (r : ArenaRegion) (found : Found) (region : Region) (d e : D) (b : ArenaState)
-    → IsCalled score_of bytes images size calls_of faults_of tells l r region d e b (Ok Done) → IsLast l r found b → b.next.sealed ≡ false
-    → IsMade score_of bytes images size calls_of faults_of tells l (ended l r.part e found b (one_more l.calls)) (Ok (Durable (l.durable + length l.arena.staged)))
-ended_made {D = D} score_of bytes images size calls_of faults_of tells l r found region d e b it last no_seal = record {
-  whole = ended_whole size l r found d e b (one_more l.calls) it.whole ends unsealed it.at.arena last.has last.fit it.at.disk_is it.made.size_is;
+    → IsCalled score_of disk l r region d e b (Ok Done) → IsLast l r found b → b.next.sealed ≡ false
+    → IsMade score_of disk l (ended l r.part e found b (one_more l.calls)) (Ok (Durable (l.durable + length l.arena.staged)))
+ended_made {D = D} score_of disk l r found region d e b it last no_seal = record {
+  whole = ended_whole disk l r found d e b (one_more l.calls) it.whole ends unsealed it.at.arena last.has last.fit it.at.disk_is it.made.size_is;
   sound = λ h told sound.
-      let content = content_there score_of bytes images size l h r sound it.at.arena in
-      ended_sound score_of bytes images size l h r found region d e b (one_more l.calls) content.0 sound
-      (is_ending score_of bytes images size calls_of faults_of tells l r found region d e b it last told) unsealed content.1
+      let content = content_there score_of disk l h r sound it.at.arena in
+      ended_sound score_of disk l h r found region d e b (one_more l.calls) content.0 sound
+      (is_ending score_of disk l r found region d e b it last told) unsealed content.1
       (it.made.sound content.0 told (sound.current r region d content.0 it.at content.1));
-  crash = stands score_of bytes images size calls_of faults_of tells l r region d e b (Ok Done) it;
+  crash = stands score_of disk l r region d e b (Ok Done) it;
   makes = (
     ends_commit l found b m last.has ends.head refl refl refl ends.staged refl refl,
     refl,
@@ -338,34 +339,34 @@ ended_made {D = D} score_of bytes images size calls_of faults_of tells l r found
     m : LogState D
     m = ended l r.part e found b (one_more l.calls)
 
-    one : IsOneCall bytes images size calls_of faults_of tells l (set l.disks r.part e) (Ok (Durable (l.durable + length l.arena.staged)))
-    one = one_call score_of bytes images size calls_of faults_of tells l r region d e b (Ok Done) (Ok (Durable (l.durable + length l.arena.staged))) it it.made.faults_are
+    one : IsOneCall disk l (set l.disks r.part e) (Ok (Durable (l.durable + length l.arena.staged)))
+    one = one_call score_of disk l r region d e b (Ok Done) (Ok (Durable (l.durable + length l.arena.staged))) it it.made.faults_are
 
     ends : EndsArena l.arena b
-    ends = ends_arena score_of bytes images size calls_of faults_of tells l r region d e b it
+    ends = ends_arena score_of disk l r region d e b it
 
     unsealed : l.arena.next.sealed ≡ false
     unsealed = sym (ap (λ (h : ArenaHead). h.sealed) ends.next) ∙ no_seal
 
 -- or it is, and the next one is turned to
-pub turned_made : {D : Type 0} (score_of : List ℕ → List ℕ) (bytes : D → List ℕ) (images : D → List ℕ → Type 0) (size calls_of faults_of : D → ℕ) (tells : Bool)
+pub turned_made : {D : Type 0} (score_of : List ℕ → List ℕ) (disk : DiskOf D)
     (l : LogState D) (r q : ArenaRegion) (found next : Found) (region : Region) (d e : D) (b : ArenaState) (len : ℕ)
-    → ((disk : D) → IsTrue tells → images disk (bytes disk)) → IsCalled score_of bytes images size calls_of faults_of tells l r region d e b (Ok Done) → IsLast l r found b
+    → ((device : D) → IsTrue disk.tells → disk.images device (disk.bytes device)) → IsCalled score_of disk l r region d e b (Ok Done) → IsLast l r found b
     → b.next.sealed ≡ true → slice_get l.layout (l.committing + 1) ≡ Some q → slice_get l.heads (l.committing + 1) ≡ Some next → len ≡ q.len
-    → IsMade score_of bytes images size calls_of faults_of tells l (turned l r.part e found b (one_more l.calls) len next) (Ok (Durable (l.durable + length l.arena.staged)))
-turned_made {D = D} score_of bytes images size calls_of faults_of tells l r q found next region d e b len read it last seals next_here next_has len_is = record {
-  whole = turned_whole size l r q found next d e b (one_more l.calls) len it.whole ends sealed it.at.arena last.has last.fit it.at.disk_is it.made.size_is next_here next_has len_is;
+    → IsMade score_of disk l (turned l r.part e found b (one_more l.calls) len next) (Ok (Durable (l.durable + length l.arena.staged)))
+turned_made {D = D} score_of disk l r q found next region d e b len read it last seals next_here next_has len_is = record {
+  whole = turned_whole disk l r q found next d e b (one_more l.calls) len it.whole ends sealed it.at.arena last.has last.fit it.at.disk_is it.made.size_is next_here next_has len_is;
   sound = λ h told sound.
-      let content = content_there score_of bytes images size l h r sound it.at.arena in
+      let content = content_there score_of disk l h r sound it.at.arena in
       let was = sound.current r region d content.0 it.at content.1 in
-      turned_sound score_of bytes images size l h r q found next region d e b (one_more l.calls) len content.0 sound
-      (is_ending score_of bytes images size calls_of faults_of tells l r found region d e b it last told) sealed content.1 next_here next_has len_is
+      turned_sound score_of disk l h r q found next region d e b (one_more l.calls) len content.0 sound
+      (is_ending score_of disk l r found region d e b it last told) sealed content.1 next_here next_has len_is
       (record {
         sound = it.made.sound content.0 told was;
         settled = λ c left. ap (region_bytes region) (it.made.settled told refl c left);
-        arena = subst (λ (n : ℕ). IsArena score_of region n (next_content l.arena content.0) (bytes e)) (sym ends.number) (it.made.last content.0 told was refl (bytes e) (read e told));
+        arena = subst (λ (n : ℕ). IsArena score_of region n (next_content l.arena content.0) (disk.bytes e)) (sym ends.number) (it.made.last content.0 told was refl (disk.bytes e) (read e told));
       });
-  crash = stands score_of bytes images size calls_of faults_of tells l r region d e b (Ok Done) it;
+  crash = stands score_of disk l r region d e b (Ok Done) it;
   makes = (
     ends_commit l found b m last.has ends.head refl refl refl refl refl refl,
     refl,
@@ -386,11 +387,11 @@ turned_made {D = D} score_of bytes images size calls_of faults_of tells l r q fo
     m : LogState D
     m = turned l r.part e found b (one_more l.calls) len next
 
-    one : IsOneCall bytes images size calls_of faults_of tells l (set l.disks r.part e) (Ok (Durable (l.durable + length l.arena.staged)))
-    one = one_call score_of bytes images size calls_of faults_of tells l r region d e b (Ok Done) (Ok (Durable (l.durable + length l.arena.staged))) it it.made.faults_are
+    one : IsOneCall disk l (set l.disks r.part e) (Ok (Durable (l.durable + length l.arena.staged)))
+    one = one_call score_of disk l r region d e b (Ok Done) (Ok (Durable (l.durable + length l.arena.staged))) it it.made.faults_are
 
     ends : EndsArena l.arena b
-    ends = ends_arena score_of bytes images size calls_of faults_of tells l r region d e b it
+    ends = ends_arena score_of disk l r region d e b it
 
     sealed : l.arena.next.sealed ≡ true
     sealed = sym (ap (λ (h : ArenaHead). h.sealed) ends.next) ∙ seals
@@ -433,28 +434,28 @@ pub record AreParts {D : Type 0} (ps : List (Part D)) (i : ℕ) (p : Part D) (v 
   pub at : slice_get ps i ≡ Some p
 
 -- the arena that is committed in, and its place on the disk of a partition, as the log has them in memory
-pub record IsThere {D : Type 0} (size : D → ℕ) (ps : List (Part D)) (p : Part D) (v m : LogState D) (r : ArenaRegion) (region : Region) : Type 0 where
+pub record IsThere {D : Type 0} (disk : DiskOf D) (ps : List (Part D)) (p : Part D) (v m : LogState D) (r : ArenaRegion) (region : Region) : Type 0 where
   pub view : v ≡ m
-  pub whole : IsWhole size v
+  pub whole : IsWhole disk v
   pub runs : v.stopped ≡ None
   pub ready : IsReady v
   pub at : IsAt v v.committing r region (disk_of p)
   pub parts : AreParts ps r.part p v
 
-pub arena_there : {D : Type 0} (size : D → ℕ) (ps : List (Part D)) (p : Part D) (v m : LogState D) (rs : List ArenaRegion) (r : ArenaRegion) (region : Region)
-    → v ≡ m → IsWhole size v → v.disks ≡ map (λ part. disk_of part) ps → v.tables ≡ tables_of ps → m.stopped ≡ None → 0 < queued m → IsReady m
-    → rs ≡ v.layout → r ≡ region_at rs v.committing → IsRegionOf r region → p ≡ get_or ps r.part p → IsThere size ps p v m r region
-arena_there {D = D} size ps p v m rs r region view whole disks tables runs some ready layout r_is region_is p_is = record {
+pub arena_there : {D : Type 0} (disk : DiskOf D) (ps : List (Part D)) (p : Part D) (v m : LogState D) (rs : List ArenaRegion) (r : ArenaRegion) (region : Region)
+    → v ≡ m → IsWhole disk v → v.disks ≡ map (λ part. disk_of part) ps → v.tables ≡ tables_of ps → m.stopped ≡ None → 0 < queued m → IsReady m
+    → rs ≡ v.layout → r ≡ region_at rs v.committing → IsRegionOf r region → p ≡ get_or ps r.part p → IsThere disk ps p v m r region
+arena_there {D = D} disk ps p v m rs r region view whole disks tables runs some ready layout r_is region_is p_is = record {
   view = view;
   whole = whole;
   runs = ap (λ (x : LogState D). x.stopped) view ∙ runs;
   ready = subst (λ (x : LogState D). IsReady x) (sym view) ready;
-  at = record { arena = here; region_is = region_is; disk_is = disk };
+  at = record { arena = here; region_is = region_is; disk_is = device };
   parts = record { disks = disks; tables = tables; at = at };
 }
   where
     within : v.committing < length v.layout
-    within = committing_there size v whole (subst (λ (x : LogState D). 0 < queued x) (sym view) some)
+    within = committing_there disk v whole (subst (λ (x : LogState D). 0 < queued x) (sym view) some)
 
     same : r ≡ region_at v.layout v.committing
     same = r_is ∙ ap (λ (xs : List ArenaRegion). region_at xs v.committing) layout
@@ -463,24 +464,24 @@ arena_there {D = D} size ps p v m rs r region view whole disks tables runs some 
     here = slice_get-get_or v.layout v.committing (region_at [] 0) within ∙ ap (λ (x : ArenaRegion). Some x) (sym same)
 
     at : slice_get ps r.part ≡ Some p
-    at = slice_get_read ps (length ps) r.part p refl (part_there size ps v v.committing r (region_at [] 0) whole disks within same) p_is
+    at = slice_get_read ps (length ps) r.part p refl (part_there disk ps v v.committing r (region_at [] 0) whole disks within same) p_is
 
-    disk : slice_get v.disks r.part ≡ Some (disk_of p)
-    disk = ap (λ (ds : List D). slice_get ds r.part) disks ∙ slice_get-map (λ (part : Part D). disk_of part) ps r.part ∙ ap (option_map (λ (part : Part D). disk_of part)) at
+    device : slice_get v.disks r.part ≡ Some (disk_of p)
+    device = ap (λ (ds : List D). slice_get ds r.part) disks ∙ slice_get-map (λ (part : Part D). disk_of part) ps r.part ∙ ap (option_map (λ (part : Part D). disk_of part)) at
 
 -- its region is as long as the arena in memory
-pub same_len : {D : Type 0} (size : D → ℕ) (v m : LogState D) (rs : List ArenaRegion) (r : ArenaRegion) → v ≡ m → IsWhole size v → 0 < queued m → rs ≡ v.layout → r ≡ region_at rs v.committing
+pub same_len : {D : Type 0} (disk : DiskOf D) (v m : LogState D) (rs : List ArenaRegion) (r : ArenaRegion) → v ≡ m → IsWhole disk v → 0 < queued m → rs ≡ v.layout → r ≡ region_at rs v.committing
     → r.len ≡ v.arena.len
-same_len {D = D} size v m rs r view whole some layout r_is =
-    let within : v.committing < length v.layout = committing_there size v whole (subst (λ (x : LogState D). 0 < queued x) (sym view) some) in
+same_len {D = D} disk v m rs r view whole some layout r_is =
+    let within : v.committing < length v.layout = committing_there disk v whole (subst (λ (x : LogState D). 0 < queued x) (sym view) some) in
     let here : slice_get v.layout v.committing ≡ Some r =
     slice_get-get_or v.layout v.committing (region_at [] 0) within ∙ ap (λ (x : ArenaRegion). Some x) (sym (r_is ∙ ap (λ (xs : List ArenaRegion). region_at xs v.committing) layout)) in
     let found = slice_get_other v.heads v.layout v.committing r (sym whole.many) here in
     sym (whole.arena r found.0 here found.1).len
 
 -- and its head is the one that the log has
-pub last_call : {D : Type 0} {size : D → ℕ} {ps : List (Part D)} {p : Part D} {v m : LogState D} {r : ArenaRegion} {region : Region} {found : Found} {head : ArenaHead} {b : ArenaState}
-    → IsThere size ps p v m r region → found ≡ get_or v.heads v.committing found → head ≡ b.head → b.len ≡ v.arena.len
+pub last_call : {D : Type 0} {disk : DiskOf D} {ps : List (Part D)} {p : Part D} {v m : LogState D} {r : ArenaRegion} {region : Region} {found : Found} {head : ArenaHead} {b : ArenaState}
+    → IsThere disk ps p v m r region → found ≡ get_or v.heads v.committing found → head ≡ b.head → b.len ≡ v.arena.len
     → head.used + directory_room head.clumps ≤ arena_room b.len → IsLast v r found b
 last_call {v = v} {r = r} {found = found} {head = head} {b = b} it found_is head_is len fit =
     let other = slice_get_other v.heads v.layout v.committing r (sym it.whole.many) it.at.arena in
@@ -504,17 +505,17 @@ seals_too a b step it done seals =
     let steps : Advances (Ok Done) a b = subst (λ (s : Step). Advances (Ok s) a b) done it in
     sym (ap (λ (x : ArenaState). x.next.sealed) steps) ∙ seals
 
-pub next_arena_there : {D : Type 0} (size : D → ℕ) (v : LogState D) (rs : List ArenaRegion) (q : ArenaRegion) (x next : Found) → IsWhole size v → v.arena.next.sealed ≡ true
+pub next_arena_there : {D : Type 0} (disk : DiskOf D) (v : LogState D) (rs : List ArenaRegion) (q : ArenaRegion) (x next : Found) → IsWhole disk v → v.arena.next.sealed ≡ true
     → rs ≡ v.layout → q ≡ region_at rs (v.committing + 1) → next ≡ get_or (set v.heads v.committing x) (v.committing + 1) next → IsNextArena v q next
-next_arena_there {D = D} size v rs q x next whole seals layout q_is next_is = record {
+next_arena_there {D = D} disk v rs q x next whole seals layout q_is next_is = record {
   here = here;
   has = has;
-  len = (at_slice (IsOnDisk size v.disks) v.layout (v.committing + 1) q whole.regions here).len;
+  len = (at_slice (IsOnDisk disk v.disks) v.layout (v.committing + 1) q whole.regions here).len;
   fit = (whole.heads (v.committing + 1) q next here has).fit;
 }
   where
     below : v.committing + 1 < length v.layout
-    below = next_there size v whole seals
+    below = next_there disk v whole seals
 
     here : slice_get v.layout (v.committing + 1) ≡ Some q
     here = slice_get-get_or v.layout (v.committing + 1) (region_at [] 0) below ∙ ap (λ (r : ArenaRegion). Some r) (sym (q_is ∙ ap (λ (xs : List ArenaRegion). region_at xs (v.committing + 1)) layout))
@@ -527,30 +528,30 @@ next_arena_there {D = D} size v rs q x next whole seals layout q_is next_is = re
         ∙ slice_get_read (set v.heads v.committing x) (length (set v.heads v.committing x)) (v.committing + 1) next refl inside next_is
 
 -- and what is known once its call was made
-pub record IsCalledIn {D : Type 0} (score_of : List ℕ → List ℕ) (bytes : D → List ℕ) (images : D → List ℕ → Type 0) (size calls_of faults_of : D → ℕ) (tells : Bool)
+pub record IsCalledIn {D : Type 0} (score_of : List ℕ → List ℕ) (disk : DiskOf D)
     (ps : List (Part D)) (p : Part D) (v m : LogState D) (r : ArenaRegion) (e : D) (b : ArenaState) (step : Result Step TwinErr) : Type 0 where
   pub region : Region
-  pub made : IsAdvanced score_of bytes images size calls_of faults_of tells v.arena region (disk_of p) e b step
-  pub there : IsThere size ps p v m r region
+  pub made : IsAdvanced score_of disk v.arena region (disk_of p) e b step
+  pub there : IsThere disk ps p v m r region
 
-called_in : {D : Type 0} (score_of : List ℕ → List ℕ) (bytes : D → List ℕ) (images : D → List ℕ → Type 0) (size calls_of faults_of : D → ℕ) (tells : Bool)
+called_in : {D : Type 0} (score_of : List ℕ → List ℕ) (disk : DiskOf D)
     (ps : List (Part D)) (p : Part D) (v m : LogState D) (r : ArenaRegion) (e : D) (b : ArenaState) (step : Result Step TwinErr)
-    → (it : IsCalledIn score_of bytes images size calls_of faults_of tells ps p v m r e b step) → IsCalled score_of bytes images size calls_of faults_of tells v r it.region (disk_of p) e b step
-called_in score_of bytes images size calls_of faults_of tells ps p v m r e b step it =
+    → (it : IsCalledIn score_of disk ps p v m r e b step) → IsCalled score_of disk v r it.region (disk_of p) e b step
+called_in score_of disk ps p v m r e b step it =
     record { whole = it.there.whole; runs = it.there.runs; ready = it.there.ready; at = it.there.at; made = it.made }
 
-pub more_in_parts : {D : Type 0} {score_of : List ℕ → List ℕ} {bytes : D → List ℕ} {images : D → List ℕ → Type 0} {size calls_of faults_of : D → ℕ} {tells : Bool}
+pub more_in_parts : {D : Type 0} {score_of : List ℕ → List ℕ} {disk : DiskOf D}
     {ps : List (Part D)} {p : Part D} {v m : LogState D} {r : ArenaRegion} {e : D} {b : ArenaState} {step : Step} {calls : ℕ}
-    → IsCalledIn score_of bytes images size calls_of faults_of tells ps p v m r e b (Ok step) → step ≡ More → calls ≡ one_more v.calls
-    → IsMade score_of bytes images size calls_of faults_of tells m (with_disk ps r.part p e (record v { arena = b; calls = calls })) (Ok StepMade)
-more_in_parts {D = D} {score_of = score_of} {bytes = bytes} {images = images} {size = size} {calls_of = calls_of} {faults_of = faults_of} {tells = tells}
+    → IsCalledIn score_of disk ps p v m r e b (Ok step) → step ≡ More → calls ≡ one_more v.calls
+    → IsMade score_of disk m (with_disk ps r.part p e (record v { arena = b; calls = calls })) (Ok StepMade)
+more_in_parts {D = D} {score_of = score_of} {disk = disk}
     {ps = ps} {p = p} {v = v} {m = m} {r = r} {e = e} {b = b} {step = step} {calls = calls} it more is =
-    subst (λ (x : LogState D). IsMade score_of bytes images size calls_of faults_of tells x (with_disk ps r.part p e (record v { arena = b; calls = calls })) (Ok StepMade)) made.there.view
-    (subst (λ (x : LogState D). IsMade score_of bytes images size calls_of faults_of tells v x (Ok StepMade)) (sym state)
-    (more_made score_of bytes images size calls_of faults_of tells v r made.region (disk_of p) e b (called_in score_of bytes images size calls_of faults_of tells ps p v m r e b (Ok More) made)))
+    subst (λ (x : LogState D). IsMade score_of disk x (with_disk ps r.part p e (record v { arena = b; calls = calls })) (Ok StepMade)) made.there.view
+    (subst (λ (x : LogState D). IsMade score_of disk v x (Ok StepMade)) (sym state)
+    (more_made score_of disk v r made.region (disk_of p) e b (called_in score_of disk ps p v m r e b (Ok More) made)))
   where
-    made : IsCalledIn score_of bytes images size calls_of faults_of tells ps p v m r e b (Ok More)
-    made = subst (λ (s : Step). IsCalledIn score_of bytes images size calls_of faults_of tells ps p v m r e b (Ok s)) more it
+    made : IsCalledIn score_of disk ps p v m r e b (Ok More)
+    made = subst (λ (s : Step). IsCalledIn score_of disk ps p v m r e b (Ok s)) more it
 
     are : AreParts ps r.part p v
     are = made.there.parts
@@ -561,15 +562,15 @@ more_in_parts {D = D} {score_of = score_of} {bytes = bytes} {images = images} {s
         λ j. record v { disks = set v.disks r.part e; arena = b; calls = is j } in
         parts_state ps r.part p e (record v { arena = b; calls = calls }) are.disks are.tables are.at ∙ same
 
-pub fault_in_parts : {D : Type 0} {score_of : List ℕ → List ℕ} {bytes : D → List ℕ} {images : D → List ℕ → Type 0} {size calls_of faults_of : D → ℕ} {tells : Bool}
+pub fault_in_parts : {D : Type 0} {score_of : List ℕ → List ℕ} {disk : DiskOf D}
     {ps : List (Part D)} {p : Part D} {v m : LogState D} {r : ArenaRegion} {e : D} {b : ArenaState} {err : TwinErr} {calls : ℕ}
-    → IsCalledIn score_of bytes images size calls_of faults_of tells ps p v m r e b (Err err) → calls ≡ one_more v.calls
-    → IsMade score_of bytes images size calls_of faults_of tells m (with_disk ps r.part p e (record v { arena = b; calls = calls; stopped = Some v.calls })) (Err Fault)
-fault_in_parts {D = D} {score_of = score_of} {bytes = bytes} {images = images} {size = size} {calls_of = calls_of} {faults_of = faults_of} {tells = tells}
+    → IsCalledIn score_of disk ps p v m r e b (Err err) → calls ≡ one_more v.calls
+    → IsMade score_of disk m (with_disk ps r.part p e (record v { arena = b; calls = calls; stopped = Some v.calls })) (Err Fault)
+fault_in_parts {D = D} {score_of = score_of} {disk = disk}
     {ps = ps} {p = p} {v = v} {m = m} {r = r} {e = e} {b = b} {err = err} {calls = calls} made is =
-    subst (λ (x : LogState D). IsMade score_of bytes images size calls_of faults_of tells x (with_disk ps r.part p e (record v { arena = b; calls = calls; stopped = Some v.calls })) (Err Fault)) made.there.view
-    (subst (λ (x : LogState D). IsMade score_of bytes images size calls_of faults_of tells v x (Err Fault)) (sym state)
-    (fault_made score_of bytes images size calls_of faults_of tells v r made.region (disk_of p) e b err (called_in score_of bytes images size calls_of faults_of tells ps p v m r e b (Err err) made)))
+    subst (λ (x : LogState D). IsMade score_of disk x (with_disk ps r.part p e (record v { arena = b; calls = calls; stopped = Some v.calls })) (Err Fault)) made.there.view
+    (subst (λ (x : LogState D). IsMade score_of disk v x (Err Fault)) (sym state)
+    (fault_made score_of disk v r made.region (disk_of p) e b err (called_in score_of disk ps p v m r e b (Err err) made)))
   where
     are : AreParts ps r.part p v
     are = made.there.parts
@@ -588,19 +589,19 @@ pub record Settles {D : Type 0} (v : LogState D) (found : Found) (b : ArenaState
   pub durable_is : durable ≡ v.durable + length v.arena.staged
   pub calls_is : calls ≡ one_more v.calls
 
-pub ended_in_parts : {D : Type 0} {score_of : List ℕ → List ℕ} {bytes : D → List ℕ} {images : D → List ℕ → Type 0} {size calls_of faults_of : D → ℕ} {tells : Bool}
+pub ended_in_parts : {D : Type 0} {score_of : List ℕ → List ℕ} {disk : DiskOf D}
     {ps : List (Part D)} {p : Part D} {v m : LogState D} {r : ArenaRegion} {found : Found} {e : D} {b : ArenaState} {step : Step} {heads : List Found} {queue : QueueState} {durable calls : ℕ}
-    → IsCalledIn score_of bytes images size calls_of faults_of tells ps p v m r e b (Ok step) → step ≡ Done → IsLast v r found b → Settles v found b heads queue durable calls → b.next.sealed ≡ false
-    → IsMade score_of bytes images size calls_of faults_of tells m (with_disk ps r.part p e (record v { heads = heads; arena = b; queue = queue; durable = durable; calls = calls })) (Ok (Durable durable))
-ended_in_parts {D = D} {score_of = score_of} {bytes = bytes} {images = images} {size = size} {calls_of = calls_of} {faults_of = faults_of} {tells = tells}
+    → IsCalledIn score_of disk ps p v m r e b (Ok step) → step ≡ Done → IsLast v r found b → Settles v found b heads queue durable calls → b.next.sealed ≡ false
+    → IsMade score_of disk m (with_disk ps r.part p e (record v { heads = heads; arena = b; queue = queue; durable = durable; calls = calls })) (Ok (Durable durable))
+ended_in_parts {D = D} {score_of = score_of} {disk = disk}
     {ps = ps} {p = p} {v = v} {m = m} {r = r} {found = found} {e = e} {b = b} {step = step} {heads = heads} {queue = queue} {durable = durable} {calls = calls} it done last settles no_seal =
-    subst (λ (x : LogState D). IsMade score_of bytes images size calls_of faults_of tells x k (Ok (Durable durable))) made.there.view
-    (subst (λ (x : LogState D). IsMade score_of bytes images size calls_of faults_of tells v x (Ok (Durable durable))) (sym state)
-    (subst (λ (n : ℕ). IsMade score_of bytes images size calls_of faults_of tells v (ended v r.part e found b (one_more v.calls)) (Ok (Durable n))) (sym settles.durable_is)
-    (ended_made score_of bytes images size calls_of faults_of tells v r found made.region (disk_of p) e b (called_in score_of bytes images size calls_of faults_of tells ps p v m r e b (Ok Done) made) last no_seal)))
+    subst (λ (x : LogState D). IsMade score_of disk x k (Ok (Durable durable))) made.there.view
+    (subst (λ (x : LogState D). IsMade score_of disk v x (Ok (Durable durable))) (sym state)
+    (subst (λ (n : ℕ). IsMade score_of disk v (ended v r.part e found b (one_more v.calls)) (Ok (Durable n))) (sym settles.durable_is)
+    (ended_made score_of disk v r found made.region (disk_of p) e b (called_in score_of disk ps p v m r e b (Ok Done) made) last no_seal)))
   where
-    made : IsCalledIn score_of bytes images size calls_of faults_of tells ps p v m r e b (Ok Done)
-    made = subst (λ (s : Step). IsCalledIn score_of bytes images size calls_of faults_of tells ps p v m r e b (Ok s)) done it
+    made : IsCalledIn score_of disk ps p v m r e b (Ok Done)
+    made = subst (λ (s : Step). IsCalledIn score_of disk ps p v m r e b (Ok s)) done it
 
     are : AreParts ps r.part p v
     are = made.there.parts
@@ -621,22 +622,22 @@ ended_in_parts {D = D} {score_of = score_of} {bytes = bytes} {images = images} {
         } in
         parts_state ps r.part p e (record v { heads = heads; arena = b; queue = queue; durable = durable; calls = calls }) are.disks are.tables are.at ∙ same
 
-pub turned_in_parts : {D : Type 0} {score_of : List ℕ → List ℕ} {bytes : D → List ℕ} {images : D → List ℕ → Type 0} {size calls_of faults_of : D → ℕ} {tells : Bool}
+pub turned_in_parts : {D : Type 0} {score_of : List ℕ → List ℕ} {disk : DiskOf D}
     {ps : List (Part D)} {p : Part D} {v m : LogState D} {r q : ArenaRegion} {found next : Found} {e : D} {b turn : ArenaState} {step : Step} {heads : List Found} {queue : QueueState} {durable calls : ℕ}
-    → ((disk : D) → IsTrue tells → images disk (bytes disk)) → IsCalledIn score_of bytes images size calls_of faults_of tells ps p v m r e b (Ok step) → step ≡ Done → IsLast v r found b
+    → ((device : D) → IsTrue disk.tells → disk.images device (disk.bytes device)) → IsCalledIn score_of disk ps p v m r e b (Ok step) → step ≡ Done → IsLast v r found b
     → Settles v found b heads queue durable calls → b.next.sealed ≡ true → IsNextArena v q next → turn ≡ fresh_arena q.len (next.selector % 2) next.head
-    → IsMade score_of bytes images size calls_of faults_of tells m
+    → IsMade score_of disk m
     (with_disk ps r.part p e (record v { heads = heads; committing = v.committing + 1; arena = turn; queue = queue; durable = durable; calls = calls })) (Ok (Durable durable))
-turned_in_parts {D = D} {score_of = score_of} {bytes = bytes} {images = images} {size = size} {calls_of = calls_of} {faults_of = faults_of} {tells = tells}
+turned_in_parts {D = D} {score_of = score_of} {disk = disk}
     {ps = ps} {p = p} {v = v} {m = m} {r = r} {q = q} {found = found} {next = next} {e = e} {b = b} {turn = turn} {step = step} {heads = heads} {queue = queue} {durable = durable} {calls = calls}
     read it done last settles seals is_next turn_is =
-    subst (λ (x : LogState D). IsMade score_of bytes images size calls_of faults_of tells x k (Ok (Durable durable))) made.there.view
-    (subst (λ (x : LogState D). IsMade score_of bytes images size calls_of faults_of tells v x (Ok (Durable durable))) (sym state)
-    (subst (λ (n : ℕ). IsMade score_of bytes images size calls_of faults_of tells v (turned v r.part e found b (one_more v.calls) q.len next) (Ok (Durable n))) (sym settles.durable_is)
-    (turned_made score_of bytes images size calls_of faults_of tells v r q found next made.region (disk_of p) e b q.len read (called_in score_of bytes images size calls_of faults_of tells ps p v m r e b (Ok Done) made) last seals is_next.here is_next.has refl)))
+    subst (λ (x : LogState D). IsMade score_of disk x k (Ok (Durable durable))) made.there.view
+    (subst (λ (x : LogState D). IsMade score_of disk v x (Ok (Durable durable))) (sym state)
+    (subst (λ (n : ℕ). IsMade score_of disk v (turned v r.part e found b (one_more v.calls) q.len next) (Ok (Durable n))) (sym settles.durable_is)
+    (turned_made score_of disk v r q found next made.region (disk_of p) e b q.len read (called_in score_of disk ps p v m r e b (Ok Done) made) last seals is_next.here is_next.has refl)))
   where
-    made : IsCalledIn score_of bytes images size calls_of faults_of tells ps p v m r e b (Ok Done)
-    made = subst (λ (s : Step). IsCalledIn score_of bytes images size calls_of faults_of tells ps p v m r e b (Ok s)) done it
+    made : IsCalledIn score_of disk ps p v m r e b (Ok Done)
+    made = subst (λ (s : Step). IsCalledIn score_of disk ps p v m r e b (Ok s)) done it
 
     are : AreParts ps r.part p v
     are = made.there.parts

@@ -6,6 +6,7 @@ use Rattle.std.proofs.lemmas.List.{length-map, take_all, drop_all}
 use Rattle.std.proofs.lemmas.List.Elements.{All-weaker, All-nil, All-cons, All-head, All-tail, All-append, All-map}
 use Rattle.std.proofs.lemmas.List.Sums.{sum_by-cons}
 use Rattle.std.proofs.lemmas.Option.{slice_get-map, slice_get_cases, same_Some}
+use Rattle.vt_log.specs.Members.{DiskOf}
 use Rattle.vt_disk.specs.declared.region.Region.{Region}
 use Rattle.vt_disk.specs.Disk.{Only, IsAligned}
 use Rattle.vt_disk.specs.Region.{region_bytes}
@@ -59,12 +60,12 @@ arena_len n is =
     (least, most)
 
 -- each arena lies on its partition's disk, which has room for all of them
-pub regions_on : {D : Type 0} (size : D → ℕ) → ((d : D) → size d < 2 ^ 64) → (ps : List (Part D)) → All (λ part. end_of (table_of part) ≤ size (disk_of part)) ps
-    → All (IsOnDisk size (disks_of ps)) (layout_of (tables_of ps))
-regions_on {D = D} size fits ps rooms =
-    All-weaker (IsArenaOfTable (tables_of ps)) (IsOnDisk size (disks_of ps)) here (layout_of (tables_of ps)) (layouts_have_arenas (tables_of ps))
+pub regions_on : {D : Type 0} (disk : DiskOf D) → ((d : D) → disk.size d < 2 ^ 64) → (ps : List (Part D)) → All (λ part. end_of (table_of part) ≤ disk.size (disk_of part)) ps
+    → All (IsOnDisk disk (disks_of ps)) (layout_of (tables_of ps))
+regions_on {D = D} disk fits ps rooms =
+    All-weaker (IsArenaOfTable (tables_of ps)) (IsOnDisk disk (disks_of ps)) here (layout_of (tables_of ps)) (layouts_have_arenas (tables_of ps))
   where
-    here : (r : ArenaRegion) → IsArenaOfTable (tables_of ps) r → IsOnDisk size (disks_of ps) r
+    here : (r : ArenaRegion) → IsArenaOfTable (tables_of ps) r → IsOnDisk disk (disks_of ps) r
     here r is =
         let t : Table = is.0 in
         let p = slice_get_other ps (tables_of ps) r.part t (length-map ps (λ (part : Part D). table_of part)) is.1 in
@@ -73,10 +74,10 @@ regions_on {D = D} size fits ps rooms =
         let at : r.at ≡ start_of t r.number = ap (λ (x : ArenaRegion). x.at) is.3 in
         let len : r.len ≡ t.arena_size = ap (λ (x : ArenaRegion). x.len) is.3 in
         let inside : start_of t r.number + t.arena_size ≤ end_of t = arenas_follow t r.number t.count is.2 in
-        let room : end_of t ≤ size (disk_of p.0) = subst (λ (u : Table). end_of u ≤ size (disk_of p.0)) table_is (at_slice (λ (part : Part D). end_of (table_of part) ≤ size (disk_of part)) ps r.part p.0 rooms p.1) in
-        let within : r.at + r.len ≤ size (disk_of p.0) = omega (arith, at, len, inside, room) in
+        let room : end_of t ≤ disk.size (disk_of p.0) = subst (λ (u : Table). end_of u ≤ disk.size (disk_of p.0)) table_is (at_slice (λ (part : Part D). end_of (table_of part) ≤ disk.size (disk_of part)) ps r.part p.0 rooms p.1) in
+        let within : r.at + r.len ≤ disk.size (disk_of p.0) = omega (arith, at, len, inside, room) in
         record {
-          disk = disk_of p.0;
+          device = disk_of p.0;
           has = slice_get-map (λ (part : Part D). disk_of part) ps r.part ∙ ap (option_map (λ (part : Part D). disk_of part)) p.1;
           within = within;
           small = omega (arith, within, fits (disk_of p.0));
@@ -160,26 +161,26 @@ unsealed_from behind i (r ∷ rs) (h ∷ hs) (suc base) many none first (suc k) 
     unsealed_from (behind || sealed_in (fields_of h.head) == 0) (i + 1) rs hs base (omega (arith, many)) both.1 (first_rest h hs base first) k found (omega (arith, least)) at
 
 -- what is known of a log that was found
-pub record IsFoundLog {D : Type 0} (tells : Bool) (bytes : D → List ℕ) (size : D → ℕ) (disks : List D) (tables : List Table) (layout : List ArenaRegion) (files : List (List ℕ)) (fields : List (List ℕ))
+pub record IsFoundLog {D : Type 0} (disk : DiskOf D) (disks : List D) (tables : List Table) (layout : List ArenaRegion) (files : List (List ℕ)) (fields : List (List ℕ))
     (heads : List Found) (base : ℕ) (arena : ArenaState) : Type 0 where
   pub many_disks : length disks ≡ length tables
   pub layout_is : layout ≡ layout_of tables
-  pub regions : All (IsOnDisk size disks) layout
+  pub regions : All (IsOnDisk disk disks) layout
   pub few : length layout < 2 ^ 32
-  pub files_are : map bytes disks ≡ files
-  pub found : AreFound tells layout files heads
+  pub files_are : map disk.bytes disks ≡ files
+  pub found : AreFound disk.tells layout files heads
   pub passed : ArePassed layout fields heads
   pub first : IsFirstOpen heads base
   pub room : IsRoomFor layout heads base arena
 
-module _ {D : Type 0} (tells : Bool) (bytes : D → List ℕ) (size : D → ℕ) (disks : List D) (tables : List Table) (layout : List ArenaRegion) (files : List (List ℕ)) (fields : List (List ℕ))
-    (heads : List Found) (base : ℕ) (arena : ArenaState) (is : IsFoundLog tells bytes size disks tables layout files fields heads base arena) where
-  file_of : (r : ArenaRegion) → IsOnDisk size disks r → (file : List ℕ) × (slice_get files r.part ≡ Some file)
-  file_of r on = (bytes on.disk, ap (λ (fs : List (List ℕ)). slice_get fs r.part) (sym is.files_are) ∙ slice_get-map bytes disks r.part ∙ ap (option_map bytes) on.has)
+module _ {D : Type 0} (disk : DiskOf D) (disks : List D) (tables : List Table) (layout : List ArenaRegion) (files : List (List ℕ)) (fields : List (List ℕ))
+    (heads : List Found) (base : ℕ) (arena : ArenaState) (is : IsFoundLog disk disks tables layout files fields heads base arena) where
+  file_of : (r : ArenaRegion) → IsOnDisk disk disks r → (file : List ℕ) × (slice_get files r.part ≡ Some file)
+  file_of r on = (disk.bytes on.device, ap (λ (fs : List (List ℕ)). slice_get fs r.part) (sym is.files_are) ∙ slice_get-map disk.bytes disks r.part ∙ ap (option_map disk.bytes) on.has)
 
   it_stands : (i : ℕ) (r : ArenaRegion) (found : Found) → slice_get layout i ≡ Some r → slice_get heads i ≡ Some found → CanStand r.number r.len found.head
   it_stands i r found at at_found =
-      let file = file_of r (at_slice (IsOnDisk size disks) layout i r is.regions at) in
+      let file = file_of r (at_slice (IsOnDisk disk disks) layout i r is.regions at) in
       (is.found.each i r file.0 found at file.1 at_found).stands
 
   -- the arena in memory has an unsealed head
@@ -191,8 +192,8 @@ module _ {D : Type 0} (tells : Bool) (bytes : D → List ℕ) (size : D → ℕ)
       (λ (past : (length heads ≤ base) × (slice_get heads base ≡ None)). (is.room.past (omega (arith, past.0, is.found.many))).0)
       (slice_get_cases heads base).1
 
-  pub found_whole : IsWhole size (found_log disks tables layout heads base arena)
-  found_whole = subst (λ (a : ArenaState). IsWhole size (found_log disks tables layout heads base a)) (sym is.room.fresh) (record {
+  pub found_whole : IsWhole disk (found_log disks tables layout heads base arena)
+  found_whole = subst (λ (a : ArenaState). IsWhole disk (found_log disks tables layout heads base a)) (sym is.room.fresh) (record {
     many_disks = is.many_disks;
     layout = is.layout_is;
     regions = is.regions;
@@ -324,38 +325,38 @@ order_behind (suc c) (a ∷ rest) order sealed unsealed =
     (order_behind c rest (subst (λ (b : Bool). MatchBool b (InOrder rest) (All IsUntouched rest)) is order) (All-tail IsSealed a (take c rest) sealed) (λ b at. unsealed b at))
 
 -- the log that is there is found
-pub record IsFoundSound {D : Type 0} (score_of : List ℕ → List ℕ) (bytes : D → List ℕ) (images : D → List ℕ → Type 0) (size : D → ℕ) (l : LogState D) (h : History) (base : ℕ) : Type 0 where
-  pub sound : IsSound score_of bytes images size l h
+pub record IsFoundSound {D : Type 0} (score_of : List ℕ → List ℕ) (disk : DiskOf D) (l : LogState D) (h : History) (base : ℕ) : Type 0 where
+  pub sound : IsSound score_of disk l h
   pub base_is : l.base ≡ base
   pub durable_is : l.durable ≡ length h
 
-module _ {D : Type 0} (tells : Bool) (bytes : D → List ℕ) (images : D → List ℕ → Type 0) (size : D → ℕ) (disks : List D) (tables : List Table) (layout : List ArenaRegion) (files : List (List ℕ)) (fields : List (List ℕ))
-    (heads : List Found) (base : ℕ) (arena : ArenaState) (is : IsFoundLog tells bytes size disks tables layout files fields heads base arena) (score_of : List ℕ → List ℕ) (h : History) (first : ℕ)
-    (told : IsTrue tells) (settled : All (λ disk. Only (bytes disk) (images disk)) disks) (log : IsLog score_of layout files h first) where
+module _ {D : Type 0} (disk : DiskOf D) (disks : List D) (tables : List Table) (layout : List ArenaRegion) (files : List (List ℕ)) (fields : List (List ℕ))
+    (heads : List Found) (base : ℕ) (arena : ArenaState) (is : IsFoundLog disk disks tables layout files fields heads base arena) (score_of : List ℕ → List ℕ) (h : History) (first : ℕ)
+    (told : IsTrue disk.tells) (settled : All (λ device. Only (disk.bytes device) (disk.images device)) disks) (log : IsLog score_of layout files h first) where
   abbrev l : LogState D
   l = found_log disks tables layout heads base arena
 
-  arena_at : (i : ℕ) (r : ArenaRegion) (region : Region) (disk : D) (a : Content) → slice_get layout i ≡ Some r → IsRegionOf r region → slice_get disks r.part ≡ Some disk → slice_get log.contents i ≡ Some a
-      → IsArena score_of region r.number a (bytes disk)
-  arena_at i r region disk a at place disk_is has =
+  arena_at : (i : ℕ) (r : ArenaRegion) (region : Region) (device : D) (a : Content) → slice_get layout i ≡ Some r → IsRegionOf r region → slice_get disks r.part ≡ Some device → slice_get log.contents i ≡ Some a
+      → IsArena score_of region r.number a (disk.bytes device)
+  arena_at i r region device a at place disk_is has =
       let x = log.arenas.each i r a at has in
-      let file : x.0 ≡ bytes disk = same_Some x.0 (bytes disk) (sym x.1 ∙ ap (λ (fs : List (List ℕ)). slice_get fs r.part) (sym is.files_are) ∙ slice_get-map bytes disks r.part ∙ ap (option_map bytes) disk_is) in
+      let file : x.0 ≡ disk.bytes device = same_Some x.0 (disk.bytes device) (sym x.1 ∙ ap (λ (fs : List (List ℕ)). slice_get fs r.part) (sym is.files_are) ∙ slice_get-map disk.bytes disks r.part ∙ ap (option_map disk.bytes) disk_is) in
       subst (λ (f : List ℕ). IsArena score_of region r.number a f) file
       (subst (λ (z : Region). IsArena score_of z r.number a x.0) (same_region x.2.region region (x.2.place.start ∙ sym place.start) (x.2.place.len ∙ sym place.len)) x.2.arena)
 
-  settled_at : (i : ℕ) (disk : D) (region : Region) → slice_get disks i ≡ Some disk → IsSettled region (bytes disk) (images disk)
-  settled_at i disk region at c left = ap (λ (f : List ℕ). region_bytes region f) (at_slice (λ (d : D). Only (bytes d) (images d)) disks i disk settled at c left)
+  settled_at : (i : ℕ) (device : D) (region : Region) → slice_get disks i ≡ Some device → IsSettled region (disk.bytes device) (disk.images device)
+  settled_at i device region at c left = ap (λ (f : List ℕ). region_bytes region f) (at_slice (λ (d : D). Only (disk.bytes d) (disk.images d)) disks i device settled at c left)
 
-  found_at : (i : ℕ) (r : ArenaRegion) (disk : D) (found : Found) → slice_get layout i ≡ Some r → slice_get disks r.part ≡ Some disk → slice_get heads i ≡ Some found → IsFound tells r (bytes disk) found
-  found_at i r disk found at disk_is at_found =
-      is.found.each i r (bytes disk) found at (ap (λ (fs : List (List ℕ)). slice_get fs r.part) (sym is.files_are) ∙ slice_get-map bytes disks r.part ∙ ap (option_map bytes) disk_is) at_found
+  found_at : (i : ℕ) (r : ArenaRegion) (device : D) (found : Found) → slice_get layout i ≡ Some r → slice_get disks r.part ≡ Some device → slice_get heads i ≡ Some found → IsFound disk.tells r (disk.bytes device) found
+  found_at i r device found at disk_is at_found =
+      is.found.each i r (disk.bytes device) found at (ap (λ (fs : List (List ℕ)). slice_get fs r.part) (sym is.files_are) ∙ slice_get-map disk.bytes disks r.part ∙ ap (option_map disk.bytes) disk_is) at_found
 
   head_at : (i : ℕ) (r : ArenaRegion) (found : Found) (a : Content) → slice_get layout i ≡ Some r → slice_get heads i ≡ Some found → slice_get log.contents i ≡ Some a → found.head ≡ head_of score_of r.number a
   head_at i r found a at at_found has =
-      let on = at_slice (IsOnDisk size disks) layout i r is.regions at in
+      let on = at_slice (IsOnDisk disk disks) layout i r is.regions at in
       let region : Region = record { start = r.at; len = r.len; in_range = on.small } in
       let place : IsRegionOf r region = record { start = refl; len = refl } in
-      (found_at i r on.disk found at on.has at_found).head score_of region a told place (arena_at i r region on.disk a at place on.has has)
+      (found_at i r on.device found at on.has at_found).head score_of region a told place (arena_at i r region on.device a at place on.has has)
 
   many : length heads ≡ length log.contents
   many = is.found.many ∙ sym log.arenas.many
@@ -394,25 +395,25 @@ module _ {D : Type 0} (tells : Bool) (bytes : D → List ℕ) (images : D → Li
       (All-weaker (λ (e : Accepted). e.arena ≤ 0 + base) (λ (e : Accepted). e.arena ≤ base) (λ e least. omega (arith, least)) (blocks_from 0 log.contents) (blocks_arenas 0 base log.contents split.behind))
 
   -- the room is that of the first unsealed arena
-  current_sound : (r : ArenaRegion) (region : Region) (disk : D) (a : Content) → IsAt l base r region disk → slice_get log.contents base ≡ Some a → IsSoundArena score_of arena region a (bytes disk) (images disk)
-  current_sound r region disk a at has =
+  current_sound : (r : ArenaRegion) (region : Region) (device : D) (a : Content) → IsAt l base r region device → slice_get log.contents base ≡ Some a → IsSoundArena score_of arena region a (disk.bytes device) (disk.images device)
+  current_sound r region device a at has =
       let found = slice_get_other heads layout base r (sym is.found.many) at.arena in
       let it = is.room.there r found.0 at.arena found.1 in
-      let own = found_at base r disk found.0 at.arena at.disk_is found.1 in
-      let on = at_slice (IsOnDisk size disks) layout base r is.regions at.arena in
-      let disk_is : on.disk ≡ disk = same_Some on.disk disk (sym on.has ∙ at.disk_is) in
+      let own = found_at base r device found.0 at.arena at.disk_is found.1 in
+      let on = at_slice (IsOnDisk disk disks) layout base r is.regions at.arena in
+      let disk_is : on.device ≡ device = same_Some on.device device (sym on.has ∙ at.disk_is) in
       let len_is : is.room.len ≡ region.len = it.0 ∙ sym at.region_is.len in
       let stand : CanStand r.number region.len is.room.head =
       subst (λ (h : ArenaHead). CanStand r.number region.len h) (sym it.2) (subst (λ (n : ℕ). CanStand r.number n found.0.head) (sym at.region_is.len) own.stands) in
-      subst (λ (x : ArenaState). IsSoundArena score_of x region a (bytes disk) (images disk)) (sym is.room.fresh)
-      (subst (λ (n : ℕ). IsSoundArena score_of (fresh_arena n is.room.current is.room.head) region a (bytes disk) (images disk)) (sym len_is)
-      (fresh_sound score_of region (size disk) r.number is.room.current a is.room.head (bytes disk) (images disk)
+      subst (λ (x : ArenaState). IsSoundArena score_of x region a (disk.bytes device) (disk.images device)) (sym is.room.fresh)
+      (subst (λ (n : ℕ). IsSoundArena score_of (fresh_arena n is.room.current is.room.head) region a (disk.bytes device) (disk.images device)) (sym len_is)
+      (fresh_sound score_of region (disk.size device) r.number is.room.current a is.room.head (disk.bytes device) (disk.images device)
       (record {
-        within = omega (arith, on.within, at.region_is.start, at.region_is.len, ap size disk_is);
+        within = omega (arith, on.within, at.region_is.start, at.region_is.len, ap disk.size disk_is);
         aligned = subst IsAligned (sym at.region_is.start) on.aligned;
         len = subst IsArenaLen (sym at.region_is.len) on.len;
       })
-      (settled_at r.part disk region at.disk_is) (arena_at base r region disk a at.arena at.region_is at.disk_is has)
+      (settled_at r.part device region at.disk_is) (arena_at base r region device a at.arena at.region_is at.disk_is has)
       (it.1 ∙ own.selector region told at.region_is) (it.2 ∙ head_at base r found.0 a at.arena found.1 has) stand))
 
   filled : IsFilledBy (lengths_in base h) (filled_as base arena.head)
@@ -435,17 +436,17 @@ module _ {D : Type 0} (tells : Bool) (bytes : D → List ℕ) (images : D → Li
       })
       (slice_get_cases log.contents base).1)
 
-  pub found_sound : IsFoundSound score_of bytes images size (found_log disks tables layout heads base arena) h first
+  pub found_sound : IsFoundSound score_of disk (found_log disks tables layout heads base arena) h first
   found_sound = record {
     sound = record {
-      whole = found_whole tells bytes size disks tables layout files fields heads base arena is;
+      whole = found_whole disk disks tables layout files fields heads base arena is;
       contents = log.contents;
       many = log.arenas.many;
       split = split;
       current = current_sound;
-      others = λ i r region disk a other at has. (settled_at r.part disk region at.disk_is, arena_at i r region disk a at.arena at.region_is at.disk_is has);
+      others = λ i r region device a other at has. (settled_at r.part device region at.disk_is, arena_at i r region device a at.arena at.region_is at.disk_is has);
       heads = head_at;
-      selectors = λ i r region disk found behind at at_found. (found_at i r disk found at.arena at.disk_is at_found).selector region told at.region_is;
+      selectors = λ i r region device found behind at at_found. (found_at i r device found at.arena at.disk_is at_found).selector region told at.region_is;
       committed = take_all (sum_by (λ found. found.head.clumps) heads) h (omega (arith, count)) ∙ log.history;
       queued = drop_all (sum_by (λ found. found.head.clumps) heads) h (omega (arith, count)) ∙ sym (ap (λ (x : ArenaState). map (accepted base) (map stored_of x.staged) ++ []) is.room.fresh);
       front = omega (arith, count);
@@ -515,14 +516,14 @@ passes_order behind k (r ∷ rs) (f ∷ fs) (a ∷ rest) is many many_fields eac
     next false sealed goes_on = passes_behind (behind || sealed_in f == 0) (k + 1) rs fs rest (flag false sealed) (omega (arith, many)) (omega (arith, many_fields))
         (λ i q g b at at_f has. each (suc i) q g b at at_f has) (subst (λ (b : Bool). MatchBool b (InOrder rest) (All IsUntouched rest)) sealed order)
 
-pub log_passes : {D : Type 0} (bytes : D → List ℕ) (size : D → ℕ) (disks : List D) (layout : List ArenaRegion) (fields : List (List ℕ)) (score_of : List ℕ → List ℕ) (h : History) (base : ℕ)
-    → All (IsOnDisk size disks) layout → All (λ r. r.number < 2 ^ 32) layout → AreFields layout (map bytes disks) fields → IsLog score_of layout (map bytes disks) h base → first_bad false 0 layout fields ≡ None
-log_passes {D = D} bytes size disks layout fields score_of h base regions numbers are log =
+pub log_passes : {D : Type 0} (disk : DiskOf D) (disks : List D) (layout : List ArenaRegion) (fields : List (List ℕ)) (score_of : List ℕ → List ℕ) (h : History) (base : ℕ)
+    → All (IsOnDisk disk disks) layout → All (λ r. r.number < 2 ^ 32) layout → AreFields layout (map disk.bytes disks) fields → IsLog score_of layout (map disk.bytes disks) h base → first_bad false 0 layout fields ≡ None
+log_passes {D = D} disk disks layout fields score_of h base regions numbers are log =
     passes_order false 0 layout fields log.contents refl log.arenas.many are.many each log.order
   where
     each : (i : ℕ) (r : ArenaRegion) (f : List ℕ) (a : Content) → slice_get layout i ≡ Some r → slice_get fields i ≡ Some f → slice_get log.contents i ≡ Some a → AreOf r f a
     each i r f a at at_f has =
-        let on = at_slice (IsOnDisk size disks) layout i r regions at in
+        let on = at_slice (IsOnDisk disk disks) layout i r regions at in
         let number : r.number < 2 ^ 32 = at_slice (λ (r : ArenaRegion). r.number < 2 ^ 32) layout i r numbers at in
         let x = log.arenas.each i r a at has in
         let fields_is : f ≡ fields_of (head_of score_of r.number a) = same_Some f (fields_of (head_of score_of r.number a)) (sym at_f ∙ are.each i r x.2.region x.0 at x.2.place x.1 ∙ ap (λ (l : List ℕ). Some l) x.2.arena.head) in
@@ -548,24 +549,24 @@ not_refused names layout fields Fault distinct passes refused = inl refl
 not_refused names layout fields NoMemory distinct passes refused = inr refl
 
 -- what mounting finds, as the partitions are afterwards
-pub found_of : {D : Type 0} (tells : Bool) (bytes : D → List ℕ) (images : D → List ℕ → Type 0) (size calls : D → ℕ) (fits : (d : D) → size d < 2 ^ 64) (most : ℕ) (items old new : List (Part D))
-    (fields : List (List ℕ)) (layout : List ArenaRegion) (heads : List Found) (base : ℕ) (arena : ArenaState) → old ≡ items → All (λ part. end_of (table_of part) ≤ size (disk_of part)) items → arena_count (tables_of items) < 2 ^ 32
-    → AreRead tells bytes images size calls most old new → layout ≡ layout_of (tables_of old) → AreFound tells (layout_of (tables_of old)) (map bytes (disks_of old)) heads
+pub found_of : {D : Type 0} (disk : DiskOf D) (fits : (d : D) → disk.size d < 2 ^ 64) (most : ℕ) (items old new : List (Part D))
+    (fields : List (List ℕ)) (layout : List ArenaRegion) (heads : List Found) (base : ℕ) (arena : ArenaState) → old ≡ items → All (λ part. end_of (table_of part) ≤ disk.size (disk_of part)) items → arena_count (tables_of items) < 2 ^ 32
+    → AreRead disk most old new → layout ≡ layout_of (tables_of old) → AreFound disk.tells (layout_of (tables_of old)) (map disk.bytes (disks_of old)) heads
     → ArePassed (layout_of (tables_of old)) fields heads → IsFirstOpen heads base → IsRoomFor (layout_of (tables_of old)) heads base arena
-    → IsFoundLog tells bytes size (disks_of new) (tables_of new) layout (map bytes (disks_of items)) fields heads base arena
-found_of {D = D} tells bytes images size calls fits most items old new fields layout heads base arena same rooms few read layout_is found passed first room =
+    → IsFoundLog disk (disks_of new) (tables_of new) layout (map disk.bytes (disks_of items)) fields heads base arena
+found_of {D = D} disk fits most items old new fields layout heads base arena same rooms few read layout_is found passed first room =
     let tables : layout ≡ layout_of (tables_of new) = layout_is ∙ ap layout_of (sym read.tables) in
     let items_layout : layout_of (tables_of items) ≡ layout = ap (λ (ps : List (Part D)). layout_of (tables_of ps)) (sym same) ∙ sym layout_is in
-    let hold : HoldTheSame bytes images size (disks_of items) (disks_of new) = subst (λ (ps : List (Part D)). HoldTheSame bytes images size (disks_of ps) (disks_of new)) same read.disks in
+    let hold : HoldTheSame disk (disks_of items) (disks_of new) = subst (λ (ps : List (Part D)). HoldTheSame disk (disks_of ps) (disks_of new)) same read.disks in
     record {
       many_disks = length-map new (λ (part : Part D). disk_of part) ∙ sym (length-map new (λ (part : Part D). table_of part));
       layout_is = tables;
-      regions = subst (All (IsOnDisk size (disks_of new))) items_layout
-          (All-weaker (IsOnDisk size (disks_of items)) (IsOnDisk size (disks_of new)) (λ r on. on_held bytes images size (disks_of items) (disks_of new) r hold on)
-          (layout_of (tables_of items)) (regions_on size fits items rooms));
+      regions = subst (All (IsOnDisk disk (disks_of new))) items_layout
+          (All-weaker (IsOnDisk disk (disks_of items)) (IsOnDisk disk (disks_of new)) (λ r on. on_held disk (disks_of items) (disks_of new) r hold on)
+          (layout_of (tables_of items)) (regions_on disk fits items rooms));
       few = omega (arith, few, layouts_have_lengths (tables_of items), ap (λ (rs : List ArenaRegion). length rs) items_layout);
       files_are = hold.bytes_are;
-      found = subst (λ (ps : List (Part D)). AreFound tells layout (map bytes (disks_of ps)) heads) same (subst (λ (rs : List ArenaRegion). AreFound tells rs (map bytes (disks_of old)) heads) (sym layout_is) found);
+      found = subst (λ (ps : List (Part D)). AreFound disk.tells layout (map disk.bytes (disks_of ps)) heads) same (subst (λ (rs : List ArenaRegion). AreFound disk.tells rs (map disk.bytes (disks_of old)) heads) (sym layout_is) found);
       passed = subst (λ (rs : List ArenaRegion). ArePassed rs fields heads) (sym layout_is) passed;
       first = first;
       room = subst (λ (rs : List ArenaRegion). IsRoomFor rs heads base arena) (sym layout_is) room;
@@ -578,23 +579,23 @@ given_back {X = X} n new old many many_old =
     ∙ ap (take n) (append-nil new)
     ∙ take_all n new (omega (arith, many))
 
-pub mount_sound : {D : Type 0} (tells : Bool) (bytes : D → List ℕ) (images : D → List ℕ → Type 0) (size : D → ℕ) (items : List (Part D)) (l : LogState D) (disks : List D) (tables : List Table)
+pub mount_sound : {D : Type 0} (disk : DiskOf D) (items : List (Part D)) (l : LogState D) (disks : List D) (tables : List Table)
     (fields : List (List ℕ)) (layout : List ArenaRegion) (heads : List Found) (base : ℕ) (arena : ArenaState) (score_of : List ℕ → List ℕ) (h : History) (first : ℕ)
-    → IsFoundLog tells bytes size disks tables layout (map bytes (disks_of items)) fields heads base arena → l ≡ found_log disks tables layout heads base arena
-    → layout ≡ layout_of (tables_of items) → IsTrue tells → All (λ disk. Only (bytes disk) (images disk)) disks → IsLog score_of (layout_of (tables_of items)) (map bytes (disks_of items)) h first
-    → IsSound score_of bytes images size l h × (l.base ≡ first) × (l.durable ≡ length h)
-mount_sound {D = D} tells bytes images size items l disks tables fields layout heads base arena score_of h first is l_is layout_is told settled log =
-    let own : IsLog score_of layout (map bytes (disks_of items)) h first = subst (λ (rs : List ArenaRegion). IsLog score_of rs (map bytes (disks_of items)) h first) (sym layout_is) log in
-    let it = found_sound tells bytes images size disks tables layout (map bytes (disks_of items)) fields heads base arena is score_of h first told settled own in
-    subst (λ (x : LogState D). IsSound score_of bytes images size x h × (x.base ≡ first) × (x.durable ≡ length h)) (sym l_is) (it.sound, it.base_is, it.durable_is)
+    → IsFoundLog disk disks tables layout (map disk.bytes (disks_of items)) fields heads base arena → l ≡ found_log disks tables layout heads base arena
+    → layout ≡ layout_of (tables_of items) → IsTrue disk.tells → All (λ device. Only (disk.bytes device) (disk.images device)) disks → IsLog score_of (layout_of (tables_of items)) (map disk.bytes (disks_of items)) h first
+    → IsSound score_of disk l h × (l.base ≡ first) × (l.durable ≡ length h)
+mount_sound {D = D} disk items l disks tables fields layout heads base arena score_of h first is l_is layout_is told settled log =
+    let own : IsLog score_of layout (map disk.bytes (disks_of items)) h first = subst (λ (rs : List ArenaRegion). IsLog score_of rs (map disk.bytes (disks_of items)) h first) (sym layout_is) log in
+    let it = found_sound disk disks tables layout (map disk.bytes (disks_of items)) fields heads base arena is score_of h first told settled own in
+    subst (λ (x : LogState D). IsSound score_of disk x h × (x.base ≡ first) × (x.durable ≡ length h)) (sym l_is) (it.sound, it.base_is, it.durable_is)
 
-pub mount_is : {D : Type 0} (tells : Bool) (bytes : D → List ℕ) (size : D → ℕ) (l : LogState D) (disks : List D) (tables : List Table) (files fields : List (List ℕ)) (layout : List ArenaRegion) (heads : List Found) (base : ℕ)
-    (arena : ArenaState) → IsFoundLog tells bytes size disks tables layout files fields heads base arena → l ≡ found_log disks tables layout heads base arena → IsMounted l
-mount_is {D = D} tells bytes size l disks tables files fields layout heads base arena is l_is =
+pub mount_is : {D : Type 0} (disk : DiskOf D) (l : LogState D) (disks : List D) (tables : List Table) (files fields : List (List ℕ)) (layout : List ArenaRegion) (heads : List Found) (base : ℕ)
+    (arena : ArenaState) → IsFoundLog disk disks tables layout files fields heads base arena → l ≡ found_log disks tables layout heads base arena → IsMounted l
+mount_is {D = D} disk l disks tables files fields layout heads base arena is l_is =
     subst IsMounted (sym l_is) (record {
       committing = refl;
       queue = refl;
-      filling = filling_is tells bytes size disks tables layout files fields heads base arena is;
+      filling = filling_is disk disks tables layout files fields heads base arena is;
       durable = refl;
       calls = refl;
       stopped = refl;

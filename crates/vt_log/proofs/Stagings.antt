@@ -7,6 +7,7 @@ use Rattle.std.proofs.lemmas.List.Elements.{All-head, All-tail}
 use Rattle.std.proofs.lemmas.Option.{slice_get_within, get_or_from_slice_get}
 use Rattle.vt_disk.specs.declared.region.Region.{Region}
 use Rattle.vt_base.specs.declared.place.Place.{Place}
+use Rattle.vt_log.specs.Members.{DiskOf}
 use Rattle.vt_clump.specs.declared.packed.Packed.{Packed}
 use Rattle.vt_clump.specs.Clumps.{IsPacked, stored_of}
 use Rattle.vt_clump.specs.Spelling.{Stored}
@@ -42,9 +43,9 @@ turned_same heads arena f same = ⊎_elim
     (λ (t : ((arena == f.arena) ≡ false) × (arena ≢ f.arena)). absurd (t.1 same)) (eqb_tells arena f.arena)
 
 -- the block fits the arena in memory
-pub waiting_fits : {D : Type 0} (size : D → ℕ) (l : LogState D) (w : Waiting) (ws : List Waiting) → IsWhole size l
+pub waiting_fits : {D : Type 0} (disk : DiskOf D) (l : LogState D) (w : Waiting) (ws : List Waiting) → IsWhole disk l
     → l.queue.waiting ≡ w ∷ ws → w.arena ≡ l.committing → IsTrue (fits l.arena w.packed.len)
-waiting_fits size l w ws whole is arena =
+waiting_fits disk l w ws whole is arena =
     let fill = subst (λ (q : List Waiting). Fill l.layout l.heads (filled_as l.committing l.arena.next) q l.filling) is whole.queue in
     let same = turned_same l.heads w.arena (filled_as l.committing l.arena.next) arena in
     let fit : IsTrue (fits_in l.layout (filled_as l.committing l.arena.next) w.packed.len) = subst (λ (f : Filling). IsTrue (fits_in l.layout f w.packed.len)) same fill.2 in
@@ -57,9 +58,9 @@ waiting_fits size l w ws whole is arena =
     rw (← len) fit
 
 -- a log in memory stays whole
-pub stage_whole : {D : Type 0} (score_of : List ℕ → List ℕ) (size : D → ℕ) (l : LogState D) (w : Waiting) (ws : List Waiting) → IsWhole size l
-    → IsFalse (is_committing l.arena) → l.queue.waiting ≡ w ∷ ws → w.arena ≡ l.committing → IsWhole size (with_next_staged score_of w.packed ws l)
-stage_whole score_of size l w ws whole rest is arena =
+pub stage_whole : {D : Type 0} (score_of : List ℕ → List ℕ) (disk : DiskOf D) (l : LogState D) (w : Waiting) (ws : List Waiting) → IsWhole disk l
+    → IsFalse (is_committing l.arena) → l.queue.waiting ≡ w ∷ ws → w.arena ≡ l.committing → IsWhole disk (with_next_staged score_of w.packed ws l)
+stage_whole score_of disk l w ws whole rest is arena =
     let from : Filling = filled_as l.committing l.arena.next in
     let fill = subst (λ (q : List Waiting). Fill l.layout l.heads from q l.filling) is whole.queue in
     let same : turned_to l.heads w.arena from ≡ from = turned_same l.heads w.arena from arena in
@@ -95,19 +96,19 @@ stage_whole score_of size l w ws whole rest is arena =
     other waits = omega (arith, waits, arena)
 
 -- and the disks sound
-pub stage_log_sound : {D : Type 0} (score_of : List ℕ → List ℕ) (bytes : D → List ℕ) (images : D → List ℕ → Type 0) (size : D → ℕ) (l : LogState D) (h : History) (w : Waiting) (ws : List Waiting)
-    → ((block : List ℕ) → length (score_of block) ≡ 20) → IsSound score_of bytes images size l h
-    → IsFalse (is_committing l.arena) → l.queue.waiting ≡ w ∷ ws → w.arena ≡ l.committing → IsSound score_of bytes images size (with_next_staged score_of w.packed ws l) h
-stage_log_sound score_of bytes images size l h w ws scores sound rest is arena = record {
-  whole = stage_whole score_of size l w ws sound.whole rest is arena;
+pub stage_log_sound : {D : Type 0} (score_of : List ℕ → List ℕ) (disk : DiskOf D) (l : LogState D) (h : History) (w : Waiting) (ws : List Waiting)
+    → ((block : List ℕ) → length (score_of block) ≡ 20) → IsSound score_of disk l h
+    → IsFalse (is_committing l.arena) → l.queue.waiting ≡ w ∷ ws → w.arena ≡ l.committing → IsSound score_of disk (with_next_staged score_of w.packed ws l) h
+stage_log_sound score_of disk l h w ws scores sound rest is arena = record {
+  whole = stage_whole score_of disk l w ws sound.whole rest is arena;
   contents = sound.contents;
   many = sound.many;
   split = sound.split;
-  current = λ r region disk a at has. stage_sound score_of l.arena w.packed region a (bytes disk) (images disk) scores (waiting_fits size l w ws sound.whole is arena) rest well
-      (sound.current r region disk a (record { arena = at.arena; region_is = at.region_is; disk_is = at.disk_is }) has);
-  others = λ i r region disk a other at has. sound.others i r region disk a other (record { arena = at.arena; region_is = at.region_is; disk_is = at.disk_is }) has;
+  current = λ r region device a at has. stage_sound score_of l.arena w.packed region a (disk.bytes device) (disk.images device) scores (waiting_fits disk l w ws sound.whole is arena) rest well
+      (sound.current r region device a (record { arena = at.arena; region_is = at.region_is; disk_is = at.disk_is }) has);
+  others = λ i r region device a other at has. sound.others i r region device a other (record { arena = at.arena; region_is = at.region_is; disk_is = at.disk_is }) has;
   heads = sound.heads;
-  selectors = λ i r region disk found behind at has. sound.selectors i r region disk found behind (record { arena = at.arena; region_is = at.region_is; disk_is = at.disk_is }) has;
+  selectors = λ i r region device found behind at has. sound.selectors i r region device found behind (record { arena = at.arena; region_is = at.region_is; disk_is = at.disk_is }) has;
   committed = sound.committed;
   queued = sound.queued ∙ ap (λ (q : List Waiting). map (accepted l.committing) (added_by l.arena) ++ map waiting_block q) is ∙ sym moved;
   front = sound.front;
@@ -134,30 +135,30 @@ stage_log_sound score_of bytes images size l h w ws scores sound rest is arena =
 same_queue : (q : QueueState) (places : List Place) → q.places ≡ places → record { waiting = q.waiting; places = places } ≡ q
 same_queue q places same = λ i. record { waiting = q.waiting; places = sym same i }
 
-pub staged_whole : {D : Type 0} (score_of : List ℕ → List ℕ) (size : D → ℕ) (l m : LogState D) (p : Packed) (q : QueueState) → l ≡ m → IsWhole size l → IsFalse (is_committing m.arena)
+pub staged_whole : {D : Type 0} (score_of : List ℕ → List ℕ) (disk : DiskOf D) (l m : LogState D) (p : Packed) (q : QueueState) → l ≡ m → IsWhole disk l → IsFalse (is_committing m.arena)
     → l.queue.waiting ≡ record { arena = l.committing; packed = p } ∷ q.waiting → q.places ≡ l.queue.places
-    → IsWhole size (record l { arena = with_staged score_of p l.arena; queue = q })
-staged_whole {D = D} score_of size l m p q view whole rest is places =
-    subst (λ (r : QueueState). IsWhole size (record l { arena = with_staged score_of p l.arena; queue = r })) (same_queue q l.queue.places places)
-    (stage_whole score_of size l (record { arena = l.committing; packed = p }) q.waiting whole (subst (λ (k : LogState D). IsFalse (is_committing k.arena)) (sym view) rest) is refl)
+    → IsWhole disk (record l { arena = with_staged score_of p l.arena; queue = q })
+staged_whole {D = D} score_of disk l m p q view whole rest is places =
+    subst (λ (r : QueueState). IsWhole disk (record l { arena = with_staged score_of p l.arena; queue = r })) (same_queue q l.queue.places places)
+    (stage_whole score_of disk l (record { arena = l.committing; packed = p }) q.waiting whole (subst (λ (k : LogState D). IsFalse (is_committing k.arena)) (sym view) rest) is refl)
 
-pub staged_fits : {D : Type 0} (size : D → ℕ) (l : LogState D) (p : Packed) (q : QueueState) → IsWhole size l
+pub staged_fits : {D : Type 0} (disk : DiskOf D) (l : LogState D) (p : Packed) (q : QueueState) → IsWhole disk l
     → l.queue.waiting ≡ record { arena = l.committing; packed = p } ∷ q.waiting → IsTrue (fits l.arena p.len)
-staged_fits size l p q whole is = waiting_fits size l (record { arena = l.committing; packed = p }) q.waiting whole is refl
+staged_fits disk l p q whole is = waiting_fits disk l (record { arena = l.committing; packed = p }) q.waiting whole is refl
 
-pub staged_sound : {D : Type 0} (score_of : List ℕ → List ℕ) (bytes : D → List ℕ) (images : D → List ℕ → Type 0) (size : D → ℕ) (l m : LogState D) (h : History) (p : Packed) (q : QueueState) → l ≡ m
-    → ((block : List ℕ) → length (score_of block) ≡ 20) → IsSound score_of bytes images size m h → IsFalse (is_committing m.arena)
+pub staged_sound : {D : Type 0} (score_of : List ℕ → List ℕ) (disk : DiskOf D) (l m : LogState D) (h : History) (p : Packed) (q : QueueState) → l ≡ m
+    → ((block : List ℕ) → length (score_of block) ≡ 20) → IsSound score_of disk m h → IsFalse (is_committing m.arena)
     → l.queue.waiting ≡ record { arena = l.committing; packed = p } ∷ q.waiting → q.places ≡ l.queue.places
-    → IsSound score_of bytes images size (record l { arena = with_staged score_of p l.arena; queue = q }) h
-staged_sound {D = D} score_of bytes images size l m h p q view scores sound rest is places =
-    subst (λ (r : QueueState). IsSound score_of bytes images size (record l { arena = with_staged score_of p l.arena; queue = r }) h) (same_queue q l.queue.places places)
-    (stage_log_sound score_of bytes images size l h (record { arena = l.committing; packed = p }) q.waiting scores (subst (λ (k : LogState D). IsSound score_of bytes images size k h) (sym view) sound)
+    → IsSound score_of disk (record l { arena = with_staged score_of p l.arena; queue = q }) h
+staged_sound {D = D} score_of disk l m h p q view scores sound rest is places =
+    subst (λ (r : QueueState). IsSound score_of disk (record l { arena = with_staged score_of p l.arena; queue = r }) h) (same_queue q l.queue.places places)
+    (stage_log_sound score_of disk l h (record { arena = l.committing; packed = p }) q.waiting scores (subst (λ (k : LogState D). IsSound score_of disk k h) (sym view) sound)
     (subst (λ (k : LogState D). IsFalse (is_committing k.arena)) (sym view) rest) is refl)
 
 -- asking for a seal
-pub waits_for_next : {D : Type 0} (size : D → ℕ) (l : LogState D) (w : Waiting) (ws : List Waiting) → IsWhole size l → l.queue.waiting ≡ w ∷ ws
+pub waits_for_next : {D : Type 0} (disk : DiskOf D) (l : LogState D) (w : Waiting) (ws : List Waiting) → IsWhole disk l → l.queue.waiting ≡ w ∷ ws
     → ¬ WaitsFor l.committing l.queue.waiting → (w.arena ≡ l.committing + 1) × (l.committing + 1 < length l.layout)
-waits_for_next size l w ws whole is other =
+waits_for_next disk l w ws whole is other =
     let from : Filling = filled_as l.committing l.arena.next in
     let fill = subst (λ (q : List Waiting). Fill l.layout l.heads from q l.filling) is whole.queue in
     let not_this : w.arena ≢ l.committing = λ same. other (subst (WaitsFor l.committing) (sym is) same) in
@@ -168,17 +169,17 @@ waits_for_next size l w ws whole is other =
     let most : w.arena ≤ l.committing + 1 = fill.1 in
     (omega (arith, least, most, not_this), omega (arith, least, most, not_this, below, there_arena))
 
-pub seal_whole : {D : Type 0} (size : D → ℕ) (l m : LogState D) → l ≡ m → IsWhole size l → IsFalse (is_committing m.arena) → 0 < length l.queue.waiting
-    → ¬ WaitsFor l.committing l.queue.waiting → IsWhole size (record l { arena = with_seal l.arena })
-seal_whole {D = D} size l m view whole rest some other = at l.queue.waiting refl
+pub seal_whole : {D : Type 0} (disk : DiskOf D) (l m : LogState D) → l ≡ m → IsWhole disk l → IsFalse (is_committing m.arena) → 0 < length l.queue.waiting
+    → ¬ WaitsFor l.committing l.queue.waiting → IsWhole disk (record l { arena = with_seal l.arena })
+seal_whole {D = D} disk l m view whole rest some other = at l.queue.waiting refl
   where
     rests : IsFalse (is_committing l.arena)
     rests = subst (λ (k : LogState D). IsFalse (is_committing k.arena)) (sym view) rest
 
-    at : (ws : List Waiting) → l.queue.waiting ≡ ws → IsWhole size (record l { arena = with_seal l.arena })
+    at : (ws : List Waiting) → l.queue.waiting ≡ ws → IsWhole disk (record l { arena = with_seal l.arena })
     at [] is = absurd (omega (arith, some, ap (λ (q : List Waiting). length q) is))
     at (w ∷ ws) is =
-        let next = waits_for_next size l w ws whole is other in
+        let next = waits_for_next disk l w ws whole is other in
         record {
           many_disks = whole.many_disks;
           layout = whole.layout;
@@ -226,19 +227,19 @@ seal_arena score_of a region old read images rest sound =
       synced = λ made c left. let h = sound.synced made c left in record { clumps = h.clumps; directory = h.directory };
     }
 
-pub seal_sound : {D : Type 0} (score_of : List ℕ → List ℕ) (bytes : D → List ℕ) (images : D → List ℕ → Type 0) (size : D → ℕ) (l m : LogState D) (h : History) → l ≡ m
-    → IsSound score_of bytes images size m h → IsFalse (is_committing m.arena) → 0 < length l.queue.waiting
-    → ¬ WaitsFor l.committing l.queue.waiting → IsSound score_of bytes images size (record l { arena = with_seal l.arena }) h
-seal_sound {D = D} score_of bytes images size l m h view of_view rest some other = record {
-  whole = seal_whole size l m view sound.whole rest some other;
+pub seal_sound : {D : Type 0} (score_of : List ℕ → List ℕ) (disk : DiskOf D) (l m : LogState D) (h : History) → l ≡ m
+    → IsSound score_of disk m h → IsFalse (is_committing m.arena) → 0 < length l.queue.waiting
+    → ¬ WaitsFor l.committing l.queue.waiting → IsSound score_of disk (record l { arena = with_seal l.arena }) h
+seal_sound {D = D} score_of disk l m h view of_view rest some other = record {
+  whole = seal_whole disk l m view sound.whole rest some other;
   contents = sound.contents;
   many = sound.many;
   split = sound.split;
-  current = λ r region disk a at has. seal_arena score_of l.arena region a (bytes disk) (images disk) (subst (λ (k : LogState D). IsFalse (is_committing k.arena)) (sym view) rest)
-      (sound.current r region disk a (record { arena = at.arena; region_is = at.region_is; disk_is = at.disk_is }) has);
-  others = λ i r region disk a other at has. sound.others i r region disk a other (record { arena = at.arena; region_is = at.region_is; disk_is = at.disk_is }) has;
+  current = λ r region device a at has. seal_arena score_of l.arena region a (disk.bytes device) (disk.images device) (subst (λ (k : LogState D). IsFalse (is_committing k.arena)) (sym view) rest)
+      (sound.current r region device a (record { arena = at.arena; region_is = at.region_is; disk_is = at.disk_is }) has);
+  others = λ i r region device a other at has. sound.others i r region device a other (record { arena = at.arena; region_is = at.region_is; disk_is = at.disk_is }) has;
   heads = sound.heads;
-  selectors = λ i r region disk found behind at has. sound.selectors i r region disk found behind (record { arena = at.arena; region_is = at.region_is; disk_is = at.disk_is }) has;
+  selectors = λ i r region device found behind at has. sound.selectors i r region device found behind (record { arena = at.arena; region_is = at.region_is; disk_is = at.disk_is }) has;
   committed = sound.committed;
   queued = sound.queued;
   front = sound.front;
@@ -249,5 +250,5 @@ seal_sound {D = D} score_of bytes images size l m h view of_view rest some other
   arenas = sound.arenas;
 }
   where
-    sound : IsSound score_of bytes images size l h
-    sound = subst (λ (k : LogState D). IsSound score_of bytes images size k h) (sym view) of_view
+    sound : IsSound score_of disk l h
+    sound = subst (λ (k : LogState D). IsSound score_of disk k h) (sym view) of_view

@@ -7,6 +7,7 @@ use Rattle.std.proofs.lemmas.List.{length-take-le, length-drop, take_all, take-a
 use Rattle.std.proofs.lemmas.List.Elements.{All-nil, All-head, All-tail}
 use Rattle.std.proofs.lemmas.Option.{slice_get_within, slice_get_cases, same_Some}
 use Rattle.vt_base.specs.declared.place.Place.{Place}
+use Rattle.vt_log.specs.Members.{DiskOf}
 use Rattle.vt_disk.specs.declared.region.Region.{Region}
 use Rattle.vt_clump.specs.declared.packed.Packed.{Packed}
 use Rattle.vt_clump.specs.Clumps.{IsPacked, stored_of}
@@ -53,12 +54,12 @@ place_once c h i j s at_i at_j =
     (cases_lt i j)
 
 -- what is staged is packed
-pub staged_packed : {D : Type 0} (score_of : List ℕ → List ℕ) (bytes : D → List ℕ) (images : D → List ℕ → Type 0) (size : D → ℕ) (l : LogState D) (h : History)
-    → IsSound score_of bytes images size l h → All (IsPacked score_of) l.arena.staged
-staged_packed score_of bytes images size l h sound = ⊎_elim
+pub staged_packed : {D : Type 0} (score_of : List ℕ → List ℕ) (disk : DiskOf D) (l : LogState D) (h : History)
+    → IsSound score_of disk l h → All (IsPacked score_of) l.arena.staged
+staged_packed score_of disk l h sound = ⊎_elim
     (λ (some : l.committing < length l.layout).
     let r = slice_get_there l.layout l.committing some in
-    let it = there size l l.committing r.0 sound.whole r.1 in
+    let it = there disk l l.committing r.0 sound.whole r.1 in
     let a = slice_get_other sound.contents l.layout l.committing r.0 (sym sound.many) r.1 in
     (sound.current r.0 it.region it.disk a.0 it.at a.1).packed)
     (λ (past : length l.layout ≤ l.committing).
@@ -97,10 +98,10 @@ whole_block score_of p packed =
     let n = size_in p.bytes in
     sym (take_all n (drop 38 p.bytes) (omega (arith, rest, packed.len, length-take n (drop 38 p.bytes))))
 
-pub queued_as : {D : Type 0} (score_of : List ℕ → List ℕ) (bytes : D → List ℕ) (images : D → List ℕ → Type 0) (size : D → ℕ) (l : LogState D) (h : History) (index : ℕ) (p : Packed)
-    → IsSound score_of bytes images size l h → slice_get (packed_of l) index ≡ Some p → IsQueuedAs score_of l h index p
-queued_as score_of bytes images size l h index p sound at =
-    let it = queue_at score_of l.committing l.arena.staged l.queue.waiting index p (staged_packed score_of bytes images size l h sound) sound.packed at in
+pub queued_as : {D : Type 0} (score_of : List ℕ → List ℕ) (disk : DiskOf D) (l : LogState D) (h : History) (index : ℕ) (p : Packed)
+    → IsSound score_of disk l h → slice_get (packed_of l) index ≡ Some p → IsQueuedAs score_of l h index p
+queued_as score_of disk l h index p sound at =
+    let it = queue_at score_of l.committing l.arena.staged l.queue.waiting index p (staged_packed score_of disk l h sound) sound.packed at in
     record {
       arena = it.0;
       block = sym (slice_get_drop l.durable index h) ∙ ap (λ (g : History). slice_get g index) sound.queued ∙ it.1;
@@ -109,9 +110,9 @@ queued_as score_of bytes images size l h index p sound at =
     }
 
 -- a block whose place is none of the queue's is committed
-pub is_durable : {D : Type 0} (score_of : List ℕ → List ℕ) (bytes : D → List ℕ) (images : D → List ℕ → Type 0) (size : D → ℕ) (l : LogState D) (h : History) (i : ℕ) (place : Place)
-    → IsSound score_of bytes images size l h → i < length h → place_of (setup_of l) h i ≡ Some (spot_of place) → IsNowhere l.queue.places place → i < l.durable
-is_durable score_of bytes images size l h i place sound below at nowhere = ⊎_elim
+pub is_durable : {D : Type 0} (score_of : List ℕ → List ℕ) (disk : DiskOf D) (l : LogState D) (h : History) (i : ℕ) (place : Place)
+    → IsSound score_of disk l h → i < length h → place_of (setup_of l) h i ≡ Some (spot_of place) → IsNowhere l.queue.places place → i < l.durable
+is_durable score_of disk l h i place sound below at nowhere = ⊎_elim
     (λ (less : i < l.durable). less)
     (λ (behind : l.durable ≤ i).
     let q = slice_get_there l.queue.places (i - l.durable) (omega (arith, behind, below, sound.front)) in
@@ -144,9 +145,9 @@ front_take xs n i below within =
     sym (take-append-le i (take n xs) (drop n xs) (omega (arith, below, length-take-le n xs within)))
     ∙ ap (take i) (take-append-drop n xs)
 
-pub committed : {D : Type 0} (score_of : List ℕ → List ℕ) (bytes : D → List ℕ) (images : D → List ℕ → Type 0) (size : D → ℕ) (l : LogState D) (h : History) (i : ℕ) (e : Accepted)
-    → (sound : IsSound score_of bytes images size l h) → slice_get h i ≡ Some e → i < l.durable → IsCommitted sound.contents h i e
-committed score_of bytes images size l h i e sound at below =
+pub committed : {D : Type 0} (score_of : List ℕ → List ℕ) (disk : DiskOf D) (l : LogState D) (h : History) (i : ℕ) (e : Accepted)
+    → (sound : IsSound score_of disk l h) → slice_get h i ≡ Some e → i < l.durable → IsCommitted sound.contents h i e
+committed score_of disk l h i e sound at below =
     let within : l.durable ≤ length h = omega (arith, sound.front) in
     let many : i < length (blocks_from 0 sound.contents) = omega (arith, below, within, length-take-le l.durable h within, ap (λ (g : History). length g) sound.committed) in
     let it = block_of 0 sound.contents i many in
@@ -172,25 +173,25 @@ committed score_of bytes images size l h i e sound at below =
     }
 
 -- an arena's blocks stand in its region, as it is read
-pub record HasContent {D : Type 0} (score_of : List ℕ → List ℕ) (bytes : D → List ℕ) (l : LogState D) (arena : ℕ) (a : Content) : Type 0 where
+pub record HasContent {D : Type 0} (score_of : List ℕ → List ℕ) (disk : DiskOf D) (l : LogState D) (arena : ℕ) (a : Content) : Type 0 where
   pub r : ArenaRegion
   pub region : Region
-  pub disk : D
-  pub at : IsAt l arena r region disk
+  pub device : D
+  pub at : IsAt l arena r region device
   pub content : IsContent score_of region.len a
-  pub stand : HasBlocks region a.stored (bytes disk)
+  pub stand : HasBlocks region a.stored (disk.bytes device)
   pub head : (found : Found) → slice_get l.heads arena ≡ Some found → found.head ≡ head_of score_of r.number a
 
-pub has_content : {D : Type 0} (score_of : List ℕ → List ℕ) (bytes : D → List ℕ) (images : D → List ℕ → Type 0) (size : D → ℕ) (l : LogState D) (h : History) (arena : ℕ) (a : Content)
-    → (sound : IsSound score_of bytes images size l h) → slice_get sound.contents arena ≡ Some a → ((disk : D) → images disk (bytes disk)) → HasContent score_of bytes l arena a
-has_content score_of bytes images size l h arena a sound at reads =
+pub has_content : {D : Type 0} (score_of : List ℕ → List ℕ) (disk : DiskOf D) (l : LogState D) (h : History) (arena : ℕ) (a : Content)
+    → (sound : IsSound score_of disk l h) → slice_get sound.contents arena ≡ Some a → ((device : D) → disk.images device (disk.bytes device)) → HasContent score_of disk l arena a
+has_content score_of disk l h arena a sound at reads =
     let r = slice_get_other l.layout sound.contents arena a sound.many at in
-    let it = there size l arena r.0 sound.whole r.1 in
-    let both : IsContent score_of it.region.len a × HasBlocks it.region a.stored (bytes it.disk) = ⊎_elim
+    let it = there disk l arena r.0 sound.whole r.1 in
+    let both : IsContent score_of it.region.len a × HasBlocks it.region a.stored (disk.bytes it.disk) = ⊎_elim
     (λ (same : arena ≡ l.committing).
     let arena_at : IsAt l l.committing r.0 it.region it.disk = subst (λ (n : ℕ). IsAt l n r.0 it.region it.disk) same it.at in
     let current = sound.current r.0 it.region it.disk a arena_at (subst (λ (n : ℕ). slice_get sound.contents n ≡ Some a) same at) in
-    (current.content, current.kept (bytes it.disk) (reads it.disk)))
+    (current.content, current.kept (disk.bytes it.disk) (reads it.disk)))
     (λ (other : arena ≢ l.committing).
     let rest = sound.others arena r.0 it.region it.disk a other it.at at in
     (rest.1.content, rest.1.blocks))
@@ -198,7 +199,7 @@ has_content score_of bytes images size l h arena a sound at reads =
     record {
       r = r.0;
       region = it.region;
-      disk = it.disk;
+      device = it.disk;
       at = it.at;
       content = both.0;
       stand = both.1;
@@ -206,35 +207,35 @@ has_content score_of bytes images size l h arena a sound at reads =
     }
 
 -- the block whose place is none of the queue's stands there in its arena
-pub record IsStoredAt {D : Type 0} (score_of : List ℕ → List ℕ) (bytes : D → List ℕ) (l : LogState D) (place : Place) (e : Accepted) : Type 0 where
+pub record IsStoredAt {D : Type 0} (score_of : List ℕ → List ℕ) (disk : DiskOf D) (l : LogState D) (place : Place) (e : Accepted) : Type 0 where
   pub content : Content
   pub before : List Stored
   pub behind : List Stored
   pub stored : Stored
-  pub is : HasContent score_of bytes l place.arena content
+  pub is : HasContent score_of disk l place.arena content
   pub split : content.stored ≡ before ++ stored ∷ behind
   pub offset : place.offset ≡ offset_of before
   pub block : e ≡ accepted place.arena stored
   pub scored : stored.score ≡ score_of stored.block
 
-pub stored_at : {D : Type 0} (score_of : List ℕ → List ℕ) (bytes : D → List ℕ) (images : D → List ℕ → Type 0) (size : D → ℕ) (l : LogState D) (h : History) (i : ℕ) (e : Accepted) (place : Place)
-    → IsSound score_of bytes images size l h → slice_get h i ≡ Some e → place_of (setup_of l) h i ≡ Some (spot_of place) → IsNowhere l.queue.places place
-    → ((disk : D) → images disk (bytes disk)) → IsStoredAt score_of bytes l place e
-stored_at score_of bytes images size l h i e place sound at placed nowhere reads =
-    let below = is_durable score_of bytes images size l h i place sound (slice_get_within h i e at) placed nowhere in
-    let it = committed score_of bytes images size l h i e sound at below in
+pub stored_at : {D : Type 0} (score_of : List ℕ → List ℕ) (disk : DiskOf D) (l : LogState D) (h : History) (i : ℕ) (e : Accepted) (place : Place)
+    → IsSound score_of disk l h → slice_get h i ≡ Some e → place_of (setup_of l) h i ≡ Some (spot_of place) → IsNowhere l.queue.places place
+    → ((device : D) → disk.images device (disk.bytes device)) → IsStoredAt score_of disk l place e
+stored_at score_of disk l h i e place sound at placed nowhere reads =
+    let below = is_durable score_of disk l h i place sound (slice_get_within h i e at) placed nowhere in
+    let it = committed score_of disk l h i e sound at below in
     let spot : Accepted → Spot = λ (x : Accepted). record { arena = x.arena; offset = offset_behind (setup_of l) x.arena (lengths_in x.arena (take i h)) } in
     let spots : spot e ≡ spot_of place = same_Some (spot e) (spot_of place) (sym (ap (option_map spot) at) ∙ placed) in
     let arena : e.arena ≡ place.arena = ap (λ (s : Spot). s.arena) spots in
     let offset : place.offset ≡ offset_of (take it.index it.content.stored) =
     sym (ap (λ (s : Spot). s.offset) spots) ∙ ap (offset_behind (setup_of l) e.arena) it.lengths in
-    let is = has_content score_of bytes images size l h e.arena it.content sound it.at reads in
+    let is = has_content score_of disk l h e.arena it.content sound it.at reads in
     record {
       content = it.content;
       before = take it.index it.content.stored;
       behind = drop (it.index + 1) it.content.stored;
       stored = it.stored;
-      is = subst (λ (n : ℕ). HasContent score_of bytes l n it.content) arena is;
+      is = subst (λ (n : ℕ). HasContent score_of disk l n it.content) arena is;
       split = split_at it.content.stored it.index it.stored it.has;
       offset = offset;
       block = subst (λ (n : ℕ). e ≡ accepted n it.stored) arena it.block;

@@ -20,6 +20,7 @@ use Rattle.vt_arena.specs.declared.bad.BackBad.{BackBad}
 use Rattle.vt_arena.specs.declared.bad.BackBad.TheVariants.{Fault, Damaged}
 use Rattle.vt_arena.specs.Directory.{Walks, IsInfo as IsInfoIn, IsAt as IsAtBlock}
 use Rattle.vt_base.specs.declared.key.Key.{Key}
+use Rattle.vt_log.specs.Members.{DiskOf}
 use Rattle.vt_arena.specs.Layout.{Content, head_of, used_of}
 use Rattle.vt_arena.specs.Places.{block_room, lengths_of, offset_of}
 use Rattle.vt_arena.proofs.Layouts.{used-append, used-cons}
@@ -63,9 +64,9 @@ pub record IsStanding (contents : List Content) (durable : ℕ) (arena index lef
   pub within : index ≤ length content.stored
   pub most : left ≤ durable
 
-pub standing : {D : Type 0} (score_of : List ℕ → List ℕ) (bytes : D → List ℕ) (images : D → List ℕ → Type 0) (size : D → ℕ) (l : LogState D) (h : History) (t : TailState) (found : Found)
-    → (sound : IsSound score_of bytes images size l h) → IsTailOf l t → t.queued ≡ 0 → slice_get l.heads t.arena ≡ Some found → IsStanding sound.contents l.durable t.arena t.at.index t.left found
-standing score_of bytes images size l h t found sound tail none at =
+pub standing : {D : Type 0} (score_of : List ℕ → List ℕ) (disk : DiskOf D) (l : LogState D) (h : History) (t : TailState) (found : Found)
+    → (sound : IsSound score_of disk l h) → IsTailOf l t → t.queued ≡ 0 → slice_get l.heads t.arena ≡ Some found → IsStanding sound.contents l.durable t.arena t.at.index t.left found
+standing score_of disk l h t found sound tail none at =
     let whole = sound.whole in
     let many : length l.heads ≡ length sound.contents = omega (arith, whole.many, sound.many) in
     let a = slice_get_other sound.contents l.heads t.arena found many at in
@@ -94,10 +95,10 @@ pub record IsFront (h : History) (arena n : ℕ) (stored : List Stored) : Type 0
   pub lengths : lengths_in arena (take n h) ≡ lengths_of stored
   pub arenas : All (λ e. e.arena ≤ arena) (take n h)
 
-pub front_is : {D : Type 0} (score_of : List ℕ → List ℕ) (bytes : D → List ℕ) (images : D → List ℕ → Type 0) (size : D → ℕ) (l : LogState D) (h : History) (arena j n : ℕ) (a : Content)
-    → (sound : IsSound score_of bytes images size l h) → slice_get sound.contents arena ≡ Some a → j ≤ length a.stored → n ≡ blocks_before arena sound.contents + j → n ≤ l.durable
+pub front_is : {D : Type 0} (score_of : List ℕ → List ℕ) (disk : DiskOf D) (l : LogState D) (h : History) (arena j n : ℕ) (a : Content)
+    → (sound : IsSound score_of disk l h) → slice_get sound.contents arena ≡ Some a → j ≤ length a.stored → n ≡ blocks_before arena sound.contents + j → n ≤ l.durable
     → IsFront h arena n (take j a.stored)
-front_is score_of bytes images size l h arena j n a sound at most is below =
+front_is score_of disk l h arena j n a sound at most is below =
     let within : l.durable ≤ length h = omega (arith, sound.front) in
     let blocks : History = blocks_from 0 sound.contents in
     let front : take n h ≡ take (blocks_before arena sound.contents + j) blocks =
@@ -114,15 +115,15 @@ front_is score_of bytes images size l h arena j n a sound at most is below =
     }
 
 -- a walk that comes to an arena has all of its blocks before it
-pub turned_behind : {D : Type 0} (score_of : List ℕ → List ℕ) (bytes : D → List ℕ) (images : D → List ℕ → Type 0) (size : D → ℕ) (l : LogState D) (h : History) (n : ℕ) (t : TailState) (found : Found)
-    → IsSound score_of bytes images size l h → IsTailOf l t → t.queued ≡ 0 → t.left ≡ n → slice_get l.heads t.arena ≡ Some found → t.at ≡ record { index = found.head.clumps; end = found.head.used }
+pub turned_behind : {D : Type 0} (score_of : List ℕ → List ℕ) (disk : DiskOf D) (l : LogState D) (h : History) (n : ℕ) (t : TailState) (found : Found)
+    → IsSound score_of disk l h → IsTailOf l t → t.queued ≡ 0 → t.left ≡ n → slice_get l.heads t.arena ≡ Some found → t.at ≡ record { index = found.head.clumps; end = found.head.used }
     → IsBehind l h n t
-turned_behind score_of bytes images size l h n t found sound tail none left at start =
-    let it = standing score_of bytes images size l h t found sound tail none at in
+turned_behind score_of disk l h n t found sound tail none left at start =
+    let it = standing score_of disk l h t found sound tail none at in
     let within : l.durable ≤ length h = omega (arith, sound.front) in
     let few : min n l.durable ≡ t.left = omega (arith, left, it.most) in
     let index : t.at.index ≡ length it.content.stored = ap (λ (x : At). x.index) start ∙ it.clumps in
-    let front = front_is score_of bytes images size l h t.arena t.at.index t.left it.content sound it.at it.within it.count it.most in
+    let front = front_is score_of disk l h t.arena t.at.index t.left it.content sound it.at it.within it.count it.most in
     let all : take t.at.index it.content.stored ≡ it.content.stored = take_all t.at.index it.content.stored (omega (arith, index)) in
     let lengths : lengths_in t.arena (take (min n l.durable) h) ≡ lengths_of it.content.stored =
     ap (λ (k : ℕ). lengths_in t.arena (take k h)) few ∙ front.lengths ∙ ap lengths_of all in
@@ -136,14 +137,14 @@ turned_behind score_of bytes images size l h n t found sound tail none left at s
     }
 
 -- the block at which such a walk stands
-pub record IsAtLast {D : Type 0} (score_of : List ℕ → List ℕ) (bytes : D → List ℕ) (l : LogState D) (h : History) (n : ℕ) (t : TailState) (found : Found) : Type 0 where
+pub record IsAtLast {D : Type 0} (score_of : List ℕ → List ℕ) (disk : DiskOf D) (l : LogState D) (h : History) (n : ℕ) (t : TailState) (found : Found) : Type 0 where
   pub number : ℕ
   pub number_is : number + 1 ≡ n
   pub content : Content
   pub before : List Stored
   pub behind : List Stored
   pub stored : Stored
-  pub is : HasContent score_of bytes l t.arena content
+  pub is : HasContent score_of disk l t.arena content
   pub head : found.head ≡ head_of score_of is.r.number content
   pub split : content.stored ≡ before ++ stored ∷ behind
   pub at : IsAtBlock before stored t.at
@@ -161,11 +162,11 @@ take_push : {X : Type 0} (xs : List X) (i : ℕ) (x : X) → slice_get xs i ≡ 
 take_push {X = X} xs i x at =
     take_more xs i x (slice_get_within xs i x at) ∙ ap (λ (y : X). take i xs ++ y ∷ []) (get_or_from_slice_get xs i x x at)
 
-pub at_last : {D : Type 0} (score_of : List ℕ → List ℕ) (bytes : D → List ℕ) (images : D → List ℕ → Type 0) (size : D → ℕ) (l : LogState D) (h : History) (n : ℕ) (t : TailState) (found : Found)
-    → IsSound score_of bytes images size l h → IsTailOf l t → t.queued ≡ 0 → slice_get l.heads t.arena ≡ Some found → 0 < t.at.index → IsBehind l h n t → ((disk : D) → images disk (bytes disk))
-    → IsAtLast score_of bytes l h n t found
-at_last score_of bytes images size l h n t found sound tail none at some behind reads =
-    let it = standing score_of bytes images size l h t found sound tail none at in
+pub at_last : {D : Type 0} (score_of : List ℕ → List ℕ) (disk : DiskOf D) (l : LogState D) (h : History) (n : ℕ) (t : TailState) (found : Found)
+    → IsSound score_of disk l h → IsTailOf l t → t.queued ≡ 0 → slice_get l.heads t.arena ≡ Some found → 0 < t.at.index → IsBehind l h n t → ((device : D) → disk.images device (disk.bytes device))
+    → IsAtLast score_of disk l h n t found
+at_last score_of disk l h n t found sound tail none at some behind reads =
+    let it = standing score_of disk l h t found sound tail none at in
     let stored = it.content.stored in
     let within : l.durable ≤ length h = omega (arith, sound.front) in
     let j : ℕ = t.at.index - 1 in
@@ -179,12 +180,12 @@ at_last score_of bytes images size l h n t found sound tail none at some behind 
     let block : slice_get h m ≡ Some (accepted t.arena s.0) =
     sym (front_same h l.durable m below within) ∙ ap (λ (g : History). slice_get g m) sound.committed ∙ ap (slice_get (blocks_from 0 sound.contents)) count
     ∙ block_at 0 sound.contents t.arena it.content j s.0 it.at s.1 ∙ ap (λ (k : ℕ). Some (accepted k s.0)) own in
-    let front = front_is score_of bytes images size l h t.arena j m it.content sound it.at (omega (arith, index, it.within)) count (omega (arith, below)) in
-    let all = front_is score_of bytes images size l h t.arena t.at.index t.left it.content sound it.at it.within it.count it.most in
+    let front = front_is score_of disk l h t.arena j m it.content sound it.at (omega (arith, index, it.within)) count (omega (arith, below)) in
+    let all = front_is score_of disk l h t.arena t.at.index t.left it.content sound it.at it.within it.count it.most in
     let few : min n l.durable ≡ t.left = omega (arith, behind.left, it.most) in
     let end : t.at.end ≡ used_of (take (j + 1) stored) =
     behind.end ∙ ap (λ (k : ℕ). sum_by block_room (lengths_in t.arena (take k h))) few ∙ ap (λ (ls : List ℕ). sum_by block_room ls) all.lengths ∙ ap (λ (k : ℕ). used_of (take k stored)) (sym index) in
-    let is = has_content score_of bytes images size l h t.arena it.content sound it.at reads in
+    let is = has_content score_of disk l h t.arena it.content sound it.at reads in
     let spot : Accepted → Spot = λ (x : Accepted). record { arena = x.arena; offset = offset_behind (setup_of l) x.arena (lengths_in x.arena (take m h)) } in
     let placed : place_of (setup_of l) h m ≡ Some (spot (accepted t.arena s.0)) = ap (option_map spot) block in
     record {
@@ -210,11 +211,11 @@ at_last score_of bytes images size l h n t found sound tail none at some behind 
     }
 
 -- the block that a walk gives from the queue
-pub queue_steps : {D : Type 0} (score_of : List ℕ → List ℕ) (bytes : D → List ℕ) (images : D → List ℕ → Type 0) (size : D → ℕ) (l : LogState D) (h : History) (n : ℕ) (t new : TailState) (p : Packed) (place : Place) (info : Info)
-    → IsSound score_of bytes images size l h → IsBehind l h n t → IsQueued p place t.left info → slice_get (packed_of l) new.queued ≡ Some p → slice_get l.queue.places new.queued ≡ Some place
+pub queue_steps : {D : Type 0} (score_of : List ℕ → List ℕ) (disk : DiskOf D) (l : LogState D) (h : History) (n : ℕ) (t new : TailState) (p : Packed) (place : Place) (info : Info)
+    → IsSound score_of disk l h → IsBehind l h n t → IsQueued p place t.left info → slice_get (packed_of l) new.queued ≡ Some p → slice_get l.queue.places new.queued ≡ Some place
     → new.queued + 1 ≡ t.queued → new.left + 1 ≡ t.left → new.arena ≡ t.arena → new.at ≡ t.at → StepsBack score_of l h n new (Some info)
-queue_steps score_of bytes images size l h n t new p place info sound behind is packed placed queue left arena at =
-    let q = queued_as score_of bytes images size l h new.queued p sound packed in
+queue_steps score_of disk l h n t new p place info sound behind is packed placed queue left arena at =
+    let q = queued_as score_of disk l h new.queued p sound packed in
     let number : l.durable + new.queued ≡ new.left = omega (arith, behind.queue, behind.left, queue, left) in
     let before : min n l.durable ≡ min new.left l.durable = omega (arith, behind.queue, behind.left, queue, left) in (
       new.left,
@@ -244,12 +245,12 @@ queue_steps score_of bytes images size l h n t new p place info sound behind is 
     same k e f = ap (λ (a : ℕ). f (lengths_in a (take (min n l.durable) h))) (sym arena) ∙ ap (λ (j : ℕ). f (lengths_in new.arena (take j h))) e
 
 -- and the one that it gives from an arena
-pub arena_steps : {D : Type 0} (score_of : List ℕ → List ℕ) (bytes : D → List ℕ) (l : LogState D) (h : History) (n : ℕ) (t new : TailState) (found : Found) (entry info : Info)
-    → (last : IsAtLast score_of bytes l h n t found) → IsInfoIn last.is.r.number last.before last.stored entry → t.queued ≡ 0
+pub arena_steps : {D : Type 0} (score_of : List ℕ → List ℕ) (disk : DiskOf D) (l : LogState D) (h : History) (n : ℕ) (t new : TailState) (found : Found) (entry info : Info)
+    → (last : IsAtLast score_of disk l h n t found) → IsInfoIn last.is.r.number last.before last.stored entry → t.queued ≡ 0
     → new.at.index + 1 ≡ t.at.index → new.at.end + block_room entry.size ≡ t.at.end → new.left + 1 ≡ n → new.queued ≡ t.queued → new.arena ≡ t.arena
     → info ≡ record { key = entry.key; size = entry.size; place = record { arena = t.arena; offset = entry.place.offset }; number = new.left }
     → StepsBack score_of l h n new (Some info)
-arena_steps score_of bytes l h n t new found entry info last is none index end left queue arena info_is =
+arena_steps score_of disk l h n t new found entry info last is none index end left queue arena info_is =
     let number : last.number ≡ new.left = omega (arith, last.number_is, left) in
     let few : min new.left l.durable ≡ last.number = omega (arith, number, last.inside) in
     let lengths : lengths_in new.arena (take (min new.left l.durable) h) ≡ lengths_of last.before =
@@ -360,9 +361,9 @@ skip_next l from t so some = record {
   first = λ none i found less more at. so.first i found less more at;
 }
 
-pub skip_behind : {D : Type 0} (score_of : List ℕ → List ℕ) (bytes : D → List ℕ) (images : D → List ℕ → Type 0) (size : D → ℕ) (l : LogState D) (h : History) (n : ℕ) (from t : TailState)
-    → IsTailOf l from → from.queued ≡ 0 → IsSkipped l from t → IsSound score_of bytes images size l h → IsBehind l h n from → IsBehind l h n t
-skip_behind score_of bytes images size l h n from t tail none so sound behind = ⊎_elim
+pub skip_behind : {D : Type 0} (score_of : List ℕ → List ℕ) (disk : DiskOf D) (l : LogState D) (h : History) (n : ℕ) (from t : TailState)
+    → IsTailOf l from → from.queued ≡ 0 → IsSkipped l from t → IsSound score_of disk l h → IsBehind l h n from → IsBehind l h n t
+skip_behind score_of disk l h n from t tail none so sound behind = ⊎_elim
     (λ (is : (t.arena ≡ from.arena) × (t.at ≡ from.at)). record {
       left = so.left ∙ behind.left;
       most = behind.most;
@@ -373,7 +374,7 @@ skip_behind score_of bytes images size l h n from t tail none so sound behind = 
     })
     (λ (is : (from.at.index ≡ 0) × (t.arena < from.arena) × ((found : Found) → slice_get l.heads t.arena ≡ Some found → t.at ≡ record { index = found.head.clumps; end = found.head.used })).
     let found = slice_get_there l.heads t.arena (omega (arith, is.1, tail.arena)) in
-    turned_behind score_of bytes images size l h n t found.0 sound so.tail so.queue (so.left ∙ behind.left) found.1 (is.2 found.0 found.1))
+    turned_behind score_of disk l h n t found.0 sound so.tail so.queue (so.left ∙ behind.left) found.1 (is.2 found.0 found.1))
     so.here
 
 -- one entry alone is the next

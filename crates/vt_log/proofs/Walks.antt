@@ -2,6 +2,7 @@
 use Rattle.std.proofs.Common.{◌≡◌, ℕ, ◌+◌, ◌<◌, ◌≤◌, min, List, [], ◌∷◌, length, take, map, sym, ap, subst, arith}
 use Rattle.std.specs.Prelude.{All, sum_by}
 use Rattle.std.proofs.lemmas.List.Elements.{All-nil, All-append, All-map, All-weaker}
+use Rattle.vt_log.specs.Members.{DiskOf}
 use Rattle.vt_model.specs.History.{Accepted, History}
 use Rattle.vt_model.specs.Places.{lengths_in}
 use Rattle.vt_arena.specs.Layout.{Content}
@@ -21,9 +22,9 @@ blocks_below k (a ∷ rest) =
     (All-weaker (λ (e : Accepted). e.arena < k + 1 + length rest) (λ (e : Accepted). e.arena < k + length (a ∷ rest)) (λ e below. omega (arith, below)) (blocks_from (k + 1) rest) (blocks_below (k + 1) rest))
 
 -- a new walk has all blocks before it
-pub tail_behind : {D : Type 0} (score_of : List ℕ → List ℕ) (bytes : D → List ℕ) (images : D → List ℕ → Type 0) (size : D → ℕ) (l : LogState D) (h : History)
-    → IsSound score_of bytes images size l h → IsBehind l h (length h) (record { left = front l; queued = queued l; arena = length l.heads; at = record { index = 0; end = 0 } })
-tail_behind score_of bytes images size l h sound =
+pub tail_behind : {D : Type 0} (score_of : List ℕ → List ℕ) (disk : DiskOf D) (l : LogState D) (h : History)
+    → IsSound score_of disk l h → IsBehind l h (length h) (record { left = front l; queued = queued l; arena = length l.heads; at = record { index = 0; end = 0 } })
+tail_behind score_of disk l h sound =
     let inside : l.durable ≤ length h = omega (arith, sound.front) in
     let few : min (length h) l.durable ≡ l.durable = omega (arith, inside) in
     let below : All (λ (e : Accepted). e.arena < length l.heads) (take (min (length h) l.durable) h) =

@@ -1,6 +1,7 @@
 -- What the calls of a log answer.
 use Rattle.std.specs.Prelude.{◌≡◌, ◌≢◌, ℕ, ◌+◌, ◌<◌, ◌≤◌, Bool, IsTrue, Some, None, Result, Ok, Err, List, [], ◌∷◌, ◌++◌, length, map, drop, sum_by, slice_get}
 use Rattle.vt_base.specs.declared.place.Place.{Place}
+use Rattle.vt_log.specs.Members.{DiskOf}
 use Rattle.vt_clump.specs.declared.packed.Packed.{Packed}
 use Rattle.vt_clump.specs.Clumps.{stored_of}
 use Rattle.vt_disk.specs.Disk.{AreAmong}
@@ -24,15 +25,14 @@ use Rattle.vt_log.specs.Sound.{IsSound}
 
 -- The block is added behind the history, in the next arena that has room, at the place where it
 -- then stands; where none has room nothing changes.
-abbrev pub Appends : {D : Type 0} → (score_of : List ℕ → List ℕ) → (bytes : D → List ℕ)
-    → (images : D → List ℕ → Type 0) → (size : D → ℕ) → (old new : LogState D) → History → Packed
-    → Result Place Full → Type 0
-Appends score_of bytes images size old new h packed (Ok place) =
+abbrev pub Appends : {D : Type 0} → (score_of : List ℕ → List ℕ) → DiskOf D
+    → (old new : LogState D) → History → Packed → Result Place Full → Type 0
+Appends score_of disk old new h packed (Ok place) =
     let longer : History = h ++ accepted place.arena (stored_of packed) ∷ [] in
     (next_arena (setup_of old) h packed.len ≡ Some place.arena)
     × (place_of (setup_of old) longer (length h) ≡ Some (spot_of place))
-    × IsSound score_of bytes images size new longer
-Appends score_of bytes images size old new h packed (Err full) =
+    × IsSound score_of disk new longer
+Appends score_of disk old new h packed (Err full) =
     next_arena (setup_of old) h packed.len ≡ None
 
 -- what it makes of a log: the block goes to the arena that has room, behind what fills that
@@ -92,19 +92,16 @@ pub record Spares {D : Type 0} (part : ℕ) (old new : List D) : Type 0 where
   pub others : (i : ℕ) → i ≢ part → slice_get new i ≡ slice_get old i
 
 -- the disks hold what they held, and a crash leaves no more of them
-pub record HoldTheSame {D : Type 0} (bytes : D → List ℕ) (images : D → List ℕ → Type 0)
-    (size : D → ℕ) (old new : List D) : Type 0 where
-  pub bytes_are : map bytes new ≡ map bytes old
-  pub sizes_are : map size new ≡ map size old
+pub record HoldTheSame {D : Type 0} (disk : DiskOf D) (old new : List D) : Type 0 where
+  pub bytes_are : map disk.bytes new ≡ map disk.bytes old
+  pub sizes_are : map disk.size new ≡ map disk.size old
   pub images_are : (i : ℕ) (before after : D) → slice_get old i ≡ Some before
-      → slice_get new i ≡ Some after → AreAmong (images after) (images before)
+      → slice_get new i ≡ Some after → AreAmong (disk.images after) (disk.images before)
 
 -- the log reads from its disks, at most so many times, and nothing else changes
-pub record OnlyReads {D : Type 0} (score_of : List ℕ → List ℕ) (tells : Bool) (bytes : D → List ℕ)
-    (images : D → List ℕ → Type 0) (size calls_of : D → ℕ) (most : ℕ) (old new : LogState D)
-    : Type 0 where
+pub record OnlyReads {D : Type 0} (score_of : List ℕ → List ℕ) (disk : DiskOf D) (most : ℕ)
+    (old new : LogState D) : Type 0 where
   pub same : new ≡ record old { disks = new.disks }
-  pub sound : (h : History) → IsSound score_of bytes images size old h
-      → IsSound score_of bytes images size new h
-  pub disks : HoldTheSame bytes images size old.disks new.disks
-  pub calls : IsTrue tells → sum_by calls_of new.disks ≤ sum_by calls_of old.disks + most
+  pub sound : (h : History) → IsSound score_of disk old h → IsSound score_of disk new h
+  pub disks : HoldTheSame disk old.disks new.disks
+  pub calls : IsTrue disk.tells → sum_by disk.calls new.disks ≤ sum_by disk.calls old.disks + most

@@ -1,5 +1,6 @@
 -- What making partitions a log does to their disks.
 use Rattle.std.specs.Prelude.{◌≡◌, ℕ, ◌+◌, ◌<◌, ◌≤◌, Bool, IsTrue, List}
+use Rattle.vt_log.specs.Members.{DiskOf}
 use Rattle.vt_disk.specs.declared.region.Region.{Region}
 use Rattle.vt_disk.specs.Disk.{SameBut, ChangesAt, Only}
 use Rattle.vt_model.specs.declared.TheConstants.{HEAD_LEN}
@@ -16,10 +17,10 @@ AreEmpty t arenas images =
     → IsArena score_of region number empty c
 
 -- a partition whose arenas have no blocks, and a crash leaves nothing but what a read gives
-pub record IsEmpty {D : Type 0} (bytes : D → List ℕ) (images : D → List ℕ → Type 0)
+pub record IsEmpty {D : Type 0} (disk : DiskOf D)
     (part : Part D) : Type 0 where
-  pub arenas : AreEmpty (table_of part) (table_of part).count (images (disk_of part))
-  pub settled : Only (bytes (disk_of part)) (images (disk_of part))
+  pub arenas : AreEmpty (table_of part) (table_of part).count (disk.images (disk_of part))
+  pub settled : Only (disk.bytes (disk_of part)) (disk.images (disk_of part))
 
 -- the byte lies in the head of an arena of the table
 abbrev pub InHeads : Table → ℕ → Type 0
@@ -28,8 +29,7 @@ InHeads t p =
     × (p < start_of t number + HEAD_LEN)
 
 -- bytes in no head stay, as a read gives them and as a crash may leave them
-abbrev pub ChangesInHeads : {D : Type 0} → (tells : Bool) → (bytes : D → List ℕ)
-    → (images : D → List ℕ → Type 0) → Table → (before after : D) → Type 0
-ChangesInHeads tells bytes images t before after =
-    (IsTrue tells → SameBut (InHeads t) (bytes before) (bytes after))
-    × ChangesAt (InHeads t) (images before) (images after)
+abbrev pub ChangesInHeads : {D : Type 0} → (disk : DiskOf D) → Table → (before after : D) → Type 0
+ChangesInHeads disk t before after =
+    (IsTrue disk.tells → SameBut (InHeads t) (disk.bytes before) (disk.bytes after))
+    × ChangesAt (InHeads t) (disk.images before) (disk.images after)

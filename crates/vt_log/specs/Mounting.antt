@@ -1,5 +1,6 @@
 -- How a log is found.
 use Rattle.std.specs.Prelude.{◌≡◌, ⊤, ℕ, ◌+◌, ◌%◌, ◌≤◌, All, Bool, IsTrue, None, Some, List, length, map, sum_by, take, slice_get, Result, Ok, Err}
+use Rattle.vt_log.specs.Members.{DiskOf}
 use Rattle.vt_disk.specs.declared.region.Region.{Region}
 use Rattle.vt_twin.specs.Frames.{named_number}
 use Rattle.vt_part.specs.declared.layout.ArenaRegion.{ArenaRegion}
@@ -24,13 +25,12 @@ use Rattle.vt_log.specs.Logs.{IsRegionOf}
 use Rattle.vt_log.specs.Queue.{no_queue}
 
 -- so many calls at most were made of partitions' disks, and they wrote nothing
-pub record AreRead {D : Type 0} (tells : Bool) (bytes : D → List ℕ)
-    (images : D → List ℕ → Type 0) (size calls : D → ℕ) (most : ℕ) (old new : List (Part D))
+pub record AreRead {D : Type 0} (disk : DiskOf D) (most : ℕ) (old new : List (Part D))
     : Type 0 where
   pub tables : tables_of new ≡ tables_of old
-  pub disks : HoldTheSame bytes images size (disks_of old) (disks_of new)
-  pub calls_most : IsTrue tells
-      → sum_by calls (disks_of new) ≤ sum_by calls (disks_of old) + most
+  pub disks : HoldTheSame disk (disks_of old) (disks_of new)
+  pub calls_most : IsTrue disk.tells
+      → sum_by disk.calls (disks_of new) ≤ sum_by disk.calls (disks_of old) + most
 
 -- these are the fields of an arena's current head, as the files have it
 abbrev pub AreFieldsAt : (files : List (List ℕ)) → ArenaRegion → (fields : List ℕ) → Type 0

@@ -4,6 +4,7 @@ use Rattle.vt_base.specs.declared.key.Key.{Key}
 use Rattle.vt_base.specs.declared.why.FieldValue.{FieldValue}
 use Rattle.vt_base.specs.declared.why.FieldValue.TheVariants.{Number, Score as ScoreValue}
 use Rattle.vt_base.specs.declared.place.Place.{Place}
+use Rattle.vt_log.specs.Members.{DiskOf}
 use Rattle.vt_disk.specs.declared.region.Region.{Region}
 use Rattle.vt_clump.specs.declared.packed.Packed.{Packed}
 use Rattle.vt_clump.specs.Faults.{first_bad}
@@ -60,9 +61,9 @@ ReadsAs score_of key bytes (Err Fault) = ⊤
 -- What reading a place answers, for any key: what stands there in the queue or, where nothing
 -- queued has the place, on the disk. Of a place in no arena the number is told, where that of the
 -- last one was wanted; of one at which no header can lie, the offset, where the head's end was.
-pub record AnswersRead {D : Type 0} (score_of : List ℕ → List ℕ) (tells : Bool)
-    (bytes : D → List ℕ) (l : LogState D) (place : Place) (key : Key)
-    (result : Result (List ℕ) ReadBad) : Type 0 where
+pub record AnswersRead {D : Type 0} (score_of : List ℕ → List ℕ) (disk : DiskOf D)
+    (l : LogState D) (place : Place) (key : Key) (result : Result (List ℕ) ReadBad)
+    : Type 0 where
   pub queued : (i : ℕ) → IsFirstAt l.queue.places place i → (p : Packed)
       × (slice_get (packed_of l) i ≡ Some p) × GivesPacked key p result
   pub nowhere : IsNowhere l.queue.places place → length l.layout ≤ place.arena
@@ -70,9 +71,9 @@ pub record AnswersRead {D : Type 0} (score_of : List ℕ → List ℕ) (tells : 
   pub outside : (r : ArenaRegion) → IsNowhere l.queue.places place
       → slice_get l.layout place.arena ≡ Some r → ¬ HasHeader r.len place.offset
       → result ≡ Err (Damaged (Number HEAD_LEN) (Number place.offset))
-  pub stored : (r : ArenaRegion) (region : Region) (disk : D) → IsNowhere l.queue.places place
-      → IsAt l place.arena r region disk → HasHeader r.len place.offset → (clump : List ℕ)
-      × (IsTrue tells → clump ≡ clump_at region place.offset (bytes disk))
+  pub stored : (r : ArenaRegion) (region : Region) (device : D) → IsNowhere l.queue.places place
+      → IsAt l place.arena r region device → HasHeader r.len place.offset → (clump : List ℕ)
+      × (IsTrue disk.tells → clump ≡ clump_at region place.offset (disk.bytes device))
       × ReadsAs score_of key clump result
 
 -- a fault comes only where a disk's count of faults rises, and one rises only then

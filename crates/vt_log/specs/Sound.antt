@@ -1,6 +1,7 @@
 -- What the disks of a log hold, and what a crash leaves of them.
 use Rattle.std.specs.Prelude.{◌≡◌, ◌≢◌, ◌%◌, ℕ, ◌+◌, ◌<◌, ◌≤◌, Bool, Some, List, All, length, take, drop, sum_by, slice_get}
 use Rattle.vt_base.specs.declared.place.Place.{Place}
+use Rattle.vt_log.specs.Members.{DiskOf}
 use Rattle.vt_disk.specs.declared.region.Region.{Region}
 use Rattle.vt_disk.specs.Disk.{WithinCall}
 use Rattle.vt_twin.specs.Frames.{named_number}
@@ -40,29 +41,29 @@ pub record IsFilledBy (lengths : List ℕ) (f : Filling) : Type 0 where
 
 -- The disks, by what they read as and by their images, are sound for a log that has accepted this
 -- history.
-pub record IsSound {D : Type 0} (score_of : List ℕ → List ℕ) (bytes : D → List ℕ)
-    (images : D → List ℕ → Type 0) (size : D → ℕ) (l : LogState D) (h : History) : Type 0 where
-  pub whole : IsWhole size l
+pub record IsSound {D : Type 0} (score_of : List ℕ → List ℕ) (disk : DiskOf D) (l : LogState D)
+    (h : History) : Type 0 where
+  pub whole : IsWhole disk l
   -- what each arena holds
   pub contents : List Content
   pub many : length contents ≡ length l.layout
   pub split : IsSplit l.committing contents
   -- the arena that is committed in is sound; of any other a crash leaves just what is read of it
-  pub current : (r : ArenaRegion) (region : Region) (disk : D) (a : Content)
-      → IsAt l l.committing r region disk → slice_get contents l.committing ≡ Some a
-      → IsSoundArena score_of l.arena region a (bytes disk) (images disk)
-  pub others : (i : ℕ) (r : ArenaRegion) (region : Region) (disk : D) (a : Content)
-      → i ≢ l.committing → IsAt l i r region disk → slice_get contents i ≡ Some a
-      → IsSettled region (bytes disk) (images disk)
-      × IsArena score_of region r.number a (bytes disk)
+  pub current : (r : ArenaRegion) (region : Region) (device : D) (a : Content)
+      → IsAt l l.committing r region device → slice_get contents l.committing ≡ Some a
+      → IsSoundArena score_of l.arena region a (disk.bytes device) (disk.images device)
+  pub others : (i : ℕ) (r : ArenaRegion) (region : Region) (device : D) (a : Content)
+      → i ≢ l.committing → IsAt l i r region device → slice_get contents i ≡ Some a
+      → IsSettled region (disk.bytes device) (disk.images device)
+      × IsArena score_of region r.number a (disk.bytes device)
   -- the heads are those of what is committed, and behind that arena the selectors are as they are
   -- read
   pub heads : (i : ℕ) (r : ArenaRegion) (found : Found) (a : Content)
       → slice_get l.layout i ≡ Some r → slice_get l.heads i ≡ Some found
       → slice_get contents i ≡ Some a → found.head ≡ head_of score_of r.number a
-  pub selectors : (i : ℕ) (r : ArenaRegion) (region : Region) (disk : D) (found : Found)
-      → l.committing < i → IsAt l i r region disk → slice_get l.heads i ≡ Some found
-      → found.selector % 2 ≡ named_number region FRAME_LEN (bytes disk)
+  pub selectors : (i : ℕ) (r : ArenaRegion) (region : Region) (device : D) (found : Found)
+      → l.committing < i → IsAt l i r region device → slice_get l.heads i ≡ Some found
+      → found.selector % 2 ≡ named_number region FRAME_LEN (disk.bytes device)
   -- the history is what the arenas hold and, behind it, the queue
   pub committed : take l.durable h ≡ blocks_from 0 contents
   pub queued : drop l.durable h ≡ queue_of l
@@ -76,20 +77,20 @@ pub record IsSound {D : Type 0} (score_of : List ℕ → List ℕ) (bytes : D �
   pub arenas : All (λ e. e.arena ≤ l.filling.arena) h
 
 -- one file for each disk, which a crash may leave of it
-pub record AreImages {D : Type 0} (images : D → List ℕ → Type 0) (disks : List D)
+pub record AreImages {D : Type 0} (disk : DiskOf D) (disks : List D)
     (files : List (List ℕ)) : Type 0 where
   pub many : length files ≡ length disks
-  pub each : (i : ℕ) (disk : D) (file : List ℕ) → slice_get disks i ≡ Some disk
-      → slice_get files i ≡ Some file → images disk file
+  pub each : (i : ℕ) (device : D) (file : List ℕ) → slice_get disks i ≡ Some device
+      → slice_get files i ≡ Some file → disk.images device file
 
 -- and which a crash may leave of it at a moment within a call that turns the one list into the
 -- other
-pub record AreWithinCall {D : Type 0} (images : D → List ℕ → Type 0) (old new : List D)
+pub record AreWithinCall {D : Type 0} (disk : DiskOf D) (old new : List D)
     (files : List (List ℕ)) : Type 0 where
   pub many : length files ≡ length old
   pub each : (i : ℕ) (before after : D) (file : List ℕ) → slice_get old i ≡ Some before
       → slice_get new i ≡ Some after → slice_get files i ≡ Some file
-      → WithinCall (images before) (images after) file
+      → WithinCall (disk.images before) (disk.images after) file
 
 -- the files stand for a prefix of the history that has all durable blocks
 abbrev pub StandForPrefix : {D : Type 0} → (score_of : List ℕ → List ℕ) → LogState D

@@ -1,5 +1,6 @@
 -- What a log in memory keeps, whatever its disks hold.
 use Rattle.std.specs.Prelude.{◌≡◌, ◌==◌, ◌^◌, ℕ, ◌+◌, ◌<◌, ◌≤◌, Bool, IsTrue, if◌then◌else◌, Some, None, List, [], ◌∷◌, All, AllPairs, length, sum_by, slice_get}
+use Rattle.vt_log.specs.Members.{DiskOf}
 use Rattle.vt_disk.specs.Disk.{IsAligned}
 use Rattle.vt_part.specs.declared.layout.ArenaRegion.{ArenaRegion}
 use Rattle.vt_part.specs.Laws.{IsBefore}
@@ -15,10 +16,10 @@ use Rattle.vt_log.specs.Queue.{WaitsFor}
 use Rattle.vt_log.specs.Log.{LogState, filled_as, found_filling, fits_in, with_room_taken}
 
 -- the region lies on the disk of its partition, and an arena may have it
-pub record IsOnDisk {D : Type 0} (size : D → ℕ) (disks : List D) (r : ArenaRegion) : Type 0 where
-  pub disk : D
-  pub has : slice_get disks r.part ≡ Some disk
-  pub within : r.at + r.len ≤ size disk
+pub record IsOnDisk {D : Type 0} (disk : DiskOf D) (disks : List D) (r : ArenaRegion) : Type 0 where
+  pub device : D
+  pub has : slice_get disks r.part ≡ Some device
+  pub within : r.at + r.len ≤ disk.size device
   pub small : r.at + r.len < 2 ^ 64
   pub aligned : IsAligned r.at
   pub len : IsArenaLen r.len
@@ -50,11 +51,11 @@ pub record IsArenaOf (r : ArenaRegion) (found : Found) (a : ArenaState) : Type 0
   pub number : a.number ≡ r.number
   pub head : a.head ≡ found.head
 
-pub record IsWhole {D : Type 0} (size : D → ℕ) (l : LogState D) : Type 0 where
+pub record IsWhole {D : Type 0} (disk : DiskOf D) (l : LogState D) : Type 0 where
   -- the regions are those of the partitions' arenas, apart from each other, and on their disks
   pub many_disks : length l.disks ≡ length l.tables
   pub layout : l.layout ≡ layout_of l.tables
-  pub regions : All (IsOnDisk size l.disks) l.layout
+  pub regions : All (IsOnDisk disk l.disks) l.layout
   pub apart : AllPairs IsBefore l.layout
   pub few : length l.layout < 2 ^ 32
   -- each arena has its head, with its number, and has room for what that counts

@@ -66,7 +66,7 @@ impl<D: Disk, S: Scorer> Log<D, S> {
         ensures tail { IsTailOf self.now result }
         ensures all { result.left ≡ front self.now }
         ensures behind { (h : History)
-            → IsSound S.score_of D.bytes D.images D.size self.now h
+            → IsSound S.score_of D.Disk self.now h
             → IsBehind self.now h (length h) result }
     {
         Tail {
@@ -92,7 +92,7 @@ impl<D: Disk, S: Scorer> Log<D, S> {
 
         // The blocks are given from the last to the first.
         ensures blocks { (h : History) (n : ℕ) → IsTrue D.tells
-            → IsSound S.score_of D.bytes D.images D.size self.old h → IsBehind self.old h n tail.old
+            → IsSound S.score_of D.Disk self.old h → IsBehind self.old h n tail.old
             → MatchResult result (StepsBack S.score_of self.old h n tail.new)
             (λ bad. (bad ≡ BackBad.Fault) × IsBehind self.old h n tail.new) }
 
@@ -121,8 +121,7 @@ impl<D: Disk, S: Scorer> Log<D, S> {
         ensures cost { 0 < tail.old.left → tail.old.queued ≡ 0 → steps.new ≡ steps.old + 1 }
         ensures free { (tail.old.left ≡ 0) ⊎ (0 < tail.old.queued)
             → (steps.new ≡ steps.old) × (self.new ≡ self.old) }
-        ensures reads { OnlyReads S.score_of D.tells D.bytes D.images D.size D.calls 1
-            self.old self.new }
+        ensures reads { OnlyReads S.score_of D.Disk 1 self.old self.new }
         ensures spares { (arena : ℕ) (at : At) (found : Found) (r : ArenaRegion)
             → IsNext self.old.heads tail.old arena at → slice_get self.old.heads arena ≡ Some found
             → slice_get self.old.layout arena ≡ Some r
@@ -148,7 +147,7 @@ impl<D: Disk, S: Scorer> Log<D, S> {
         requires tail { IsTailOf self.now tail.old }
         requires some { 0 < tail.old.queued }
         ensures blocks { (h : History) (n : ℕ)
-            → IsSound S.score_of D.bytes D.images D.size self.now h → IsBehind self.now h n tail.old
+            → IsSound S.score_of D.Disk self.now h → IsBehind self.now h n tail.old
             → StepsBack S.score_of self.now h n tail.new (Some result) }
         ensures queued { (p : Packed) × (place : Place) × IsQueued p place tail.old.left result
             × (slice_get (packed_of self.now) (tail.old.queued - 1) ≡ Some p)
@@ -183,7 +182,7 @@ impl<D: Disk, S: Scorer> Log<D, S> {
         ensures same { (tail.new.left ≡ tail.old.left) × (tail.new.queued ≡ 0) }
         ensures next { IsNext self.now.heads tail.old tail.new.arena tail.new.at }
         ensures behind { (h : History) (n : ℕ)
-            → IsSound S.score_of D.bytes D.images D.size self.now h → IsBehind self.now h n tail.old
+            → IsSound S.score_of D.Disk self.now h → IsBehind self.now h n tail.old
             → IsBehind self.now h n tail.new }
     {
         while tail.at.index == 0 {
@@ -198,7 +197,7 @@ impl<D: Disk, S: Scorer> Log<D, S> {
         requires queued { tail.old.queued ≡ 0 }
         requires some { 0 < tail.old.at.index }
         ensures blocks { (h : History) (n : ℕ) → IsTrue D.tells
-            → IsSound S.score_of D.bytes D.images D.size self.old h → IsBehind self.old h n tail.old
+            → IsSound S.score_of D.Disk self.old h → IsBehind self.old h n tail.old
             → MatchResult result (StepsBack S.score_of self.old h n tail.new)
             (λ bad. (bad ≡ BackBad.Fault) × IsBehind self.old h n tail.new) }
         ensures entry { (found : Found) (r : ArenaRegion) (region : Region) (disk : D)
@@ -211,8 +210,7 @@ impl<D: Disk, S: Scorer> Log<D, S> {
         ensures tail { IsTailOf self.new tail.new }
         ensures left { MatchResult result (λ it. MatchOption it (tail.new.left ≡ tail.old.left)
             (λ _. tail.new.left + 1 ≡ tail.old.left)) (λ _. tail.new.left ≡ tail.old.left) }
-        ensures reads { OnlyReads S.score_of D.tells D.bytes D.images D.size D.calls 1
-            self.old self.new }
+        ensures reads { OnlyReads S.score_of D.Disk 1 self.old self.new }
         ensures spares { (r : ArenaRegion) → slice_get self.old.layout tail.old.arena ≡ Some r
             → Spares r.part self.old.disks self.new.disks }
         ensures cause { MatchResult result
@@ -255,8 +253,7 @@ impl<D: Disk, S: Scorer> Log<D, S> {
             → a.stored ≡ before ++ s ∷ behind → found.head ≡ head_of S.score_of number a
             → IsAtBlock before s at.old
             → MatchResult result (IsInfo number before s) (λ bad. bad ≡ BackBad.Fault) }
-        ensures reads { OnlyReads S.score_of D.tells D.bytes D.images D.size D.calls 1
-            self.old self.new }
+        ensures reads { OnlyReads S.score_of D.Disk 1 self.old self.new }
         ensures spares { (r : ArenaRegion) → slice_get self.old.layout arena ≡ Some r
             → Spares r.part self.old.disks self.new.disks }
         ensures cause { MatchResult result

@@ -62,14 +62,13 @@ impl<D: Disk, S: Scorer> Log<D, S> {
     pub fn advance(&mut self) -> Result<Progress, LogErr>
         // For each history for which the disks are sound they stay so. It isn't changed.
         ensures sound { (h : History) → IsTrue D.tells
-            → IsSound S.score_of D.bytes D.images D.size self.old h
-            → IsSound S.score_of D.bytes D.images D.size self.new h }
+            → IsSound S.score_of D.Disk self.old h → IsSound S.score_of D.Disk self.new h }
 
         // A crash at any moment of the call leaves disks that, taken together, stand for a prefix
         // of it that has all durable blocks.
         ensures crash { (h : History) → IsTrue D.tells
-            → IsSound S.score_of D.bytes D.images D.size self.old h
-            → (files : List (List ℕ)) → AreWithinCall D.images self.old.disks self.new.disks files
+            → IsSound S.score_of D.Disk self.old h
+            → (files : List (List ℕ)) → AreWithinCall D.Disk self.old.disks self.new.disks files
             → StandForPrefix S.score_of self.old files h }
 
         ensures advances { Advances result self.old self.new }
@@ -120,8 +119,8 @@ impl<D: Disk, S: Scorer> Log<D, S> {
     fn prepare(&mut self)
         requires { 0 < queued self.old }
         ensures prepares { Prepares self.old self.new }
-        ensures sound { (h : History) → IsSound S.score_of D.bytes D.images D.size self.old h
-            → IsSound S.score_of D.bytes D.images D.size self.new h }
+        ensures sound { (h : History) → IsSound S.score_of D.Disk self.old h
+            → IsSound S.score_of D.Disk self.new h }
     {
         if !self.arena.is_committing() {
             self.stage_all();
@@ -141,8 +140,8 @@ impl<D: Disk, S: Scorer> Log<D, S> {
         ensures batch { TakesAll self.new }
         ensures owed { owed self.new ≤ owed self.old }
         ensures still { IsFalse (is_committing self.new.arena) }
-        ensures sound { (h : History) → IsSound S.score_of D.bytes D.images D.size self.old h
-            → IsSound S.score_of D.bytes D.images D.size self.new h }
+        ensures sound { (h : History) → IsSound S.score_of D.Disk self.old h
+            → IsSound S.score_of D.Disk self.new h }
     {
         while self.stage_next() {}
         if self.queue.waiting() > 0 {
@@ -158,8 +157,8 @@ impl<D: Disk, S: Scorer> Log<D, S> {
             → length self.new.queue.waiting + 1 ≡ length self.old.queue.waiting }
         ensures none { IsFalse result → (self.new ≡ self.old)
             × ¬ WaitsFor self.old.committing self.old.queue.waiting }
-        ensures sound { (h : History) → IsSound S.score_of D.bytes D.images D.size self.old h
-            → IsSound S.score_of D.bytes D.images D.size self.new h }
+        ensures sound { (h : History) → IsSound S.score_of D.Disk self.old h
+            → IsSound S.score_of D.Disk self.new h }
     {
         match self.queue.take_for(self.committing) {
             Some(packed) => {
@@ -176,11 +175,10 @@ impl<D: Disk, S: Scorer> Log<D, S> {
         requires some { 0 < queued self.old }
         requires ready { IsReady self.old }
         ensures sound { (h : History) → IsTrue D.tells
-            → IsSound S.score_of D.bytes D.images D.size self.old h
-            → IsSound S.score_of D.bytes D.images D.size self.new h }
+            → IsSound S.score_of D.Disk self.old h → IsSound S.score_of D.Disk self.new h }
         ensures crash { (h : History) → IsTrue D.tells
-            → IsSound S.score_of D.bytes D.images D.size self.old h
-            → (files : List (List ℕ)) → AreWithinCall D.images self.old.disks self.new.disks files
+            → IsSound S.score_of D.Disk self.old h
+            → (files : List (List ℕ)) → AreWithinCall D.Disk self.old.disks self.new.disks files
             → StandForPrefix S.score_of self.old files h }
         ensures makes { MakesOrEnds result self.old self.new }
         ensures batch { TakesAll self.old

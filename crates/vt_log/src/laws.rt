@@ -14,7 +14,7 @@ use vt_disk::Disk;
 pub fn crash_gives_a_prefix<D: Disk>()
     ensures { (score_of : List ℕ → List ℕ) (l : LogState D) (h : History)
         (files : List (List ℕ))
-        → IsSound score_of D.bytes D.images D.size l h → AreImages D.images l.disks files
+        → IsSound score_of D.Disk l h → AreImages D.Disk l.disks files
         → StandForPrefix score_of l files h }
 {}
 

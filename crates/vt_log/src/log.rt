@@ -73,7 +73,7 @@ impl<D: Disk, S: Scorer> Model for Log<D, S> {
       stopped = l.stopped;
     } };
 
-    ghost invariant = { λ l. IsWhole D.size (record {
+    ghost invariant = { λ l. IsWhole D.Disk (record {
       disks = map (λ part. disk_of part) l.parts.items;
       tables = tables_of l.parts.items;
       layout = l.layout;
@@ -135,8 +135,7 @@ impl<D: Disk, S: Scorer> Log<D, S> {
             × (buf.new ≡ part_of (r.at + at) (length buf.old) (D.bytes disk))) }
 
         // It makes one read of the arena's disk, and changes nothing.
-        ensures reads { OnlyReads S.score_of D.tells D.bytes D.images D.size D.calls 1
-            self.old self.new }
+        ensures reads { OnlyReads S.score_of D.Disk 1 self.old self.new }
         ensures spares { (r : ArenaRegion) → slice_get self.old.layout arena ≡ Some r
             → Spares r.part self.old.disks self.new.disks }
         ensures cause { MatchResult result
@@ -194,7 +193,7 @@ impl<D: Disk, S: Scorer> Log<D, S> {
     pub fn room(&self, n: u32) -> bool
         ensures room { result ≡ has_next self.now n }
         ensures next { (h : History)
-            → IsSound S.score_of D.bytes D.images D.size self.now h
+            → IsSound S.score_of D.Disk self.now h
             → result ≡ is_some (next_arena (setup_of self.now) h n) }
     {
         self.next_filling(n).is_some()
@@ -209,8 +208,8 @@ impl<D: Disk, S: Scorer> Log<D, S> {
         // For each history for which the disks are sound, the block is added exactly where there is
         // a next arena for it, in that arena.
         ensures appends { (h : History) → IsPacked S.score_of packed
-            → IsSound S.score_of D.bytes D.images D.size self.old h
-            → Appends S.score_of D.bytes D.images D.size self.old self.new h packed result }
+            → IsSound S.score_of D.Disk self.old h
+            → Appends S.score_of D.Disk self.old self.new h packed result }
 
         // So much holds whatever the disks have.
         ensures takes { TakesOrRefuses packed self.old self.new result }

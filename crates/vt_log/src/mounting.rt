@@ -43,7 +43,7 @@ pub fn format<D: Disk>(parts: &mut [Part<D>]) -> Result<(), Failed>
 
     // Any images taken together are a log without blocks, whose base is its first arena.
     ensures empty { (score_of : List ℕ → List ℕ) (files : List (List ℕ)) → IsTrue D.tells
-        → AreImages D.images (disks_of parts.new) files → OnOk result
+        → AreImages D.Disk (disks_of parts.new) files → OnOk result
         (IsLog score_of (layout_of (tables_of parts.old)) files [] 0) }
     ensures settled { IsTrue D.tells
         → OnOk result (All (λ disk. Only (D.bytes disk) (D.images disk)) (disks_of parts.new)) }
@@ -52,8 +52,7 @@ pub fn format<D: Disk>(parts: &mut [Part<D>]) -> Result<(), Failed>
     ensures tables { tables_of parts.new ≡ tables_of parts.old }
     ensures stays { (i : ℕ) (before after : Part D) → slice_get parts.old i ≡ Some before
         → slice_get parts.new i ≡ Some after
-        → ChangesInHeads D.tells D.bytes D.images (table_of before) (disk_of before)
-        (disk_of after) }
+        → ChangesInHeads D.Disk (table_of before) (disk_of before) (disk_of after) }
     ensures size { map D.size (disks_of parts.new) ≡ map D.size (disks_of parts.old) }
     ensures most_calls { IsTrue D.tells → sum_by D.calls (disks_of parts.new)
         ≤ sum_by D.calls (disks_of parts.old) + 3 * arena_count (tables_of parts.old) }
@@ -71,9 +70,9 @@ pub fn format<D: Disk>(parts: &mut [Part<D>]) -> Result<(), Failed>
 /// Makes each arena of a partition one without blocks.
 fn format_part<D: Disk>(part: &mut Part<D>) -> Result<(), Failed>
     requires { end_of (table_of part.old) ≤ D.size (disk_of part.old) }
-    ensures empty { IsTrue D.tells → OnOk result (IsEmpty D.bytes D.images part.new) }
+    ensures empty { IsTrue D.tells → OnOk result (IsEmpty D.Disk part.new) }
     ensures table { table_of part.new ≡ table_of part.old }
-    ensures stays { ChangesInHeads D.tells D.bytes D.images (table_of part.old) (disk_of part.old)
+    ensures stays { ChangesInHeads D.Disk (table_of part.old) (disk_of part.old)
         (disk_of part.new) }
     ensures size { D.size (disk_of part.new) ≡ D.size (disk_of part.old) }
     ensures most_calls { IsTrue D.tells → D.calls (disk_of part.new)
@@ -106,7 +105,7 @@ pub fn mount<D: Disk, S: Scorer + Drop>(
     ensures found { (h : History) (base : ℕ) → IsTrue D.tells → AreDistinct (names_of parts.items)
         → IsLog S.score_of (layout_of (tables_of parts.items))
         (map D.bytes (disks_of parts.items)) h base
-        → MatchResult result (λ log. IsSound S.score_of D.bytes D.images D.size log h
+        → MatchResult result (λ log. IsSound S.score_of D.Disk log h
         × (log.base ≡ base) × (log.durable ≡ length h))
         (λ refusal. (refusal.0 ≡ LogBad.Fault) ⊎ (refusal.0 ≡ LogBad.NoMemory)) }
     ensures mounted { IfOk result IsMounted }
@@ -126,8 +125,7 @@ pub fn mount<D: Disk, S: Scorer + Drop>(
         ≡ tables_of parts.items) }
     ensures settled { IfOk result (λ log. IsTrue D.tells
         → All (λ disk. Only (D.bytes disk) (D.images disk)) log.disks) }
-    ensures disks { HoldTheSame D.bytes D.images D.size (disks_of parts.items)
-        (disks_after result) }
+    ensures disks { HoldTheSame D.Disk (disks_of parts.items) (disks_after result) }
     ensures most_calls { IsTrue D.tells → sum_by D.calls (disks_after result)
         ≤ sum_by D.calls (disks_of parts.items) + length parts.items
         + 2 * arena_count (tables_of parts.items) }
@@ -159,7 +157,7 @@ impl Opened {
 
     fn into_log<D: Disk, S: Scorer>(self, parts: Vec<Part<D>>, scorer: S) -> Log<D, S>
         requires queue { self.queue ≡ no_queue }
-        requires whole { IsWhole D.size (found_log (disks_of parts.items) (tables_of parts.items)
+        requires whole { IsWhole D.Disk (found_log (disks_of parts.items) (tables_of parts.items)
             self.layout self.heads.items self.base self.arena) }
         ensures { result ≡ found_log (disks_of parts.items) (tables_of parts.items)
             self.layout self.heads.items self.base self.arena }
@@ -222,7 +220,7 @@ fn find_log<D: Disk>(alloc: Global, parts: &mut [Part<D>]) -> Result<Opened, Log
     ensures queue { IfOk result (λ it. it.queue ≡ no_queue) }
     ensures settled { OnOk result (IsTrue D.tells
         → All (λ disk. Only (D.bytes disk) (D.images disk)) (disks_of parts.new)) }
-    ensures read { AreRead D.tells D.bytes D.images D.size D.calls
+    ensures read { AreRead D.Disk
         (length parts.old + 2 * arena_count (tables_of parts.old)) parts.old parts.new }
     ensures cause { MatchResult result
         (λ _. map D.faults (disks_of parts.new) ≡ map D.faults (disks_of parts.old))
@@ -256,8 +254,7 @@ fn sync_all<D: Disk>(parts: &mut [Part<D>]) -> Result<(), LogBad>
     ensures settled { OnOk result (IsTrue D.tells
         → All (λ disk. Only (D.bytes disk) (D.images disk)) (disks_of parts.new)) }
     ensures fault { IfErr result (λ bad. bad ≡ LogBad.Fault) }
-    ensures read { AreRead D.tells D.bytes D.images D.size D.calls (length parts.old)
-        parts.old parts.new }
+    ensures read { AreRead D.Disk (length parts.old) parts.old parts.new }
     ensures cause { MatchResult result
         (λ _. map D.faults (disks_of parts.new) ≡ map D.faults (disks_of parts.old))
         (λ bad. CountsFault bad (map D.faults (disks_of parts.old))
@@ -276,15 +273,14 @@ fn find_all<D: Disk>(
     layout: &Layout,
 ) -> Result<Vec<Found>, LogBad>
     requires few { length layout.now < 2 ^ 32 }
-    requires regions { All (IsOnDisk D.size (disks_of parts.old)) layout.now }
+    requires regions { All (IsOnDisk D.Disk (disks_of parts.old)) layout.now }
     ensures answer { (fields : List (List ℕ)) × (IsTrue D.tells
         → AreFields layout.now (map D.bytes (disks_of parts.old)) fields)
         × MatchResult result (λ heads. ArePassed layout.now fields heads.items)
         (λ bad. RefusesArenas layout.now fields bad) }
     ensures found { IfOk result (λ heads. AreFound D.tells layout.now
         (map D.bytes (disks_of parts.old)) heads.items) }
-    ensures read { AreRead D.tells D.bytes D.images D.size D.calls (2 * length layout.now)
-        parts.old parts.new }
+    ensures read { AreRead D.Disk (2 * length layout.now) parts.old parts.new }
     ensures cause { MatchResult result
         (λ _. map D.faults (disks_of parts.new) ≡ map D.faults (disks_of parts.old))
         (λ bad. CountsFault bad (map D.faults (disks_of parts.old))
@@ -312,13 +308,13 @@ fn find_next<D: Disk>(
     arena: u32,
     behind: bool,
 ) -> Result<Found, LogBad>
-    requires { IsOnDisk D.size (disks_of parts.old) r }
+    requires { IsOnDisk D.Disk (disks_of parts.old) r }
     ensures answer { (fields : List ℕ)
         × (IsTrue D.tells → AreFieldsAt (map D.bytes (disks_of parts.old)) r fields)
         × FindsNext behind arena r fields result }
     ensures found { IfOk result (λ found. (disk : D) → slice_get (disks_of parts.old) r.part
         ≡ Some disk → IsFound D.tells r (D.bytes disk) found) }
-    ensures read { AreRead D.tells D.bytes D.images D.size D.calls 2 parts.old parts.new }
+    ensures read { AreRead D.Disk 2 parts.old parts.new }
     ensures cause { MatchResult result
         (λ _. map D.faults (disks_of parts.new) ≡ map D.faults (disks_of parts.old))
         (λ bad. CountsFault bad (map D.faults (disks_of parts.old))
@@ -333,13 +329,13 @@ fn find_next<D: Disk>(
 
 /// Finds one arena.
 fn find_arena<D: Disk>(parts: &mut [Part<D>], r: ArenaRegion, arena: u32) -> Result<Found, LogBad>
-    requires { IsOnDisk D.size (disks_of parts.old) r }
+    requires { IsOnDisk D.Disk (disks_of parts.old) r }
     ensures answer { (fields : List ℕ)
         × (IsTrue D.tells → AreFieldsAt (map D.bytes (disks_of parts.old)) r fields)
         × FindsNext Bool.false arena r fields result }
     ensures found { IfOk result (λ found. (disk : D) → slice_get (disks_of parts.old) r.part
         ≡ Some disk → IsFound D.tells r (D.bytes disk) found) }
-    ensures read { AreRead D.tells D.bytes D.images D.size D.calls 2 parts.old parts.new }
+    ensures read { AreRead D.Disk 2 parts.old parts.new }
     ensures cause { MatchResult result
         (λ _. map D.faults (disks_of parts.new) ≡ map D.faults (disks_of parts.old))
         (λ bad. CountsFault bad (map D.faults (disks_of parts.old))

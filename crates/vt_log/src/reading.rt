@@ -46,7 +46,7 @@ impl<D: Disk, S: Scorer> Log<D, S> {
     ) -> Result<Bytes, ReadBad>
         // Each accepted block is given, by its place and key.
         ensures block { (h : History) (i : ℕ) (e : Accepted) → IsTrue D.tells
-            → IsSound S.score_of D.bytes D.images D.size self.old h
+            → IsSound S.score_of D.Disk self.old h
             → slice_get h i ≡ Some e → place_of (setup_of self.old) h i ≡ Some (spot_of place)
             → key.now.kind ≡ e.block.kind → key.now.score.0 ≡ S.score_of e.block.bytes
             → MatchResult result (λ block. block ≡ e.block.bytes)
@@ -54,7 +54,7 @@ impl<D: Disk, S: Scorer> Log<D, S> {
 
         // For any place and key the answer is what stands there. The two values of a damage differ,
         // where there is an arena.
-        ensures answer { AnswersRead S.score_of D.tells D.bytes self.old place key.now result }
+        ensures answer { AnswersRead S.score_of D.Disk self.old place key.now result }
         ensures differ { 0 < length self.old.layout → (want found : FieldValue)
             → result ≡ Err (ReadBad.Damaged want found) → want ≢ found }
         ensures whole { IfOk result (λ block. length block ≤ 57344) }
@@ -69,8 +69,7 @@ impl<D: Disk, S: Scorer> Log<D, S> {
             ⊎ ((r : ArenaRegion) × (slice_get self.old.layout place.arena ≡ Some r)
             × ¬ HasHeader r.len place.offset)
             → (steps.new ≡ steps.old) × (self.new ≡ self.old) }
-        ensures reads { OnlyReads S.score_of D.tells D.bytes D.images D.size D.calls 2
-            self.old self.new }
+        ensures reads { OnlyReads S.score_of D.Disk 2 self.old self.new }
         ensures spares { (r : ArenaRegion) → slice_get self.old.layout place.arena ≡ Some r
             → Spares r.part self.old.disks self.new.disks }
         ensures cause { MatchResult result
@@ -119,8 +118,7 @@ impl<D: Disk, S: Scorer> Log<D, S> {
         ensures whole { IfOk result (λ clump. length clump.bytes ≤ 57344) }
         ensures cost { (r : ArenaRegion) → slice_get self.old.layout place.arena ≡ Some r
             → HasHeader r.len place.offset → steps.new ≡ steps.old + 1 }
-        ensures reads { OnlyReads S.score_of D.tells D.bytes D.images D.size D.calls 2
-            self.old self.new }
+        ensures reads { OnlyReads S.score_of D.Disk 2 self.old self.new }
         ensures spares { (r : ArenaRegion) → slice_get self.old.layout place.arena ≡ Some r
             → Spares r.part self.old.disks self.new.disks }
         ensures cause { MatchResult result

@@ -29,8 +29,8 @@ returns-in_default-clause-answer g c =
 pub find_next-requires : goal.find_next-requires
 find_next-requires g c =
     let at = there c.as_slice-regions.result.now c.args.layout.now c.loop-i.i c.as_slice-regions.ensures (omega (arith, ap (λ (rs : List ArenaRegion). length rs) c.as_slice-regions.ensures)) in
-    on_held g.D.Disk.bytes g.D.Disk.images g.D.Disk.size (disks_of c.args.parts.now) (disks_of c.loop-i.parts) _ c.loop-i.invariant.read.disks
-    (at_slice (IsOnDisk g.D.Disk.size (disks_of c.args.parts.now)) c.args.layout.now c.loop-i.i _ c.requires.regions at)
+    on_held g.D.Disk (disks_of c.args.parts.now) (disks_of c.loop-i.parts) _ c.loop-i.invariant.read.disks
+    (at_slice (IsOnDisk g.D.Disk (disks_of c.args.parts.now)) c.args.layout.now c.loop-i.i _ c.requires.regions at)
 
 pub returns-in_err-found-clause-answer : goal.returns-in_err-found-clause-answer
 returns-in_err-found-clause-answer g c =
@@ -38,7 +38,7 @@ returns-in_err-found-clause-answer g c =
     let at = there c.as_slice-regions.result.now c.args.layout.now c.loop-i.i c.as_slice-regions.ensures (omega (arith, ap (λ (rs : List ArenaRegion). length rs) c.as_slice-regions.ensures)) in
     let e = err_from_is_err_and c.from_residual.result c.from_residual.ensures.1 in
     let answer = c.in_err-found.ensures.answer in
-    let it = stops g.D.Disk.tells g.D.Disk.bytes g.D.Disk.size (disks_of c.args.parts.now) c.args.layout.now c.loop-i.heads.items c.loop-i.behind c.loop-i.i r c.in_err-found.field-0.0
+    let it = stops g.D.Disk (disks_of c.args.parts.now) c.args.layout.now c.loop-i.heads.items c.loop-i.behind c.loop-i.i r c.in_err-found.field-0.0
     c.requires.regions c.loop-i.invariant.passes c.loop-i.invariant.fields at (
       answer.0,
       λ told. subst (λ (files : List (List ℕ)). AreFieldsAt files r answer.0) c.loop-i.invariant.read.disks.bytes_are (answer.1 told),
@@ -48,7 +48,7 @@ returns-in_err-found-clause-answer g c =
 
 pub returns-in_err-found-clause-read : goal.returns-in_err-found-clause-read
 returns-in_err-found-clause-read g c =
-    read_then g.D.Disk.tells g.D.Disk.bytes g.D.Disk.images g.D.Disk.size g.D.Disk.calls (2 * c.loop-i.i) 2 (2 * length c.args.layout.now) c.args.parts.now c.loop-i.parts c.find_next.new.parts
+    read_then g.D.Disk (2 * c.loop-i.i) 2 (2 * length c.args.layout.now) c.args.parts.now c.loop-i.parts c.find_next.new.parts
     (omega (arith, ap (λ (rs : List ArenaRegion). length rs) c.as_slice-regions.ensures)) c.loop-i.invariant.read c.find_next.ensures.read
 
 pub returns-in_default-push-clause-answer : goal.returns-in_default-push-clause-answer
@@ -57,7 +57,7 @@ returns-in_default-push-clause-answer g c =
 
 pub returns-in_default-push-clause-read : goal.returns-in_default-push-clause-read
 returns-in_default-push-clause-read g c =
-    read_then g.D.Disk.tells g.D.Disk.bytes g.D.Disk.images g.D.Disk.size g.D.Disk.calls (2 * c.loop-i.i) 2 (2 * length c.args.layout.now) c.args.parts.now c.loop-i.parts c.find_next.new.parts
+    read_then g.D.Disk (2 * c.loop-i.i) 2 (2 * length c.args.layout.now) c.args.parts.now c.loop-i.parts c.find_next.new.parts
     (omega (arith, ap (λ (rs : List ArenaRegion). length rs) c.as_slice-regions.ensures)) c.loop-i.invariant.read c.find_next.ensures.read
 
 pub loop-i-preserved : goal.loop-i-preserved
@@ -78,13 +78,13 @@ loop-i-preserved g c =
           (subst (λ (f : List ℕ). bad_arena c.loop-i.behind c.loop-i.i (first_bad_in r.number r.len f) f ≡ None) (sym answer.2.1) answer.2.0) next);
       found = subst (AreFound _ _ _) (sym pushed)
           (found_more g.D.Disk.tells c.args.layout.now (map g.D.Disk.bytes (disks_of c.args.parts.now)) c.loop-i.heads.items c.loop-i.i r found c.loop-i.invariant.found at
-          (found_file g.D.Disk.tells g.D.Disk.bytes (disks_of c.loop-i.parts) (map g.D.Disk.bytes (disks_of c.args.parts.now)) r found c.loop-i.invariant.read.disks.bytes_are c.in_ok-found.ensures.found));
+          (found_file g.D.Disk (disks_of c.loop-i.parts) (map g.D.Disk.bytes (disks_of c.args.parts.now)) r found c.loop-i.invariant.read.disks.bytes_are c.in_ok-found.ensures.found));
       fields = λ told. ap fields_of_all pushed
-          ∙ fields_more g.D.Disk.bytes g.D.Disk.size (disks_of c.args.parts.now) c.args.layout.now c.loop-i.heads.items c.loop-i.i r found c.requires.regions at
+          ∙ fields_more g.D.Disk (disks_of c.args.parts.now) c.args.layout.now c.loop-i.heads.items c.loop-i.i r found c.requires.regions at
           (subst (AreFieldsAt (map g.D.Disk.bytes (disks_of c.args.parts.now)) r) (sym answer.2.1)
           (subst (λ (files : List (List ℕ)). AreFieldsAt files r answer.0) c.loop-i.invariant.read.disks.bytes_are (answer.1 told)))
           (c.loop-i.invariant.fields told);
-      read = read_then g.D.Disk.tells g.D.Disk.bytes g.D.Disk.images g.D.Disk.size g.D.Disk.calls (2 * c.loop-i.i) 2 (2 * (c.loop-i.i + 1)) c.args.parts.now c.loop-i.parts c.find_next.new.parts
+      read = read_then g.D.Disk (2 * c.loop-i.i) 2 (2 * (c.loop-i.i + 1)) c.args.parts.now c.loop-i.parts c.find_next.new.parts
           (omega arith) c.loop-i.invariant.read c.find_next.ensures.read;
       faults = c.in_ok-found.ensures.cause ∙ c.loop-i.invariant.faults;
     }

@@ -19,7 +19,7 @@ bounds-parts-r g c = (part_of_region _ c.args.parts.now c.args.r c.requires).bel
 pub find-requires : goal.find-requires
 find-requires g c =
     let p = get_or c.args.parts.now c.args.r.part c.index-parts-r.result in
-    let it = part_of_region g.D.Disk.size c.args.parts.now c.args.r c.requires in
+    let it = part_of_region g.D.Disk c.args.parts.now c.args.r c.requires in
     record {
       within = it.part_is p (slice_get-get_or c.args.parts.now c.args.r.part c.index-parts-r.result it.below);
       aligned = c.requires.aligned;
@@ -29,60 +29,60 @@ find-requires g c =
 pub returns-in-Ok-clause-answer : goal.returns-in-Ok-clause-answer
 returns-in-Ok-clause-answer g c =
     let p = get_or c.args.parts.now c.args.r.part c.index-parts-r.result in
-    let it = part_of_region g.D.Disk.size c.args.parts.now c.args.r c.requires in
+    let it = part_of_region g.D.Disk c.args.parts.now c.args.r c.requires in
     let at = slice_get-get_or c.args.parts.now c.args.r.part c.index-parts-r.result it.below in
     let answer = c.in-Ok.ensures.answer in (
       answer.0,
-      λ told. fields_for g.D.Disk.bytes c.args.parts.now c.args.r p (record { start = c.args.r.at; len = c.args.r.len; in_range = c.requires.small }) answer.0 at (answer.1 told) (record { start = refl; len = refl }),
+      λ told. fields_for g.D.Disk c.args.parts.now c.args.r p (record { start = c.args.r.at; len = c.args.r.len; in_range = c.requires.small }) answer.0 at (answer.1 told) (record { start = refl; len = refl }),
       finds_ok c.args.arena c.args.r answer.0 c.in-Ok.found answer.2,
     )
 
 pub returns-in-Ok-clause-found : goal.returns-in-Ok-clause-found
 returns-in-Ok-clause-found g c =
     let p = get_or c.args.parts.now c.args.r.part c.index-parts-r.result in
-    let it = part_of_region g.D.Disk.size c.args.parts.now c.args.r c.requires in
+    let it = part_of_region g.D.Disk c.args.parts.now c.args.r c.requires in
     let at = slice_get-get_or c.args.parts.now c.args.r.part c.index-parts-r.result it.below in
-    found_for g.D.Disk.tells g.D.Disk.bytes c.args.parts.now c.args.r p _ c.in-Ok.found at
+    found_for g.D.Disk c.args.parts.now c.args.r p _ c.in-Ok.found at
     c.in-Ok.ensures.checked c.in-Ok.ensures.selector c.in-Ok.ensures.found (record { start = refl; len = refl })
 
 pub returns-in-Ok-clause-read : goal.returns-in-Ok-clause-read
 returns-in-Ok-clause-read g c =
     let p = get_or c.args.parts.now c.args.r.part c.index-parts-r.result in
-    let it = part_of_region g.D.Disk.size c.args.parts.now c.args.r c.requires in
+    let it = part_of_region g.D.Disk c.args.parts.now c.args.r c.requires in
     let at = slice_get-get_or c.args.parts.now c.args.r.part c.index-parts-r.result it.below in
-    read_set g.D.Disk.tells g.D.Disk.bytes g.D.Disk.images g.D.Disk.size g.D.Disk.calls 2 c.args.r.part c.args.parts.now p c.find.new.disk at
+    read_set g.D.Disk 2 c.args.r.part c.args.parts.now p c.find.new.disk at
     c.find.ensures.bytes c.find.ensures.images c.find.ensures.size c.find.ensures.most_calls
 
 pub returns-in-Ok-clause-cause : goal.returns-in-Ok-clause-cause
 returns-in-Ok-clause-cause g c =
     let p = get_or c.args.parts.now c.args.r.part c.index-parts-r.result in
-    let it = part_of_region g.D.Disk.size c.args.parts.now c.args.r c.requires in
+    let it = part_of_region g.D.Disk c.args.parts.now c.args.r c.requires in
     let at = slice_get-get_or c.args.parts.now c.args.r.part c.index-parts-r.result it.below in
     same_counts g.D.Disk.faults c.args.parts.now c.args.r.part p c.find.new.disk at c.in-Ok.ensures.cause
 
 pub returns-in-Err-clause-answer : goal.returns-in-Err-clause-answer
 returns-in-Err-clause-answer g c =
     let p = get_or c.args.parts.now c.args.r.part c.index-parts-r.result in
-    let it = part_of_region g.D.Disk.size c.args.parts.now c.args.r c.requires in
+    let it = part_of_region g.D.Disk c.args.parts.now c.args.r c.requires in
     let at = slice_get-get_or c.args.parts.now c.args.r.part c.index-parts-r.result it.below in
     let answer = c.in-Err.ensures.answer in (
       answer.0,
-      λ told. fields_for g.D.Disk.bytes c.args.parts.now c.args.r p (record { start = c.args.r.at; len = c.args.r.len; in_range = c.requires.small }) answer.0 at (answer.1 told) (record { start = refl; len = refl }),
+      λ told. fields_for g.D.Disk c.args.parts.now c.args.r p (record { start = c.args.r.at; len = c.args.r.len; in_range = c.requires.small }) answer.0 at (answer.1 told) (record { start = refl; len = refl }),
       subst (λ (bad : LogBad). FindsNext false c.args.arena c.args.r answer.0 (Err bad)) (sym c.refused.ensures) (finds_err c.args.arena c.args.r answer.0 c.in-Err.bad answer.2),
     )
 
 pub returns-in-Err-clause-read : goal.returns-in-Err-clause-read
 returns-in-Err-clause-read g c =
     let p = get_or c.args.parts.now c.args.r.part c.index-parts-r.result in
-    let it = part_of_region g.D.Disk.size c.args.parts.now c.args.r c.requires in
+    let it = part_of_region g.D.Disk c.args.parts.now c.args.r c.requires in
     let at = slice_get-get_or c.args.parts.now c.args.r.part c.index-parts-r.result it.below in
-    read_set g.D.Disk.tells g.D.Disk.bytes g.D.Disk.images g.D.Disk.size g.D.Disk.calls 2 c.args.r.part c.args.parts.now p c.find.new.disk at
+    read_set g.D.Disk 2 c.args.r.part c.args.parts.now p c.find.new.disk at
     c.find.ensures.bytes c.find.ensures.images c.find.ensures.size c.find.ensures.most_calls
 
 pub returns-in-Err-clause-cause : goal.returns-in-Err-clause-cause
 returns-in-Err-clause-cause g c =
     let p = get_or c.args.parts.now c.args.r.part c.index-parts-r.result in
-    let it = part_of_region g.D.Disk.size c.args.parts.now c.args.r c.requires in
+    let it = part_of_region g.D.Disk c.args.parts.now c.args.r c.requires in
     let at = slice_get-get_or c.args.parts.now c.args.r.part c.index-parts-r.result it.below in
     subst (λ (bad : LogBad). CountsFault bad (map g.D.Disk.faults (disks_of c.args.parts.now)) (map g.D.Disk.faults (disks_of (set c.args.parts.now c.args.r.part (record p { disk = c.find.new.disk }))))) (sym c.refused.ensures)
     (refused_counts g.D.Disk.faults c.args.parts.now c.args.r.part c.args.arena p c.find.new.disk c.in-Err.bad at c.in-Err.ensures.cause)

@@ -34,14 +34,14 @@ find_all-requires-clause-few g c =
 
 pub find_all-requires-clause-regions : goal.find_all-requires-clause-regions
 find_all-requires-clause-regions g c =
-    subst (All (IsOnDisk g.D.Disk.size (disks_of c.sync_all.new.parts))) (sym c.in_ok-layout.ensures.listed)
-    (All-weaker (IsOnDisk g.D.Disk.size (disks_of c.args.parts.now)) (IsOnDisk g.D.Disk.size (disks_of c.sync_all.new.parts))
-    (λ r on. on_held g.D.Disk.bytes g.D.Disk.images g.D.Disk.size (disks_of c.args.parts.now) (disks_of c.sync_all.new.parts) r c.sync_all.ensures.read.disks on)
-    (layout_of (tables_of c.args.parts.now)) (regions_on g.D.Disk.size g.met.D.Disk.size_fits c.args.parts.now c.requires.rooms))
+    subst (All (IsOnDisk g.D.Disk (disks_of c.sync_all.new.parts))) (sym c.in_ok-layout.ensures.listed)
+    (All-weaker (IsOnDisk g.D.Disk (disks_of c.args.parts.now)) (IsOnDisk g.D.Disk (disks_of c.sync_all.new.parts))
+    (λ r on. on_held g.D.Disk (disks_of c.args.parts.now) (disks_of c.sync_all.new.parts) r c.sync_all.ensures.read.disks on)
+    (layout_of (tables_of c.args.parts.now)) (regions_on g.D.Disk g.met.D.Disk.size_fits c.args.parts.now c.requires.rooms))
 
 pub returns-in_err-heads-clause-read : goal.returns-in_err-heads-clause-read
 returns-in_err-heads-clause-read g c =
-    read_then g.D.Disk.tells g.D.Disk.bytes g.D.Disk.images g.D.Disk.size g.D.Disk.calls (length c.args.parts.now) (2 * length c.in_ok-layout.layout) (length c.args.parts.now + 2 * arena_count (tables_of c.args.parts.now))
+    read_then g.D.Disk (length c.args.parts.now) (2 * length c.in_ok-layout.layout) (length c.args.parts.now + 2 * arena_count (tables_of c.args.parts.now))
     c.args.parts.now c.sync_all.new.parts c.find_all.new.parts
     (omega (arith, ap (λ (rs : List ArenaRegion). length rs) c.in_ok-layout.ensures.listed, layouts_have_lengths (tables_of c.args.parts.now))) c.sync_all.ensures.read c.find_all.ensures.read
 
@@ -51,21 +51,21 @@ make_room-requires-clause-few g c =
 
 pub make_room-requires-clause-heads : goal.make_room-requires-clause-heads
 make_room-requires-clause-heads g c i r found at at_found =
-    found_stands g.D.Disk.tells g.D.Disk.bytes g.D.Disk.size (disks_of c.sync_all.new.parts) c.in_ok-layout.layout c.in_ok-heads.heads.items i r found
-    (subst (All (IsOnDisk g.D.Disk.size (disks_of c.sync_all.new.parts))) (sym c.in_ok-layout.ensures.listed)
-    (All-weaker (IsOnDisk g.D.Disk.size (disks_of c.args.parts.now)) (IsOnDisk g.D.Disk.size (disks_of c.sync_all.new.parts))
-    (λ r on. on_held g.D.Disk.bytes g.D.Disk.images g.D.Disk.size (disks_of c.args.parts.now) (disks_of c.sync_all.new.parts) r c.sync_all.ensures.read.disks on)
-    (layout_of (tables_of c.args.parts.now)) (regions_on g.D.Disk.size g.met.D.Disk.size_fits c.args.parts.now c.requires.rooms)))
+    found_stands g.D.Disk (disks_of c.sync_all.new.parts) c.in_ok-layout.layout c.in_ok-heads.heads.items i r found
+    (subst (All (IsOnDisk g.D.Disk (disks_of c.sync_all.new.parts))) (sym c.in_ok-layout.ensures.listed)
+    (All-weaker (IsOnDisk g.D.Disk (disks_of c.args.parts.now)) (IsOnDisk g.D.Disk (disks_of c.sync_all.new.parts))
+    (λ r on. on_held g.D.Disk (disks_of c.args.parts.now) (disks_of c.sync_all.new.parts) r c.sync_all.ensures.read.disks on)
+    (layout_of (tables_of c.args.parts.now)) (regions_on g.D.Disk g.met.D.Disk.size_fits c.args.parts.now c.requires.rooms)))
     c.in_ok-heads.ensures.found at at_found
 
 pub returns-clause-settled : goal.returns-clause-settled
 returns-clause-settled g c =
     on_ok c.make_room.result (λ told.
-    settled_held g.D.Disk.tells g.D.Disk.bytes g.D.Disk.images g.D.Disk.size g.D.Disk.calls (disks_of c.sync_all.new.parts) (disks_of c.find_all.new.parts) c.find_all.ensures.read.disks
+    settled_held g.D.Disk (disks_of c.sync_all.new.parts) (disks_of c.find_all.new.parts) c.find_all.ensures.read.disks
     (c.in_ok-sync_all.ensures.settled told))
 
 pub returns-clause-read : goal.returns-clause-read
 returns-clause-read g c =
-    read_then g.D.Disk.tells g.D.Disk.bytes g.D.Disk.images g.D.Disk.size g.D.Disk.calls (length c.args.parts.now) (2 * length c.in_ok-layout.layout) (length c.args.parts.now + 2 * arena_count (tables_of c.args.parts.now))
+    read_then g.D.Disk (length c.args.parts.now) (2 * length c.in_ok-layout.layout) (length c.args.parts.now + 2 * arena_count (tables_of c.args.parts.now))
     c.args.parts.now c.sync_all.new.parts c.find_all.new.parts
     (omega (arith, ap (λ (rs : List ArenaRegion). length rs) c.in_ok-layout.ensures.listed, layouts_have_lengths (tables_of c.args.parts.now))) c.sync_all.ensures.read c.find_all.ensures.read

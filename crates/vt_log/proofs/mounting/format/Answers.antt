@@ -16,7 +16,7 @@ use Rattle.vt_log.proofs.mounting.format.Goals as goal
 
 pub format_part-requires : goal.format_part-requires
 format_part-requires g c =
-    room_kept g.D.Disk.size c.args.parts.now c.loop-part.parts c.loop-part.part-index _ c.loop-part.invariant.tables c.loop-part.invariant.size c.requires.rooms
+    room_kept g.D.Disk c.args.parts.now c.loop-part.parts c.loop-part.part-index _ c.loop-part.invariant.tables c.loop-part.invariant.size c.requires.rooms
     (slice_get-get_or c.loop-part.parts c.loop-part.part-index c.part-item.result (omega arith))
 
 pub returns-in_err-format_part-clause-tables : goal.returns-in_err-format_part-clause-tables
@@ -35,7 +35,7 @@ returns-in_err-format_part-clause-stays g c =
     let p = get_or ps i c.part-item.result in
     let q = c.format_part.new.part in
     let at : slice_get ps i ≡ Some p = slice_get-get_or ps i c.part-item.result (omega arith) in
-    stays_set ps i p q at g.D.Disk.tells g.D.Disk.bytes g.D.Disk.images c.args.parts.now c.loop-part.invariant.tables c.loop-part.invariant.stays c.format_part.ensures.stays
+    stays_set ps i p q at g.D.Disk c.args.parts.now c.loop-part.invariant.tables c.loop-part.invariant.stays c.format_part.ensures.stays
 
 pub returns-in_err-format_part-clause-size : goal.returns-in_err-format_part-clause-size
 returns-in_err-format_part-clause-size g c =
@@ -82,8 +82,8 @@ loop-part-preserved g c =
     let at : slice_get ps i ≡ Some p = slice_get-get_or ps i c.part-item.result (omega arith) in
     record {
       tables = tables_set ps i p q at c.format_part.ensures.table ∙ c.loop-part.invariant.tables;
-      empty = λ told. empty_set ps i p q at g.D.Disk.bytes g.D.Disk.images (c.loop-part.invariant.empty told) (c.in_ok-format_part.ensures.empty told);
-      stays = stays_set ps i p q at g.D.Disk.tells g.D.Disk.bytes g.D.Disk.images c.args.parts.now c.loop-part.invariant.tables c.loop-part.invariant.stays c.format_part.ensures.stays;
+      empty = λ told. empty_set ps i p q at g.D.Disk (c.loop-part.invariant.empty told) (c.in_ok-format_part.ensures.empty told);
+      stays = stays_set ps i p q at g.D.Disk c.args.parts.now c.loop-part.invariant.tables c.loop-part.invariant.stays c.format_part.ensures.stays;
       size = counts_set ps i p q at g.D.Disk.size c.format_part.ensures.size ∙ c.loop-part.invariant.size;
       calls = λ told. omega (
         arith,
@@ -98,10 +98,10 @@ pub returns-clause-empty : goal.returns-clause-empty
 returns-clause-empty g c score_of files told are =
     let ps = c.loop-part.parts in
     subst (λ (ts : List Table). IsLog score_of (layout_of ts) files [] 0) c.loop-part.invariant.tables
-    (empty_log score_of g.D.Disk.bytes g.D.Disk.images g.D.Disk.size ps files
-    (regions_on g.D.Disk.size g.met.D.Disk.size_fits ps (λ i d below. room_kept g.D.Disk.size c.args.parts.now ps i (get_or ps i d) c.loop-part.invariant.tables c.loop-part.invariant.size c.requires.rooms (slice_get-get_or ps i d below)))
+    (empty_log score_of g.D.Disk ps files
+    (regions_on g.D.Disk g.met.D.Disk.size_fits ps (λ i d below. room_kept g.D.Disk c.args.parts.now ps i (get_or ps i d) c.loop-part.invariant.tables c.loop-part.invariant.size c.requires.rooms (slice_get-get_or ps i d below)))
     (λ k part at. c.loop-part.invariant.empty told k part (omega (arith, slice_get_within ps k part at)) at) are)
 
 pub returns-clause-settled : goal.returns-clause-settled
 returns-clause-settled g c told =
-    settled_parts g.D.Disk.bytes g.D.Disk.images c.loop-part.parts (λ k part at. c.loop-part.invariant.empty told k part (omega (arith, slice_get_within c.loop-part.parts k part at)) at)
+    settled_parts g.D.Disk c.loop-part.parts (λ k part at. c.loop-part.invariant.empty told k part (omega (arith, slice_get_within c.loop-part.parts k part at)) at)

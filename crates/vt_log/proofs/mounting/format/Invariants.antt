@@ -11,9 +11,9 @@ use Rattle.vt_log.proofs.mounting.format.Given as goal
 abbrev pub invariant-loop-part : goal.invariant-loop-part
 invariant-loop-part g l = record {
   tables : tables_of l.parts ≡ tables_of l.fn.parts;
-  empty : IsTrue g.D.Disk.tells → (k : ℕ) (part : _) → k < l.part-index → slice_get l.parts k ≡ Some part → IsEmpty g.D.Disk.bytes g.D.Disk.images part;
+  empty : IsTrue g.D.Disk.tells → (k : ℕ) (part : _) → k < l.part-index → slice_get l.parts k ≡ Some part → IsEmpty g.D.Disk part;
   stays : (k : ℕ) (before after : Part _) → slice_get l.fn.parts k ≡ Some before → slice_get l.parts k ≡ Some after
-      → ChangesInHeads g.D.Disk.tells g.D.Disk.bytes g.D.Disk.images (table_of before) (disk_of before) (disk_of after);
+      → ChangesInHeads g.D.Disk (table_of before) (disk_of before) (disk_of after);
   size : map g.D.Disk.size (disks_of l.parts) ≡ map g.D.Disk.size (disks_of l.fn.parts);
   calls : IsTrue g.D.Disk.tells → sum_by g.D.Disk.calls (disks_of l.parts) ≤ sum_by g.D.Disk.calls (disks_of l.fn.parts) + 3 * arena_count (take l.part-index (tables_of l.fn.parts));
   faults : map g.D.Disk.faults (disks_of l.parts) ≡ map g.D.Disk.faults (disks_of l.fn.parts);

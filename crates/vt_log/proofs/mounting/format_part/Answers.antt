@@ -27,7 +27,7 @@ loop-arena-preserved g c =
       empty = λ told. empty_more t c.loop-arena.arena c.region-region.result (g.D.Disk.images (disk_of was)) (g.D.Disk.images c.format.new.disk) c.count-arena-end.ensures.table start len
           (c.loop-arena.invariant.empty told) c.format.ensures.images (λ score_of. c.in_ok-format.ensures.empty score_of told);
       settled = λ told some. c.in_ok-format.ensures.settled told;
-      stays = heads_then g.D.Disk.tells g.D.Disk.bytes g.D.Disk.images t (disk_of c.args.part.now) (disk_of was) c.format.new.disk c.loop-arena.invariant.stays (
+      stays = heads_then g.D.Disk t (disk_of c.args.part.now) (disk_of was) c.format.new.disk c.loop-arena.invariant.stays (
         λ told. same_wider (InHead c.region-region.result) (InHeads t) within (g.D.Disk.bytes (disk_of was)) (g.D.Disk.bytes c.format.new.disk) (c.format.ensures.bytes told),
         changes_wider (InHead c.region-region.result) (InHeads t) (g.D.Disk.images (disk_of was)) (g.D.Disk.images c.format.new.disk) within c.format.ensures.images,
       );

@@ -21,10 +21,10 @@ into_log-requires-clause-whole g c =
     let o = c.in-Ok.opened in
     let back : take c.args.parts.len (new ++ drop (length new) items) ≡ new = given_back c.args.parts.len new items (omega arith) (omega arith) in
     let answer = c.in-Ok.ensures.answer in
-    let it = found_of g.D.Disk.tells g.D.Disk.bytes g.D.Disk.images g.D.Disk.size g.D.Disk.calls g.met.D.Disk.size_fits _ items c.deref_mut.result.now new answer.0 o.layout o.heads.items o.base o.arena
+    let it = found_of g.D.Disk g.met.D.Disk.size_fits _ items c.deref_mut.result.now new answer.0 o.layout o.heads.items o.base o.arena
     c.deref_mut.ensures.value c.requires.rooms c.requires.few c.find_log.ensures.read c.in-Ok.ensures.layout c.in-Ok.ensures.found answer.2 c.in-Ok.ensures.base c.in-Ok.ensures.arena in
-    subst (λ (ps : List (Part _)). IsWhole g.D.Disk.size (found_log (disks_of ps) (tables_of ps) o.layout o.heads.items o.base o.arena)) (sym back)
-    (found_whole g.D.Disk.tells g.D.Disk.bytes g.D.Disk.size (disks_of new) (tables_of new) o.layout (map g.D.Disk.bytes (disks_of items)) answer.0 o.heads.items o.base o.arena it)
+    subst (λ (ps : List (Part _)). IsWhole g.D.Disk (found_log (disks_of ps) (tables_of ps) o.layout o.heads.items o.base o.arena)) (sym back)
+    (found_whole g.D.Disk (disks_of new) (tables_of new) o.layout (map g.D.Disk.bytes (disks_of items)) answer.0 o.heads.items o.base o.arena it)
 
 pub returns-in-Ok-clause-found : goal.returns-in-Ok-clause-found
 returns-in-Ok-clause-found g c h base told distinct log =
@@ -35,9 +35,9 @@ returns-in-Ok-clause-found g c h base told distinct log =
     let l_is : c.into_log.result ≡ found_log (disks_of new) (tables_of new) o.layout o.heads.items o.base o.arena =
     c.into_log.ensures ∙ ap (λ (ps : List (Part _)). found_log (disks_of ps) (tables_of ps) o.layout o.heads.items o.base o.arena) back in
     let answer = c.in-Ok.ensures.answer in
-    let it = found_of g.D.Disk.tells g.D.Disk.bytes g.D.Disk.images g.D.Disk.size g.D.Disk.calls g.met.D.Disk.size_fits _ items c.deref_mut.result.now new answer.0 o.layout o.heads.items o.base o.arena
+    let it = found_of g.D.Disk g.met.D.Disk.size_fits _ items c.deref_mut.result.now new answer.0 o.layout o.heads.items o.base o.arena
     c.deref_mut.ensures.value c.requires.rooms c.requires.few c.find_log.ensures.read c.in-Ok.ensures.layout c.in-Ok.ensures.found answer.2 c.in-Ok.ensures.base c.in-Ok.ensures.arena in
-    mount_sound g.D.Disk.tells g.D.Disk.bytes g.D.Disk.images g.D.Disk.size items c.into_log.result (disks_of new) (tables_of new) answer.0 o.layout o.heads.items o.base o.arena g.S.Scorer.score_of h base it l_is
+    mount_sound g.D.Disk items c.into_log.result (disks_of new) (tables_of new) answer.0 o.layout o.heads.items o.base o.arena g.S.Scorer.score_of h base it l_is
     (c.in-Ok.ensures.layout ∙ ap (λ (ps : List (Part _)). layout_of (tables_of ps)) c.deref_mut.ensures.value) told (c.in-Ok.ensures.settled told) log
 
 pub returns-in-Ok-clause-mounted : goal.returns-in-Ok-clause-mounted
@@ -49,9 +49,9 @@ returns-in-Ok-clause-mounted g c =
     let l_is : c.into_log.result ≡ found_log (disks_of new) (tables_of new) o.layout o.heads.items o.base o.arena =
     c.into_log.ensures ∙ ap (λ (ps : List (Part _)). found_log (disks_of ps) (tables_of ps) o.layout o.heads.items o.base o.arena) back in
     let answer = c.in-Ok.ensures.answer in
-    let it = found_of g.D.Disk.tells g.D.Disk.bytes g.D.Disk.images g.D.Disk.size g.D.Disk.calls g.met.D.Disk.size_fits _ items c.deref_mut.result.now new answer.0 o.layout o.heads.items o.base o.arena
+    let it = found_of g.D.Disk g.met.D.Disk.size_fits _ items c.deref_mut.result.now new answer.0 o.layout o.heads.items o.base o.arena
     c.deref_mut.ensures.value c.requires.rooms c.requires.few c.find_log.ensures.read c.in-Ok.ensures.layout c.in-Ok.ensures.found answer.2 c.in-Ok.ensures.base c.in-Ok.ensures.arena in
-    mount_is g.D.Disk.tells g.D.Disk.bytes g.D.Disk.size c.into_log.result (disks_of new) (tables_of new) (map g.D.Disk.bytes (disks_of items)) answer.0 o.layout o.heads.items o.base o.arena it l_is
+    mount_is g.D.Disk c.into_log.result (disks_of new) (tables_of new) (map g.D.Disk.bytes (disks_of items)) answer.0 o.layout o.heads.items o.base o.arena it l_is
 
 pub returns-in-Ok-clause-distinct : goal.returns-in-Ok-clause-distinct
 returns-in-Ok-clause-distinct g c = subst (λ (ps : List (Part _)). AreDistinct (names_of ps)) c.deref_mut.ensures.value c.in-Ok.ensures.distinct
@@ -65,14 +65,14 @@ returns-in-Ok-clause-answer g c =
     let l_is : c.into_log.result ≡ found_log (disks_of new) (tables_of new) o.layout o.heads.items o.base o.arena =
     c.into_log.ensures ∙ ap (λ (ps : List (Part _)). found_log (disks_of ps) (tables_of ps) o.layout o.heads.items o.base o.arena) back in
     let answer = c.in-Ok.ensures.answer in
-    let it = found_of g.D.Disk.tells g.D.Disk.bytes g.D.Disk.images g.D.Disk.size g.D.Disk.calls g.met.D.Disk.size_fits _ items c.deref_mut.result.now new answer.0 o.layout o.heads.items o.base o.arena
+    let it = found_of g.D.Disk g.met.D.Disk.size_fits _ items c.deref_mut.result.now new answer.0 o.layout o.heads.items o.base o.arena
     c.deref_mut.ensures.value c.requires.rooms c.requires.few c.find_log.ensures.read c.in-Ok.ensures.layout c.in-Ok.ensures.found answer.2 c.in-Ok.ensures.base c.in-Ok.ensures.arena in
     let layout_is : o.layout ≡ layout_of (tables_of items) = c.in-Ok.ensures.layout ∙ ap (λ (ps : List (Part _)). layout_of (tables_of ps)) c.deref_mut.ensures.value in (
       answer.0,
       λ told. subst (λ (ps : List (Part _)). AreFields (layout_of (tables_of ps)) (map g.D.Disk.bytes (disks_of ps)) answer.0) c.deref_mut.ensures.value (answer.1 told),
       subst (λ (l : LogState _). IsMountedBy (layout_of (tables_of items)) answer.0 l) (sym l_is)
           (subst (λ (rs : List _). IsMountedBy rs answer.0 (found_log (disks_of new) (tables_of new) o.layout o.heads.items o.base o.arena)) layout_is
-          (mounted_by g.D.Disk.tells g.D.Disk.bytes g.D.Disk.size (disks_of new) (tables_of new) o.layout (map g.D.Disk.bytes (disks_of items)) answer.0 o.heads.items o.base o.arena it)),
+          (mounted_by g.D.Disk (disks_of new) (tables_of new) o.layout (map g.D.Disk.bytes (disks_of items)) answer.0 o.heads.items o.base o.arena it)),
     )
 
 pub returns-in-Ok-clause-settled : goal.returns-in-Ok-clause-settled
@@ -87,8 +87,8 @@ returns-in-Ok-clause-disks g c =
     let new = c.find_log.new.parts in
     let back : take c.args.parts.len (new ++ drop (length new) c.args.parts.items) ≡ new = given_back c.args.parts.len new c.args.parts.items (omega arith) (omega arith) in
     let disks_are : c.into_log.result.disks ≡ disks_of new = ap (λ (l : LogState _). l.disks) c.into_log.ensures ∙ ap (λ (ps : List (Part _)). disks_of ps) back in
-    subst (HoldTheSame g.D.Disk.bytes g.D.Disk.images g.D.Disk.size (disks_of c.args.parts.items)) (sym disks_are)
-    (subst (λ (ps : List (Part _)). HoldTheSame g.D.Disk.bytes g.D.Disk.images g.D.Disk.size (disks_of ps) (disks_of new)) c.deref_mut.ensures.value c.find_log.ensures.read.disks)
+    subst (HoldTheSame g.D.Disk (disks_of c.args.parts.items)) (sym disks_are)
+    (subst (λ (ps : List (Part _)). HoldTheSame g.D.Disk (disks_of ps) (disks_of new)) c.deref_mut.ensures.value c.find_log.ensures.read.disks)
 
 pub returns-in-Ok-clause-most_calls : goal.returns-in-Ok-clause-most_calls
 returns-in-Ok-clause-most_calls g c told =
@@ -106,5 +106,5 @@ returns-in-Err-clause-found g c h base told distinct log =
     let are : AreFields (layout_of (tables_of items)) (map g.D.Disk.bytes (disks_of items)) answer.0 =
     subst (λ (ps : List (Part _)). AreFields (layout_of (tables_of ps)) (map g.D.Disk.bytes (disks_of ps)) answer.0) c.deref_mut.ensures.value (answer.1 told) in
     not_refused (names_of items) (layout_of (tables_of items)) answer.0 c.in-Err.bad distinct
-    (log_passes g.D.Disk.bytes g.D.Disk.size (disks_of items) (layout_of (tables_of items)) answer.0 g.S.Scorer.score_of h base (regions_on g.D.Disk.size g.met.D.Disk.size_fits items c.requires.rooms) (numbers_small items) are log)
+    (log_passes g.D.Disk (disks_of items) (layout_of (tables_of items)) answer.0 g.S.Scorer.score_of h base (regions_on g.D.Disk g.met.D.Disk.size_fits items c.requires.rooms) (numbers_small items) are log)
     (subst (λ (ps : List (Part _)). RefusesMount (names_of ps) (layout_of (tables_of ps)) answer.0 c.in-Err.bad) c.deref_mut.ensures.value answer.2)

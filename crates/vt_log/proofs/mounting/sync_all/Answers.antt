@@ -14,8 +14,8 @@ pub returns-in_err-sync-clause-read : goal.returns-in_err-sync-clause-read
 returns-in_err-sync-clause-read g c =
     let p = get_or c.loop-part.parts c.loop-part.part-index c.part-item.result in
     let at = slice_get-get_or c.loop-part.parts c.loop-part.part-index c.part-item.result (omega arith) in
-    read_then g.D.Disk.tells g.D.Disk.bytes g.D.Disk.images g.D.Disk.size g.D.Disk.calls c.loop-part.part-index 1 (length c.args.parts.now) c.args.parts.now c.loop-part.parts _ (omega arith) c.loop-part.invariant.read
-    (read_set g.D.Disk.tells g.D.Disk.bytes g.D.Disk.images g.D.Disk.size g.D.Disk.calls 1 c.loop-part.part-index c.loop-part.parts p c.sync.new.self at
+    read_then g.D.Disk c.loop-part.part-index 1 (length c.args.parts.now) c.args.parts.now c.loop-part.parts _ (omega arith) c.loop-part.invariant.read
+    (read_set g.D.Disk 1 c.loop-part.part-index c.loop-part.parts p c.sync.new.self at
     c.sync.ensures.bytes c.sync.ensures.images c.sync.ensures.size (λ told. omega (arith, c.sync.ensures.calls told)))
 
 pub returns-in_err-sync-clause-cause : goal.returns-in_err-sync-clause-cause
@@ -32,14 +32,14 @@ loop-part-preserved g c =
     let p = get_or c.loop-part.parts c.loop-part.part-index c.part-item.result in
     let at = slice_get-get_or c.loop-part.parts c.loop-part.part-index c.part-item.result (omega arith) in
     record {
-      settled = λ told. settled_more g.D.Disk.tells g.D.Disk.bytes g.D.Disk.images g.D.Disk.size g.D.Disk.calls c.loop-part.parts c.loop-part.part-index p c.sync.new.self at
+      settled = λ told. settled_more g.D.Disk c.loop-part.parts c.loop-part.part-index p c.sync.new.self at
           (λ image left. c.in_ok-sync.ensures.settled told image left ∙ sym c.sync.ensures.bytes) (c.loop-part.invariant.settled told);
-      read = read_then g.D.Disk.tells g.D.Disk.bytes g.D.Disk.images g.D.Disk.size g.D.Disk.calls c.loop-part.part-index 1 (c.loop-part.part-index + 1) c.args.parts.now c.loop-part.parts _ (omega arith) c.loop-part.invariant.read
-          (read_set g.D.Disk.tells g.D.Disk.bytes g.D.Disk.images g.D.Disk.size g.D.Disk.calls 1 c.loop-part.part-index c.loop-part.parts p c.sync.new.self at
+      read = read_then g.D.Disk c.loop-part.part-index 1 (c.loop-part.part-index + 1) c.args.parts.now c.loop-part.parts _ (omega arith) c.loop-part.invariant.read
+          (read_set g.D.Disk 1 c.loop-part.part-index c.loop-part.parts p c.sync.new.self at
           c.sync.ensures.bytes c.sync.ensures.images c.sync.ensures.size (λ told. omega (arith, c.sync.ensures.calls told)));
       faults = same_counts g.D.Disk.faults c.loop-part.parts c.loop-part.part-index p c.sync.new.self at c.in_ok-sync.ensures.cause ∙ c.loop-part.invariant.faults;
     }
 
 pub returns-clause-settled : goal.returns-clause-settled
 returns-clause-settled g c told =
-    settled_all g.D.Disk.tells g.D.Disk.bytes g.D.Disk.images g.D.Disk.size g.D.Disk.calls (disks_of c.loop-part.parts) c.loop-part.part-index (omega (arith, length-map c.loop-part.parts (λ (part : Part _). disk_of part))) (c.loop-part.invariant.settled told)
+    settled_all g.D.Disk (disks_of c.loop-part.parts) c.loop-part.part-index (omega (arith, length-map c.loop-part.parts (λ (part : Part _). disk_of part))) (c.loop-part.invariant.settled told)

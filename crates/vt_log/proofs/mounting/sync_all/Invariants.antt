@@ -9,6 +9,6 @@ use Rattle.vt_log.proofs.mounting.sync_all.Given as goal
 abbrev pub invariant-loop-part : goal.invariant-loop-part
 invariant-loop-part g l = record {
   settled : IsTrue g.D.Disk.tells → (k : ℕ) (disk : _) → k < l.part-index → slice_get (disks_of l.parts) k ≡ Some disk → Only (g.D.Disk.bytes disk) (g.D.Disk.images disk);
-  read : AreRead g.D.Disk.tells g.D.Disk.bytes g.D.Disk.images g.D.Disk.size g.D.Disk.calls l.part-index l.fn.parts l.parts;
+  read : AreRead g.D.Disk l.part-index l.fn.parts l.parts;
   faults : map g.D.Disk.faults (disks_of l.parts) ≡ map g.D.Disk.faults (disks_of l.fn.parts);
 }

@@ -8,13 +8,13 @@ use Rattle.vt_log.proofs.Calls.{rest_stands}
 use Rattle.vt_log.proofs.log.Log.advance.Goals as goal
 
 pub returns-in-Some-clause-crash : goal.returns-in-Some-clause-crash
-returns-in-Some-clause-crash g c h tells sound files left = rest_stands _ _ _ _ c.args.self.now h files _ sound refl left
+returns-in-Some-clause-crash g c h tells sound files left = rest_stands _ _ c.args.self.now h files _ sound refl left
 
 pub returns-in-Some-clause-in_use : goal.returns-in-Some-clause-in_use
 returns-in-Some-clause-in_use g c some = in_use _ c.args.self.now (subst (IsWhole _) c.self.view_is c.self.invariant) some
 
 pub returns-then-is_empty-clause-crash : goal.returns-then-is_empty-clause-crash
-returns-then-is_empty-clause-crash g c h tells sound files left = rest_stands _ _ _ _ c.args.self.now h files _ sound refl left
+returns-then-is_empty-clause-crash g c h tells sound files left = rest_stands _ _ c.args.self.now h files _ sound refl left
 
 pub returns-clause-sound : goal.returns-clause-sound
 returns-clause-sound g c h tells sound = c.make_call.ensures.sound h tells (c.prepare.ensures.sound h sound)
@@ -35,14 +35,14 @@ pub returns-clause-batch : goal.returns-clause-batch
 returns-clause-batch g c runs = batch_begins c.args.self.now c.prepare.new.self c.make_call.new.self c.prepare.ensures.prepares c.make_call.ensures.batch
 
 pub returns-clause-one_call : goal.returns-clause-one_call
-returns-clause-one_call g c told runs some = call_as_prepared g.D.Disk.calls c.args.self.now c.prepare.new.self c.make_call.new.self c.prepare.ensures.prepares (c.make_call.ensures.one_call told)
+returns-clause-one_call g c told runs some = call_as_prepared g.D.Disk c.args.self.now c.prepare.new.self c.make_call.new.self c.prepare.ensures.prepares (c.make_call.ensures.one_call told)
 
 pub returns-then-is_empty-clause-batch : goal.returns-then-is_empty-clause-batch
 returns-then-is_empty-clause-batch g c runs rest = batch_of_none _ c.args.self.now (subst (IsWhole _) c.self.view_is c.self.invariant) (grind (arith, common_steps))
 
 pub returns-clause-next : goal.returns-clause-next
 returns-clause-next g c n =
-    next_kept g.D.Disk.size c.make_call.result c.args.self.now c.make_call.new.self n (subst (IsWhole _) c.self.view_is c.self.invariant)
+    next_kept g.D.Disk c.make_call.result c.args.self.now c.make_call.new.self n (subst (IsWhole _) c.self.view_is c.self.invariant)
     (advances c.args.self.now c.prepare.new.self c.make_call.new.self c.make_call.result c.prepare.ensures.prepares c.make_call.ensures.makes c.make_call.ensures.last)
     (c.make_call.ensures.kept.0 ∙ ap (λ (l : LogState _). l.layout) c.prepare.ensures.prepares.same)
     (c.make_call.ensures.kept.3 ∙ ap (λ (l : LogState _). l.filling) c.prepare.ensures.prepares.same)

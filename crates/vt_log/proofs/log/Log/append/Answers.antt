@@ -16,7 +16,7 @@ invariant_of-self g c =
 
 pub returns-in_default-clause-appends : goal.returns-in_default-clause-appends
 returns-in_default-clause-appends g c h well sound =
-    next_arena_is _ _ _ _ c.args.self.now h c.args.packed.len sound
+    next_arena_is _ _ c.args.self.now h c.args.packed.len sound
     ∙ ap (λ (o : Option Filling). option_map (λ (f : Filling). f.arena) o) (sym c.next_filling.ensures.next ∙ none c.next_filling.result c.in_default.not-Some)
   where
     none : (o : Option Filling) → ((f : Filling) → o ≡ Some f → ⊥) → o ≡ None
@@ -27,5 +27,5 @@ pub returns-clause-appends : goal.returns-clause-appends
 returns-clause-appends g c h well sound =
     let f = c.in-Some.filling in
     let next : next_filling c.args.self.now c.args.packed.len ≡ Some f = sym c.next_filling.ensures.next ∙ c.in-Some.is in
-    let k = append_at _ _ _ _ _ c.args.self.now h c.args.packed (record { arena = f.arena; offset = 24576 + f.used }) f c.self.view_is well sound c.requires next refl in
+    let k = append_at _ _ _ c.args.self.now h c.args.packed (record { arena = f.arena; offset = 24576 + f.used }) f c.self.view_is well sound c.requires next refl in
     (k.0, k.1, rw (c.push.ensures, c.with-self-inside.ensures) k.2)

@@ -32,14 +32,14 @@ returns-in_err-info-clause-blocks g c h n tells sound behind =
     let t : TailState = c.args.tail.now in
     let found = slice_get_there c.args.self.now.heads t.arena
     (tail_inside c.args.self.now t c.requires.tail c.requires.some) in
-    let last = at_last g.S.Scorer.score_of g.D.Disk.bytes g.D.Disk.images g.D.Disk.size
+    let last = at_last g.S.Scorer.score_of g.D.Disk
     c.args.self.now h n t found.0 sound c.requires.tail c.requires.queued found.1
     c.requires.some behind (λ disk. g.met.D.Disk.read_is_image disk tells) in
     let it = last.is in
-    let fault = c.in_err-info.ensures.committed found.0 it.r it.region it.disk it.r.number
+    let fault = c.in_err-info.ensures.committed found.0 it.r it.region it.device it.r.number
     last.content last.before last.behind last.stored tells
     (subst (λ (a : ℕ). slice_get c.args.self.now.heads a ≡ Some found.0) (sym arena) found.1)
-    (subst (λ (a : ℕ). IsAt c.args.self.now a it.r it.region it.disk) (sym arena) it.at)
+    (subst (λ (a : ℕ). IsAt c.args.self.now a it.r it.region it.device) (sym arena) it.at)
     it.content it.stand last.split last.head
     (subst (λ (a : At). IsAtBlock last.before last.stored a) (sym at) last.at) in
     let standing : At → TailState = λ a. record {
@@ -83,15 +83,15 @@ returns-clause-blocks g c h n tells sound behind =
     let t : TailState = c.args.tail.now in
     let found = slice_get_there c.args.self.now.heads t.arena
     (tail_inside c.args.self.now t c.requires.tail c.requires.some) in
-    let last = at_last g.S.Scorer.score_of g.D.Disk.bytes g.D.Disk.images g.D.Disk.size
+    let last = at_last g.S.Scorer.score_of g.D.Disk
     c.args.self.now h n t found.0 sound c.requires.tail c.requires.queued found.1
     c.requires.some behind (λ disk. g.met.D.Disk.read_is_image disk tells) in
     let it = last.is in
     let info = c.in_ok-info.info in
-    let given = c.in_ok-info.ensures.committed found.0 it.r it.region it.disk it.r.number
+    let given = c.in_ok-info.ensures.committed found.0 it.r it.region it.device it.r.number
     last.content last.before last.behind last.stored tells
     (subst (λ (a : ℕ). slice_get c.args.self.now.heads a ≡ Some found.0) (sym arena) found.1)
-    (subst (λ (a : ℕ). IsAt c.args.self.now a it.r it.region it.disk) (sym arena) it.at)
+    (subst (λ (a : ℕ). IsAt c.args.self.now a it.r it.region it.device) (sym arena) it.at)
     it.content it.stand last.split last.head
     (subst (λ (a : At). IsAtBlock last.before last.stored a) (sym at) last.at) in
     let left : c.tail.inside.left ≡ t.left = ap (λ (t : TailState). t.left) c.tail.view_is in
@@ -101,7 +101,7 @@ returns-clause-blocks g c h n tells sound behind =
       arena = c.tail.inside.arena;
       at = c.read_entry.new.at;
     } in
-    arena_steps g.S.Scorer.score_of g.D.Disk.bytes c.args.self.now h n t new found.0 info _ last
+    arena_steps g.S.Scorer.score_of g.D.Disk c.args.self.now h n t new found.0 info _ last
     given c.requires.queued
     (c.in_ok-info.ensures.moved.0 ∙ ap (λ (a : At). a.index) at)
     (c.in_ok-info.ensures.moved.1 ∙ ap (λ (a : At). a.end) at)

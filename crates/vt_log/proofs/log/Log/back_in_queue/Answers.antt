@@ -23,7 +23,7 @@ returns-clause-blocks g c h n sound behind =
     let left : c.tail.inside.left ≡ c.args.tail.now.left = ap (λ (t : TailState). t.left) c.tail.view_is in
     let queue : c.tail.inside.queued ≡ c.args.tail.now.queued = ap (λ (t : TailState). t.queued) c.tail.view_is in
     let new : TailState = record { left = c.tail.inside.left - 1; queued = c.tail.inside.queued - 1; arena = c.tail.inside.arena; at = c.tail.inside.at } in
-    queue_steps g.S.Scorer.score_of g.D.Disk.bytes g.D.Disk.images g.D.Disk.size c.args.self.now h n c.args.tail.now new c.packed-packed.result.now c.place.result _ sound behind
+    queue_steps g.S.Scorer.score_of g.D.Disk c.args.self.now h n c.args.tail.now new c.packed-packed.result.now c.place.result _ sound behind
     (record { kind = refl; score = refl; size = refl; place_is = refl; number = omega (arith, left, c.requires.tail.left, c.requires.some) })
     c.packed-packed.ensures
     (subst (λ (l : LogState _). slice_get l.queue.places new.queued ≡ Some c.place.result) c.self.view_is c.place.ensures)

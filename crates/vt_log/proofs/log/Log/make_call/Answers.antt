@@ -13,11 +13,11 @@ use Rattle.vt_log.proofs.log.Log.make_call.Goals as goal
 
 pub advance-requires-clause-same : goal.advance-requires-clause-same
 advance-requires-clause-same g c =
-    same_len g.D.Disk.size _ c.args.self.now c.as_slice.result.now _ c.self.view_is c.self.invariant c.requires.some c.as_slice.ensures refl
+    same_len g.D.Disk _ c.args.self.now c.as_slice.result.now _ c.self.view_is c.self.invariant c.requires.some c.as_slice.ensures refl
 
 -- a call that isn't the last of its commit
 called_more : (g : _) (c : goal.In-Ok-More g)
-    → IsCalledIn g.S.Scorer.score_of g.D.Disk.bytes g.D.Disk.images g.D.Disk.size g.D.Disk.calls g.D.Disk.faults g.D.Disk.tells
+    → IsCalledIn g.S.Scorer.score_of g.D.Disk
     c.self.inside.parts.items c.index_mut.result.now (seen c.self.inside) c.args.self.now (region_at c.as_slice.result.now c.self.inside.committing)
     c.advance.new.disk c.advance.new.self (Ok c.in-Ok-More.field-0)
 called_more g c = record {
@@ -37,13 +37,13 @@ called_more g c = record {
     bytes_are = c.in-Ok-More.ensures.bytes;
     size_is = c.in-Ok-More.ensures.size;
   };
-  there = arena_there g.D.Disk.size c.self.inside.parts.items c.index_mut.result.now (seen c.self.inside) c.args.self.now c.as_slice.result.now
+  there = arena_there g.D.Disk c.self.inside.parts.items c.index_mut.result.now (seen c.self.inside) c.args.self.now c.as_slice.result.now
       (region_at c.as_slice.result.now c.self.inside.committing) _ c.self.view_is c.self.invariant refl refl c.requires.runs c.requires.some c.requires.ready
       c.as_slice.ensures refl (record { start = refl; len = refl }) c.index_mut.ensures.value;
 }
 
 more : (g : _) (c : goal.In-Ok-More g)
-    → IsMade g.S.Scorer.score_of g.D.Disk.bytes g.D.Disk.images g.D.Disk.size g.D.Disk.calls g.D.Disk.faults g.D.Disk.tells c.args.self.now
+    → IsMade g.S.Scorer.score_of g.D.Disk c.args.self.now
     (with_disk c.self.inside.parts.items (region_at c.as_slice.result.now c.self.inside.committing).part c.index_mut.result.now c.advance.new.disk (record (seen c.self.inside) {
       arena = c.advance.new.self;
       calls = c.saturating_add-self-inside.result;
@@ -91,11 +91,11 @@ pub returns-in-Ok-More-clause-cause : goal.returns-in-Ok-More-clause-cause
 returns-in-Ok-More-clause-cause g c = (more g c).cause
 
 pub overflow_add-self : goal.overflow_add-self
-overflow_add-self g c = omega (arith, durable_small g.D.Disk.size _ c.self.invariant, c.staged-blocks.ensures.most)
+overflow_add-self g c = omega (arith, durable_small g.D.Disk _ c.self.invariant, c.staged-blocks.ensures.most)
 
 -- the last one, where the commit doesn't seal
 called_ended : (g : _) (c : goal.Then-not-sealed g)
-    → IsCalledIn g.S.Scorer.score_of g.D.Disk.bytes g.D.Disk.images g.D.Disk.size g.D.Disk.calls g.D.Disk.faults g.D.Disk.tells
+    → IsCalledIn g.S.Scorer.score_of g.D.Disk
     c.self.inside.parts.items c.index_mut.result.now (seen c.self.inside) c.args.self.now (region_at c.as_slice.result.now c.self.inside.committing)
     c.advance.new.disk c.advance.new.self (Ok c.in-Ok-Done.field-0)
 called_ended g c = record {
@@ -115,7 +115,7 @@ called_ended g c = record {
     bytes_are = c.in-Ok-Done.ensures.bytes;
     size_is = c.in-Ok-Done.ensures.size;
   };
-  there = arena_there g.D.Disk.size c.self.inside.parts.items c.index_mut.result.now (seen c.self.inside) c.args.self.now c.as_slice.result.now
+  there = arena_there g.D.Disk c.self.inside.parts.items c.index_mut.result.now (seen c.self.inside) c.args.self.now c.as_slice.result.now
       (region_at c.as_slice.result.now c.self.inside.committing) _ c.self.view_is c.self.invariant refl refl c.requires.runs c.requires.some c.requires.ready
       c.as_slice.ensures refl (record { start = refl; len = refl }) c.index_mut.ensures.value;
 }
@@ -136,7 +136,7 @@ settles_ended g c = record {
 }
 
 done : (g : _) (c : goal.Then-not-sealed g)
-    → IsMade g.S.Scorer.score_of g.D.Disk.bytes g.D.Disk.images g.D.Disk.size g.D.Disk.calls g.D.Disk.faults g.D.Disk.tells c.args.self.now
+    → IsMade g.S.Scorer.score_of g.D.Disk c.args.self.now
     (with_disk c.self.inside.parts.items (region_at c.as_slice.result.now c.self.inside.committing).part c.index_mut.result.now c.advance.new.disk (record (seen c.self.inside) {
       heads = set c.self.inside.heads.items c.self.inside.committing (record c.index_mut-in-Ok-Done.result.now { head = c.head.result });
       arena = c.advance.new.self;
@@ -191,17 +191,17 @@ returns-then-not-sealed-clause-cause g c = (done g c).cause
 pub bounds-as_slice-at-in-Ok-Done : goal.bounds-as_slice-at-in-Ok-Done
 bounds-as_slice-at-in-Ok-Done g c =
     let sealed = seals_too c.self.inside.arena c.advance.new.self _ c.in-Ok-Done.ensures.steps c.in-Ok-Done.field-0-is (cc) in
-    omega (arith, next_there g.D.Disk.size (seen c.self.inside) c.self.invariant sealed, ap (λ (rs : List ArenaRegion). length rs) c.as_slice-in-Ok-Done.ensures)
+    omega (arith, next_there g.D.Disk (seen c.self.inside) c.self.invariant sealed, ap (λ (rs : List ArenaRegion). length rs) c.as_slice-in-Ok-Done.ensures)
 
 pub index-requires : goal.index-requires
 index-requires g c =
     let sealed = seals_too c.self.inside.arena c.advance.new.self _ c.in-Ok-Done.ensures.steps c.in-Ok-Done.field-0-is (cc) in
-    omega (arith, next_there g.D.Disk.size (seen c.self.inside) c.self.invariant sealed, c.self.invariant.many, c.self.inside.heads.ok.0)
+    omega (arith, next_there g.D.Disk (seen c.self.inside) c.self.invariant sealed, c.self.invariant.many, c.self.inside.heads.ok.0)
 
 next_before : (g : _) (c : goal.After-move_to-arg-in-Ok-Done-1 g) → IsNextArena (seen c.self.inside) (region_at c.as_slice-in-Ok-Done.result.now (c.self.inside.committing + 1)) c.index.result.now
 next_before g c =
     let sealed = seals_too c.self.inside.arena c.advance.new.self _ c.in-Ok-Done.ensures.steps c.in-Ok-Done.field-0-is (cc) in
-    next_arena_there g.D.Disk.size (seen c.self.inside) c.as_slice-in-Ok-Done.result.now (region_at c.as_slice-in-Ok-Done.result.now (c.self.inside.committing + 1))
+    next_arena_there g.D.Disk (seen c.self.inside) c.as_slice-in-Ok-Done.result.now (region_at c.as_slice-in-Ok-Done.result.now (c.self.inside.committing + 1))
     (record c.index_mut-in-Ok-Done.result.now { head = c.head.result }) c.index.result.now c.self.invariant sealed c.as_slice-in-Ok-Done.ensures refl c.index.ensures
 
 pub move_to-requires-clause-len : goal.move_to-requires-clause-len
@@ -212,7 +212,7 @@ move_to-requires-clause-fit g c = (next_before g c).fit
 
 -- the last one, and the next arena is turned to
 called_turned : (g : _) (c : goal.After-move_to g)
-    → IsCalledIn g.S.Scorer.score_of g.D.Disk.bytes g.D.Disk.images g.D.Disk.size g.D.Disk.calls g.D.Disk.faults g.D.Disk.tells
+    → IsCalledIn g.S.Scorer.score_of g.D.Disk
     c.self.inside.parts.items c.index_mut.result.now (seen c.self.inside) c.args.self.now (region_at c.as_slice.result.now c.self.inside.committing)
     c.advance.new.disk c.advance.new.self (Ok c.in-Ok-Done.field-0)
 called_turned g c = record {
@@ -232,7 +232,7 @@ called_turned g c = record {
     bytes_are = c.in-Ok-Done.ensures.bytes;
     size_is = c.in-Ok-Done.ensures.size;
   };
-  there = arena_there g.D.Disk.size c.self.inside.parts.items c.index_mut.result.now (seen c.self.inside) c.args.self.now c.as_slice.result.now
+  there = arena_there g.D.Disk c.self.inside.parts.items c.index_mut.result.now (seen c.self.inside) c.args.self.now c.as_slice.result.now
       (region_at c.as_slice.result.now c.self.inside.committing) _ c.self.view_is c.self.invariant refl refl c.requires.runs c.requires.some c.requires.ready
       c.as_slice.ensures refl (record { start = refl; len = refl }) c.index_mut.ensures.value;
 }
@@ -255,11 +255,11 @@ settles_turned g c = record {
 next_turned : (g : _) (c : goal.After-move_to g) → IsNextArena (seen c.self.inside) (region_at c.as_slice-in-Ok-Done.result.now (c.self.inside.committing + 1)) c.index.result.now
 next_turned g c =
     let sealed = seals_too c.self.inside.arena c.advance.new.self _ c.in-Ok-Done.ensures.steps c.in-Ok-Done.field-0-is (cc) in
-    next_arena_there g.D.Disk.size (seen c.self.inside) c.as_slice-in-Ok-Done.result.now (region_at c.as_slice-in-Ok-Done.result.now (c.self.inside.committing + 1))
+    next_arena_there g.D.Disk (seen c.self.inside) c.as_slice-in-Ok-Done.result.now (region_at c.as_slice-in-Ok-Done.result.now (c.self.inside.committing + 1))
     (record c.index_mut-in-Ok-Done.result.now { head = c.head.result }) c.index.result.now c.self.invariant sealed c.as_slice-in-Ok-Done.ensures refl c.index.ensures
 
 turns : (g : _) (c : goal.After-move_to g)
-    → IsMade g.S.Scorer.score_of g.D.Disk.bytes g.D.Disk.images g.D.Disk.size g.D.Disk.calls g.D.Disk.faults g.D.Disk.tells c.args.self.now
+    → IsMade g.S.Scorer.score_of g.D.Disk c.args.self.now
     (with_disk c.self.inside.parts.items (region_at c.as_slice.result.now c.self.inside.committing).part c.index_mut.result.now c.advance.new.disk (record (seen c.self.inside) {
       heads = set c.self.inside.heads.items c.self.inside.committing (record c.index_mut-in-Ok-Done.result.now { head = c.head.result });
       committing = c.self.inside.committing + 1;
@@ -313,7 +313,7 @@ returns-else-not-sealed-clause-cause g c = (turns g c).cause
 
 -- one that failed
 called_fault : (g : _) (c : goal.After-self-in-Err-1 g)
-    → IsCalledIn g.S.Scorer.score_of g.D.Disk.bytes g.D.Disk.images g.D.Disk.size g.D.Disk.calls g.D.Disk.faults g.D.Disk.tells
+    → IsCalledIn g.S.Scorer.score_of g.D.Disk
     c.self.inside.parts.items c.index_mut.result.now (seen c.self.inside) c.args.self.now (region_at c.as_slice.result.now c.self.inside.committing)
     c.advance.new.disk c.advance.new.self (Err c.in-Err.field-0)
 called_fault g c = record {
@@ -333,13 +333,13 @@ called_fault g c = record {
     bytes_are = c.in-Err.ensures.bytes;
     size_is = c.in-Err.ensures.size;
   };
-  there = arena_there g.D.Disk.size c.self.inside.parts.items c.index_mut.result.now (seen c.self.inside) c.args.self.now c.as_slice.result.now
+  there = arena_there g.D.Disk c.self.inside.parts.items c.index_mut.result.now (seen c.self.inside) c.args.self.now c.as_slice.result.now
       (region_at c.as_slice.result.now c.self.inside.committing) _ c.self.view_is c.self.invariant refl refl c.requires.runs c.requires.some c.requires.ready
       c.as_slice.ensures refl (record { start = refl; len = refl }) c.index_mut.ensures.value;
 }
 
 failed : (g : _) (c : goal.After-self-in-Err-1 g)
-    → IsMade g.S.Scorer.score_of g.D.Disk.bytes g.D.Disk.images g.D.Disk.size g.D.Disk.calls g.D.Disk.faults g.D.Disk.tells c.args.self.now
+    → IsMade g.S.Scorer.score_of g.D.Disk c.args.self.now
     (with_disk c.self.inside.parts.items (region_at c.as_slice.result.now c.self.inside.committing).part c.index_mut.result.now c.advance.new.disk (record (seen c.self.inside) {
       arena = c.advance.new.self;
       calls = c.saturating_add-self-inside.result;

@@ -23,7 +23,7 @@ returns-in-Some-clause-block g c h i e tells sound at placed kind score =
     subst (λ (l : LogState _). IsFirstAt l.queue.places c.args.place c.in-Some.index)
     c.self.view_is c.in-Some.ensures.found in
     let p = c.packed.result.now in
-    let q = queued_as g.S.Scorer.score_of g.D.Disk.bytes g.D.Disk.images g.D.Disk.size
+    let q = queued_as g.S.Scorer.score_of g.D.Disk
     c.args.self.now h c.in-Some.index p sound c.packed.ensures in
     let same : i ≡ c.args.self.now.durable + c.in-Some.index =
     place_once (setup_of c.args.self.now) h i (c.args.self.now.durable + c.in-Some.index)
@@ -39,7 +39,7 @@ returns-in-Some-clause-block g c h i e tells sound at placed kind score =
 
 pub returns-in-Some-clause-answer : goal.returns-in-Some-clause-answer
 returns-in-Some-clause-answer g c =
-    answers_queued g.S.Scorer.score_of g.D.Disk.tells g.D.Disk.bytes c.args.self.now c.args.place
+    answers_queued g.S.Scorer.score_of g.D.Disk c.args.self.now c.args.place
     c.args.key.now c.copy_queued.result c.in-Some.index c.packed.result.now
     (subst (λ (l : LogState _). IsFirstAt l.queue.places c.args.place c.in-Some.index)
     c.self.view_is c.in-Some.ensures.found)
@@ -51,7 +51,7 @@ pub returns-then-place-arenas-clause-block : goal.returns-then-place-arenas-clau
 returns-then-place-arenas-clause-block g c h i e tells sound at placed kind score =
     let nowhere = nowhere_in _ c.args.self.now c.args.place c.self.view_is
     c.in_default.ensures.none in
-    let it = stored_at g.S.Scorer.score_of g.D.Disk.bytes g.D.Disk.images g.D.Disk.size
+    let it = stored_at g.S.Scorer.score_of g.D.Disk
     c.args.self.now h i e c.args.place sound at placed nowhere
     (λ disk. g.met.D.Disk.read_is_image disk tells) in
     absurd (omega (
@@ -63,7 +63,7 @@ returns-then-place-arenas-clause-block g c h i e tells sound at placed kind scor
 
 pub returns-then-place-arenas-clause-answer : goal.returns-then-place-arenas-clause-answer
 returns-then-place-arenas-clause-answer g c =
-    answers_nowhere g.S.Scorer.score_of g.D.Disk.tells g.D.Disk.bytes c.args.self.now c.args.place
+    answers_nowhere g.S.Scorer.score_of g.D.Disk c.args.self.now c.args.place
     c.args.key.now _
     (nowhere_in _ c.args.self.now c.args.place c.self.view_is c.in_default.ensures.none)
     (omega (arith, c.if-place-arenas.true, c.arenas-arenas.ensures))
@@ -82,14 +82,14 @@ pub returns-in_err-clump-clause-block : goal.returns-in_err-clump-clause-block
 returns-in_err-clump-clause-block g c h i e tells sound at placed kind score =
     let nowhere = nowhere_in _ c.args.self.now c.args.place c.self.view_is
     c.in_default.ensures.none in
-    let it = stored_at g.S.Scorer.score_of g.D.Disk.bytes g.D.Disk.images g.D.Disk.size
+    let it = stored_at g.S.Scorer.score_of g.D.Disk
     c.args.self.now h i e c.args.place sound at placed nowhere
     (λ disk. g.met.D.Disk.read_is_image disk tells) in
     let handed = err_from_is_err_and c.from_residual.result c.from_residual.ensures.1 in
     subst (λ (result : Result (List ℕ) ReadBad). MatchResult result (λ block. block ≡ e.block.bytes)
     (λ bad. (bad ≡ Fault) ⊎ (bad ≡ NoMemory)))
     (sym (handed.1 ∙ ap (λ (b : ReadBad). Err b) handed.2))
-    (c.in_err-clump.ensures.committed it.is.r it.is.region it.is.disk it.content it.before it.behind
+    (c.in_err-clump.ensures.committed it.is.r it.is.region it.is.device it.content it.before it.behind
     it.stored tells it.is.at it.is.content it.is.stand it.split it.offset)
 
 pub returns-in_err-clump-clause-answer : goal.returns-in_err-clump-clause-answer
@@ -99,7 +99,7 @@ returns-in_err-clump-clause-answer g c =
     let bad = c.in_err-clump.field-0.0 in
     let handed = err_from_is_err_and c.from_residual.result c.from_residual.ensures.1 in
     let is : c.from_residual.result ≡ Err bad = handed.1 ∙ ap (λ (b : ReadBad). Err b) handed.2 in
-    answers_there g.S.Scorer.score_of g.D.Disk.tells g.D.Disk.bytes c.args.self.now c.args.place
+    answers_there g.S.Scorer.score_of g.D.Disk c.args.self.now c.args.place
     c.args.key.now c.from_residual.result nowhere
     (omega (arith, c.if-place-arenas.false, c.arenas-arenas.ensures))
     (λ r at none. let it = c.in_err-clump.ensures.outside r at none in cc (is, it.0))
@@ -115,9 +115,9 @@ pub returns-in_err-clump-clause-differ : goal.returns-in_err-clump-clause-differ
 returns-in_err-clump-clause-differ g c some =
     let nowhere = nowhere_in _ c.args.self.now c.args.place c.self.view_is
     c.in_default.ensures.none in
-    answer_two g.S.Scorer.score_of g.D.Disk.tells g.D.Disk.bytes g.D.Disk.size c.args.self.now
+    answer_two g.S.Scorer.score_of g.D.Disk c.args.self.now
     c.args.place c.args.key.now c.from_residual.result
-    (subst (IsWhole g.D.Disk.size) c.self.view_is c.self.invariant) nowhere
+    (subst (IsWhole g.D.Disk) c.self.view_is c.self.invariant) nowhere
     (omega (arith, c.if-place-arenas.false, c.arenas-arenas.ensures))
     (returns-in_err-clump-clause-answer g c)
 
@@ -125,10 +125,10 @@ pub returns-in_err-check_key-clause-block : goal.returns-in_err-check_key-clause
 returns-in_err-check_key-clause-block g c h i e tells sound at placed kind score =
     let nowhere = nowhere_in _ c.args.self.now c.args.place c.self.view_is
     c.in_default.ensures.none in
-    let it = stored_at g.S.Scorer.score_of g.D.Disk.bytes g.D.Disk.images g.D.Disk.size
+    let it = stored_at g.S.Scorer.score_of g.D.Disk
     c.args.self.now h i e c.args.place sound at placed nowhere
     (λ disk. g.met.D.Disk.read_is_image disk tells) in
-    let read = c.in_ok-clump.ensures.committed it.is.r it.is.region it.is.disk it.content it.before
+    let read = c.in_ok-clump.ensures.committed it.is.r it.is.region it.is.device it.content it.before
     it.behind it.stored tells it.is.at it.is.content it.is.stand it.split it.offset in
     let clump = c.in_ok-clump.clump in
     absurd (no_other c.args.key.now clump.kind clump.score.0 c.in_err-check_key.field-0.0
@@ -145,7 +145,7 @@ returns-in_err-check_key-clause-answer g c =
     let result = c.from_residual-in_err-check_key.result in
     let handed = err_from_is_err_and result c.from_residual-in_err-check_key.ensures.1 in
     let is : result ≡ Err bad = handed.1 ∙ ap (λ (b : ReadBad). Err b) handed.2 in
-    answers_there g.S.Scorer.score_of g.D.Disk.tells g.D.Disk.bytes c.args.self.now c.args.place
+    answers_there g.S.Scorer.score_of g.D.Disk c.args.self.now c.args.place
     c.args.key.now result nowhere
     (omega (arith, c.if-place-arenas.false, c.arenas-arenas.ensures))
     (λ r at none. let it = c.in_ok-clump.ensures.outside r at none in absurd (cc (it.0)))
@@ -170,10 +170,10 @@ pub returns-clause-block : goal.returns-clause-block
 returns-clause-block g c h i e tells sound at placed kind score =
     let nowhere = nowhere_in _ c.args.self.now c.args.place c.self.view_is
     c.in_default.ensures.none in
-    let it = stored_at g.S.Scorer.score_of g.D.Disk.bytes g.D.Disk.images g.D.Disk.size
+    let it = stored_at g.S.Scorer.score_of g.D.Disk
     c.args.self.now h i e c.args.place sound at placed nowhere
     (λ disk. g.met.D.Disk.read_is_image disk tells) in
-    let read = c.in_ok-clump.ensures.committed it.is.r it.is.region it.is.disk it.content it.before
+    let read = c.in_ok-clump.ensures.committed it.is.r it.is.region it.is.device it.content it.before
     it.behind it.stored tells it.is.at it.is.content it.is.stand it.split it.offset in
     read.bytes ∙ sym (ap (λ (x : Accepted). x.block.bytes) it.block)
 
@@ -182,7 +182,7 @@ returns-clause-answer g c =
     let nowhere = nowhere_in _ c.args.self.now c.args.place c.self.view_is
     c.in_default.ensures.none in
     let clump = c.in_ok-clump.clump in
-    answers_there g.S.Scorer.score_of g.D.Disk.tells g.D.Disk.bytes c.args.self.now c.args.place
+    answers_there g.S.Scorer.score_of g.D.Disk c.args.self.now c.args.place
     c.args.key.now (Ok clump.bytes) nowhere
     (omega (arith, c.if-place-arenas.false, c.arenas-arenas.ensures))
     (λ r at none. let it = c.in_ok-clump.ensures.outside r at none in absurd (cc (it.0)))

@@ -15,19 +15,19 @@ use Rattle.vt_log.proofs.log.Log.read_clump.Goals.{then-has_header, else-has_hea
 pub invariant_of-self : goal.invariant_of-self
 invariant_of-self g c =
     let r : ArenaRegion = get_or c.as_slice.result.now c.args.place.arena no_region in
-    let it = lent g.S.Scorer.score_of g.D.Disk.bytes g.D.Disk.images g.D.Disk.size
+    let it = lent g.S.Scorer.score_of g.D.Disk
     c.self.inside.parts.items c.args.place.arena r no_region c.index_mut.result.now
     c.read.new.disk _ c.args.self.now c.self.invariant c.self.view_is refl refl c.requires
     (ap (λ (rs : List ArenaRegion). get_or rs c.args.place.arena no_region) c.as_slice.ensures)
     c.index_mut.ensures.value c.read.ensures.bytes c.read.ensures.images
     c.read.ensures.size in
-    it.only.whole (subst (IsWhole g.D.Disk.size) c.self.view_is c.self.invariant)
+    it.only.whole (subst (IsWhole g.D.Disk) c.self.view_is c.self.invariant)
 
 pub read-requires : goal.read-requires
 read-requires g c =
     let r : ArenaRegion = get_or c.as_slice.result.now c.args.place.arena no_region in
     let p = c.index_mut.result.now in
-    let it = lent g.S.Scorer.score_of g.D.Disk.bytes g.D.Disk.images g.D.Disk.size
+    let it = lent g.S.Scorer.score_of g.D.Disk
     c.self.inside.parts.items c.args.place.arena r no_region p p.disk _ c.args.self.now
     c.self.invariant c.self.view_is refl refl c.requires
     (ap (λ (rs : List ArenaRegion). get_or rs c.args.place.arena no_region) c.as_slice.ensures)
@@ -37,7 +37,7 @@ read-requires g c =
 pub returns : goal.returns
 returns g c =
     let r : ArenaRegion = get_or c.as_slice.result.now c.args.place.arena no_region in
-    let it = lent g.S.Scorer.score_of g.D.Disk.bytes g.D.Disk.images g.D.Disk.size
+    let it = lent g.S.Scorer.score_of g.D.Disk
     c.self.inside.parts.items c.args.place.arena r no_region c.index_mut.result.now
     c.read.new.disk _ c.args.self.now c.self.invariant c.self.view_is refl refl c.requires
     (ap (λ (rs : List ArenaRegion). get_or rs c.args.place.arena no_region) c.as_slice.ensures)
@@ -52,7 +52,7 @@ returns g c =
           (subst (λ (n : ℕ). HasHeader r.len n) offset has)) in (
             c.read.ensures.outside none_there
                 ∙ ap (λ (n : ℕ). Err (Damaged (Number HEAD_LEN) (Number n))) offset,
-            unchanged g.S.Scorer.score_of g.D.Disk.bytes g.D.Disk.images g.D.Disk.size r.part _
+            unchanged g.S.Scorer.score_of g.D.Disk r.part _
                 c.read.new.disk c.args.self.now _ it.only (c.read.ensures.untouched none_there),
             elim c.if-has_header.branch [
               | then-has_header w ↦
@@ -97,7 +97,7 @@ returns g c =
             | then-has_header w ↦ w.steps-is ∙ w.tick.ensures
             | else-has_header w ↦ absurd (cc)
           ];
-      reads = it.reads _ g.D.Disk.calls 2 c.read.ensures.most_calls;
+      reads = it.reads 2 c.read.ensures.most_calls;
       spares = it.spares;
       cause = reads_cause g.D.Disk.faults c.args.self.now.disks _ r.part _ c.read.new.disk
           c.read.result it.only.was it.only.disks_are c.read.ensures.cause;

@@ -14,9 +14,9 @@ use Rattle.vt_log.proofs.log.Log.read_entry.Goals as goal
 pub invariant_of-self : goal.invariant_of-self
 invariant_of-self g c =
     let r : ArenaRegion = get_or c.as_slice.result.now c.args.arena no_region in
-    let whole : IsWhole g.D.Disk.size c.args.self.now =
-    subst (IsWhole g.D.Disk.size) c.self.view_is c.self.invariant in
-    let it = lent g.S.Scorer.score_of g.D.Disk.bytes g.D.Disk.images g.D.Disk.size
+    let whole : IsWhole g.D.Disk c.args.self.now =
+    subst (IsWhole g.D.Disk) c.self.view_is c.self.invariant in
+    let it = lent g.S.Scorer.score_of g.D.Disk
     c.self.inside.parts.items c.args.arena r no_region c.index_mut.result.now c.info.new.disk
     _ c.args.self.now c.self.invariant c.self.view_is refl refl
     (omega (arith, c.requires.arena, whole.many))
@@ -28,9 +28,9 @@ invariant_of-self g c =
 pub returns : goal.returns
 returns g c =
     let r : ArenaRegion = get_or c.as_slice.result.now c.args.arena no_region in
-    let whole : IsWhole g.D.Disk.size c.args.self.now =
-    subst (IsWhole g.D.Disk.size) c.self.view_is c.self.invariant in
-    let it = lent g.S.Scorer.score_of g.D.Disk.bytes g.D.Disk.images g.D.Disk.size
+    let whole : IsWhole g.D.Disk c.args.self.now =
+    subst (IsWhole g.D.Disk) c.self.view_is c.self.invariant in
+    let it = lent g.S.Scorer.score_of g.D.Disk
     c.self.inside.parts.items c.args.arena r no_region c.index_mut.result.now c.info.new.disk
     _ c.args.self.now c.self.invariant c.self.view_is refl refl
     (omega (arith, c.requires.arena, whole.many))
@@ -73,7 +73,7 @@ returns g c =
           (blocks_lent region r a.stored (g.D.Disk.bytes disk) _ region_is
           (ap g.D.Disk.bytes (it.disk_one q region disk at)) blocks _)
           split (ap (λ (f : Found). f.head) found_is ∙ head) stands;
-      reads = it.reads _ g.D.Disk.calls 1 (λ tells. omega (arith, c.info.ensures.calls tells));
+      reads = it.reads 1 (λ tells. omega (arith, c.info.ensures.calls tells));
       spares = it.spares;
       cause = backs_cause g.D.Disk.faults c.args.self.now.disks _ r.part _ c.info.new.disk
           c.info.result it.only.was it.only.disks_are c.info.ensures.cause;

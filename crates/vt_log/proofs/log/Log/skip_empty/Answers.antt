@@ -27,4 +27,4 @@ loop-tail-preserved g c =
 
 pub returns-clause-behind : goal.returns-clause-behind
 returns-clause-behind g c h n sound behind =
-    skip_behind _ _ _ _ c.args.self.now h n c.args.tail.now _ c.requires.tail c.requires.queued c.loop-tail.invariant sound behind
+    skip_behind _ _ c.args.self.now h n c.args.tail.now _ c.requires.tail c.requires.queued c.loop-tail.invariant sound behind

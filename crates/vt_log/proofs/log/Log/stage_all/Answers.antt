@@ -22,7 +22,7 @@ returns-then-waiting-gt0-clause-owed g c =
 pub returns-then-waiting-gt0-clause-sound : goal.returns-then-waiting-gt0-clause-sound
 returns-then-waiting-gt0-clause-sound g c h sound =
     let out = c.stage_next.ensures.none c.loop-test.false in
-    rw c.seal.ensures (seal_sound _ _ _ _ _ c.stage_next.new.self h c.self.view_is
+    rw c.seal.ensures (seal_sound _ _ _ c.stage_next.new.self h c.self.view_is
     (c.stage_next.ensures.sound h (c.loop.invariant.sound h sound))
     c.stage_next.ensures.stages.rest (omega (arith, c.waiting.ensures, c.if-waiting-gt0.true))
     (subst (λ (l : LogState _). ¬ WaitsFor l.committing l.queue.waiting) (sym (c.self.view_is ∙ out.0)) out.1))

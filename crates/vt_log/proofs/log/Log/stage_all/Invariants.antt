@@ -8,8 +8,8 @@ use Rattle.vt_log.proofs.log.Log.stage_all.Given as goal
 abbrev pub invariant-loop : goal.invariant-loop
 invariant-loop g l = record {
   stages : Stages l.fn.self l.self;
-  sound : (h : History) → IsSound g.S.Scorer.score_of g.D.Disk.bytes g.D.Disk.images g.D.Disk.size l.fn.self h
-      → IsSound g.S.Scorer.score_of g.D.Disk.bytes g.D.Disk.images g.D.Disk.size l.self h;
+  sound : (h : History) → IsSound g.S.Scorer.score_of g.D.Disk l.fn.self h
+      → IsSound g.S.Scorer.score_of g.D.Disk l.self h;
 }
 
 -- fewer wait

@@ -11,4 +11,4 @@ invariant_of-self g c =
 
 pub returns-in-Some-clause-sound : goal.returns-in-Some-clause-sound
 returns-in-Some-clause-sound g c h sound =
-    rw c.stage.ensures (staged_sound _ _ _ _ _ c.args.self.now h c.in-Some.packed c.take_for.new.self c.self.view_is g.met.S.Scorer.score_len sound c.requires.rest (c.in-Some.ensures).0 (c.in-Some.ensures).1)
+    rw c.stage.ensures (staged_sound _ _ _ c.args.self.now h c.in-Some.packed c.take_for.new.self c.self.view_is g.met.S.Scorer.score_len sound c.requires.rest (c.in-Some.ensures).0 (c.in-Some.ensures).1)
