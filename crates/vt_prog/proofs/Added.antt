@@ -14,6 +14,7 @@ use Rattle.vt_model.specs.Places.{Setup, next_arena, place_of}
 use Rattle.vt_model.specs.Answer.{Outcome, answer_to_write, adds, with_added}
 use Rattle.vt_model.proofs.Adding.{IsLegal-with_added}
 use Rattle.vt_model.proofs.Spots.{place_of-append}
+use Rattle.vt_log.specs.Members.{DiskOf}
 use Rattle.vt_log.specs.declared.bad.Full.{Full}
 use Rattle.vt_log.specs.Answers.{Appends}
 use Rattle.vt_log.specs.Log.{LogState, setup_of}
@@ -57,19 +58,19 @@ last_or_before (x ∷ xs) y zero z at = inl (omega arith, at)
 last_or_before (x ∷ xs) y (suc i) z at =
     ⊎_elim (λ before. inl (omega (arith, before.0), before.1)) (λ last. inr (ap (λ (n : ℕ). suc n) last.0, last.1)) (last_or_before xs y i z at)
 
-module _ {D : Type 0} (score_of : List ℕ → List ℕ) (tells : Bool) (bytes : D → List ℕ) (images : D → List ℕ → Type 0) (size : D → ℕ)
-    (s : StoreState D) (h : History) (was : Holds score_of tells bytes images size s h) (p : Packed) (kind : ℕ) (block : List ℕ) where
+module _ {D : Type 0} (score_of : List ℕ → List ℕ) (disk : DiskOf D)
+    (s : StoreState D) (h : History) (was : Holds score_of disk s h) (p : Packed) (kind : ℕ) (block : List ℕ) where
   -- where a block goes is told by the arenas alone
   next_is : (n : ℕ) → next_arena (setup_of s.log) h n ≡ next_arena memory h n
   next_is n = ap (λ (setup : Setup). next_arena setup h n) was.setup
 
   module _ (len : p.len ≡ length block)
       (passes : answer_to_write score_of memory h kind block ≡ adds (score_of block) kind block (next_arena memory h (length block))) where
-    pub refused : (l : LogState D) (full : Full) → Appends score_of bytes images size s.log l h p (Err full)
+    pub refused : (l : LogState D) (full : Full) → Appends score_of disk s.log l h p (Err full)
         → answer_to_write score_of memory h kind block ≡ adds (score_of block) kind block None
     refused l full none = passes ∙ ap (adds (score_of block) kind block) (ap (next_arena memory h) (sym len) ∙ sym (next_is p.len) ∙ none)
 
-    module _ (l : LogState D) (place : Place) (entry : Entry) (appends : Appends score_of bytes images size s.log l h p (Ok place))
+    module _ (l : LogState D) (place : Place) (entry : Entry) (appends : Appends score_of disk s.log l h p (Ok place))
         (is : accepted place.arena (stored_of p) ≡ record { block = record { kind = kind; bytes = block }; arena = place.arena }) where
       abbrev block_added : Accepted
       block_added = record { block = record { kind = kind; bytes = block }; arena = place.arena }
@@ -89,11 +90,11 @@ module _ {D : Type 0} (score_of : List ℕ → List ℕ) (tells : Bool) (bytes :
           ∙ ap (λ (e : Accepted). place_of (setup_of s.log) (h ++ e ∷ []) (length h)) (sym is) ∙ appends.1
 
       pub appended : setup_of l ≡ setup_of s.log → entry.key.score.0 ≡ score_of block → entry.key.kind ≡ kind → entry.size ≡ length block → entry.place ≡ place
-          → Holds score_of tells bytes images size (record { log = l; entries = s.entries ++ entry ∷ [] }) (with_added h (answer_to_write score_of memory h kind block).added)
+          → Holds score_of disk (record { log = l; entries = s.entries ++ entry ∷ [] }) (with_added h (answer_to_write score_of memory h kind block).added)
       appended setup score_is kind_is size_is place_is = record {
         tells_is = was.tells_is;
         legal = IsLegal-with_added score_of memory h (write kind block) was.legal;
-        sound = subst (λ (h : History). IsSound score_of bytes images size l h) (ap (λ (e : Accepted). h ++ e ∷ []) is ∙ sym longer) appends.2;
+        sound = subst (λ (h : History). IsSound score_of disk l h) (ap (λ (e : Accepted). h ++ e ∷ []) is ∙ sym longer) appends.2;
         setup = setup ∙ was.setup;
         many = length-append s.entries (entry ∷ []) ∙ ap (λ (n : ℕ). n + 1) was.many ∙ sym (length-append h (block_added ∷ [])) ∙ ap length (sym longer);
         entries = subst (λ (h : History). (i : ℕ) (e : Accepted) (x : Entry) → slice_get h i ≡ Some e → slice_get (s.entries ++ entry ∷ []) i ≡ Some x → IsEntryOf score_of h i e x) (sym longer) each;

@@ -4,6 +4,7 @@ use Rattle.std.specs.Prelude.{slice_get}
 use Rattle.std.specs.List.{range_with_len}
 use Rattle.std.proofs.Math.Seq.{take-append_seam}
 use Rattle.std.proofs.lemmas.List.{length-map, drop_all}
+use Rattle.vt_log.specs.Members.{DiskOf}
 use Rattle.vt_part.specs.declared.layout.ArenaRegion.{ArenaRegion}
 use Rattle.vt_part.specs.Layout.{layout_of, arena_of, AreDistinct}
 use Rattle.vt_part.specs.declared.part.Part.{Part}
@@ -32,16 +33,16 @@ map_there f [] i x y at at' = absurd (cc)
 map_there f (z ∷ xs) zero x y at at' = cc
 map_there f (z ∷ xs) (suc i) x y at at' = map_there f xs i x y at at'
 
-pub own_images : {D : Type 0} (bytes : D → List ℕ) (images : D → List ℕ → Type 0) → ((disk : D) → images disk (bytes disk)) → (disks : List D) → AreImages images disks (map bytes disks)
-own_images bytes images own disks = record {
-  many = length-map disks bytes;
-  each = λ i disk file at at'. subst (images disk) (sym (map_there bytes disks i disk file at at')) (own disk);
+pub own_images : {D : Type 0} (disk : DiskOf D) → ((device : D) → disk.images device (disk.bytes device)) → (disks : List D) → AreImages disk disks (map disk.bytes disks)
+own_images disk own disks = record {
+  many = length-map disks disk.bytes;
+  each = λ i device file at at'. subst (disk.images device) (sym (map_there disk.bytes disks i device file at at')) (own device);
 }
 
-pub only_memory : {D : Type 0} (faults : D → ℕ) → ((disk : D) → faults disk ≡ 0) → (bad : LogBad) (old new : List D)
-    → CountsFault bad (map faults old) (map faults new) → (bad ≡ bads.Fault) ⊎ (bad ≡ bads.NoMemory) → bad ≡ bads.NoMemory
-only_memory faults never bad old new cause is =
-    ⊎_elim (λ fault. absurd (none_rose faults never old new (subst (λ (b : LogBad). CountsFault b (map faults old) (map faults new)) fault cause))) (λ none. none) is
+pub only_memory : {D : Type 0} (disk : DiskOf D) → ((device : D) → disk.faults device ≡ 0) → (bad : LogBad) (old new : List D)
+    → CountsFault bad (map disk.faults old) (map disk.faults new) → (bad ≡ bads.Fault) ⊎ (bad ≡ bads.NoMemory) → bad ≡ bads.NoMemory
+only_memory disk never bad old new cause is =
+    ⊎_elim (λ fault. absurd (none_rose disk never old new (subst (λ (b : LogBad). CountsFault b (map disk.faults old) (map disk.faults new)) fault cause))) (λ none. none) is
 
 -- a list that was written over by one as long is that one
 pub written_back : {X : Type 0} (xs ys : List X) (n : ℕ) → length xs ≡ length ys → n ≡ length ys → take n (xs ++ drop (length xs) ys) ≡ xs

@@ -11,6 +11,7 @@ use Rattle.vt_base.specs.declared.why.Why.TheVariants.{BadType, TooSmall, Absent
 use Rattle.vt_base.specs.Protocol.{read, r_read}
 use Rattle.vt_model.specs.History.{History, Accepted, has_key, held}
 use Rattle.vt_model.specs.Answer.{Outcome, answer_to_read, lends, refuses, replies, with_added}
+use Rattle.vt_log.specs.Members.{DiskOf}
 use Rattle.vt_log.specs.Log.{LogState}
 use Rattle.vt_session.specs.Answered.{ReachesParts}
 use Rattle.vt_prog.specs.Serving.{Serves, FailsFor, TellsFaults, MayNotRead}
@@ -32,15 +33,15 @@ module _ (score : List ℕ → List ℕ) (h : History) (s : List ℕ) (kind coun
   given : (e : Accepted) → find (has_key score s kind) h ≡ Some e → length e.block.bytes ≤ count → answer_to_read score h s kind count ≡ replies (r_read e.block.bytes)
   given e found most = read_as (Some e) found ∙ ap (λ b. cond b (refuses TooSmall) (replies (r_read e.block.bytes))) (le-ltb count (length e.block.bytes) most)
 
-  pub serves : {D : Type 0} (faults : D → ℕ) (old new : LogState D) (holds : History → Type 0) (e : Accepted) (r : Result (List ℕ) Why) → find (has_key score s kind) h ≡ Some e
-      → length e.block.bytes ≤ count → MatchResult r (λ block. block ≡ e.block.bytes) MayNotRead → TellsFaults faults old new r → holds h
-      → Serves score holds (FailsFor faults old new) h (read s kind count) (λ block. r_read block) r
-  serves faults old new holds e (Ok block) found most is tells hold =
+  pub serves : {D : Type 0} (disk : DiskOf D) (old new : LogState D) (holds : History → Type 0) (e : Accepted) (r : Result (List ℕ) Why) → find (has_key score s kind) h ≡ Some e
+      → length e.block.bytes ≤ count → MatchResult r (λ block. block ≡ e.block.bytes) MayNotRead → TellsFaults disk old new r → holds h
+      → Serves score holds (FailsFor disk old new) h (read s kind count) (λ block. r_read block) r
+  serves disk old new holds e (Ok block) found most is tells hold =
       let its = given e found most in (
         ap (λ (o : Outcome). o.reply) its ∙ ap r_read (sym is),
         subst (λ (o : Outcome). holds (with_added h o.added)) (sym its) hold,
       )
-  serves faults old new holds e (Err why) found most is tells hold =
+  serves disk old new holds e (Err why) found most is tells hold =
       let reaches : ReachesParts score (read s kind count) = (known, λ zero. true≢false (sym ((bytes_eq-Decides s (score [])).1 zero) ∙ nonzero)) in
-      let by = by_read score (read s kind count) reaches faults old new (List ℕ) why tt is tells in
+      let by = by_read score (read s kind count) reaches disk old new (List ℕ) why tt is tells in
       inr (by.0, by.1, by.2, by.3, hold)

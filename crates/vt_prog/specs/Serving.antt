@@ -6,6 +6,7 @@ use Rattle.vt_base.specs.declared.why.Site.TheVariants.{Clump}
 use Rattle.vt_base.specs.declared.why.Why.{Why}
 use Rattle.vt_base.specs.declared.why.Why.TheVariants.{DiskFault, Stopped, Damaged, NoMemory}
 use Rattle.vt_base.specs.Protocol.{Operation, TMessage, t_hello, t_goodbye, t_ask, RMessage, r_hello, r_ping, r_sync, r_write, r_read, r_refused}
+use Rattle.vt_log.specs.Members.{DiskOf}
 use Rattle.vt_model.specs.History.{History}
 use Rattle.vt_model.specs.Answer.{answer, with_added}
 use Rattle.vt_arena.specs.declared.bad.ReadBad.{ReadBad}
@@ -67,39 +68,39 @@ ServesMessage score_of holds h (t_ask m) answer =
 
 -- Why the store may fail in a call that leaves its log so: a call of a disk failed, and these are
 -- the counts of its disks' faults before it and behind it; the log had stopped; or memory ran out.
-abbrev pub FailsFor : {D : Type 0} → (faults : D → ℕ) → (old new : LogState D) → Cause → Type 0
-FailsFor faults old new (disk_fault before after) =
-    (before ≡ map faults old.disks) × (after ≡ map faults new.disks)
-FailsFor faults old new (stopped log call) = old.stopped ≡ Some call
-FailsFor faults old new (stopped (section number) call) = ⊥
-FailsFor faults old new (damaged site want found) = ⊥
-FailsFor faults old new no_memory = ⊤
+abbrev pub FailsFor : {D : Type 0} → DiskOf D → (old new : LogState D) → Cause → Type 0
+FailsFor disk old new (disk_fault before after) =
+    (before ≡ map disk.faults old.disks) × (after ≡ map disk.faults new.disks)
+FailsFor disk old new (stopped log call) = old.stopped ≡ Some call
+FailsFor disk old new (stopped (section number) call) = ⊥
+FailsFor disk old new (damaged site want found) = ⊥
+FailsFor disk old new no_memory = ⊤
 
 -- no call of the disks failed, and the log has stopped exactly if it had
-abbrev pub NoneFailed : {D : Type 0} → (faults : D → ℕ) → (old new : LogState D) → Type 0
-NoneFailed faults old new =
-    (map faults new.disks ≡ map faults old.disks) × (new.stopped ≡ old.stopped)
+abbrev pub NoneFailed : {D : Type 0} → DiskOf D → (old new : LogState D) → Type 0
+NoneFailed disk old new =
+    (map disk.faults new.disks ≡ map disk.faults old.disks) × (new.stopped ≡ old.stopped)
 
 -- Whatever the disks hold: a disk fault is told exactly where a call of one failed, and that the
 -- log has stopped only where it had, at the call of this number.
-abbrev pub TellsFaults : {D X : Type 0} → (faults : D → ℕ) → (old new : LogState D)
+abbrev pub TellsFaults : {D X : Type 0} → DiskOf D → (old new : LogState D)
     → Result X Why → Type 0
-TellsFaults faults old new (Ok x) = NoneFailed faults old new
-TellsFaults faults old new (Err DiskFault) =
-    OneHasRisen (map faults old.disks) (map faults new.disks)
-TellsFaults faults old new (Err (Stopped call)) =
-    (old.stopped ≡ Some call) × NoneFailed faults old new
-TellsFaults faults old new (Err why) = NoneFailed faults old new
+TellsFaults disk old new (Ok x) = NoneFailed disk old new
+TellsFaults disk old new (Err DiskFault) =
+    OneHasRisen (map disk.faults old.disks) (map disk.faults new.disks)
+TellsFaults disk old new (Err (Stopped call)) =
+    (old.stopped ≡ Some call) × NoneFailed disk old new
+TellsFaults disk old new (Err why) = NoneFailed disk old new
 
 -- a commit goes on, or a call of it fails and stops the log, or it was stopped before
-abbrev pub CommitsOrStops : {D X : Type 0} → (faults : D → ℕ) → (old new : LogState D)
+abbrev pub CommitsOrStops : {D X : Type 0} → DiskOf D → (old new : LogState D)
     → Result X Why → Type 0
-CommitsOrStops faults old new (Ok x) = NoneFailed faults old new
-CommitsOrStops faults old new (Err DiskFault) =
-    OneHasRisen (map faults old.disks) (map faults new.disks) × IsSome new.stopped
-CommitsOrStops faults old new (Err (Stopped call)) =
-    (old.stopped ≡ Some call) × NoneFailed faults old new
-CommitsOrStops faults old new (Err why) = ⊥
+CommitsOrStops disk old new (Ok x) = NoneFailed disk old new
+CommitsOrStops disk old new (Err DiskFault) =
+    OneHasRisen (map disk.faults old.disks) (map disk.faults new.disks) × IsSome new.stopped
+CommitsOrStops disk old new (Err (Stopped call)) =
+    (old.stopped ≡ Some call) × NoneFailed disk old new
+CommitsOrStops disk old new (Err why) = ⊥
 
 -- nothing changes but the state of disks that are read
 abbrev pub SameButDisks : {D : Type 0} → (old new : StoreState D) → Type 0
@@ -126,17 +127,17 @@ block_or_why place (Err bad) = Err (why_unread place bad)
 
 -- Whatever the disks hold: the block of this entry is given as the log gives it, or it is told why
 -- the log doesn't.
-abbrev pub GivesEntry : {D : Type 0} → (score_of : List ℕ → List ℕ) → (tells : Bool)
-    → (bytes : D → List ℕ) → LogState D → Entry → Result (List ℕ) Why → Type 0
-GivesEntry score_of tells bytes l entry result =
-    (r : Result (List ℕ) ReadBad) × AnswersRead score_of tells bytes l entry.place entry.key r
+abbrev pub GivesEntry : {D : Type 0} → (score_of : List ℕ → List ℕ) → DiskOf D → LogState D → Entry
+    → Result (List ℕ) Why → Type 0
+GivesEntry score_of disk l entry result =
+    (r : Result (List ℕ) ReadBad) × AnswersRead score_of disk l entry.place entry.key r
     × (result ≡ block_or_why entry.place r)
 
 -- where the log doesn't give it, this answer tells why
-abbrev pub TellsUnread : {D X : Type 0} → (score_of : List ℕ → List ℕ) → (tells : Bool)
-    → (bytes : D → List ℕ) → LogState D → Entry → Result X Why → Type 0
-TellsUnread score_of tells bytes l entry result =
-    (r : Result (List ℕ) ReadBad) × AnswersRead score_of tells bytes l entry.place entry.key r
+abbrev pub TellsUnread : {D X : Type 0} → (score_of : List ℕ → List ℕ) → DiskOf D → LogState D
+    → Entry → Result X Why → Type 0
+TellsUnread score_of disk l entry result =
+    (r : Result (List ℕ) ReadBad) × AnswersRead score_of disk l entry.place entry.key r
     × IfErr r (λ bad. result ≡ Err (why_unread entry.place bad))
 
 -- why the log doesn't go on

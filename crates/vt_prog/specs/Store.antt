@@ -2,6 +2,7 @@
 use Rattle.std.specs.Prelude.{ℕ, ◌≡◌, ◌==◌, ◌&&◌, Bool, IsTrue, Option, None, Some, List, [], ◌∷◌, length, slice_get, find}
 use Rattle.std.specs.Str.{bytes_eq}
 use Rattle.vt_base.specs.declared.place.Entry.{Entry}
+use Rattle.vt_log.specs.Members.{DiskOf}
 use Rattle.vt_model.specs.History.{History, Accepted}
 use Rattle.vt_model.specs.Places.{Setup, place_of}
 use Rattle.vt_model.specs.Legal.{IsLegal}
@@ -36,27 +37,26 @@ pub record IsEntryOf (score_of : List ℕ → List ℕ) (h : History) (i : ℕ) 
 
 -- The log has the arenas of the store in memory and has accepted this history, on disks that tell
 -- what they hold, and each of its blocks has its entry.
-pub record Holds {D : Type 0} (score_of : List ℕ → List ℕ) (tells : Bool) (bytes : D → List ℕ)
-    (images : D → List ℕ → Type 0) (size : D → ℕ) (s : StoreState D) (h : History) : Type 0 where
-  pub tells_is : IsTrue tells
+pub record Holds {D : Type 0} (score_of : List ℕ → List ℕ) (disk : DiskOf D) (s : StoreState D)
+    (h : History) : Type 0 where
+  pub tells_is : IsTrue disk.tells
   pub legal : IsLegal score_of memory h
-  pub sound : IsSound score_of bytes images size s.log h
+  pub sound : IsSound score_of disk s.log h
   pub setup : setup_of s.log ≡ record memory { sections = [] }
   pub many : length s.entries ≡ length h
   pub entries : (i : ℕ) (e : Accepted) (entry : Entry) → slice_get h i ≡ Some e
       → slice_get s.entries i ≡ Some entry → IsEntryOf score_of h i e entry
 
 -- No call of its disks fails, nor did one before, so that it goes on.
-pub record HoldsInMemory {D : Type 0} (score_of : List ℕ → List ℕ) (tells : Bool)
-    (bytes : D → List ℕ) (images : D → List ℕ → Type 0) (size faults : D → ℕ) (s : StoreState D)
-    (h : History) : Type 0 where
-  pub holds : Holds score_of tells bytes images size s h
-  pub never : (disk : D) → faults disk ≡ 0
+pub record HoldsInMemory {D : Type 0} (score_of : List ℕ → List ℕ) (disk : DiskOf D)
+    (s : StoreState D) (h : History) : Type 0 where
+  pub holds : Holds score_of disk s h
+  pub never : (device : D) → disk.faults device ≡ 0
   pub runs : s.log.stopped ≡ None
 
 -- a log of the store in memory that has accepted nothing
-pub record IsEmptyLog {D : Type 0} (score_of : List ℕ → List ℕ) (bytes : D → List ℕ)
-    (images : D → List ℕ → Type 0) (size : D → ℕ) (log : LogState D) : Type 0 where
-  pub sound : IsSound score_of bytes images size log []
+pub record IsEmptyLog {D : Type 0} (score_of : List ℕ → List ℕ) (disk : DiskOf D) (log : LogState D)
+    : Type 0 where
+  pub sound : IsSound score_of disk log []
   pub setup : setup_of log ≡ record memory { sections = [] }
   pub runs : log.stopped ≡ None

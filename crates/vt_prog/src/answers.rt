@@ -44,11 +44,11 @@ pub fn answer_all<D: Disk, L: Ledger, S: Scorer, K: Sink>(
 ) -> (Result<Ended, Failed>, bool)
     requires heard { IsHeard heard }
     ensures told { (h : History)
-        → HoldsInMemory S.score_of D.tells D.bytes D.images D.size D.faults store.old h
+        → HoldsInMemory S.score_of D.Disk store.old h
         → IsTrue K.tells → AnswersAll S.score_of heard.entry h result.0 result.1
         (K.written sink.old) output.old (K.written sink.new) }
     ensures end { (h : History)
-        → HoldsInMemory S.score_of D.tells D.bytes D.images D.size D.faults store.old h
+        → HoldsInMemory S.score_of D.Disk store.old h
         → IfOk result.0 (λ ended. (items : List Item) × HearsOn heard.entry items ended) }
     ensures cause { HasCause result.0 (K.faults sink.old) (K.faults sink.new) }
 {
@@ -72,9 +72,9 @@ fn answer_next<D: Disk, L: Ledger, S: Scorer, K: Sink>(
     ran_out: &mut bool,
 ) -> Result<Option<Ended>, Failed>
     ensures turns { (h : History)
-        → HoldsInMemory S.score_of D.tells D.bytes D.images D.size D.faults store.old h
+        → HoldsInMemory S.score_of D.Disk store.old h
         → TakesTurns S.score_of
-        (HoldsInMemory S.score_of D.tells D.bytes D.images D.size D.faults store.new)
+        (HoldsInMemory S.score_of D.Disk store.new)
         heard.old heard.new h ran_out.old ran_out.new
         (λ said. IsTrue K.tells → Writes result
         (K.written sink.old) output.old (K.written sink.new) output.new said) }
@@ -84,7 +84,7 @@ fn answer_next<D: Disk, L: Ledger, S: Scorer, K: Sink>(
     // Where a sync is next, every block is committed behind it, and none is queued.
     ensures durable { (tag : ℕ) (items : List Item) (ended : Ended) (h : History)
         → HearsOn heard.old (asked tag sync ∷ items) ended
-        → HoldsInMemory S.score_of D.tells D.bytes D.images D.size D.faults store.old h
+        → HoldsInMemory S.score_of D.Disk store.old h
         → (queued store.new.log ≡ 0) × (store.new.log.durable ≡ length h) }
     ensures shorter { result ≡ Ok None → left_len heard.new < left_len heard.old }
     ensures goes_on { IsHeard heard.new }
@@ -117,14 +117,14 @@ fn ask<D: Disk, L: Ledger, S: Scorer>(
 ) -> Result<Said, Why>
     requires known { request.now ≢ Request.Goodbye }
     ensures answered { (h : History)
-        → HoldsInMemory S.score_of D.tells D.bytes D.images D.size D.faults store.old h
+        → HoldsInMemory S.score_of D.Disk store.old h
         → ServesMessage S.score_of
-        (HoldsInMemory S.score_of D.tells D.bytes D.images D.size D.faults store.new)
+        (HoldsInMemory S.score_of D.Disk store.new)
         h (message_of request.now) result }
 
     // After a sync every block is committed, and none is queued.
     ensures durable { request.now ≡ Request.Sync → (h : History)
-        → HoldsInMemory S.score_of D.tells D.bytes D.images D.size D.faults store.old h
+        → HoldsInMemory S.score_of D.Disk store.old h
         → (queued store.new.log ≡ 0) × (store.new.log.durable ≡ length h) }
     ensures fits { FitsReply (reply_to result) }
 {

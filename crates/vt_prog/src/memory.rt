@@ -23,7 +23,7 @@ pub fn empty_log<D: Disk + Drop, S: Scorer>(
     requires tells { IsTrue D.tells }
     requires never { (disk : D) → D.faults disk ≡ 0 }
     requires size { D.size disk ≡ 1056768 }
-    ensures { IfOk result (IsEmptyLog S.score_of D.bytes D.images D.size) }
+    ensures { IfOk result (IsEmptyLog S.score_of D.Disk) }
 {
     let part = one_arena(alloc, disk)?;
     let mut parts = Vec::with_capacity(alloc, 1)?;

@@ -100,7 +100,7 @@ fn answer_input<D: Disk, L: Ledger, K: Sink, S: Scorer>(
     sink: &mut K,
     output: &mut Output,
 ) -> (Ended, bool)
-    requires empty { HoldsInMemory S.score_of D.tells D.bytes D.images D.size D.faults store.old [] }
+    requires empty { HoldsInMemory S.score_of D.Disk store.old [] }
     requires line { output.old ≡ server_line }
     ensures told { IsTrue K.tells → AnswersInput S.score_of input.now result.0 result.1
         (K.written sink.old) (K.written sink.new) }
@@ -124,9 +124,8 @@ fn prepare<L: Ledger, S: Scorer>(
     requires name { blank.name ≡ L.name }
     requires parts { blank.parts ≡ L.parts }
     requires some { 0 < L.parts }
-    ensures empty { IfOk result (λ it. HoldsInMemory S.score_of ⟦<MemDisk as Disk>⟧.tells
-        ⟦<MemDisk as Disk>⟧.bytes ⟦<MemDisk as Disk>⟧.images ⟦<MemDisk as Disk>⟧.size
-        ⟦<MemDisk as Disk>⟧.faults it.0 []) }
+    ensures empty { IfOk result
+        (λ it. HoldsInMemory S.score_of ⟦<MemDisk as Disk>⟧ it.0 []) }
     ensures line { IfOk result (λ it. it.1 ≡ server_line) }
 {
     let disk = MemDisk::new(alloc, BLOCK_LEN as u64 + ARENA_LEN)?;

@@ -66,18 +66,18 @@ impl<D: Disk, L: Ledger, S: Scorer> LogStore<D, L, S> {
     /// Takes a block in, and gives its score. It is queued: a sync commits it.
     pub fn write(&mut self, alloc: Global, kind: u8, bytes: &[u8]) -> Result<Score, Why>
         ensures serves { (h : History)
-            → Holds S.score_of D.tells D.bytes D.images D.size self.old h
-            → Serves S.score_of (Holds S.score_of D.tells D.bytes D.images D.size self.new)
-            (FailsFor D.faults self.old.log self.new.log)
+            → Holds S.score_of D.Disk self.old h
+            → Serves S.score_of (Holds S.score_of D.Disk self.new)
+            (FailsFor D.Disk self.old.log self.new.log)
             h (write kind bytes.now) (λ score. r_write score.0) result }
-        ensures cause { TellsFaults D.faults self.old.log self.new.log result }
+        ensures cause { TellsFaults D.Disk self.old.log self.new.log result }
 
         // Where a block of the same score isn't read, whatever the disks hold, it is told why.
         ensures unread { (entry : Entry) → self.old.log.stopped ≡ None
             → IsBlock (record { kind = kind; bytes = bytes.now })
             → S.score_of bytes.now ≢ S.score_of []
             → entry_of_score self.old.entries (S.score_of bytes.now) ≡ Some entry
-            → TellsUnread S.score_of D.tells D.bytes self.old.log entry result }
+            → TellsUnread S.score_of D.Disk self.old.log entry result }
 
         // Device calls that commit are made only while the queue is full, and none for a block that
         // is held or refused.
@@ -113,19 +113,19 @@ impl<D: Disk, L: Ledger, S: Scorer> LogStore<D, L, S> {
     /// The bytes of a block, if it has `count` at most.
     pub fn read(&mut self, alloc: Global, score: &Score, kind: u8, count: u32) -> Result<Bytes, Why>
         ensures serves { (h : History)
-            → Holds S.score_of D.tells D.bytes D.images D.size self.old h
-            → Serves S.score_of (Holds S.score_of D.tells D.bytes D.images D.size self.new)
-            (FailsFor D.faults self.old.log self.new.log)
+            → Holds S.score_of D.Disk self.old h
+            → Serves S.score_of (Holds S.score_of D.Disk self.new)
+            (FailsFor D.Disk self.old.log self.new.log)
             h (read score.now.0 kind count) (λ block. r_read block) result }
-        ensures cause { TellsFaults D.faults self.old.log self.new.log result }
-        ensures reads { OnlyReads S.score_of D.tells D.bytes D.images D.size D.calls 2
+        ensures cause { TellsFaults D.Disk self.old.log self.new.log result }
+        ensures reads { OnlyReads S.score_of D.Disk 2
             self.old.log self.new.log }
         ensures entries { self.new.entries ≡ self.old.entries }
 
         // Whatever the disks hold, an entry's block is given as the log gives it.
         ensures answer { (entry : Entry) → IsKind kind → score.now.0 ≢ S.score_of []
             → entry_of_key self.old.entries score.now.0 kind ≡ Some entry → entry.size ≤ count
-            → GivesEntry S.score_of D.tells D.bytes self.old.log entry result }
+            → GivesEntry S.score_of D.Disk self.old.log entry result }
         ensures most { IfOk result (λ block. length block ≤ 57344) }
     {
         let kind = Kind::from_wire(kind).ok_or(Why::BadType)?;
@@ -149,11 +149,11 @@ impl<D: Disk, L: Ledger, S: Scorer> LogStore<D, L, S> {
     /// Commits every block.
     pub fn sync(&mut self) -> Result<(), Why>
         ensures serves { (h : History)
-            → Holds S.score_of D.tells D.bytes D.images D.size self.old h
-            → Serves S.score_of (Holds S.score_of D.tells D.bytes D.images D.size self.new)
-            (FailsFor D.faults self.old.log self.new.log)
+            → Holds S.score_of D.Disk self.old h
+            → Serves S.score_of (Holds S.score_of D.Disk self.new)
+            (FailsFor D.Disk self.old.log self.new.log)
             h sync (λ _. r_sync) result }
-        ensures cause { CommitsOrStops D.faults self.old.log self.new.log result }
+        ensures cause { CommitsOrStops D.Disk self.old.log self.new.log result }
         ensures durable { OnOk result (queued self.new.log ≡ 0) }
         ensures stopped { (call : ℕ) → self.old.log.stopped ≡ Some call
             → (result ≡ Err (Why.Stopped call)) × (self.new ≡ self.old) }
@@ -166,16 +166,16 @@ impl<D: Disk, L: Ledger, S: Scorer> LogStore<D, L, S> {
     fn collides(&mut self, alloc: Global, score: &Score, bytes: &[u8]) -> Result<bool, Why>
         requires { score.now.0 ≡ S.score_of bytes.now }
         ensures tells { (h : History)
-            → Holds S.score_of D.tells D.bytes D.images D.size self.old h
+            → Holds S.score_of D.Disk self.old h
             → MatchResult result (λ it. it ≡ collides S.score_of h bytes.now) MayNotRead }
         ensures unread { (entry : Entry) → score.now.0 ≢ S.score_of []
             → entry_of_score self.old.entries score.now.0 ≡ Some entry
-            → TellsUnread S.score_of D.tells D.bytes self.old.log entry result }
+            → TellsUnread S.score_of D.Disk self.old.log entry result }
         ensures holds { (h : History)
-            → Holds S.score_of D.tells D.bytes D.images D.size self.old h
-            → Holds S.score_of D.tells D.bytes D.images D.size self.new h }
-        ensures cause { TellsFaults D.faults self.old.log self.new.log result }
-        ensures reads { OnlyReads S.score_of D.tells D.bytes D.images D.size D.calls 2
+            → Holds S.score_of D.Disk self.old h
+            → Holds S.score_of D.Disk self.new h }
+        ensures cause { TellsFaults D.Disk self.old.log self.new.log result }
+        ensures reads { OnlyReads S.score_of D.Disk 2
             self.old.log self.new.log }
         ensures entries { self.new.entries ≡ self.old.entries }
     {
@@ -197,12 +197,12 @@ impl<D: Disk, L: Ledger, S: Scorer> LogStore<D, L, S> {
         requires some { 0 < length bytes.now }
         requires most { length bytes.now ≤ 57344 }
         ensures serves { (h : History)
-            → Holds S.score_of D.tells D.bytes D.images D.size self.old h
+            → Holds S.score_of D.Disk self.old h
             → collides S.score_of h bytes.now ≡ Bool.false
-            → Serves S.score_of (Holds S.score_of D.tells D.bytes D.images D.size self.new)
-            (FailsFor D.faults self.old.log self.new.log)
+            → Serves S.score_of (Holds S.score_of D.Disk self.new)
+            (FailsFor D.Disk self.old.log self.new.log)
             h (write key.kind bytes.now) (λ _. r_write key.score.0) result }
-        ensures cause { TellsFaults D.faults self.old.log self.new.log result }
+        ensures cause { TellsFaults D.Disk self.old.log self.new.log result }
         ensures commits { MakesRoom self.old.log self.new.log }
         ensures refused { IfErr result (LeavesOrStops (self.new ≡ self.old) self.new.log) }
         ensures kept { self.new.entries ≡ self.old.entries
@@ -220,16 +220,16 @@ impl<D: Disk, L: Ledger, S: Scorer> LogStore<D, L, S> {
     /// Reads a block from the log.
     fn load(&mut self, alloc: Global, entry: &Entry) -> Result<Bytes, Why>
         ensures loads { (h : History) (i : ℕ) (e : Accepted)
-            → Holds S.score_of D.tells D.bytes D.images D.size self.old h
+            → Holds S.score_of D.Disk self.old h
             → slice_get h i ≡ Some e → IsEntryOf S.score_of h i e entry.now
             → MatchResult result (λ block. block ≡ e.block.bytes) MayNotRead }
 
-        ensures answer { GivesEntry S.score_of D.tells D.bytes self.old.log entry.now result }
+        ensures answer { GivesEntry S.score_of D.Disk self.old.log entry.now result }
         ensures holds { (h : History)
-            → Holds S.score_of D.tells D.bytes D.images D.size self.old h
-            → Holds S.score_of D.tells D.bytes D.images D.size self.new h }
-        ensures cause { TellsFaults D.faults self.old.log self.new.log result }
-        ensures reads { OnlyReads S.score_of D.tells D.bytes D.images D.size D.calls 2
+            → Holds S.score_of D.Disk self.old h
+            → Holds S.score_of D.Disk self.new h }
+        ensures cause { TellsFaults D.Disk self.old.log self.new.log result }
+        ensures reads { OnlyReads S.score_of D.Disk 2
             self.old.log self.new.log }
         ensures entries { self.new.entries ≡ self.old.entries }
         ensures most { IfOk result (λ block. length block ≤ 57344) }
@@ -251,13 +251,13 @@ impl<D: Disk, L: Ledger, S: Scorer> LogStore<D, L, S> {
 
         // Where no other test refuses the block, it is added if an arena has room.
         ensures serves { (h : History)
-            → Holds S.score_of D.tells D.bytes D.images D.size self.old h
+            → Holds S.score_of D.Disk self.old h
             → answer_to_write S.score_of memory h key.kind bytes.now
             ≡ adds key.score.0 key.kind bytes.now (next_arena memory h (length bytes.now))
-            → Serves S.score_of (Holds S.score_of D.tells D.bytes D.images D.size self.new)
-            (FailsFor D.faults self.old.log self.new.log)
+            → Serves S.score_of (Holds S.score_of D.Disk self.new)
+            (FailsFor D.Disk self.old.log self.new.log)
             h (write key.kind bytes.now) (λ _. r_write key.score.0) result }
-        ensures cause { TellsFaults D.faults self.old.log self.new.log result }
+        ensures cause { TellsFaults D.Disk self.old.log self.new.log result }
         ensures commits { MakesRoom self.old.log self.new.log }
         ensures refused { IfErr result (LeavesOrStops (self.new ≡ self.old) self.new.log) }
         ensures kept { self.new.entries ≡ self.old.entries
@@ -291,9 +291,9 @@ impl<D: Disk, L: Ledger, S: Scorer> LogStore<D, L, S> {
 /// Advances a log while its queue has no room for a block.
 fn make_room<D: Disk, S: Scorer>(log: &mut Log<D, S>) -> Result<(), Why>
     ensures sound { (h : History) → IsTrue D.tells
-        → IsSound S.score_of D.bytes D.images D.size log.old h
-        → IsSound S.score_of D.bytes D.images D.size log.new h }
-    ensures cause { CommitsOrStops D.faults log.old log.new result }
+        → IsSound S.score_of D.Disk log.old h
+        → IsSound S.score_of D.Disk log.new h }
+    ensures cause { CommitsOrStops D.Disk log.old log.new result }
     ensures room { OnOk result (queued log.new < QUEUE_MAX) }
     ensures refused { IfErr result (LeavesOrStops (log.new ≡ log.old) log.new) }
 
@@ -311,9 +311,9 @@ fn make_room<D: Disk, S: Scorer>(log: &mut Log<D, S>) -> Result<(), Why>
 /// Advances a log until nothing is queued.
 fn commit<D: Disk, S: Scorer>(log: &mut Log<D, S>) -> Result<(), Why>
     ensures sound { (h : History) → IsTrue D.tells
-        → IsSound S.score_of D.bytes D.images D.size log.old h
-        → IsSound S.score_of D.bytes D.images D.size log.new h }
-    ensures cause { CommitsOrStops D.faults log.old log.new result }
+        → IsSound S.score_of D.Disk log.old h
+        → IsSound S.score_of D.Disk log.new h }
+    ensures cause { CommitsOrStops D.Disk log.old log.new result }
     ensures none { OnOk result (queued log.new ≡ 0) }
     ensures stopped { (call : ℕ) → log.old.stopped ≡ Some call
         → (result ≡ Err (Why.Stopped call)) × (log.new ≡ log.old) }
@@ -326,9 +326,9 @@ fn commit<D: Disk, S: Scorer>(log: &mut Log<D, S>) -> Result<(), Why>
 /// Makes a log's next device call. Whether it had one to make.
 fn advance<D: Disk, S: Scorer>(log: &mut Log<D, S>) -> Result<bool, Why>
     ensures sound { (h : History) → IsTrue D.tells
-        → IsSound S.score_of D.bytes D.images D.size log.old h
-        → IsSound S.score_of D.bytes D.images D.size log.new h }
-    ensures cause { CommitsOrStops D.faults log.old log.new result }
+        → IsSound S.score_of D.Disk log.old h
+        → IsSound S.score_of D.Disk log.new h }
+    ensures cause { CommitsOrStops D.Disk log.old log.new result }
     ensures advances { (r : Result Progress LogErr) × Advances r log.old log.new
         × (result ≡ advanced_by r) }
     ensures stopped { (call : ℕ) → log.old.stopped ≡ Some call

@@ -15,7 +15,7 @@ pub loop-ended-init : goal.loop-ended-init
 loop-ended-init g c = record {
   turns = λ h hold.
       let score = g.S.Scorer.score_of in
-      at_start {P = IsTrue g.K.Sink.tells} score (HoldsInMemory score g.D.Disk.tells g.D.Disk.bytes g.D.Disk.images g.D.Disk.size g.D.Disk.faults c.args.store.now) (tt {0}) c.args.heard h (g.K.Sink.written c.args.sink.now) c.args.output.now hold;
+      at_start {P = IsTrue g.K.Sink.tells} score (HoldsInMemory score g.D.Disk c.args.store.now) (tt {0}) c.args.heard h (g.K.Sink.written c.args.sink.now) c.args.output.now hold;
   heard = c.requires.heard;
   no_fault = refl;
 }
@@ -26,7 +26,7 @@ loop-ended-preserved g c = record {
       let score = g.S.Scorer.score_of in
       let r : Result (Option Ended) Failed = Ok None in
       let before = c.loop-ended.invariant.turns h hold in
-      go_on {P = IsTrue g.K.Sink.tells} r (tt {0}) score (HoldsInMemory score g.D.Disk.tells g.D.Disk.bytes g.D.Disk.images g.D.Disk.size g.D.Disk.faults c.loop-ended.store) (HoldsInMemory score g.D.Disk.tells g.D.Disk.bytes g.D.Disk.images g.D.Disk.size g.D.Disk.faults c.answer_next.new.store) c.args.heard c.loop-ended.heard c.answer_next.new.heard h c.loop-ended.ran_out c.answer_next.new.ran_out
+      go_on {P = IsTrue g.K.Sink.tells} r (tt {0}) score (HoldsInMemory score g.D.Disk c.loop-ended.store) (HoldsInMemory score g.D.Disk c.answer_next.new.store) c.args.heard c.loop-ended.heard c.answer_next.new.heard h c.loop-ended.ran_out c.answer_next.new.ran_out
       (g.K.Sink.written c.args.sink.now) c.args.output.now (g.K.Sink.written c.loop-ended.sink) c.loop-ended.output (g.K.Sink.written c.answer_next.new.sink) c.answer_next.new.output
       before (c.in-Ok-None.ensures.turns before.history before.holds_it);
   heard = c.in-Ok-None.ensures.goes_on;
@@ -39,7 +39,7 @@ returns-in-Ok-Some-clause-told g c h hold tells =
     let end = rw c.in-Ok-Some.field-0-is at c.in-Ok-Some.ensures.end in
     let r : Result (Option Ended) Failed = Ok (Some c.in-Ok-Some.ended) in
     let before = c.loop-ended.invariant.turns h hold in
-    let all = go_on {P = IsTrue g.K.Sink.tells} r (tt {0}) score (HoldsInMemory score g.D.Disk.tells g.D.Disk.bytes g.D.Disk.images g.D.Disk.size g.D.Disk.faults c.loop-ended.store) (HoldsInMemory score g.D.Disk.tells g.D.Disk.bytes g.D.Disk.images g.D.Disk.size g.D.Disk.faults c.answer_next.new.store) c.args.heard c.loop-ended.heard c.answer_next.new.heard h c.loop-ended.ran_out c.answer_next.new.ran_out
+    let all = go_on {P = IsTrue g.K.Sink.tells} r (tt {0}) score (HoldsInMemory score g.D.Disk c.loop-ended.store) (HoldsInMemory score g.D.Disk c.answer_next.new.store) c.args.heard c.loop-ended.heard c.answer_next.new.heard h c.loop-ended.ran_out c.answer_next.new.ran_out
     (g.K.Sink.written c.args.sink.now) c.args.output.now (g.K.Sink.written c.loop-ended.sink) c.loop-ended.output (g.K.Sink.written c.answer_next.new.sink) c.answer_next.new.output
     before (c.in-Ok-Some.ensures.turns before.history before.holds_it) in
     record {
@@ -68,7 +68,7 @@ returns-in-Err-clause-told g c h hold tells =
     let r : Result (Option Ended) Failed = Err c.in-Err.field-0 in
     let left = c.in-Err.ensures.goes_on in
     let before = c.loop-ended.invariant.turns h hold in
-    let all = go_on {P = IsTrue g.K.Sink.tells} r (tt {0}) score (HoldsInMemory score g.D.Disk.tells g.D.Disk.bytes g.D.Disk.images g.D.Disk.size g.D.Disk.faults c.loop-ended.store) (HoldsInMemory score g.D.Disk.tells g.D.Disk.bytes g.D.Disk.images g.D.Disk.size g.D.Disk.faults c.answer_next.new.store) c.args.heard c.loop-ended.heard c.answer_next.new.heard h c.loop-ended.ran_out c.answer_next.new.ran_out
+    let all = go_on {P = IsTrue g.K.Sink.tells} r (tt {0}) score (HoldsInMemory score g.D.Disk c.loop-ended.store) (HoldsInMemory score g.D.Disk c.answer_next.new.store) c.args.heard c.loop-ended.heard c.answer_next.new.heard h c.loop-ended.ran_out c.answer_next.new.ran_out
     (g.K.Sink.written c.args.sink.now) c.args.output.now (g.K.Sink.written c.loop-ended.sink) c.loop-ended.output (g.K.Sink.written c.answer_next.new.sink) c.answer_next.new.output
     before (c.in-Err.ensures.turns before.history before.holds_it) in
     record {

@@ -10,8 +10,8 @@ abbrev pub invariant-loop-ended : goal.invariant-loop-ended
 invariant-loop-ended g l =
     let score = g.S.Scorer.score_of in
     record {
-      turns : (h : History) → HoldsInMemory score g.D.Disk.tells g.D.Disk.bytes g.D.Disk.images g.D.Disk.size g.D.Disk.faults l.fn.store h
-          → TakesTurns score (HoldsInMemory score g.D.Disk.tells g.D.Disk.bytes g.D.Disk.images g.D.Disk.size g.D.Disk.faults l.store) l.fn.heard l.heard h false l.ran_out
+      turns : (h : History) → HoldsInMemory score g.D.Disk l.fn.store h
+          → TakesTurns score (HoldsInMemory score g.D.Disk l.store) l.fn.heard l.heard h false l.ran_out
           (λ (said : List ℕ). IsTrue g.K.Sink.tells → Writes (Ok (tt {0})) (g.K.Sink.written l.fn.sink) l.fn.output (g.K.Sink.written l.sink) l.output said);
       heard : IsHeard l.heard;
       no_fault : g.K.Sink.faults l.sink ≡ g.K.Sink.faults l.fn.sink;

@@ -12,7 +12,7 @@ pub returns-in_ok-flush-in-End-clause-turns : goal.returns-in_ok-flush-in-End-cl
 returns-in_ok-flush-in-End-clause-turns g c h hold =
     let score = g.S.Scorer.score_of in
     let gives = c.in-End.ensures.gives in
-    ends_here score (HoldsInMemory score g.D.Disk.tells g.D.Disk.bytes g.D.Disk.images g.D.Disk.size g.D.Disk.faults c.args.store.now) c.args.heard.now c.next.new.self h c.args.ran_out.now c.in-End.ended _ gives.0 gives.1 hold
+    ends_here score (HoldsInMemory score g.D.Disk c.args.store.now) c.args.heard.now c.next.new.self h c.args.ran_out.now c.in-End.ended _ gives.0 gives.1 hold
     (λ tells. c.in_ok-flush-in-End.ensures.written tells)
 
 pub returns-in_err-flush-in-End-clause-turns : goal.returns-in_err-flush-in-End-clause-turns
@@ -20,7 +20,7 @@ returns-in_err-flush-in-End-clause-turns g c h hold =
     let p = err_from_is_err_and c.from_residual.result c.from_residual.ensures.1 in
     let score = g.S.Scorer.score_of in
     let gives = c.in-End.ensures.gives in
-    rw p.1 (ends_here score (HoldsInMemory score g.D.Disk.tells g.D.Disk.bytes g.D.Disk.images g.D.Disk.size g.D.Disk.faults c.args.store.now) c.args.heard.now c.next.new.self h c.args.ran_out.now c.in-End.ended _ gives.0 gives.1 hold
+    rw p.1 (ends_here score (HoldsInMemory score g.D.Disk c.args.store.now) c.args.heard.now c.next.new.self h c.args.ran_out.now c.in-End.ended _ gives.0 gives.1 hold
     (λ tells. c.in_err-flush-in-End.ensures.written tells))
 
 pub returns-in_ok-add-in-Refused-clause-turns : goal.returns-in_ok-add-in-Refused-clause-turns
@@ -28,7 +28,7 @@ returns-in_ok-add-in-Refused-clause-turns g c h hold =
     let score = g.S.Scorer.score_of in
     let words : List ℕ = rule_words c.in-Refused.rule in
     let is : c.as_bytes-text.result.now ≡ words = c.as_bytes-text.ensures.value ∙ c.rule_text.ensures in
-    settled_taken score (HoldsInMemory score g.D.Disk.tells g.D.Disk.bytes g.D.Disk.images g.D.Disk.size g.D.Disk.faults c.args.store.now) c.args.heard.now c.next.new.self c.in-Refused.tag (r_error words) h c.args.ran_out.now _
+    settled_taken score (HoldsInMemory score g.D.Disk c.args.store.now) c.args.heard.now c.next.new.self c.in-Refused.tag (r_error words) h c.args.ran_out.now _
     c.in-Refused.ensures.gives hold (λ tells. rw is at (c.in_ok-add-in-Refused.ensures.written tells))
 
 pub returns-in_err-add-in-Refused-clause-turns : goal.returns-in_err-add-in-Refused-clause-turns
@@ -37,14 +37,14 @@ returns-in_err-add-in-Refused-clause-turns g c h hold =
     let score = g.S.Scorer.score_of in
     let words : List ℕ = rule_words c.in-Refused.rule in
     let is : c.as_bytes-text.result.now ≡ words = c.as_bytes-text.ensures.value ∙ c.rule_text.ensures in
-    rw p.1 (settled_taken score (HoldsInMemory score g.D.Disk.tells g.D.Disk.bytes g.D.Disk.images g.D.Disk.size g.D.Disk.faults c.args.store.now) c.args.heard.now c.next.new.self c.in-Refused.tag (r_error words) h c.args.ran_out.now _
+    rw p.1 (settled_taken score (HoldsInMemory score g.D.Disk c.args.store.now) c.args.heard.now c.next.new.self c.in-Refused.tag (r_error words) h c.args.ran_out.now _
     c.in-Refused.ensures.gives hold (λ tells. rw is at (c.in_err-add-in-Refused.ensures.written tells)))
 
 pub returns-in_ok-add-in-Message-clause-turns : goal.returns-in_ok-add-in-Message-clause-turns
 returns-in_ok-add-in-Message-clause-turns g c h hold =
     let score = g.S.Scorer.score_of in
     let lacks : c.match-matches.matches ≡ lacks_memory c.ask-answer.result = search rules in
-    message_taken score (HoldsInMemory score g.D.Disk.tells g.D.Disk.bytes g.D.Disk.images g.D.Disk.size g.D.Disk.faults c.ask-answer.new.store) c.args.heard.now c.next.new.self c.in-Message.tag (message_of c.in-Message.request) c.ask-answer.result c.match-matches.matches h c.args.ran_out.now _
+    message_taken score (HoldsInMemory score g.D.Disk c.ask-answer.new.store) c.args.heard.now c.next.new.self c.in-Message.tag (message_of c.in-Message.request) c.ask-answer.result c.match-matches.matches h c.args.ran_out.now _
     c.in-Message.ensures.gives (c.ask-answer.ensures.answered h hold) lacks (λ tells. rw c.reply.ensures at (c.in_ok-add-in-Message.ensures.written tells))
 
 pub returns-in_err-add-in-Message-clause-turns : goal.returns-in_err-add-in-Message-clause-turns
@@ -52,7 +52,7 @@ returns-in_err-add-in-Message-clause-turns g c h hold =
     let p = err_from_is_err_and c.from_residual-in_err-add-in-Message.result c.from_residual-in_err-add-in-Message.ensures.1 in
     let score = g.S.Scorer.score_of in
     let lacks : c.match-matches.matches ≡ lacks_memory c.ask-answer.result = search rules in
-    rw p.1 (message_taken score (HoldsInMemory score g.D.Disk.tells g.D.Disk.bytes g.D.Disk.images g.D.Disk.size g.D.Disk.faults c.ask-answer.new.store) c.args.heard.now c.next.new.self c.in-Message.tag (message_of c.in-Message.request) c.ask-answer.result c.match-matches.matches h c.args.ran_out.now _
+    rw p.1 (message_taken score (HoldsInMemory score g.D.Disk c.ask-answer.new.store) c.args.heard.now c.next.new.self c.in-Message.tag (message_of c.in-Message.request) c.ask-answer.result c.match-matches.matches h c.args.ran_out.now _
     c.in-Message.ensures.gives (c.ask-answer.ensures.answered h hold) lacks (λ tells. rw c.reply.ensures at (c.in_err-add-in-Message.ensures.written tells)))
 
 pub returns-in_ok-flush-in-End-clause-durable : goal.returns-in_ok-flush-in-End-clause-durable

@@ -14,7 +14,7 @@ use Rattle.vt_prog.proofs.memory.empty_log.Goals as goal
 
 pub unreachable-requires : goal.unreachable-requires
 unreachable-requires g c =
-    none_rose g.D.Disk.faults c.requires.never _ _ c.in_default.ensures.cause
+    none_rose g.D.Disk c.requires.never _ _ c.in_default.ensures.cause
 
 pub returns-in-Ok-mount : goal.returns-in-Ok-mount
 returns-in-Ok-mount g c =
@@ -27,7 +27,7 @@ returns-in-Ok-mount g c =
     let long = as_long c.format.new.parts c.deref_mut.result.now tables ∙ ap length old in
     let back = written_back c.format.new.parts items c.push.new.self.len long (sym c.deref_mut.ensures.len ∙ ap length old) in
     let empty = subst (λ (ts : List Table). IsLog g.S.Scorer.score_of (layout_of ts) (map g.D.Disk.bytes (disks_of c.format.new.parts)) [] 0) (sym tables)
-    (c.in-Ok.ensures.empty g.S.Scorer.score_of _ told (own_images g.D.Disk.bytes g.D.Disk.images (λ disk. g.met.D.Disk.read_is_image disk told) _)) in
+    (c.in-Ok.ensures.empty g.S.Scorer.score_of _ told (own_images g.D.Disk (λ disk. g.met.D.Disk.read_is_image disk told) _)) in
     let there = subst (λ (ps : List (Part _)). IsLog g.S.Scorer.score_of (layout_of (tables_of ps)) (map g.D.Disk.bytes (disks_of ps)) [] 0) (sym back) empty in
     let found = c.in-Ok-mount.ensures.found [] 0 told c.in-Ok-mount.ensures.distinct there in
     let layout = c.in-Ok-mount.ensures.layout.0 ∙ ap (λ (ps : List (Part _)). layout_of (tables_of ps)) back ∙ ap layout_of (tables ∙ ap tables_of (old ∙ one)) in
@@ -50,8 +50,8 @@ unreachable-requires-in_default-bad g c =
     let long = as_long c.format.new.parts c.deref_mut.result.now tables ∙ ap length old in
     let back = written_back c.format.new.parts items c.push.new.self.len long (sym c.deref_mut.ensures.len ∙ ap length old) in
     let empty = subst (λ (ts : List Table). IsLog g.S.Scorer.score_of (layout_of ts) (map g.D.Disk.bytes (disks_of c.format.new.parts)) [] 0) (sym tables)
-    (c.in-Ok.ensures.empty g.S.Scorer.score_of _ told (own_images g.D.Disk.bytes g.D.Disk.images (λ disk. g.met.D.Disk.read_is_image disk told) _)) in
+    (c.in-Ok.ensures.empty g.S.Scorer.score_of _ told (own_images g.D.Disk (λ disk. g.met.D.Disk.read_is_image disk told) _)) in
     let there = subst (λ (ps : List (Part _)). IsLog g.S.Scorer.score_of (layout_of (tables_of ps)) (map g.D.Disk.bytes (disks_of ps)) [] 0) (sym back) empty in
     let names = subst (λ (ps : List (Part _)). AreDistinct (names_of ps)) (sym back) (one_name (names_of c.format.new.parts) (length-map c.format.new.parts (λ part. (table_of part).name) ∙ long ∙ ap length one)) in
-    let is = only_memory g.D.Disk.faults c.requires.never c.in-Err.bad _ _ c.in-Err.ensures.cause (c.in-Err.ensures.found [] 0 told names there) in
+    let is = only_memory g.D.Disk c.requires.never c.in-Err.bad _ _ c.in-Err.ensures.cause (c.in-Err.ensures.found [] 0 told names there) in
     absurd (c.in_default-bad.not-NoMemory is)

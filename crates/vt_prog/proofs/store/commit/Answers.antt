@@ -15,7 +15,7 @@ loop-smaller g c = c.advance.ensures.lower (c.in_ok-advance.was ∙ ap Ok c.if-b
 pub loop-preserved : goal.loop-preserved
 loop-preserved g c = record {
   sound = λ h tells sound. c.advance.ensures.sound h tells (c.loop.invariant.sound h tells sound);
-  on = on_and_on g.D.Disk.faults c.args.log.now c.loop.log c.advance.new.log c.loop.invariant.on c.in_ok-advance.ensures.cause;
+  on = on_and_on g.D.Disk c.args.log.now c.loop.log c.advance.new.log c.loop.invariant.on c.in_ok-advance.ensures.cause;
   setup = c.advance.ensures.setup ∙ c.loop.invariant.setup;
   stays = λ call is.
       let no = (c.in_ok-advance.ensures.stopped call (ap (λ (l : LogState _). l.stopped) (c.loop.invariant.stays call is) ∙ is)).0 in absurd (cc);

@@ -10,9 +10,9 @@ use Rattle.vt_prog.proofs.store.commit.Given as goal
 
 abbrev pub invariant-loop : goal.invariant-loop
 invariant-loop g l = record {
-  sound : (h : History) → IsTrue g.D.Disk.tells → IsSound g.S.Scorer.score_of g.D.Disk.bytes g.D.Disk.images g.D.Disk.size l.fn.log h
-      → IsSound g.S.Scorer.score_of g.D.Disk.bytes g.D.Disk.images g.D.Disk.size l.log h;
-  on : NoneFailed g.D.Disk.faults l.fn.log l.log;
+  sound : (h : History) → IsTrue g.D.Disk.tells → IsSound g.S.Scorer.score_of g.D.Disk l.fn.log h
+      → IsSound g.S.Scorer.score_of g.D.Disk l.log h;
+  on : NoneFailed g.D.Disk l.fn.log l.log;
   setup : setup_of l.log ≡ setup_of l.fn.log;
   stays : (call : ℕ) → l.fn.log.stopped ≡ Some call → l.log ≡ l.fn.log;
 }

@@ -25,7 +25,7 @@ loop-log-smaller g c = either_way c.in_ok-advance.field-0
 pub loop-log-preserved : goal.loop-log-preserved
 loop-log-preserved g c = record {
   sound = λ h tells sound. c.advance.ensures.sound h tells (c.loop-log.invariant.sound h tells sound);
-  on = on_and_on g.D.Disk.faults c.args.log.now c.loop-log.log c.advance.new.log c.loop-log.invariant.on c.in_ok-advance.ensures.cause;
+  on = on_and_on g.D.Disk c.args.log.now c.loop-log.log c.advance.new.log c.loop-log.invariant.on c.in_ok-advance.ensures.cause;
   full = another c.advance.ensures.advances.0 c.loop-log.log c.advance.new.log c.loop-log.invariant.full
       (omega (arith, c.queue_full.ensures.full.0 c.loop-log-test.true)) c.advance.ensures.advances.1;
   setup = c.advance.ensures.setup ∙ c.loop-log.invariant.setup;
@@ -41,5 +41,5 @@ returns-in_err-advance-clause-full g c = another c.advance.ensures.advances.0 c.
 pub returns-in_err-advance-clause-refused : goal.returns-in_err-advance-clause-refused
 returns-in_err-advance-clause-refused g c =
     let p = err_from_is_err_and c.from_residual.result c.from_residual.ensures.1 in
-    rw (p.1, p.2) (leaves_or_stops Bool g.D.Disk.faults c.args.log.now c.loop-log.log c.advance.new.log c.in_err-advance.field-0.0 c.in_err-advance.ensures.cause
+    rw (p.1, p.2) (leaves_or_stops Bool g.D.Disk c.args.log.now c.loop-log.log c.advance.new.log c.in_err-advance.field-0.0 c.in_err-advance.ensures.cause
     (λ call is. (c.advance.ensures.stopped call is).1 ∙ c.loop-log.invariant.stays call (sym c.loop-log.invariant.on.1 ∙ is)))

@@ -9,9 +9,9 @@ use Rattle.vt_prog.proofs.store.make_room.Given as goal
 
 abbrev pub invariant-loop-log : goal.invariant-loop-log
 invariant-loop-log g l = record {
-  sound : (h : History) → IsTrue g.D.Disk.tells → IsSound g.S.Scorer.score_of g.D.Disk.bytes g.D.Disk.images g.D.Disk.size l.fn.log h
-      → IsSound g.S.Scorer.score_of g.D.Disk.bytes g.D.Disk.images g.D.Disk.size l.log h;
-  on : NoneFailed g.D.Disk.faults l.fn.log l.log;
+  sound : (h : History) → IsTrue g.D.Disk.tells → IsSound g.S.Scorer.score_of g.D.Disk l.fn.log h
+      → IsSound g.S.Scorer.score_of g.D.Disk l.log h;
+  on : NoneFailed g.D.Disk l.fn.log l.log;
   full : AdvancesWhileFull l.fn.log l.log;
   setup : setup_of l.log ≡ setup_of l.fn.log;
   next : (n : ℕ) → next_filling l.log n ≡ next_filling l.fn.log n;

@@ -32,22 +32,22 @@ returns-in_err-make_room-clause-serves g c h hold pass =
     let score = g.S.Scorer.score_of in
     let m = write c.args.key.kind c.args.bytes.now in
     let p = err_from_is_err_and c.from_residual.result c.from_residual.ensures.1 in
-    let was = subst (λ (s : StoreState _). Holds score g.D.Disk.tells g.D.Disk.bytes g.D.Disk.images g.D.Disk.size s h) (sym c.self.view_is) hold in
+    let was = subst (λ (s : StoreState _). Holds score g.D.Disk s h) (sym c.self.view_is) hold in
     let packed = c.in-Ok.ensures.packed score c.requires.score in
     let reaches : ReachesParts score m = record { kind = subst IsKind (sym packed.kind ∙ c.in-Ok.ensures.kind) packed.stored.kind; some = c.requires.some; most = c.requires.most } in
-    let by = by_commit score m reaches g.D.Disk.faults c.self.inside.log c.make_room.new.log (Unit {0}) c.in_err-make_room.field-0.0 (inl refl) c.in_err-make_room.ensures.cause in
+    let by = by_commit score m reaches g.D.Disk c.self.inside.log c.make_room.new.log (Unit {0}) c.in_err-make_room.field-0.0 (inl refl) c.in_err-make_room.ensures.cause in
     let now : StoreState _ = record { log = c.make_room.new.log; entries = c.reserve.new.self.items } in
-    let holds = Holds score g.D.Disk.tells g.D.Disk.bytes g.D.Disk.images g.D.Disk.size now in
-    let kept = subst (λ (es : List Entry). Holds score g.D.Disk.tells g.D.Disk.bytes g.D.Disk.images g.D.Disk.size (record { log = c.make_room.new.log; entries = es }) h) (sym c.in-Ok-reserve.ensures.items)
-    (with_log score g.D.Disk.tells g.D.Disk.bytes g.D.Disk.images g.D.Disk.size _ c.make_room.new.log h was (c.make_room.ensures.sound h was.tells_is was.sound) c.make_room.ensures.setup) in
-    rw (p.1, p.2) (subst (λ (s : StoreState _). Serves {X = Unit {0}} score holds (FailsFor g.D.Disk.faults s.log c.make_room.new.log) h m (λ x. r_write c.args.key.score.0) (Err c.in_err-make_room.field-0.0)) c.self.view_is
+    let holds = Holds score g.D.Disk now in
+    let kept = subst (λ (es : List Entry). Holds score g.D.Disk (record { log = c.make_room.new.log; entries = es }) h) (sym c.in-Ok-reserve.ensures.items)
+    (with_log score g.D.Disk _ c.make_room.new.log h was (c.make_room.ensures.sound h was.tells_is was.sound) c.make_room.ensures.setup) in
+    rw (p.1, p.2) (subst (λ (s : StoreState _). Serves {X = Unit {0}} score holds (FailsFor g.D.Disk s.log c.make_room.new.log) h m (λ x. r_write c.args.key.score.0) (Err c.in_err-make_room.field-0.0)) c.self.view_is
     (inr (by.0, by.1, by.2, by.3, kept)))
 
 pub returns-clause-serves : goal.returns-clause-serves
 returns-clause-serves g c h hold pass =
     let score = g.S.Scorer.score_of in
-    let was = subst (λ (s : StoreState _). Holds score g.D.Disk.tells g.D.Disk.bytes g.D.Disk.images g.D.Disk.size s h) (sym c.self.view_is) hold in
-    let made = with_log score g.D.Disk.tells g.D.Disk.bytes g.D.Disk.images g.D.Disk.size _ c.make_room.new.log h was (c.make_room.ensures.sound h was.tells_is was.sound) c.make_room.ensures.setup in
+    let was = subst (λ (s : StoreState _). Holds score g.D.Disk s h) (sym c.self.view_is) hold in
+    let made = with_log score g.D.Disk _ c.make_room.new.log h was (c.make_room.ensures.sound h was.tells_is was.sound) c.make_room.ensures.setup in
     let packed = c.in-Ok.ensures.packed score c.requires.score in
     let passes = subst (λ (own : List ℕ). answer_to_write score memory h c.args.key.kind c.args.bytes.now ≡ adds own c.args.key.kind c.args.bytes.now (next_arena memory h (length c.args.bytes.now))) c.requires.score pass in
     let own = ap (λ (it : Score). it.0) c.in-Ok.ensures.score in
@@ -56,12 +56,12 @@ returns-clause-serves g c h hold pass =
     let appends = c.in-Ok-append.ensures.appends h packed made.sound in
     let takes = c.in-Ok-append.ensures.takes in
     let entry : Entry = record { key = c.args.key; size = length c.args.bytes.now; place = c.in-Ok-append.place } in (
-      reply_is score g.D.Disk.tells g.D.Disk.bytes g.D.Disk.images g.D.Disk.size _ h made c.in-Ok.packed c.args.key.kind c.args.bytes.now c.in-Ok.ensures.len passes
+      reply_is score g.D.Disk _ h made c.in-Ok.packed c.args.key.kind c.args.bytes.now c.in-Ok.ensures.len passes
           c.append.new.self c.in-Ok-append.place entry appends is ∙ ap r_write (sym c.requires.score),
-      subst (λ (es : List Entry). Holds score g.D.Disk.tells g.D.Disk.bytes g.D.Disk.images g.D.Disk.size (record { log = c.append.new.self; entries = es })
+      subst (λ (es : List Entry). Holds score g.D.Disk (record { log = c.append.new.self; entries = es })
           (with_added h (answer_to_write score memory h c.args.key.kind c.args.bytes.now).added))
           (sym (c.in-Ok-push.ensures.items ∙ ap (λ (es : List Entry). es ++ entry ∷ []) c.in-Ok-reserve.ensures.items))
-          (appended score g.D.Disk.tells g.D.Disk.bytes g.D.Disk.images g.D.Disk.size _ h made c.in-Ok.packed c.args.key.kind c.args.bytes.now c.in-Ok.ensures.len passes
+          (appended score g.D.Disk _ h made c.in-Ok.packed c.args.key.kind c.args.bytes.now c.in-Ok.ensures.len passes
           c.append.new.self c.in-Ok-append.place entry appends is (ap setup_of takes.new_is) c.requires.score refl refl refl),
     )
 

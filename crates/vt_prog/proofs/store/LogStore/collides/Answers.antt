@@ -13,7 +13,7 @@ use Rattle.vt_prog.proofs.store.LogStore.collides.Goals as goal
 
 pub returns-in_default-clause-tells : goal.returns-in_default-clause-tells
 returns-in_default-clause-tells g c h hold =
-    let was = subst (λ (s : StoreState _). Holds g.S.Scorer.score_of g.D.Disk.tells g.D.Disk.bytes g.D.Disk.images g.D.Disk.size s h) (sym c.self.view_is) hold in
+    let was = subst (λ (s : StoreState _). Holds g.S.Scorer.score_of g.D.Disk s h) (sym c.self.view_is) hold in
     let nonzero = sym (c.if-eq.ensures ∙ ap (bytes_eq c.args.score.now.0) c.score.ensures) in
     sym (none_collides g.S.Scorer.score_of h c.self.inside.entries.items was.many was.entries c.args.score.now.0 c.args.bytes.now c.requires nonzero
     (rw c.deref.ensures.value at (sym c.in_default.ensures)))
@@ -21,7 +21,7 @@ returns-in_default-clause-tells g c h hold =
 pub returns-in_err-block-clause-tells : goal.returns-in_err-block-clause-tells
 returns-in_err-block-clause-tells g c h hold =
     let score = g.S.Scorer.score_of in
-    let was = subst (λ (s : StoreState _). Holds score g.D.Disk.tells g.D.Disk.bytes g.D.Disk.images g.D.Disk.size s h) (sym c.self.view_is) hold in
+    let was = subst (λ (s : StoreState _). Holds score g.D.Disk s h) (sym c.self.view_is) hold in
     let it = score_there score h c.self.inside.entries.items was.many was.entries c.args.score.now.0 c.in-Some.entry.now (rw c.deref.ensures.value at (sym c.in-Some.ensures)) in
     let p = err_from_is_err_and c.from_residual.result c.from_residual.ensures.1 in
     rw (p.1, p.2)
@@ -30,7 +30,7 @@ returns-in_err-block-clause-tells g c h hold =
 pub returns-clause-tells : goal.returns-clause-tells
 returns-clause-tells g c h hold =
     let score = g.S.Scorer.score_of in
-    let was = subst (λ (s : StoreState _). Holds score g.D.Disk.tells g.D.Disk.bytes g.D.Disk.images g.D.Disk.size s h) (sym c.self.view_is) hold in
+    let was = subst (λ (s : StoreState _). Holds score g.D.Disk s h) (sym c.self.view_is) hold in
     let nonzero = sym (c.if-eq.ensures ∙ ap (bytes_eq c.args.score.now.0) c.score.ensures) in
     let it = score_there score h c.self.inside.entries.items was.many was.entries c.args.score.now.0 c.in-Some.entry.now (rw c.deref.ensures.value at (sym c.in-Some.ensures)) in
     let block = c.in_ok-block.ensures.loads h it.index it.element hold it.at (was.entries it.index it.element c.in-Some.entry.now it.at it.at_other) in
@@ -60,7 +60,7 @@ returns-in_err-block-clause-unread g c entry nonzero found =
     let is = same_Some c.in-Some.entry.now entry (sym (found_as c.args.score.now.0 c.self.view_is one) ∙ found) in
     let p = err_from_is_err_and c.from_residual.result c.from_residual.ensures.1 in
     let it = c.load.ensures.answer in
-    subst (λ (e : Entry). TellsUnread g.S.Scorer.score_of g.D.Disk.tells g.D.Disk.bytes c.args.self.now.log e c.from_residual.result) is (
+    subst (λ (e : Entry). TellsUnread g.S.Scorer.score_of g.D.Disk c.args.self.now.log e c.from_residual.result) is (
       it.0,
       it.1,
       tells_unread c.in-Some.entry.now.place it.0 c.load.result c.from_residual.result it.2
@@ -72,7 +72,7 @@ returns-clause-unread g c entry nonzero found =
     let one : entry_of_score c.self.inside.entries.items c.args.score.now.0 ≡ Some c.in-Some.entry.now = rw c.deref.ensures.value at (sym c.in-Some.ensures) in
     let is = same_Some c.in-Some.entry.now entry (sym (found_as c.args.score.now.0 c.self.view_is one) ∙ found) in
     let it = c.load.ensures.answer in
-    subst (λ (e : Entry). TellsUnread {X = Bool} g.S.Scorer.score_of g.D.Disk.tells g.D.Disk.bytes c.args.self.now.log e (Ok c.ne.result)) is (
+    subst (λ (e : Entry). TellsUnread {X = Bool} g.S.Scorer.score_of g.D.Disk c.args.self.now.log e (Ok c.ne.result)) is (
       it.0,
       it.1,
       tells_unread {X = Bool} c.in-Some.entry.now.place it.0 c.load.result (Ok c.ne.result) it.2

@@ -15,19 +15,19 @@ use Rattle.vt_prog.proofs.store.LogStore.put.Goals as goal
 pub returns-then-is_some-clause-serves : goal.returns-then-is_some-clause-serves
 returns-then-is_some-clause-serves g c h hold alone =
     let score = g.S.Scorer.score_of in
-    let was = subst (λ (s : StoreState _). Holds score g.D.Disk.tells g.D.Disk.bytes g.D.Disk.images g.D.Disk.size s h) (sym c.self.view_is) hold in
+    let was = subst (λ (s : StoreState _). Holds score g.D.Disk s h) (sym c.self.view_is) hold in
     let entry = some_of _ (ap (λ (o : Option Entry). is_some o) (rw c.deref.ensures.value at (sym c.find_key.ensures)) ∙ is_some-copied c.find_key.result ∙ sym c.is_some.ensures ∙ c.if-is_some.true) in
     let it = key_there score h c.self.inside.entries.items was.many was.entries c.args.key.score.0 c.args.key.kind entry.0 entry.1 in
     let found = subst (λ (s : List ℕ). find (has_key score s c.args.key.kind) h ≡ Some it.element) c.requires.score it.found in
     let its = already score h c.args.key.kind c.args.bytes.now c.requires.kind c.requires.most c.requires.some alone it.element found in (
       ap (λ (o : Outcome). o.reply) its ∙ ap r_write (sym c.requires.score),
-      subst (λ (o : Outcome). Holds score g.D.Disk.tells g.D.Disk.bytes g.D.Disk.images g.D.Disk.size c.args.self.now (with_added h o.added)) (sym its) hold,
+      subst (λ (o : Outcome). Holds score g.D.Disk c.args.self.now (with_added h o.added)) (sym its) hold,
     )
 
 pub returns-then-crowd-ge-BUCKET_ROOM-clause-serves : goal.returns-then-crowd-ge-BUCKET_ROOM-clause-serves
 returns-then-crowd-ge-BUCKET_ROOM-clause-serves g c h hold alone =
     let score = g.S.Scorer.score_of in
-    let was = subst (λ (s : StoreState _). Holds score g.D.Disk.tells g.D.Disk.bytes g.D.Disk.images g.D.Disk.size s h) (sym c.self.view_is) hold in
+    let was = subst (λ (s : StoreState _). Holds score g.D.Disk s h) (sym c.self.view_is) hold in
     let none = no_key score h c.self.inside.entries.items was.many was.entries c.args.key.score.0 c.args.key.kind
     (none_of _ (ap (λ (o : Option Entry). is_some o) (rw c.deref.ensures.value at (sym c.find_key.ensures)) ∙ is_some-copied c.find_key.result ∙ sym c.is_some.ensures ∙ c.if-is_some.false)) in
     let found = subst (λ (s : List ℕ). find (has_key score s c.args.key.kind) h ≡ None) c.requires.score none in
@@ -37,13 +37,13 @@ returns-then-crowd-ge-BUCKET_ROOM-clause-serves g c h hold alone =
     inl (
       refl,
       ap (λ (o : Outcome). o.reply) its,
-      subst (λ (o : Outcome). Holds score g.D.Disk.tells g.D.Disk.bytes g.D.Disk.images g.D.Disk.size c.args.self.now (with_added h o.added)) (sym its) hold,
+      subst (λ (o : Outcome). Holds score g.D.Disk c.args.self.now (with_added h o.added)) (sym its) hold,
     )
 
 pub returns-clause-serves : goal.returns-clause-serves
 returns-clause-serves g c h hold alone =
     let score = g.S.Scorer.score_of in
-    let was = subst (λ (s : StoreState _). Holds score g.D.Disk.tells g.D.Disk.bytes g.D.Disk.images g.D.Disk.size s h) (sym c.self.view_is) hold in
+    let was = subst (λ (s : StoreState _). Holds score g.D.Disk s h) (sym c.self.view_is) hold in
     let none = no_key score h c.self.inside.entries.items was.many was.entries c.args.key.score.0 c.args.key.kind
     (none_of _ (ap (λ (o : Option Entry). is_some o) (rw c.deref.ensures.value at (sym c.find_key.ensures)) ∙ is_some-copied c.find_key.result ∙ sym c.is_some.ensures ∙ c.if-is_some.false)) in
     let found = subst (λ (s : List ℕ). find (has_key score s c.args.key.kind) h ≡ None) c.requires.score none in

@@ -19,7 +19,7 @@ use Rattle.vt_prog.proofs.store.LogStore.read.Goals as goal
 pub returns-in_default-clause-serves : goal.returns-in_default-clause-serves
 returns-in_default-clause-serves g c h hold =
     let score = g.S.Scorer.score_of in
-    let was = subst (λ (s : StoreState _). Holds score g.D.Disk.tells g.D.Disk.bytes g.D.Disk.images g.D.Disk.size s h) (sym c.self.view_is) hold in
+    let was = subst (λ (s : StoreState _). Holds score g.D.Disk s h) (sym c.self.view_is) hold in
     let known : is_kind c.args.kind ≡ true = sym c.from_wire.ensures.variant ∙ sym c.in_ok-kind.ensures.variant in
     let same : c.in_ok-kind.kind ≡ c.args.kind = subst (λ o. IfSome o (λ kind. kind ≡ c.args.kind)) c.in_ok-kind.ensures.ok_part c.from_wire.ensures.found in
     let nonzero = sym (c.if-eq.ensures ∙ ap (bytes_eq c.args.score.now.0) c.score.ensures) in
@@ -28,13 +28,13 @@ returns-in_default-clause-serves g c h hold =
     inl (
       refl,
       ap (λ (o : Outcome). o.reply) its,
-      subst (λ (o : Outcome). Holds score g.D.Disk.tells g.D.Disk.bytes g.D.Disk.images g.D.Disk.size c.args.self.now (with_added h o.added)) (sym its) hold,
+      subst (λ (o : Outcome). Holds score g.D.Disk c.args.self.now (with_added h o.added)) (sym its) hold,
     )
 
 pub returns-then-from-count-clause-serves : goal.returns-then-from-count-clause-serves
 returns-then-from-count-clause-serves g c h hold =
     let score = g.S.Scorer.score_of in
-    let was = subst (λ (s : StoreState _). Holds score g.D.Disk.tells g.D.Disk.bytes g.D.Disk.images g.D.Disk.size s h) (sym c.self.view_is) hold in
+    let was = subst (λ (s : StoreState _). Holds score g.D.Disk s h) (sym c.self.view_is) hold in
     let known : is_kind c.args.kind ≡ true = sym c.from_wire.ensures.variant ∙ sym c.in_ok-kind.ensures.variant in
     let same : c.in_ok-kind.kind ≡ c.args.kind = subst (λ o. IfSome o (λ kind. kind ≡ c.args.kind)) c.in_ok-kind.ensures.ok_part c.from_wire.ensures.found in
     let nonzero = sym (c.if-eq.ensures ∙ ap (bytes_eq c.args.score.now.0) c.score.ensures) in
@@ -44,20 +44,20 @@ returns-then-from-count-clause-serves g c h hold =
     inl (
       refl,
       ap (λ (o : Outcome). o.reply) its,
-      subst (λ (o : Outcome). Holds score g.D.Disk.tells g.D.Disk.bytes g.D.Disk.images g.D.Disk.size c.args.self.now (with_added h o.added)) (sym its) hold,
+      subst (λ (o : Outcome). Holds score g.D.Disk c.args.self.now (with_added h o.added)) (sym its) hold,
     )
 
 pub returns-clause-serves : goal.returns-clause-serves
 returns-clause-serves g c h hold =
     let score = g.S.Scorer.score_of in
-    let was = subst (λ (s : StoreState _). Holds score g.D.Disk.tells g.D.Disk.bytes g.D.Disk.images g.D.Disk.size s h) (sym c.self.view_is) hold in
+    let was = subst (λ (s : StoreState _). Holds score g.D.Disk s h) (sym c.self.view_is) hold in
     let known : is_kind c.args.kind ≡ true = sym c.from_wire.ensures.variant ∙ sym c.in_ok-kind.ensures.variant in
     let same : c.in_ok-kind.kind ≡ c.args.kind = subst (λ o. IfSome o (λ kind. kind ≡ c.args.kind)) c.in_ok-kind.ensures.ok_part c.from_wire.ensures.found in
     let nonzero = sym (c.if-eq.ensures ∙ ap (bytes_eq c.args.score.now.0) c.score.ensures) in
     let it = key_there score h c.self.inside.entries.items was.many was.entries c.args.score.now.0 c.in_ok-kind.kind c.in-Some.entry.now (rw c.deref.ensures.value at (sym c.in-Some.ensures)) in
     let is = was.entries it.index it.element c.in-Some.entry.now it.at it.at_other in
-    serves score h c.args.score.now.0 c.args.kind c.args.count known nonzero g.D.Disk.faults c.args.self.now.log c.load.new.self.log
-    (Holds score g.D.Disk.tells g.D.Disk.bytes g.D.Disk.images g.D.Disk.size c.load.new.self) it.element c.load.result
+    serves score h c.args.score.now.0 c.args.kind c.args.count known nonzero g.D.Disk c.args.self.now.log c.load.new.self.log
+    (Holds score g.D.Disk c.load.new.self) it.element c.load.result
     (subst (λ (k : ℕ). find (has_key score c.args.score.now.0 k) h ≡ Some it.element) same it.found) (omega (arith, c.if-from-count.false, c.from.ensures, is.size))
     (c.load.ensures.loads h it.index it.element hold it.at is) c.load.ensures.cause (c.load.ensures.holds h hold)
 
@@ -95,4 +95,4 @@ returns-clause-answer g c entry known nonzero found size =
     let same : c.in_ok-kind.kind ≡ c.args.kind = subst (λ o. IfSome o (λ kind. kind ≡ c.args.kind)) c.in_ok-kind.ensures.ok_part c.from_wire.ensures.found in
     let one : entry_of_key c.self.inside.entries.items c.args.score.now.0 c.in_ok-kind.kind ≡ Some c.in-Some.entry.now = rw c.deref.ensures.value at (sym c.in-Some.ensures) in
     let is = same_Some c.in-Some.entry.now entry (sym (found_as c.args.score.now.0 c.self.view_is same one) ∙ found) in
-    subst (λ (e : Entry). GivesEntry g.S.Scorer.score_of g.D.Disk.tells g.D.Disk.bytes c.args.self.now.log e c.load.result) is c.load.ensures.answer
+    subst (λ (e : Entry). GivesEntry g.S.Scorer.score_of g.D.Disk c.args.self.now.log e c.load.result) is c.load.ensures.answer

@@ -37,7 +37,7 @@ returns-in-Some-clause-serves g c h hold =
     let known : is_kind c.args.kind ≡ true = sym c.from_wire.ensures.variant ∙ sym c.in_ok-kind.ensures.variant in
     let reaches : ReachesParts score m = record { kind = known; some = some_of _ (sym c.is_empty.ensures ∙ c.if-is_empty.false); most = c.if-bytes-gt-MAX_BLOCK.false } in
     let stop = ap (λ (s : StoreState _). s.log.stopped) (sym c.self.view_is) ∙ sym c.stopped.ensures ∙ c.in-Some.is in
-    let by = by_stop score m reaches g.D.Disk.faults c.args.self.now.log c.args.self.now.log c.in-Some.call (inl refl) stop in
+    let by = by_stop score m reaches g.D.Disk c.args.self.now.log c.args.self.now.log c.in-Some.call (inl refl) stop in
     inr (by.0, by.1, by.2, by.3, hold)
 
 pub returns-in_err-collides-clause-commits : goal.returns-in_err-collides-clause-commits
@@ -50,7 +50,7 @@ returns-in_err-collides-clause-serves g c h hold =
     let p = err_from_is_err_and c.from_residual-in_err-collides.result c.from_residual-in_err-collides.ensures.1 in
     let known : is_kind c.args.kind ≡ true = sym c.from_wire.ensures.variant ∙ sym c.in_ok-kind.ensures.variant in
     let reaches : ReachesParts score m = record { kind = known; some = some_of _ (sym c.is_empty.ensures ∙ c.if-is_empty.false); most = c.if-bytes-gt-MAX_BLOCK.false } in
-    let by = by_read score m reaches g.D.Disk.faults c.args.self.now.log c.collides.new.self.log Bool c.in_err-collides.field-0.0 tt (c.in_err-collides.ensures.tells h hold) c.in_err-collides.ensures.cause in
+    let by = by_read score m reaches g.D.Disk c.args.self.now.log c.collides.new.self.log Bool c.in_err-collides.field-0.0 tt (c.in_err-collides.ensures.tells h hold) c.in_err-collides.ensures.cause in
     rw (p.1, p.2) (inr (by.0, by.1, by.2, by.3, c.collides.ensures.holds h hold))
 
 pub returns-then-branch-clause-commits : goal.returns-then-branch-clause-commits
@@ -63,9 +63,9 @@ returns-in_err-put-clause-serves g c h hold =
     let p = err_from_is_err_and c.from_residual-in_err-put.result c.from_residual-in_err-put.ensures.1 in
     let same : c.in_ok-kind.kind ≡ c.args.kind = subst (λ o. IfSome o (λ kind. kind ≡ c.args.kind)) c.in_ok-kind.ensures.ok_part c.from_wire.ensures.found in
     let alone = sym (c.in_ok-collides.ensures.tells h hold) ∙ c.if-branch.false in
-    let holds = Holds score g.D.Disk.tells g.D.Disk.bytes g.D.Disk.images g.D.Disk.size c.put.new.self in
-    rw (p.1, p.2) (subst (λ (kind : ℕ). Serves {X = Score} score holds (FailsFor g.D.Disk.faults c.args.self.now.log c.put.new.self.log) h (write kind c.args.bytes.now) (λ s. r_write s.0) (Err why)) same
-    (serves_then {X = Unit {0}} {Y = Score} score holds g.D.Disk.faults c.args.self.now.log c.collides.new.self.log c.put.new.self.log h (write c.in_ok-kind.kind c.args.bytes.now)
+    let holds = Holds score g.D.Disk c.put.new.self in
+    rw (p.1, p.2) (subst (λ (kind : ℕ). Serves {X = Score} score holds (FailsFor g.D.Disk c.args.self.now.log c.put.new.self.log) h (write kind c.args.bytes.now) (λ s. r_write s.0) (Err why)) same
+    (serves_then {X = Unit {0}} {Y = Score} score holds g.D.Disk c.args.self.now.log c.collides.new.self.log c.put.new.self.log h (write c.in_ok-kind.kind c.args.bytes.now)
     (λ x. r_write c.score-score.result.0) (λ s. r_write s.0) why c.in_ok-collides.ensures.cause (c.in_err-put.ensures.serves h (c.collides.ensures.holds h hold) alone)))
 
 pub returns-in_err-collides-clause-refused : goal.returns-in_err-collides-clause-refused
