@@ -42,3 +42,20 @@ returns-clause-empty g c told = record {
       (omega (arith, ap (λ (t : Table). t.count) c.loop-arena.invariant.table, c.count-arena-end.ensures.count)) (c.loop-arena.invariant.empty told);
   settled = c.loop-arena.invariant.settled told (omega (arith, c.count-arena-end.ensures.count, c.count-arena-end.ensures.table.some));
 }
+
+pub returns-in_err-format-clause-stays : goal.returns-in_err-format-clause-stays
+returns-in_err-format-clause-stays g c =
+    let t = table_of c.args.part.now in
+    let was = c.loop-arena.part in
+    let start : c.region-region.result.start ≡ start_of t c.loop-arena.arena =
+    c.region-region.ensures.start
+    ∙ ap (λ (u : Table). start_of u c.loop-arena.arena) c.loop-arena.invariant.table in
+    let less : c.loop-arena.arena < t.count =
+    omega (arith, ap (λ (u : Table). u.count) c.loop-arena.invariant.table, c.count-arena-end.ensures.count) in
+    let within = among_heads t c.loop-arena.arena c.region-region.result less start in
+    heads_then g.D.Disk t (disk_of c.args.part.now) (disk_of was) c.format.new.disk c.loop-arena.invariant.stays (
+      λ told. same_wider (InHead c.region-region.result) (InHeads t) within (g.D.Disk.bytes (disk_of was))
+          (g.D.Disk.bytes c.format.new.disk) (c.format.ensures.bytes told),
+      changes_wider (InHead c.region-region.result) (InHeads t) (g.D.Disk.images (disk_of was))
+          (g.D.Disk.images c.format.new.disk) within c.format.ensures.images,
+    )
