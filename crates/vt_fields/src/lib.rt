@@ -1,7 +1,7 @@
 //! Writing and reading the fields of a frame at their places. Numbers have the high byte first.
 #![tactic(auto)]
 
-ghost use Rattle.std.specs.Prelude.{◌≡◌, ◌+◌, ◌≤◌, [], ◌∷◌, ◌++◌, length, take, drop};
+ghost use Rattle.std.specs.Prelude.{◌≡◌, ◌+◌, ◌^◌, ◌<◌, ◌≤◌, [], ◌∷◌, ◌++◌, length, take, drop};
 ghost use Rattle.byteorder.specs.Endian.{big_bytes, big_number};
 
 use byteorder::{BigEndian, ByteOrder};
@@ -51,6 +51,18 @@ pub fn put_u32(buf: &mut [u8], at: usize, value: u32) -> usize
     at + 4
 }
 
+/// Writes a number field of six bytes at this place, and gives the place behind it.
+pub fn put_u48(buf: &mut [u8], at: usize, value: u64) -> usize
+    requires room { at + 6 ≤ length buf.old }
+    requires fits { value < 2 ^ 48 }
+    ensures written { take (at + 6) buf.new ≡ take at buf.old ++ big_bytes 6 value }
+    ensures behind { drop (at + 6) buf.new ≡ drop (at + 6) buf.old }
+    ensures end { result ≡ at + 6 }
+{
+    BigEndian::write_u48(&mut buf[at..], value);
+    at + 6
+}
+
 /// Writes a number field of eight bytes at this place, and gives the place behind it.
 pub fn put_u64(buf: &mut [u8], at: usize, value: u64) -> usize
     requires { at + 8 ≤ length buf.old }
@@ -76,6 +88,15 @@ pub fn u32_at(bytes: &[u8], at: usize) -> u32
     ensures { result ≡ big_number 4 (drop at bytes.now) }
 {
     BigEndian::read_u32(&bytes[at..])
+}
+
+/// The number field of six bytes at this place.
+pub fn u48_at(bytes: &[u8], at: usize) -> u64
+    requires { at + 6 ≤ length bytes.now }
+    ensures number { result ≡ big_number 6 (drop at bytes.now) }
+    ensures fits { result < 2 ^ 48 }
+{
+    BigEndian::read_u48(&bytes[at..])
 }
 
 /// The number field of eight bytes at this place.
