@@ -56,7 +56,7 @@ lengths_in-other a e other =
 
 module _ (c : Setup) (h : History) (rising : AllPairs (λ a b. a.arena ≤ b.arena) h) where
   -- no block stands behind the arena that is being filled
-  below_current : (k : ℕ) (d : Accepted) → k < length h → (get_or h k d).arena ≤ current_arena c h
+  pub below_current : (k : ℕ) (d : Accepted) → k < length h → (get_or h k d).arena ≤ current_arena c h
   below_current k d lt =
       let last = last_arena_is 0 h (get_or h (length h - 1) d) (slice_get-get_or h (length h - 1) d (omega arith)) in
       let end : last_arena 0 h ≤ current_arena c h = omega arith in

@@ -9,7 +9,7 @@ use Rattle.std.proofs.lemmas.List.Folds.{find-append}
 use Rattle.vt_model.specs.History.{History, Accepted, held, has_key}
 use Rattle.vt_model.proofs.Lists.{test_false, and_false_left, and_false_right, and_true, option_or-none, none_from_is_some-option_map, find_push}
 
-abbrev bytes_of : Accepted → List ℕ
+abbrev pub bytes_of : Accepted → List ℕ
 bytes_of e = e.block.bytes
 
 module _ (score : List ℕ → List ℕ) (h : History) where

@@ -6,5 +6,7 @@ pub mod Adding
 pub mod Spots
 pub mod Buckets
 pub mod Keys
+pub mod Numbers
+pub mod First
 pub mod Room
 pub mod Blocks

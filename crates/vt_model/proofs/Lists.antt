@@ -1,14 +1,15 @@
 -- Facts on lists, options and tests that std has not.
-use Rattle.std.proofs.Common.{◌≡◌, ℕ, suc, ◌<◌, ◌&&◌, ◌||◌, Bool, true, false, cond, List, [], ◌∷◌, ◌++◌, length, get_or, Option, Some, None, refl, sym, ◌∙◌, ap, subst, arith, length-append}
+use Rattle.std.proofs.Common.{◌≡◌, ℕ, zero, suc, ◌<◌, ◌&&◌, ◌||◌, Bool, true, false, cond, List, [], ◌∷◌, ◌++◌, length, take, get_or, Option, Some, None, refl, sym, ◌∙◌, ap, subst, arith, length-append, inl, inr}
 use Rattle.std.specs.List.{All, AllPairs, find, list_any, count_by}
-use Rattle.std.specs.Prelude.{map}
+use Rattle.std.specs.Prelude.{map, slice_get}
 use Rattle.std.proofs.lemmas.List.Sums.{sum_by-cons}
 use Rattle.std.specs.Option.{is_some, option_map, option_or}
 use Rattle.std.proofs.Math.ListN.{get_or-append}
 use Rattle.std.proofs.Math.Seq.{take-append_seam}
-use Rattle.std.proofs.lemmas.Bool.{false_from_ne_true}
+use Rattle.std.proofs.lemmas.Bool.{false_from_ne_true, cases_Bool}
 use Rattle.std.proofs.lemmas.List.Elements.{All-take}
-use Rattle.std.proofs.lemmas.List.Folds.{find-append, list_any_at}
+use Rattle.std.proofs.lemmas.List.Folds.{find-append, list_any_at, list_any_none}
+use Rattle.std.proofs.lemmas.Option.{slice_get-get_or, slice_get_within, get_or_from_slice_get}
 
 -- ---- tests
 
@@ -31,6 +32,10 @@ right_false a b p q = sym (ap (λ t. t && b) p) ∙ q
 pub both_false : (a b : Bool) → (a || b) ≡ false → (a ≡ false) × (b ≡ false)
 both_false true b h = absurd (cc)
 both_false false b h = (refl, h)
+
+pub both_true : (a b : Bool) → (a && b) ≡ true → (a ≡ true) × (b ≡ true)
+both_true true b h = (refl, h)
+both_true false b h = absurd (cc)
 
 -- ---- options
 
@@ -69,6 +74,58 @@ list_any-from_find p (x ∷ xs) h =
       | true ↦ λ (e : Some x ≡ None). absurd (cc)
       | false ↦ λ e. list_any-from_find p xs e
     ] h
+
+-- what is found is an element that passes
+pub find_passes : {X : Type 0} (p : X → Bool) (xs : List X) (x : X) → find p xs ≡ Some x
+    → (i : ℕ) × (slice_get xs i ≡ Some x) × (p x ≡ true)
+find_passes p [] x h = absurd (cc)
+find_passes p (y ∷ ys) x h = elim (cases_Bool (p y)) [
+  | inl is ↦
+      let first : Some y ≡ Some x = sym (ap (λ b. cond b (Some y) (find p ys)) is) ∙ h in
+      let same : y ≡ x = cc in
+      (0, first, ap p (sym same) ∙ is)
+  | inr not ↦
+      let later = find_passes p ys x (sym (ap (λ b. cond b (Some y) (find p ys)) not) ∙ h) in
+      (suc later.0, later.1, later.2)
+]
+
+pub list_any_passes : {X : Type 0} (p : X → Bool) (xs : List X) → list_any p xs ≡ true
+    → (i : ℕ) × (x : X) × (slice_get xs i ≡ Some x) × (p x ≡ true)
+list_any_passes p [] h = absurd (cc)
+list_any_passes p (y ∷ ys) h = elim (cases_Bool (p y)) [
+  | inl is ↦ (0, y, refl, is)
+  | inr not ↦
+      let later = list_any_passes p ys (sym (ap (λ b. b || list_any p ys) not) ∙ h) in
+      (suc later.0, later.1, later.2, later.3)
+]
+
+-- an element of a list none of which passes
+pub none_passes : {X : Type 0} (p : X → Bool) (xs : List X) (i : ℕ) (x : X) → list_any p xs ≡ false
+    → slice_get xs i ≡ Some x → p x ≡ false
+none_passes p xs i x none at =
+    ap p (sym (get_or_from_slice_get xs i x x at))
+    ∙ All-from_list_any p xs none i x (slice_get_within xs i x at)
+
+-- and where no element passes
+pub list_any-none : {X : Type 0} (p : X → Bool) (xs : List X)
+    → ((i : ℕ) (x : X) → slice_get xs i ≡ Some x → p x ≡ false) → list_any p xs ≡ false
+list_any-none p xs none =
+    list_any_none p xs (λ k d lt. none k (get_or xs k d) (slice_get-get_or xs k d lt))
+
+pub find-none : {X : Type 0} (p : X → Bool) (xs : List X)
+    → ((i : ℕ) (x : X) → slice_get xs i ≡ Some x → p x ≡ false) → find p xs ≡ None
+find-none p [] none = refl
+find-none p (x ∷ xs) none =
+    ap (λ b. cond b (Some x) (find p xs)) (none 0 x refl)
+    ∙ find-none p xs (λ i y at. none (suc i) y at)
+
+-- an element of the first n
+pub slice_get-take : {X : Type 0} (n : ℕ) (xs : List X) (i : ℕ) → i < n
+    → slice_get (take n xs) i ≡ slice_get xs i
+slice_get-take zero xs i lt = absurd (omega arith)
+slice_get-take (suc n) [] i lt = refl
+slice_get-take (suc n) (x ∷ xs) zero lt = refl
+slice_get-take (suc n) (x ∷ xs) (suc i) lt = slice_get-take n xs i (omega (arith, lt))
 
 -- the last element passes, and none before it
 pub find_push : {X : Type 0} (p : X → Bool) (xs : List X) (y : X) → find p xs ≡ None → p y ≡ true

@@ -76,7 +76,7 @@ slice_get-push : (xs : History) (x : Accepted) → slice_get (xs ++ x ∷ []) (l
 slice_get-push [] x = refl
 slice_get-push (y ∷ xs) x = slice_get-push xs x
 
-abbrev spot_behind : Setup → History → Accepted → Spot
+abbrev pub spot_behind : Setup → History → Accepted → Spot
 spot_behind c before e =
     record { arena = e.arena; offset = offset_behind c e.arena (lengths_in e.arena before) }
 

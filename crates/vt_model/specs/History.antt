@@ -1,5 +1,5 @@
 -- The blocks of a write-once store, in the order in which it took them.
-use Rattle.std.specs.Prelude.{ℕ, ◌<◌, ◌≤◌, Bool, ◌&&◌, ◌==◌, if◌then◌else◌, Option, Some, List, [], length, find}
+use Rattle.std.specs.Prelude.{ℕ, ◌≡◌, ◌<◌, ◌≤◌, Bool, ◌&&◌, ◌==◌, if◌then◌else◌, Option, Some, List, [], length, find, slice_get}
 use Rattle.std.specs.Option.{option_map}
 use Rattle.std.specs.Str.{bytes_eq}
 use Rattle.vt_base.specs.Kind.{IsKind}
@@ -35,3 +35,19 @@ abbrev pub held : (List ℕ → List ℕ) → History → List ℕ → ℕ → O
 held score h s kind =
     if bytes_eq s (score []) then Some []
     else option_map (λ e. e.block.bytes) (find (has_key score s kind) h)
+
+-- ---- the same by the blocks' numbers
+
+-- block i has this score
+pub record HasScoreAt (score : List ℕ → List ℕ) (h : History) (i : ℕ) (s : List ℕ) : Type 0 where
+  pub block : Accepted
+  pub stands : slice_get h i ≡ Some block
+  pub score_is : score block.block.bytes ≡ s
+
+-- block i has this score and this type
+pub record HasKeyAt (score : List ℕ → List ℕ) (h : History) (i : ℕ) (s : List ℕ) (kind : ℕ)
+    : Type 0 where
+  pub block : Accepted
+  pub stands : slice_get h i ≡ Some block
+  pub score_is : score block.block.bytes ≡ s
+  pub kind_is : block.block.kind ≡ kind

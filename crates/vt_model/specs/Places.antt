@@ -1,6 +1,6 @@
 -- Where blocks go. The log is kept in arenas, which are filled one after another, and the index in
 -- buckets, of which a score's first 32 bits name one (Quinlan and Dorward 2002, venti(8)).
-use Rattle.std.specs.Prelude.{ℕ, ◌≡◌, ◌+◌, ◌-◌, ◌*◌, ◌/◌, ◌^◌, ◌==◌, max, nat_le, nat_lt, Bool, if◌then◌else◌, Option, Some, None, List, [], ◌∷◌, ◌++◌, length, take, map, filter, sum, sum_by, count_by, slice_get, slice_index}
+use Rattle.std.specs.Prelude.{ℕ, ◌≡◌, ◌<◌, ◌≤◌, ◌+◌, ◌-◌, ◌*◌, ◌/◌, ◌^◌, ◌==◌, max, nat_le, nat_lt, Bool, if◌then◌else◌, Option, Some, None, List, [], ◌∷◌, ◌++◌, length, take, map, filter, sum, sum_by, count_by, slice_get, slice_index}
 use Rattle.std.specs.Option.{option_map}
 use Rattle.std.specs.Int.{w32, from_be_bytes}
 use Rattle.vt_model.specs.declared.TheConstants.{HEAD_LEN, CLUMP_HEADER_LEN, DIRECTORY_ENTRY_LEN}
@@ -98,6 +98,16 @@ abbrev pub section_of_bucket : List ℕ → ℕ → ℕ
 section_of_bucket [] bucket = 0
 section_of_bucket (n ∷ sections) bucket =
     if nat_lt bucket n then 0 else section_of_bucket sections (bucket - n) + 1
+
+-- the number of section i's first bucket: how many stand before it
+abbrev pub first_bucket : List ℕ → (i : ℕ) → ℕ
+first_bucket sections i = sum (take i sections)
+
+-- the bucket lies in the range of section i
+abbrev pub LiesIn : List ℕ → (i bucket : ℕ) → Type 0
+LiesIn sections i bucket =
+    (first_bucket sections i ≤ bucket)
+    × (bucket < first_bucket sections i + slice_index sections i)
 
 -- the section of a score's bucket
 abbrev pub section_of_score : Setup → List ℕ → ℕ

@@ -21,12 +21,17 @@ impl Model for Layout {
 
     ghost Value = { Setup };
 
-    ghost view = { λ l. record { arenas = l.arenas.items; base = l.base; sections = l.sections.items } };
+    ghost view = { λ l. record {
+      arenas = l.arenas.items;
+      base = l.base;
+      sections = l.sections.items;
+    } };
 }
 
 impl Layout {
     pub fn new(arenas: Vec<u32>, base: usize, sections: Vec<u32>) -> Self
-        ensures { result ≡ record { arenas = arenas.items; base = base; sections = sections.items } }
+        ensures { result
+            ≡ record { arenas = arenas.items; base = base; sections = sections.items } }
     {
         Layout {
             arenas,

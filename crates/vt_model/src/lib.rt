@@ -1,4 +1,5 @@
-//! What a write-once block store answers: laws over one list of blocks, and a store that is that list.
+//! What a write-once block store answers: laws over one list of blocks, and a store that is that
+//! list.
 #![tactic(auto)]
 
 pub mod laws;
