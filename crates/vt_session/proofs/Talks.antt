@@ -1,5 +1,6 @@
 -- Whole sessions: each input has one, and where the store doesn't fail only one.
-use Rattle.std.proofs.Common.{◌≡◌, ℕ, ◌<◌, List, [], ◌∷◌, ◌++◌, length, refl, sym, ◌∙◌, ap, subst, arith, length-append, inl, inr}
+use Rattle.std.proofs.Common.{◌≡◌, ℕ, ◌<◌, ◌≤◌, List, [], ◌∷◌, ◌++◌, length, refl, sym, ◌∙◌, ap, subst, arith, length-append, inl, inr}
+use Rattle.std.proofs.lemmas.List.Concat.{flat_map-append}
 use Rattle.vt_base.specs.Bytes.{AreBytes}
 use Rattle.vt_model.specs.History.{History}
 use Rattle.vt_model.specs.Places.{Setup}
@@ -7,11 +8,12 @@ use Rattle.vt_model.specs.Answer.{answer, with_added}
 use Rattle.vt_session.specs.declared.Ended.{Ended}
 use Rattle.vt_session.specs.declared.Ended.TheVariants.{Goodbye, Closed, Cut, Malformed, Spent, ReadFault, WriteFault, NoMemory}
 use Rattle.vt_session.specs.Heard.{Item, settled, asked, Heard}
-use Rattle.vt_session.specs.Turns.{Turn, told, served, failed, items_of, output_of, added_of, causes_of}
-use Rattle.vt_session.specs.Answered.{AnsweredAlone, Faults, no_faults, AreToldBy}
-use Rattle.vt_session.specs.Talk.{spent_len, HearsAll, Carries, Talk, Alone, AnswersAll, EndsByInput}
+use Rattle.vt_session.specs.Turns.{Turn, told, served, failed, items_of, output_of, added_of, cause_of, causes_of}
+use Rattle.vt_session.specs.Answered.{AnsweredAlone, NoneFell, Faults, no_faults, AreToldBy}
+use Rattle.vt_session.specs.Talk.{spent_len, HearsAll, Carries, Talk, TalkSoFar, ComesBehind, over_both, Alone, AnswersAll, EndsByInput}
 use Rattle.vt_session.proofs.Hearings.{heard_one, heard_some}
-use Rattle.vt_session.proofs.Turns.{turns_add, turns_alone, turns_longer}
+use Rattle.vt_session.proofs.Turns.{turns_add, turns_alone, turns_longer, turns_join_later}
+use Rattle.vt_session.proofs.Causes.{told_behind}
 
 -- ---- determined
 
@@ -155,6 +157,40 @@ module _ (score : List ℕ → List ℕ) (c : Setup) where
     failures = t.failures;
     rising = t.rising;
     within = omega (arith, t.within, length-append h more);
+  }
+
+  -- ---- talks that go on
+
+  pub talk_begins : (faults : Faults) (h : History) (n : ℕ) → NoneFell faults.before faults.after
+      → n ≤ length h → TalkSoFar score c faults h n [] n
+  talk_begins faults h n counts within = record {
+    answered = tt;
+    failures = record { counts = counts; stops = tt };
+    rising = omega arith;
+    within = within;
+  }
+
+  pub so_far_longer : (faults : Faults) (h more : History) (n0 : ℕ) (turns : List Turn) (n1 : ℕ)
+      → TalkSoFar score c faults h n0 turns n1 → TalkSoFar score c faults (h ++ more) n0 turns n1
+  so_far_longer faults h more n0 turns n1 t = record {
+    answered = turns_longer score c h more n0 n1 turns t.within t.answered;
+    failures = t.failures;
+    rising = t.rising;
+    within = omega (arith, t.within, length-append h more);
+  }
+
+  pub talk_behind : (first next : Faults) (h added : History) (n0 n1 m0 m1 : ℕ)
+      (turns more : List Turn) → TalkSoFar score c first h n0 turns n1
+      → TalkSoFar score c next (h ++ added) m0 more m1 → ComesBehind first next → length h ≤ m0
+      → TalkSoFar score c (over_both first next) (h ++ added) n0 (turns ++ more) m1
+  talk_behind first next h added n0 n1 m0 m1 turns more t u on later = record {
+    answered = turns_join_later score c h added n0 n1 m0 m1 turns more t.answered
+        (omega (arith, t.rising, t.within, later)) t.within later
+        (omega (arith, t.within, later, u.rising)) u.answered;
+    failures = subst (AreToldBy (over_both first next)) (sym (flat_map-append cause_of turns more))
+        (told_behind first next (causes_of turns) (causes_of more) on t.failures u.failures);
+    rising = omega (arith, t.rising, t.within, later, u.rising);
+    within = u.within;
   }
 
   -- ---- one for each input

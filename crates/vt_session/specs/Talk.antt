@@ -1,12 +1,12 @@
 -- A whole link (venti(6)): what came in, what went out, which history answered, and how it ended.
-use Rattle.std.specs.Prelude.{ℕ, ◌≡◌, ◌<◌, ◌≤◌, ◌^◌, ◌⊎◌, ⊤, List, [], ◌∷◌, ◌++◌, length}
+use Rattle.std.specs.Prelude.{ℕ, ◌≡◌, ◌<◌, ◌≤◌, ◌^◌, ◌⊎◌, ⊤, List, [], ◌∷◌, ◌++◌, length, Contains}
 use Rattle.vt_model.specs.History.{History}
 use Rattle.vt_model.specs.Places.{Setup}
 use Rattle.vt_session.specs.declared.Ended.{Ended}
 use Rattle.vt_session.specs.declared.Ended.TheVariants.{Goodbye, Closed, Cut, Malformed, Spent, ReadFault, WriteFault, NoMemory}
 use Rattle.vt_session.specs.Heard.{Item, Heard}
-use Rattle.vt_session.specs.Turns.{Turn, items_of, output_of, pieces_of, causes_of}
-use Rattle.vt_session.specs.Answered.{AnsweredBy, AnsweredAlone, Faults, AreToldBy}
+use Rattle.vt_session.specs.Turns.{Part, Turn, items_of, output_of, pieces_of, causes_of}
+use Rattle.vt_session.specs.Answered.{AnsweredBy, AnsweredAlone, NoneFell, Faults, AreToldBy}
 
 -- how many bytes a link takes at most
 abbrev pub spent_len : ℕ
@@ -55,6 +55,28 @@ pub record Talk (score : List ℕ → List ℕ) (c : Setup) (faults : Faults) (h
   pub failures : AreToldBy faults (causes_of turns)
   pub rising : n0 ≤ n1
   pub within : n1 ≤ length h
+
+-- ---- a talk that goes on
+
+-- What a link was told so far: these turns are answered from history h, over a while in which the
+-- store's parts tell of these faults, and its operations have numbers from n0 to n1.
+pub record TalkSoFar (score : List ℕ → List ℕ) (c : Setup) (faults : Faults) (h : History) (n0 : ℕ)
+    (turns : List Turn) (n1 : ℕ) : Type 0 where
+  pub answered : AnsweredBy score c h n0 n1 turns
+  pub failures : AreToldBy faults (causes_of turns)
+  pub rising : n0 ≤ n1
+  pub within : n1 ≤ length h
+
+-- one while comes behind another: no count fell between them, and a part that stopped stays stopped
+pub record ComesBehind (first next : Faults) : Type 0 where
+  pub counts : NoneFell first.after next.before
+  pub stops : (stop : Part × ℕ) → Contains first.stops stop → Contains next.stops stop
+
+-- what the parts tell of one while and then another
+abbrev pub over_both : (first next : Faults) → Faults
+over_both first next = record { before = first.before; after = next.after; stops = next.stops }
+
+-- ---- a link to which nobody else adds
 
 -- The same where nobody else adds blocks, from history `before` to history `after`.
 pub record Alone (score : List ℕ → List ℕ) (c : Setup) (faults : Faults) (before : History)

@@ -1,9 +1,11 @@
 //! Laws of sessions.
 
 ghost use Rattle.std.specs.Prelude.{◌≡◌, ◌≢◌, ℕ, Some, None, List, [], ◌∷◌, ◌++◌, length, take};
-ghost use Rattle.std.specs.Prelude.{◌≤◌, ◌<◌, ◌↔◌, map, slice_get, All};
+ghost use Rattle.std.specs.Prelude.{◌≤◌, ◌<◌, ◌^◌, ◌↔◌, map, slice_get, slice_index, All};
+ghost use Rattle.std.specs.List.{flat_map};
 ghost use Rattle.std.specs.List.Sorted.{IsStrictlyIncreasing};
 ghost use Rattle.vt_base.specs.Bytes.{AreBytes};
+ghost use Rattle.vt_base.specs.Faults.{HasRisen};
 ghost use Rattle.vt_base.specs.Protocol.{Operation, write, r_write};
 ghost use Rattle.vt_wire.specs.Frames.{framed, IsBody, IsPartial};
 ghost use Rattle.vt_model.specs.Answer.{Outcome};
@@ -12,12 +14,13 @@ ghost use Rattle.vt_model.specs.Legal.{IsLegal};
 ghost use Rattle.vt_model.specs.Places.{Setup};
 ghost use Rattle.vt_session.specs.Heard.{Item, Heard, Means, Unheard, HearsRest, end_of};
 ghost use Rattle.vt_session.specs.Hearing.{Hearing, HearsOn, behind_frame};
-ghost use Rattle.vt_session.specs.Turns.{Cause, Turn, served, spelled_turn};
-ghost use Rattle.vt_session.specs.Turns.{output_of, pieces_of, added_of, added_numbers, causes_of};
+ghost use Rattle.vt_session.specs.Turns.{Part, Cause, disk_fault, Turn, served, spelled_turn};
+ghost use Rattle.vt_session.specs.Turns.{items_of, output_of, pieces_of, added_of, causes_of};
+ghost use Rattle.vt_session.specs.Turns.{added_numbers, synced_numbers};
 ghost use Rattle.vt_session.specs.Answered.{AnsweredBy, AnsweredAlone, CountsRise};
-ghost use Rattle.vt_session.specs.Answered.{Faults, no_faults, AreToldBy};
+ghost use Rattle.vt_session.specs.Answered.{NoneFell, OneRose, Faults, no_faults, AreToldBy};
 ghost use Rattle.vt_session.specs.Talk.{Talk, Alone, EndsInLast, AnswersAll, EndsByInput};
-ghost use Rattle.vt_session.specs.Talk.{HasScores, spent_len};
+ghost use Rattle.vt_session.specs.Talk.{TalkSoFar, ComesBehind, over_both, HasScores, spent_len};
 ghost use Rattle.vt_session.specs.declared.Ended.{Ended};
 ghost use Rattle.vt_session.specs.declared.Ended.TheVariants.{Goodbye, Closed, Cut, Malformed};
 ghost use Rattle.vt_session.specs.declared.Ended.TheVariants.{WriteFault};
@@ -185,6 +188,59 @@ pub fn hearing_steps()
         IsPartial left.bytes → HearsRest left [] (end_of left.bytes) }
 {}
 
+/// A talk begins with no turns. What a link was told so far of a history, it was told of every
+/// history that begins with it; and what it is told next, of a history that goes on, comes behind
+/// it.
+pub fn talks_go_on()
+    ensures begins { (score : List ℕ → List ℕ) (c : Setup) (faults : Faults) (h : History) (n : ℕ) →
+        NoneFell faults.before faults.after → n ≤ length h →
+        TalkSoFar score c faults h n [] n }
+    ensures longer { (score : List ℕ → List ℕ) (c : Setup) (faults : Faults) (h more : History)
+        (n0 : ℕ) (turns : List Turn) (n1 : ℕ) →
+        TalkSoFar score c faults h n0 turns n1 →
+        TalkSoFar score c faults (h ++ more) n0 turns n1 }
+    ensures behind { (score : List ℕ → List ℕ) (c : Setup) (first next : Faults)
+        (h added : History) (n0 n1 m0 m1 : ℕ) (turns more : List Turn) →
+        TalkSoFar score c first h n0 turns n1 →
+        TalkSoFar score c next (h ++ added) m0 more m1 →
+        ComesBehind first next → length h ≤ m0 →
+        TalkSoFar score c (over_both first next) (h ++ added) n0 (turns ++ more) m1 }
+{}
+
+/// What turns tell, in order, more turns go on with: the items that were heard, what was written,
+/// the blocks that were added and their numbers, the numbers of syncs, and the causes of failures.
+pub fn turns_tell_in_order()
+    ensures items { (turns more : List Turn) →
+        items_of (turns ++ more) ≡ items_of turns ++ items_of more }
+    ensures output { (turns more : List Turn) →
+        output_of (turns ++ more) ≡ output_of turns ++ flat_map spelled_turn more }
+    ensures added { (turns more : List Turn) →
+        added_of (turns ++ more) ≡ added_of turns ++ added_of more }
+    ensures numbers { (turns more : List Turn) →
+        added_numbers (turns ++ more) ≡ added_numbers turns ++ added_numbers more }
+    ensures synced { (turns more : List Turn) →
+        synced_numbers (turns ++ more) ≡ synced_numbers turns ++ synced_numbers more }
+    ensures causes { (turns more : List Turn) →
+        causes_of (turns ++ more) ≡ causes_of turns ++ causes_of more }
+{}
+
+/// Where one of several counts of failed calls rises and the others stand, the counts before and
+/// behind tell of a disk fault; where all stand, of none.
+pub fn one_count_rises()
+    ensures rose { (before after : List ℕ) (which : ℕ) →
+        HasRisen (slice_index before which) (slice_index after which) → OneRose before after }
+    ensures none_fell { (before after : List ℕ) (which : ℕ) →
+        ((i : ℕ) → slice_index before i < 2 ^ 64) →
+        HasRisen (slice_index before which) (slice_index after which) →
+        ((i : ℕ) → i ≢ which → slice_index after i ≡ slice_index before i) →
+        NoneFell before after }
+    ensures told { (before after : List ℕ) (stops : List (Part × ℕ)) → NoneFell before after →
+        AreToldBy (record { before = before; after = after; stops = stops })
+        (disk_fault before after ∷ []) }
+    ensures stand { (counts : List ℕ) (stops : List (Part × ℕ)) →
+        AreToldBy (record { before = counts; after = counts; stops = stops }) [] }
+{}
+
 /// Causes and then more causes, of which the counts go on. The faults that tell of causes tell of
 /// their front.
 pub fn causes_join()
@@ -219,7 +275,7 @@ pub fn written_blocks_are_held()
 }
 
 /// The numbers of the blocks that a talk added rise, and they are the places of those blocks in the
-/// history.
+/// history; also of a talk that goes on.
 pub fn added_numbers_rise()
     ensures within { (score : List ℕ → List ℕ) (c : Setup) (faults : Faults) (h : History) (n0 : ℕ)
         (input output : List ℕ) (turns : List Turn) (ended : Ended) (n1 : ℕ) →
@@ -233,4 +289,9 @@ pub fn added_numbers_rise()
         (input output : List ℕ) (turns : List Turn) (ended : Ended) (n1 : ℕ) →
         Talk score c faults h n0 input output turns ended n1 →
         map (slice_get h) (added_numbers turns) ≡ map Some (added_of turns) }
+    ensures so_far { (score : List ℕ → List ℕ) (c : Setup) (faults : Faults) (h : History)
+        (n0 : ℕ) (turns : List Turn) (n1 : ℕ) → TalkSoFar score c faults h n0 turns n1 →
+        All (λ n. (n0 ≤ n) × (n < length h)) (added_numbers turns)
+        × IsStrictlyIncreasing (added_numbers turns)
+        × (map (slice_get h) (added_numbers turns) ≡ map Some (added_of turns)) }
 {}
