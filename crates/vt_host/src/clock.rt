@@ -1,22 +1,22 @@
 //! The system's clock.
 
-use std::time;
+use crate::system::ClockCalls;
 use vt_out::Clock;
 
-/// The clock of a runtime. It gives 0 where the system gives no time or one before 1970, and
-/// 2^32 - 1 where that many seconds have passed, in 2106.
+/// A clock of the system, as a runtime is. It gives 0 where that fails, as before 1970, and 2^32 - 1
+/// where that many seconds have passed, in 2106.
 #[derive(Drop)]
 pub struct StdClock<C>(pub C);
 
-impl<C: time::Clock> Clock for StdClock<C> {
-    ghost use Rattle.std.specs.Prelude.{false};
+impl<C: ClockCalls> Clock for StdClock<C> {
+    ghost use Rattle.vt_host.specs.Times.{seconds};
 
-    ghost tells = { false };
+    ghost tells = { C.tells };
 
-    ghost time = { λ _. 0 };
+    ghost time = { λ clock. seconds (C.answer clock.0) };
 
     fn now(&mut self) -> u32 {
-        match self.0.since_1970() {
+        match self.0.time() {
             Ok(time) => u32::try_from(time.as_secs()).unwrap_or(u32::MAX),
             Err(_) => 0,
         }

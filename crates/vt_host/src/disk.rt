@@ -1,73 +1,91 @@
 //! Files as disks.
 
-ghost use Rattle.std.specs.Prelude.{◌<◌, ◌≤◌, ◌^◌, IfOk, IfSome};
+ghost use Rattle.std.specs.Prelude.{◌≡◌, ◌<◌, ◌≤◌, ◌^◌, ◌++◌, List, IsTrue, IfOk};
+ghost use Rattle.std.specs.Result.{result_ok};
+ghost use Rattle.vt_host.specs.Calls.{FileCall};
+ghost use Rattle.vt_host.specs.Opening.{disk_options, Grows};
 
 use crate::faults::Faults;
-use std::fs::{File, Files, OpenOptions};
+use crate::system::{FileCalls, Opener};
+use std::fs::OpenOptions;
 use std::io;
-use std::io::{Seek, SeekFrom};
-use std::os::unix::fs::FileExt;
 use vt_base::Failed;
 use vt_disk::Disk;
 
 /// A file or a partition of the system, as long as it was when it was opened.
 #[derive(Drop)]
-pub struct FileDisk {
-    file: File,
+pub struct FileDisk<F> {
+    file: F,
     len: u64,
     faults: Faults,
     ghost len_fits: { len < 2 ^ 64 },
 }
 
-/// Opens what has this name, and says how many bytes it has.
-fn open_file(
-    files: &impl Files<File = File>,
-    name: &str,
-    grow_to: Option<u64>,
-) -> io::Result<(File, u64)>
-    ensures { IfOk result (λ opened. IfSome grow_to (λ wanted. wanted ≤ opened.1)) }
+/// How a file is opened as a disk.
+fn options(create: bool) -> OpenOptions
+    ensures { result ≡ disk_options create }
 {
     let mut options = OpenOptions::new();
-    options.read(true).write(true).create(grow_to.is_some());
-    let mut file = options.open(files, name)?;
-    let len = file.seek(SeekFrom::End(0))?;
-    match grow_to {
-        Some(wanted) if len < wanted => {
-            file.set_len(wanted)?;
-            Ok((file, wanted))
-        }
-        _ => Ok((file, len)),
-    }
+    options.read(true).write(true).create(create);
+    options
 }
 
-impl FileDisk {
-    ghost use Rattle.std.specs.Prelude.{◌≡◌, ◌≤◌, IfOk, IfSome};
+/// Fills the file up to this length where it is shorter, and says how many bytes it then has.
+fn grow<F: FileCalls>(file: &mut F, wanted: u64) -> io::Result<u64>
+    ensures calls { IsTrue F.tells → (calls : List FileCall)
+        × (F.made file.new ≡ F.made file.old ++ calls) × Grows wanted calls (result_ok result) }
+    ensures grown { IfOk result (λ len. wanted ≤ len) }
+{
+    let found = file.measure()?;
+    if found < wanted {
+        file.resize(wanted)?;
+        return Ok(wanted);
+    }
+    Ok(found)
+}
+
+impl<F: FileCalls + Drop> FileDisk<F> {
+    ghost use Rattle.std.specs.Prelude.{◌≡◌, ◌≤◌, ◌⊎◌, ◌++◌, ◌∷◌, [], true, false, IsTrue};
+    ghost use Rattle.std.specs.Prelude.{Some, None, IfOk, IfSome, OnOk, OnErr};
+    ghost use Rattle.vt_host.specs.Disks.{disk_file, disk_size, disk_faults};
+    ghost use Rattle.vt_host.specs.Opening.{opening, wanted_length, Grows};
 
     /// Opens what has this name. With a length to grow to, a file that isn't there is made, and one
-    /// that is shorter is filled up with zero bytes; none is made shorter.
-    pub fn open(
-        files: &impl Files<File = File>,
+    /// that is shorter is filled up with zero bytes; none is made shorter. Failed is the answer
+    /// where one of these calls fails.
+    pub fn open<O: Opener<File = F>>(
+        files: &mut O,
         name: &str,
         grow_to: Option<u64>,
     ) -> Result<Self, Failed>
-        ensures grown { IfOk result (λ disk. IfSome grow_to
-            (λ wanted. wanted ≤ ⟦<FileDisk as Disk>⟧.size disk)) }
-        ensures faults { IfOk result (λ disk. ⟦<FileDisk as Disk>⟧.faults disk ≡ 0) }
+        ensures grown { IfOk result (λ disk. IfSome grow_to (λ wanted. wanted ≤ disk_size disk)) }
+        ensures faults { IfOk result (λ disk. disk_faults disk ≡ 0) }
+        ensures opened { OnOk result (IsTrue F.tells →
+            O.opened files.new ≡ O.opened files.old ++ opening name.now grow_to true ∷ []) }
+        ensures made { IfOk result (λ disk. IsTrue F.tells →
+            Grows (wanted_length grow_to) (F.made (disk_file disk)) (Some (disk_size disk))) }
+        ensures failed { OnErr result (IsTrue F.tells →
+            (O.opened files.new ≡ O.opened files.old ++ opening name.now grow_to false ∷ [])
+            ⊎ ((O.opened files.new ≡ O.opened files.old ++ opening name.now grow_to true ∷ [])
+            × ((file : F) × Grows (wanted_length grow_to) (F.made file) None))) }
     {
-        match open_file(files, name, grow_to) {
-            Ok((file, len)) => Ok(FileDisk {
-                file,
-                len,
-                faults: Faults::new(),
-            }),
-            Err(_) => Err(Failed),
-        }
+        let how = options(grow_to.is_some());
+        let mut file = files.open(&how, name).map_err(|_| Failed)?;
+        let len = grow(&mut file, grow_to.unwrap_or(0)).map_err(|_| Failed)?;
+        Ok(FileDisk {
+            file,
+            len,
+            faults: Faults::new(),
+        })
     }
 }
 
-impl Disk for FileDisk {
-    ghost use Rattle.std.specs.Prelude.{◌≡◌, [], false, length};
+impl<F: FileCalls> Disk for FileDisk<F> {
+    ghost use Rattle.std.specs.Prelude.{◌≡◌, ◌++◌, ◌∷◌, [], false, length, IsTrue, is_ok};
     ghost use Rattle.vt_base.specs.Bytes.{AreBytes};
+    ghost use Rattle.vt_base.specs.Faults.{HasCause};
+    ghost use Rattle.vt_host.specs.Calls.{read, written, synced};
+    ghost use Rattle.vt_host.specs.Disks.{disk_file, disk_size, disk_faults};
 
     ghost tells = { false };
 
@@ -94,18 +112,33 @@ impl Disk for FileDisk {
         self.len
     }
 
-    fn read_at(&mut self, start: u64, buf: &mut [u8]) -> Result<(), Failed> {
-        let answer = self.file.read_exact_at(buf, start);
-        self.faults.counted(answer)
+    /// One read of the file.
+    fn read_at(&mut self, start: u64, buf: &mut [u8]) -> Result<(), Failed>
+        ensures made { IsTrue F.tells → F.made (disk_file self.new)
+            ≡ F.made (disk_file self.old) ++ read start buf.new (is_ok result) ∷ [] }
+        ensures size { disk_size self.new ≡ disk_size self.old }
+        ensures cause { HasCause result (disk_faults self.old) (disk_faults self.new) }
+    {
+        self.faults.counted(self.file.read_from(start, buf))
     }
 
-    fn write_at(&mut self, start: u64, chunk: &[u8]) -> Result<(), Failed> {
-        let answer = self.file.write_all_at(chunk, start);
-        self.faults.counted(answer)
+    /// One write of the file.
+    fn write_at(&mut self, start: u64, chunk: &[u8]) -> Result<(), Failed>
+        ensures made { IsTrue F.tells → F.made (disk_file self.new)
+            ≡ F.made (disk_file self.old) ++ written start chunk.now (is_ok result) ∷ [] }
+        ensures size { disk_size self.new ≡ disk_size self.old }
+        ensures cause { HasCause result (disk_faults self.old) (disk_faults self.new) }
+    {
+        self.faults.counted(self.file.write_from(start, chunk))
     }
 
-    fn sync(&mut self) -> Result<(), Failed> {
-        let answer = self.file.sync_all();
-        self.faults.counted(answer)
+    /// One sync of the file.
+    fn sync(&mut self) -> Result<(), Failed>
+        ensures made { IsTrue F.tells → F.made (disk_file self.new)
+            ≡ F.made (disk_file self.old) ++ synced (is_ok result) ∷ [] }
+        ensures size { disk_size self.new ≡ disk_size self.old }
+        ensures cause { HasCause result (disk_faults self.old) (disk_faults self.new) }
+    {
+        self.faults.counted(self.file.flush_all())
     }
 }

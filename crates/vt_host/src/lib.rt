@@ -8,11 +8,15 @@ mod disk;
 mod faults;
 mod sink;
 mod source;
+mod system;
 
 pub use clock::StdClock;
 pub use disk::FileDisk;
 pub use sink::StdSink;
 pub use source::StdSource;
+
+#[cfg(test)]
+mod fakes;
 
 #[cfg(test)]
 mod tests;

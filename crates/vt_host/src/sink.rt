@@ -1,11 +1,12 @@
 //! Standard output and standard error.
 
-ghost use Rattle.std.specs.Prelude.{OnOk};
+ghost use Rattle.std.specs.Prelude.{OnOk, IsTrue};
 ghost use Rattle.std.specs.Io.KnownBytes.{Appends};
+ghost use Rattle.vt_host.specs.Passing.{WritesThrough};
 
 use crate::faults::Faults;
+use crate::system::WriteCalls;
 use std::io;
-use std::io::Write;
 use vt_base::Failed;
 use vt_out::Sink;
 
@@ -17,7 +18,7 @@ pub struct StdSink<W> {
     faults: Faults,
 }
 
-impl<W: Write> StdSink<W> {
+impl<W: WriteCalls> StdSink<W> {
     ghost use Rattle.std.specs.Prelude.{◌≡◌};
     ghost use Rattle.vt_host.specs.Streams.{sink_output};
 
@@ -34,16 +35,19 @@ impl<W: Write> StdSink<W> {
 }
 
 /// Writes the whole piece, and leaves none of it in a buffer.
-fn write_through<W: Write>(output: &mut W, piece: &[u8]) -> io::Result<()>
-    ensures { OnOk result (Appends (W.contents output.old) (W.contents output.new) piece.now) }
+fn write_through<W: WriteCalls>(output: &mut W, piece: &[u8]) -> io::Result<()>
+    ensures made { IsTrue W.tells
+        → WritesThrough piece.now result (W.made output.old) (W.made output.new) }
+    ensures bytes { OnOk result (Appends (W.contents output.old) (W.contents output.new) piece.now) }
 {
-    output.write_all(piece)?;
-    output.flush()
+    output.put_all(piece)?;
+    output.flush_all()
 }
 
-impl<W: Write> Sink for StdSink<W> {
-    ghost use Rattle.std.specs.Prelude.{false, [], OnOk};
+impl<W: WriteCalls> Sink for StdSink<W> {
+    ghost use Rattle.std.specs.Prelude.{false, [], OnOk, IsTrue};
     ghost use Rattle.std.specs.Io.KnownBytes.{Appends};
+    ghost use Rattle.vt_host.specs.Passing.{WritesThrough};
     ghost use Rattle.vt_host.specs.Streams.{sink_output};
     ghost use Rattle.vt_base.specs.Faults.{HasCause};
 
@@ -57,6 +61,8 @@ impl<W: Write> Sink for StdSink<W> {
 
     /// Where the writer tells what it holds, the piece comes to it.
     fn put(&mut self, piece: &[u8]) -> Result<(), Failed>
+        ensures made { IsTrue W.tells → WritesThrough piece.now result
+            (W.made (sink_output self.old)) (W.made (sink_output self.new)) }
         ensures bytes { OnOk result (Appends (W.contents (sink_output self.old))
             (W.contents (sink_output self.new)) piece.now) }
         ensures cause { HasCause result (⟦<StdSink<W> as Sink>⟧.faults self.old)

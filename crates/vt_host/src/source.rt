@@ -1,11 +1,13 @@
 //! Standard input.
 
-ghost use Rattle.std.specs.Prelude.{◌≤◌, length, IfOk};
+ghost use Rattle.std.specs.Prelude.{◌≤◌, length, IfOk, IsTrue};
 ghost use Rattle.std.specs.Io.KnownBytes.{ReadConsumes};
+ghost use Rattle.vt_host.specs.Passing.{ReadsOnce};
 
 use crate::faults::Faults;
+use crate::system::ReadCalls;
 use std::io;
-use std::io::{ErrorKind, Read};
+use std::io::ErrorKind;
 use vt_base::Failed;
 use vt_out::Source;
 
@@ -19,7 +21,7 @@ pub struct StdSource<R> {
     faults: Faults,
 }
 
-impl<R: Read> StdSource<R> {
+impl<R: ReadCalls> StdSource<R> {
     ghost use Rattle.std.specs.Prelude.{◌≡◌};
     ghost use Rattle.vt_host.specs.Streams.{source_input};
 
@@ -36,23 +38,26 @@ impl<R: Read> StdSource<R> {
 }
 
 /// Makes one read, as often as a signal interrupts it.
-fn read_once<R: Read>(input: &mut R, buf: &mut [u8]) -> io::Result<usize>
+fn read_once<R: ReadCalls>(input: &mut R, buf: &mut [u8]) -> io::Result<usize>
     ensures fits { IfOk result (λ n. n ≤ length buf.old) }
+    ensures made { IsTrue R.tells
+        → ReadsOnce (record { buf = buf.new; answer = result }) (R.made input.old) (R.made input.new) }
     ensures bytes { ReadConsumes (R.remaining input.old) (R.remaining input.new) result buf.new }
 {
     for _ in 0..RETRIES {
-        match input.read(buf) {
+        match input.read_some(buf) {
             Err(error) if error.kind() == ErrorKind::Interrupted => {}
             answer => return answer,
         }
     }
-    input.read(buf)
+    input.read_some(buf)
 }
 
-impl<R: Read> Source for StdSource<R> {
-    ghost use Rattle.std.specs.Prelude.{◌≡◌, ◌≤◌, false, [], length, IfOk};
+impl<R: ReadCalls> Source for StdSource<R> {
+    ghost use Rattle.std.specs.Prelude.{◌≡◌, ◌≤◌, false, [], length, IfOk, IsTrue};
     ghost use Rattle.std.specs.Io.KnownBytes.{ReadConsumes};
     ghost use Rattle.vt_base.specs.Bytes.{AreBytes-none};
+    ghost use Rattle.vt_host.specs.Passing.{TakesOnce};
     ghost use Rattle.vt_host.specs.Streams.{source_input};
     ghost use Rattle.vt_base.specs.Faults.{HasCause};
 
@@ -69,6 +74,8 @@ impl<R: Read> Source for StdSource<R> {
     /// Where the reader tells its bytes, these come to the caller.
     fn take(&mut self, buf: &mut [u8]) -> Result<usize, Failed>
         ensures fits { IfOk result (λ n. n ≤ length buf.old) }
+        ensures made { IsTrue R.tells → TakesOnce result buf.new
+            (R.made (source_input self.old)) (R.made (source_input self.new)) }
         ensures bytes { ReadConsumes (R.remaining (source_input self.old))
             (R.remaining (source_input self.new)) result buf.new }
         ensures cause { HasCause result (⟦<StdSource<R> as Source>⟧.faults self.old)

@@ -1,7 +1,10 @@
 use super::*;
+use crate::fakes::{FakeClock, FakeInput, FakeOpener, FakeOutput, Notes};
 use std::io::{Read, Write};
+use std::alloc::Global;
+use std::process::Abort;
 use std::test::Fail;
-use std::time::SystemTime;
+use std::time::{Duration, SystemTime};
 use std::{fs, io, process};
 use vt_base::Failed;
 use vt_disk::Disk;
@@ -99,9 +102,10 @@ fn a_file_is_a_disk(rt: HostRuntime) -> Result<(), Fail> {
         folder.display(),
         process::id(rt.process())
     )?;
-    assert!(rt; FileDisk::open(&rt, name.as_str(), None).is_err());
-    let mut disk = FileDisk::open(&rt, name.as_str(), Some(10_000))?;
-    let again = FileDisk::open(&rt, name.as_str(), Some(500))?;
+    let mut files = &rt;
+    assert!(rt; FileDisk::open(&mut files, name.as_str(), None).is_err());
+    let mut disk = FileDisk::open(&mut files, name.as_str(), Some(10_000))?;
+    let again = FileDisk::open(&mut files, name.as_str(), Some(500))?;
     let file = fs::OpenOptions::new().write(true).open(&rt, name.as_str())?;
     fs::remove_file(&rt, name.as_str())?;
     assert_eq!(rt; (disk.len(), again.len()), (10_000, 10_000));
@@ -121,5 +125,84 @@ fn a_file_is_a_disk(rt: HostRuntime) -> Result<(), Fail> {
     assert_eq!(rt; disk.read_at(9_997, &mut buf), Err(Failed));
     assert_eq!(rt; disk.read_at(4_999, &mut buf[..2]), Ok(()));
     assert_eq!(rt; &buf[..2], b"\0a".as_slice());
+    Ok(())
+}
+
+/// Opens files of 8 bytes. Of each of them, the call of this number fails.
+fn opener<R: Abort + Copy + Drop>(rt: R, alloc: Global, failing: usize) -> FakeOpener<R> {
+    FakeOpener {
+        notes: Notes::new(rt, alloc, 1),
+        len: 8,
+        file_failing: failing,
+    }
+}
+
+#[test]
+fn an_error_of_a_file_is_handed_on(rt: HostRuntime) -> Result<(), Fail> {
+    let mut files = opener(rt, rt.alloc(), 3);
+    let mut disk = FileDisk::open(&mut files, "disk", Some(10))?;
+    let mut buf = [0; 2];
+    assert_eq!(rt; disk.len(), 10);
+    assert_eq!(rt; disk.write_at(3, b"ab"), Ok(()));
+    assert_eq!(rt; disk.sync(), Err(Failed));
+    assert_eq!(rt; disk.read_at(3, &mut buf), Ok(()));
+    assert_eq!(rt; disk.sync(), Ok(()));
+    assert_eq!(rt; buf, [7, 7]);
+
+    // The second opening fails, and of the next files the length and the change of the length.
+    assert!(rt; FileDisk::open(&mut files, "disk", None).is_err());
+    files.file_failing = 0;
+    assert!(rt; FileDisk::open(&mut files, "disk", None).is_err());
+    files.file_failing = 1;
+    assert!(rt; FileDisk::open(&mut files, "disk", Some(9)).is_err());
+    assert_eq!(rt; FileDisk::open(&mut files, "disk", Some(8))?.len(), 8);
+    assert_eq!(rt; files.notes.calls.len(), 5);
+    Ok(())
+}
+
+#[test]
+fn a_piece_is_flushed(rt: HostRuntime) {
+    let mut sink = StdSink::new(FakeOutput {
+        notes: Notes::new(rt, rt.alloc(), 3),
+    });
+    assert_eq!(rt; sink.put(b"ab"), Ok(()));
+    assert_eq!(rt; sink.put(b"cd"), Err(Failed));
+    assert_eq!(rt; sink.put(b"ef"), Ok(()));
+}
+
+#[test]
+fn an_interrupted_read_is_made_again(rt: HostRuntime) {
+    let mut source = StdSource::new(FakeInput {
+        notes: Notes::new(rt, rt.alloc(), 0),
+    });
+    let mut buf = [0; 3];
+    assert_eq!(rt; source.take(&mut buf), Ok(3));
+    assert_eq!(rt; buf, [7; 3]);
+}
+
+#[test]
+fn a_clock_counts_seconds(rt: HostRuntime) {
+    let times = [
+        (Some(Duration::from_millis(1_999)), 1),
+        (Some(Duration::from_secs(1 << 32)), u32::MAX),
+        (None, 0),
+    ];
+    for (time, seconds) in times {
+        assert_eq!(rt; StdClock(FakeClock(time)).now(), seconds);
+    }
+}
+
+/// Takes what may go to another thread.
+fn go<T: Send + Drop>(_value: T) {}
+
+#[test]
+fn adapters_may_go_to_other_threads(rt: HostRuntime) -> Result<(), Fail> {
+    let name = format!(in rt.alloc(); "/proc/{}/stat", process::id(rt.process()))?;
+    let file = fs::File::open(&rt, name.as_str())?;
+    go(StdSource::new(file));
+    go(StdSink::new(rt.stdout()));
+    if let Ok(disk) = FileDisk::open(&mut &rt, "", None) {
+        go(disk);
+    }
     Ok(())
 }

@@ -1,0 +1,15 @@
+-- What a file as a disk is made of.
+use Rattle.std.specs.Prelude.{ℕ}
+use Rattle.vt_host.specs.declared.disk.FileDisk.{FileDisk}
+
+-- the file whose bytes it has
+abbrev pub disk_file : {F : Type 0} → FileDisk F → F
+disk_file disk = disk.file
+
+-- how many bytes it has
+abbrev pub disk_size : {F : Type 0} → FileDisk F → ℕ
+disk_size disk = disk.len
+
+-- how many of its calls have failed
+abbrev pub disk_faults : {F : Type 0} → FileDisk F → ℕ
+disk_faults disk = disk.faults.count

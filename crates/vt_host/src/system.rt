@@ -1,0 +1,204 @@
+//! What the adapters ask of the system.
+//!
+//! Each method is one call. The system tells nothing of the calls that were made of it, so that the
+//! few lines of its impls here are trusted; what stands on the traits is proved for all that tells.
+
+ghost use Rattle.std.specs.Prelude.{◌≡◌, ◌≤◌, ◌++◌, ◌∷◌, ℕ, Bool, IsTrue, List, [], length};
+ghost use Rattle.std.specs.Prelude.{Option, IfOk, OnOk, is_ok};
+ghost use Rattle.std.specs.Io.KnownBytes.{Appends, Keeps, ReadConsumes};
+ghost use Rattle.std.specs.Result.{result_ok};
+ghost use Rattle.vt_host.specs.Calls.{Opening, FileCall, measured, resized, read, written, synced};
+ghost use Rattle.vt_host.specs.Calls.{WriteCall, put, flushed, ReadCall};
+
+use std::fs::{File, Files, OpenOptions};
+use std::io;
+use std::io::{Read, Seek, SeekFrom, Write};
+use std::os::unix::fs::FileExt;
+use std::time;
+use std::time::Duration;
+
+/// Opens files by name.
+pub trait Opener {
+    type File: FileCalls;
+
+    /// What was to be opened so far, where its files tell their calls.
+    ghost opened: { Self → List Opening };
+
+    fn open(&mut self, how: &OpenOptions, name: &str) -> io::Result<Self::File>
+        ensures noted { IsTrue Self.File.tells → opened self.new ≡ opened self.old
+            ++ record { how = how.now; name = name.now; ok = is_ok result } ∷ [] }
+        ensures untouched { IfOk result (λ file.
+            IsTrue Self.File.tells → Self.File.made file ≡ []) };
+}
+
+/// An open file.
+pub trait FileCalls {
+    /// Whether files of this type tell which calls were made of them.
+    ghost tells: { Bool };
+
+    /// The calls that were made of it, in order.
+    ghost made: { Self → List FileCall };
+
+    /// How many bytes it has.
+    fn measure(&mut self) -> io::Result<u64>
+        ensures { IsTrue tells
+            → made self.new ≡ made self.old ++ measured (result_ok result) ∷ [] };
+
+    /// Cuts it off, or fills it up with zero bytes.
+    fn resize(&mut self, len: u64) -> io::Result<()>
+        ensures { IsTrue tells → made self.new ≡ made self.old ++ resized len (is_ok result) ∷ [] };
+
+    /// Fills the buffer.
+    fn read_from(&mut self, start: u64, buf: &mut [u8]) -> io::Result<()>
+        ensures { IsTrue tells
+            → made self.new ≡ made self.old ++ read start buf.new (is_ok result) ∷ [] };
+
+    /// Writes the whole chunk.
+    fn write_from(&mut self, start: u64, chunk: &[u8]) -> io::Result<()>
+        ensures { IsTrue tells
+            → made self.new ≡ made self.old ++ written start chunk.now (is_ok result) ∷ [] };
+
+    /// Puts on the disk what was written.
+    fn flush_all(&mut self) -> io::Result<()>
+        ensures { IsTrue tells → made self.new ≡ made self.old ++ synced (is_ok result) ∷ [] };
+}
+
+/// A stream that is written.
+pub trait WriteCalls {
+    /// Whether streams of this type tell which calls were made of them.
+    ghost tells: { Bool };
+
+    /// The calls that were made of it, in order.
+    ghost made: { Self → List WriteCall };
+
+    /// The bytes that it holds, where they are known.
+    ghost contents: { Self → Option (List ℕ) };
+
+    /// Writes the whole piece.
+    fn put_all(&mut self, piece: &[u8]) -> io::Result<()>
+        ensures noted { IsTrue tells
+            → made self.new ≡ made self.old ++ put piece.now (is_ok result) ∷ [] }
+        ensures bytes { OnOk result (Appends (contents self.old) (contents self.new) piece.now) };
+
+    /// Leaves nothing in a buffer.
+    fn flush_all(&mut self) -> io::Result<()>
+        ensures noted { IsTrue tells
+            → made self.new ≡ made self.old ++ flushed (is_ok result) ∷ [] }
+        ensures bytes { Keeps (contents self.old) (contents self.new) };
+}
+
+/// A stream that is read.
+pub trait ReadCalls {
+    /// Whether streams of this type tell which calls were made of them.
+    ghost tells: { Bool };
+
+    /// The calls that were made of it, in order.
+    ghost made: { Self → List ReadCall };
+
+    /// The bytes that it has left, where they are known.
+    ghost remaining: { Self → Option (List ℕ) };
+
+    /// Moves bytes to the front of the buffer, and says how many.
+    fn read_some(&mut self, buf: &mut [u8]) -> io::Result<usize>
+        ensures fits { IfOk result (λ n. n ≤ length buf.old) }
+        ensures noted { IsTrue tells
+            → made self.new ≡ made self.old ++ record { buf = buf.new; answer = result } ∷ [] }
+        ensures bytes { ReadConsumes (remaining self.old) (remaining self.new) result buf.new };
+}
+
+/// A clock.
+pub trait ClockCalls {
+    ghost use Rattle.std.specs.declared.time.Duration.{Duration};
+
+    /// Whether clocks of this type tell what they answer next.
+    ghost tells: { Bool };
+
+    /// What it answers next, where it tells it: the time, or none where it fails.
+    ghost answer: { Self → Option Duration };
+
+    /// The time since the beginning of 1970.
+    fn time(&mut self) -> io::Result<Duration>
+        ensures { IsTrue tells → result_ok result ≡ answer self.old };
+}
+
+impl<R: Files<File = File>> Opener for R {
+    type File = File;
+
+    ghost opened = { λ _. [] };
+
+    fn open(&mut self, how: &OpenOptions, name: &str) -> io::Result<File> {
+        how.open(&*self, name)
+    }
+}
+
+impl FileCalls for File {
+    ghost use Rattle.std.specs.Prelude.{false};
+
+    ghost tells = { false };
+
+    ghost made = { λ _. [] };
+
+    fn measure(&mut self) -> io::Result<u64> {
+        self.seek(SeekFrom::End(0))
+    }
+
+    fn resize(&mut self, len: u64) -> io::Result<()> {
+        self.set_len(len)
+    }
+
+    fn read_from(&mut self, start: u64, buf: &mut [u8]) -> io::Result<()> {
+        self.read_exact_at(buf, start)
+    }
+
+    fn write_from(&mut self, start: u64, chunk: &[u8]) -> io::Result<()> {
+        self.write_all_at(chunk, start)
+    }
+
+    fn flush_all(&mut self) -> io::Result<()> {
+        self.sync_all()
+    }
+}
+
+impl<W: Write> WriteCalls for W {
+    ghost use Rattle.std.specs.Prelude.{false};
+
+    ghost tells = { false };
+
+    ghost made = { λ _. [] };
+
+    ghost contents = { W.contents };
+
+    fn put_all(&mut self, piece: &[u8]) -> io::Result<()> {
+        self.write_all(piece)
+    }
+
+    fn flush_all(&mut self) -> io::Result<()> {
+        self.flush()
+    }
+}
+
+impl<R: Read> ReadCalls for R {
+    ghost use Rattle.std.specs.Prelude.{false};
+
+    ghost tells = { false };
+
+    ghost made = { λ _. [] };
+
+    ghost remaining = { R.remaining };
+
+    fn read_some(&mut self, buf: &mut [u8]) -> io::Result<usize> {
+        self.read(buf)
+    }
+}
+
+impl<C: time::Clock> ClockCalls for C {
+    ghost use Rattle.std.specs.Prelude.{false, None};
+
+    ghost tells = { false };
+
+    ghost answer = { λ _. None };
+
+    fn time(&mut self) -> io::Result<Duration> {
+        self.since_1970()
+    }
+}
