@@ -122,3 +122,13 @@ fn a_region_counts_from_its_start(rt: HostRuntime) -> Result<(), Fail> {
     assert_eq!(rt; last, [4]);
     Ok(())
 }
+
+/// Takes what may go to another thread.
+fn go<T: Send + Drop>(_disk: T) {}
+
+#[test]
+fn disks_may_go_to_other_threads(rt: HostRuntime) -> Result<(), Fail> {
+    go(MemDisk::new(rt.alloc(), 8)?);
+    go(MemDisk::failing(rt.alloc(), 8, Vec::new(rt.alloc()))?);
+    Ok(())
+}
