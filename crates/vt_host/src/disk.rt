@@ -69,14 +69,17 @@ impl<F: FileCalls + Drop> FileDisk<F> {
             ⊎ ((O.opened files.new ≡ O.opened files.old ++ opening name.now grow_to true ∷ [])
             × ((file : F) × Grows (wanted_length grow_to) (F.made file) None))) }
     {
-        let how = options(grow_to.is_some());
-        let mut file = files.open(&how, name).map_err(|_| Failed)?;
-        let len = grow(&mut file, grow_to.unwrap_or(0)).map_err(|_| Failed)?;
-        Ok(FileDisk {
-            file,
-            len,
-            faults: Faults::new(),
-        })
+        let Ok(mut file) = files.open(&options(grow_to.is_some()), name) else {
+            return Err(Failed);
+        };
+        match grow(&mut file, grow_to.unwrap_or(0)) {
+            Ok(len) => Ok(FileDisk {
+                file,
+                len,
+                faults: Faults::new(),
+            }),
+            Err(_) => Err(Failed),
+        }
     }
 }
 

@@ -87,11 +87,11 @@ impl<R: Abort + Drop> FileCalls for FakeFile<R> {
     ghost tells = { true };
 
     ghost made = { λ file. map (elim [
-        Measured answer ↦ measured answer
-        | Resized len ok ↦ resized len ok
-        | Read start bytes ok ↦ read start bytes ok
-        | Written start bytes ok ↦ written start bytes ok
-        | Synced ok ↦ synced ok
+      | Measured answer ↦ measured answer
+      | Resized len ok ↦ resized len ok
+      | Read start bytes ok ↦ read start bytes ok
+      | Written start bytes ok ↦ written start bytes ok
+      | Synced ok ↦ synced ok
     ]) file.notes.calls.items };
 
     fn measure(&mut self) -> io::Result<u64> {

@@ -17,6 +17,5 @@ pub use source::StdSource;
 
 #[cfg(test)]
 mod fakes;
-
 #[cfg(test)]
 mod tests;

@@ -11,11 +11,10 @@ ghost use Rattle.vt_host.specs.Calls.{Opening, FileCall, measured, resized, read
 ghost use Rattle.vt_host.specs.Calls.{WriteCall, put, flushed, ReadCall};
 
 use std::fs::{File, Files, OpenOptions};
-use std::io;
 use std::io::{Read, Seek, SeekFrom, Write};
 use std::os::unix::fs::FileExt;
-use std::time;
 use std::time::Duration;
+use std::{io, time};
 
 /// Opens files by name.
 pub trait Opener {

@@ -1,7 +1,7 @@
 use super::*;
 use crate::fakes::{FakeClock, FakeInput, FakeOpener, FakeOutput, Notes};
-use std::io::{Read, Write};
 use std::alloc::Global;
+use std::io::{Read, Write};
 use std::process::Abort;
 use std::test::Fail;
 use std::time::{Duration, SystemTime};

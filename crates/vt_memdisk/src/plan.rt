@@ -1,8 +1,7 @@
 //! Which calls of a disk in memory fail.
 
 ghost use Rattle.std.specs.Prelude.{◌≡◌, ◌↔◌, ◌^◌, ◌<◌, ℕ, List, [], IsTrue, Contains, MatchBool};
-ghost use Rattle.vt_disk.specs.Disk.{IsOneMore};
-ghost use Rattle.vt_base.specs.Faults.{HasRisen};
+ghost use Rattle.vt_base.specs.Faults.{HasRisen, IsOneMore};
 
 /// Counts the reads, writes and syncs of a disk from 0, and says which fail.
 pub trait Plan: Drop {

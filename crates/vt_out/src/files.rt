@@ -2,7 +2,8 @@
 
 ghost use Rattle.std.specs.Prelude.{◌≡◌, ◌≤◌, ◌<◌, ◌^◌, ◌+◌, ℕ, Bool, IsTrue, IfOk, IfErr, List};
 ghost use Rattle.std.specs.Prelude.{Option, Some, length, take};
-ghost use Rattle.vt_out.specs.Files.{HasCauseOrNoMemory};
+ghost use Rattle.vt_base.specs.Faults.{CountsFault};
+ghost use Rattle.vt_out.specs.Files.{is_fault};
 
 use std::alloc::Global;
 use vt_base::{Bytes, Text};
@@ -34,7 +35,7 @@ pub trait Files {
         ensures content { IfOk result (λ bytes. IsTrue tells → (file : List ℕ)
             × (content self.old name.now ≡ Some file) × (bytes ≡ take (limit + 1) file)) }
         ensures files { (name : List ℕ) → content self.new name ≡ content self.old name }
-        ensures cause { HasCauseOrNoMemory result (faults self.old) (faults self.new) };
+        ensures cause { CountsFault is_fault result (faults self.old) (faults self.new) };
 
     ghost faults_fit: { (files : Self) → faults files < 2 ^ 64 };
 }

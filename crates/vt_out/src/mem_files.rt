@@ -91,7 +91,8 @@ fn find<'a>(files: &'a [MemFile], name: &Text) -> Option<&'a [u8]>
 impl Files for MemFiles {
     ghost use Rattle.std.specs.Prelude.{◌≡◌, ◌↔◌, ◌⊎◌, ◌+◌, ◌-◌, ◌^◌, min, true, take, Contains};
     ghost use Rattle.std.specs.Prelude.{option_map, IfOk, None, Some};
-    ghost use Rattle.vt_out.specs.Files.{HasCauseOrNoMemory};
+    ghost use Rattle.vt_base.specs.Faults.{CountsFault, IsOneMore};
+    ghost use Rattle.vt_out.specs.Files.{is_fault};
     ghost use Rattle.vt_out.specs.Held.{content_of, files_held, files_failing, files_calls};
     ghost use Rattle.vt_out.specs.Held.{files_faults};
 
@@ -109,8 +110,8 @@ impl Files for MemFiles {
             ⊎ (content_of (files_held self.old) name.now ≡ None)) }
         ensures content { IfOk result (λ bytes. option_map (take (limit + 1))
             (content_of (files_held self.old) name.now) ≡ Some bytes) }
-        ensures cause { HasCauseOrNoMemory result (files_faults self.old) (files_faults self.new) }
-        ensures calls { files_calls self.new ≡ min (files_calls self.old + 1) (2 ^ 64 - 1) }
+        ensures cause { CountsFault is_fault result (files_faults self.old) (files_faults self.new) }
+        ensures calls { IsOneMore (files_calls self.old) (files_calls self.new) }
         ensures held { files_held self.new ≡ files_held self.old }
         ensures list { files_failing self.new ≡ files_failing self.old }
     {

@@ -16,7 +16,7 @@ impl Link for MemLink {
     ghost use Rattle.std.specs.Prelude.{length, take, drop, Contains, IfOk, OnOk, OnErr, IsErr};
     ghost use Rattle.std.proofs.Common.{arith};
     ghost use Rattle.std.proofs.lemmas.List.{get_or-drop};
-    ghost use Rattle.vt_base.specs.Faults.{HasCause};
+    ghost use Rattle.vt_base.specs.Faults.{HasCause, IsOneMore};
     ghost use Rattle.vt_out.specs.Memory.{source_left, source_pieces, source_failing, source_calls};
     ghost use Rattle.vt_out.specs.Memory.{source_faults, sink_written, sink_room, sink_failing};
     ghost use Rattle.vt_out.specs.Memory.{sink_calls, sink_faults};
@@ -57,8 +57,7 @@ impl Link for MemLink {
         ensures untouched { OnErr result (buf.new ≡ buf.old) }
         ensures cause { HasCause result
             (source_faults self.old.source) (source_faults self.new.source) }
-        ensures calls { source_calls self.new.source
-            ≡ min (source_calls self.old.source + 1) (2 ^ 64 - 1) }
+        ensures calls { IsOneMore (source_calls self.old.source) (source_calls self.new.source) }
         ensures pieces { source_pieces self.new.source ≡ source_pieces self.old.source }
         ensures list { source_failing self.new.source ≡ source_failing self.old.source }
         ensures sink { self.new.sink ≡ self.old.sink }
@@ -79,7 +78,7 @@ impl Link for MemLink {
             ≡ sink_written self.old.sink ++ take (min (length piece.now / 2) spare) piece.now) }
         ensures cause { HasCause result
             (sink_faults self.old.sink) (sink_faults self.new.sink) }
-        ensures calls { sink_calls self.new.sink ≡ min (sink_calls self.old.sink + 1) (2 ^ 64 - 1) }
+        ensures calls { IsOneMore (sink_calls self.old.sink) (sink_calls self.new.sink) }
         ensures room { sink_room self.new.sink ≡ sink_room self.old.sink }
         ensures list { sink_failing self.new.sink ≡ sink_failing self.old.sink }
         ensures source { self.new.source ≡ self.old.source }

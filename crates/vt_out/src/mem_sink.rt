@@ -80,7 +80,7 @@ impl MemSink {
 impl Sink for MemSink {
     ghost use Rattle.std.specs.Prelude.{◌≡◌, ◌↔◌, ◌⊎◌, ◌<◌, ◌+◌, ◌-◌, ◌/◌, ◌^◌, ◌++◌, min, true};
     ghost use Rattle.std.specs.Prelude.{length, take, Contains, OnOk, OnErr, IsErr};
-    ghost use Rattle.vt_base.specs.Faults.{HasCause};
+    ghost use Rattle.vt_base.specs.Faults.{HasCause, IsOneMore};
     ghost use Rattle.vt_out.specs.Memory.{sink_written, sink_room, sink_failing};
     ghost use Rattle.vt_out.specs.Memory.{sink_calls, sink_faults};
 
@@ -103,7 +103,7 @@ impl Sink for MemSink {
             sink_written self.new
             ≡ sink_written self.old ++ take (min (length piece.now / 2) spare) piece.now) }
         ensures cause { HasCause result (sink_faults self.old) (sink_faults self.new) }
-        ensures calls { sink_calls self.new ≡ min (sink_calls self.old + 1) (2 ^ 64 - 1) }
+        ensures calls { IsOneMore (sink_calls self.old) (sink_calls self.new) }
         ensures room { sink_room self.new ≡ sink_room self.old }
         ensures list { sink_failing self.new ≡ sink_failing self.old }
     {

@@ -99,7 +99,7 @@ impl Source for MemSource {
     ghost use Rattle.std.specs.Prelude.{length, take, drop, Contains, IfOk, OnErr, IsErr};
     ghost use Rattle.std.proofs.Common.{arith};
     ghost use Rattle.std.proofs.lemmas.List.{get_or-drop};
-    ghost use Rattle.vt_base.specs.Faults.{HasCause};
+    ghost use Rattle.vt_base.specs.Faults.{HasCause, IsOneMore};
     ghost use Rattle.vt_out.specs.Memory.{source_left, source_pieces, source_failing};
     ghost use Rattle.vt_out.specs.Memory.{source_calls, source_faults};
     ghost use Rattle.vt_out.specs.Streams.{piece_length};
@@ -126,7 +126,7 @@ impl Source for MemSource {
         ensures kept { OnErr result (source_left self.new ≡ source_left self.old) }
         ensures untouched { OnErr result (buf.new ≡ buf.old) }
         ensures cause { HasCause result (source_faults self.old) (source_faults self.new) }
-        ensures calls { source_calls self.new ≡ min (source_calls self.old + 1) (2 ^ 64 - 1) }
+        ensures calls { IsOneMore (source_calls self.old) (source_calls self.new) }
         ensures pieces { source_pieces self.new ≡ source_pieces self.old }
         ensures list { source_failing self.new ≡ source_failing self.old }
     {

@@ -2,7 +2,7 @@
 
 ghost use Rattle.std.specs.Prelude.{◌≡◌, ◌↔◌, ◌+◌, ◌-◌, ◌<◌, ◌^◌, min};
 ghost use Rattle.std.specs.Prelude.{IsTrue, Contains, MatchBool};
-ghost use Rattle.vt_base.specs.Faults.{HasRisen};
+ghost use Rattle.vt_base.specs.Faults.{HasRisen, IsOneMore};
 
 /// The numbers of the calls that fail, and how many calls were made and have failed.
 #[derive(Drop)]
@@ -37,7 +37,7 @@ impl Plan {
     /// Counts a call, and its fault.
     pub fn count(&mut self, failed: bool)
         ensures failing { self.new.failing ≡ self.old.failing }
-        ensures calls { self.new.calls ≡ min (self.old.calls + 1) (2 ^ 64 - 1) }
+        ensures calls { IsOneMore self.old.calls self.new.calls }
         ensures faults { MatchBool failed
             (HasRisen self.old.faults self.new.faults) (self.new.faults ≡ self.old.faults) }
     {
