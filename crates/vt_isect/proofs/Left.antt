@@ -1,6 +1,6 @@
 -- How many device calls are left.
 use Rattle.std.proofs.Common.{◌≡◌, ◌≢◌, ⊎_elim, ℕ, zero, suc, ◌+◌, ◌*◌, ◌<◌, ◌≤◌, Bool, true, false, cond, List, [], ◌∷◌, length, Option, Some, None, Result, Ok, Err, refl, sym, ◌∙◌, ap, subst, arith}
-use Rattle.std.specs.Prelude.{nat_lt, OnOk}
+use Rattle.std.specs.Prelude.{nat_lt, IfErr, OnOk}
 use Rattle.std.specs.List.{Contains, count_by}
 use Rattle.std.specs.Option.{option_map_or}
 use Rattle.std.proofs.lemmas.Bool.Decides.{Decides-ltb}
@@ -11,6 +11,7 @@ use Rattle.vt_twin.specs.Twin.{Change, TwinState, calls_made}
 use Rattle.vt_twin.specs.declared.step.Step.{Step}
 use Rattle.vt_twin.specs.declared.step.Step.TheVariants.{More, Done}
 use Rattle.vt_isect.specs.declared.bad.ShardErr.{ShardErr}
+use Rattle.vt_isect.specs.declared.bad.ShardErr.TheVariants.{Fault, Damaged, Stopped}
 use Rattle.vt_isect.specs.declared.head.Head.{Head}
 use Rattle.vt_isect.specs.declared.phase.Phase.{Phase}
 use Rattle.vt_isect.specs.declared.phase.Phase.TheVariants.{Rest, ReadSelector, ReadFrame, ChangeBucket, ChangeHead}
@@ -56,10 +57,10 @@ fewer p q (y ∷ ys) all x (suc k, within, is) out into =
     let one = at_most (p y) (q y) (all y) in
     omega (arith, a, b, rest, one)
 
-below : (a b : ℕ) → a < b → nat_lt a b ≡ true
+pub below : (a b : ℕ) → a < b → nat_lt a b ≡ true
 below a b lt = (Decides-ltb a b).1 lt
 
-not_below : (a b : ℕ) → b ≤ a → nat_lt a b ≡ false
+pub not_below : (a b : ℕ) → b ≤ a → nat_lt a b ≡ false
 not_below a b le = by (nat_lt a b) (λ yes. let lt = (Decides-ltb a b).0 yes in omega (arith, lt, le))
   where
     by : (t : Bool) → ¬ (t ≡ true) → t ≡ false
@@ -223,3 +224,14 @@ some_left t ChangeHead is bucket head other =
 
 pub none_left : {D : Type 0} (t : SectionState D) → t.phase ≡ Rest → calls_left t ≡ 0
 none_left t is = left_as t Rest is
+
+-- a step that gives up ends what was under way, or stops it
+pub ends_none : {D : Type 0} (result : Result Step ShardErr) (old new : SectionState D) → Advances result old new
+    → IfErr result (λ _. new.stopped ≡ None → calls_left new ≡ 0)
+ends_none (Ok step) old new it = tt
+ends_none (Err Fault) old new it = λ none. ⊎_elim
+    (λ end. none_left new end.1.phase)
+    (λ stop. absurd (let e = stop.4 in cc))
+    it
+ends_none (Err (Damaged b want found)) old new it = λ none. none_left new it.1.phase
+ends_none (Err (Stopped n)) old new it = λ none. absurd (let e = ap (λ x. x.stopped) it.1 in let was = it.0 in cc)

@@ -3,7 +3,7 @@ pub mod Regions
 pub mod Moves
 pub mod Images
 pub mod Agreeing
-pub mod Merged
+pub mod Merges
 pub mod Heads
 pub mod Frames
 pub mod Stepping
@@ -22,3 +22,5 @@ pub mod Counted
 pub mod Found
 pub mod Covered
 pub mod Undamaged
+pub mod Ordered
+pub mod Damages

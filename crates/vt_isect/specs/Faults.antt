@@ -8,9 +8,10 @@ use Rattle.vt_bucket.specs.declared.decoding.BucketBad.{BucketBad}
 use Rattle.vt_bucket.specs.declared.decoding.BucketBad.TheVariants as bucket_bad
 use Rattle.vt_isect.specs.declared.bad.Field.TheVariants.{Version}
 use Rattle.vt_isect.specs.declared.bad.SectBad.{SectBad}
-use Rattle.vt_isect.specs.declared.bad.SectBad.TheVariants.{Fault, TooSmall, NotFormatted, Torn, NoMemory}
+use Rattle.vt_isect.specs.declared.bad.SectBad.TheVariants.{TooSmall, NotFormatted, Torn, NoMemory}
+use Rattle.vt_isect.specs.declared.bad.SectBad.TheVariants as sect_bad
 use Rattle.vt_isect.specs.declared.bad.ShardErr.{ShardErr}
-use Rattle.vt_isect.specs.declared.bad.ShardErr.TheVariants.{Damaged}
+use Rattle.vt_isect.specs.declared.bad.ShardErr.TheVariants.{Fault, Damaged, Stopped}
 
 abbrev pub version_in : (frame : List ℕ) → ℕ
 version_in frame = big_number 2 (drop 4 frame)
@@ -28,26 +29,26 @@ first_bad len frame =
 abbrev pub RefusesMount : (len : ℕ) → (frame : List ℕ) → SectBad → Type 0
 RefusesMount len frame bad =
     (first_bad len frame ≡ Some bad)
-    ⊎ ((41472 ≤ len) × ((bad ≡ Fault) ⊎ (bad ≡ NoMemory)))
+    ⊎ ((41472 ≤ len) × ((bad ≡ sect_bad.Fault) ⊎ (bad ≡ NoMemory)))
 
 -- Formatting is refused where there is no room for a bucket or, where there is, since a call of
 -- the disk fails.
 abbrev pub RefusesFormat : (len : ℕ) → SectBad → Type 0
 RefusesFormat len bad =
-    ((len < 41472) × (bad ≡ TooSmall len 41472)) ⊎ ((41472 ≤ len) × (bad ≡ Fault))
+    ((len < 41472) × (bad ≡ TooSmall len 41472)) ⊎ ((41472 ≤ len) × (bad ≡ sect_bad.Fault))
 
 -- What is known of a refusal to mount a disk of this size, even where the disk doesn't tell what it
 -- holds: the values that the refusal names make it one.
 abbrev pub NamesItsCause : (size : ℕ) → SectBad → Type 0
 NamesItsCause size (TooSmall len need) = (len ≡ size) × (need ≡ 41472) × (size < 41472)
-NamesItsCause size Fault = 41472 ≤ size
+NamesItsCause size sect_bad.Fault = 41472 ≤ size
 NamesItsCause size NotFormatted = 41472 ≤ size
 NamesItsCause size (Torn field found want) = (41472 ≤ size) × (found ≢ 1) × (want ≡ 1)
 NamesItsCause size NoMemory = 41472 ≤ size
 
 -- a fault comes only where the count of faults rises, and it rises only then
 abbrev pub CountsFault : SectBad → (old new : ℕ) → Type 0
-CountsFault Fault old new = HasRisen old new
+CountsFault sect_bad.Fault old new = HasRisen old new
 CountsFault (TooSmall len need) old new = new ≡ old
 CountsFault NotFormatted old new = new ≡ old
 CountsFault (Torn field found want) old new = new ≡ old
@@ -60,3 +61,9 @@ damage_of number (bucket_bad.Magic found) =
 damage_of number (bucket_bad.Number found) = Damaged number (Number number) (Number found)
 damage_of number (bucket_bad.Count found) = Damaged number (Number 263) (Number found)
 damage_of number (bucket_bad.Order entry count) = Damaged number (Number count) (Number entry)
+
+-- a damage's two values differ
+abbrev pub DiffersIn : ShardErr → Type 0
+DiffersIn Fault = Unit {0}
+DiffersIn (Damaged bucket want found) = want ≢ found
+DiffersIn (Stopped call) = Unit {0}

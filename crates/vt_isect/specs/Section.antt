@@ -9,7 +9,7 @@ use Rattle.vt_isect.specs.declared.bad.SectBad.{SectBad}
 use Rattle.vt_isect.specs.declared.head.Head.{Head}
 use Rattle.vt_isect.specs.declared.phase.Phase.{Phase}
 use Rattle.vt_isect.specs.declared.phase.Phase.TheVariants.{Rest, ReadSelector, ReadFrame, ChangeBucket, ChangeHead}
-use Rattle.vt_isect.specs.Entries.{EntriesState}
+use Rattle.vt_isect.specs.Entries.{EntriesState, IsOrdered}
 use Rattle.vt_isect.specs.Layout.{InRange}
 
 -- A section: its disk, how many buckets it has, its name and its head; the head that it gets by
@@ -98,7 +98,17 @@ abbrev pub AreInRange : (head : Head) → (buckets : ℕ) → List Entry → Typ
 AreInRange head buckets entries = (entry : Entry) → Contains entries entry
     → InRange head buckets (bucket_of head.total entry.key.score.0)
 
+-- the entries that are written back: in range, and in the order of their buckets
+pub record AreFiled (head : Head) (buckets : ℕ) (entries : List Entry) : Type 0 where
+  pub in_range : AreInRange head buckets entries
+  pub ordered : IsOrdered head.total entries
+
 -- ---- what holds of every section
+
+-- a section at rest isn't stopped, and the head that it gets is its own
+pub record IsIdle {D : Type 0} (t : SectionState D) : Type 0 where
+  pub goes : t.stopped ≡ None
+  pub next : t.next ≡ t.head
 
 -- the buffer of a frame is here, or a change has it
 abbrev pub IsHere : Option (List ℕ) → Type 0
@@ -128,5 +138,6 @@ pub record IsWell {D : Type 0} (size : ℕ) (t : SectionState D)
   pub bucket_len : t.bucket_twin.frame_len ≡ 8192
   pub frames : HasFrames t.phase t.head_twin t.bucket_twin head_frame bucket_frame
   pub bucket : HasBucket t.phase → InRange t.head t.buckets t.bucket
-  pub entries : HasBucket t.phase → AreInRange t.head t.buckets (entries_of t)
+  pub entries : HasBucket t.phase → AreFiled t.head t.buckets (entries_of t)
+  pub rest : IsAtRest t → IsIdle t
   pub goes : t.stopped ≡ None → (t.head_twin.stopped ≡ None) × (t.bucket_twin.stopped ≡ None)

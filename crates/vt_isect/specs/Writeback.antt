@@ -3,7 +3,7 @@ use Rattle.std.specs.Prelude.{◌≡◌, ◌≢◌, ◌⊎◌, ◌+◌, ◌-◌,
 use Rattle.std.specs.List.{Contains, count_by}
 use Rattle.vt_base.specs.Faults.{HasRisen}
 use Rattle.vt_base.specs.declared.place.Entry.{Entry}
-use Rattle.vt_twin.specs.Calls.{bytes_after}
+use Rattle.vt_twin.specs.Calls.{bytes_after, IsSync}
 use Rattle.vt_twin.specs.Twin.{TwinState, calls_made, next_frame, after_call, one_more}
 use Rattle.vt_twin.specs.declared.step.Step.{Step}
 use Rattle.vt_twin.specs.declared.step.Step.TheVariants.{More, Done}
@@ -124,6 +124,14 @@ Writes (ReadFrame s) t read reads = reads ≡ read
 Writes ChangeBucket t read reads = (region : Region) → IsPlaceOf (t.bucket - t.head.first) region
     → reads ≡ read_after t.bucket_twin region read
 Writes ChangeHead t read reads = reads ≡ read_after t.head_twin head_place read
+
+-- the next call is a sync: the second of a change, or the fourth
+abbrev pub Syncs : {D : Type 0} → Phase → SectionState D → Type 0
+Syncs Rest t = ⊥
+Syncs ReadSelector t = ⊥
+Syncs (ReadFrame s) t = ⊥
+Syncs ChangeBucket t = IsSync (calls_made t.bucket_twin)
+Syncs ChangeHead t = IsSync (calls_made t.head_twin)
 
 -- A fault in a read ends the writeback. One in a write or sync stops the section at that call.
 abbrev pub EndsOrStops : {D : Type 0} → (old new : SectionState D) → Type 0

@@ -3,6 +3,7 @@
 ghost use Rattle.std.specs.Prelude.{◌≡◌, [], vec_capacity};
 ghost use Rattle.std.specs.Option.{option_map_or};
 
+use crate::place::bucket_number;
 use std::marker::Model;
 use vt_base::Entry;
 
@@ -22,6 +23,8 @@ impl Model for Entries {
 }
 
 impl Entries {
+    ghost use Rattle.vt_isect.specs.Entries.{Orders};
+
     /// These entries, with the memory that they are in.
     pub fn from_vec(items: Vec<Entry>) -> Self
         ensures items { result.items ≡ items.items }
@@ -38,7 +41,16 @@ impl Entries {
         self.items
     }
 
-    /// The entries, in the order in which they were given.
+    /// Puts them into the order of their buckets, of so many, in the memory that they are in.
+    pub(crate) fn order(&mut self, total: u32)
+        ensures { Orders total self.old self.new }
+    {
+        self.items
+            .sort_unstable_by_key(|entry| bucket_number(total, &entry.key.score));
+    }
+
+    /// The entries: in the order in which they were given, or behind a writeback in that of their
+    /// buckets.
     pub fn as_slice(&self) -> &[Entry]
         ensures { result.now ≡ self.now.items }
     {

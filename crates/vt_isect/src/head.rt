@@ -1,6 +1,6 @@
 //! The head of a section, and its frame.
 
-ghost use Rattle.std.specs.Prelude.{◌≡◌, ◌+◌, ◌++◌, ◌≤◌, ℕ, None, Some, codes, length, take, IfOk, IfErr, MatchResult};
+ghost use Rattle.std.specs.Prelude.{◌≡◌, ◌≢◌, ◌+◌, ◌++◌, ◌≤◌, ℕ, None, Some, codes, length, take, IfOk, IfErr, MatchResult};
 ghost use Rattle.byteorder.specs.Endian.{big_bytes};
 ghost use Rattle.vt_isect.specs.Faults.{first_bad, CountsFault, NamesItsCause};
 ghost use Rattle.vt_isect.specs.Head.{IsHead, IsHeadFrame, encoded, spelled};
@@ -37,6 +37,7 @@ pub fn decode_head(frame: &[u8], len: u64) -> Result<([u8; NAME_LEN], Head), Sec
     ensures refused { MatchResult result (λ _. first_bad len frame.now ≡ None)
         (λ bad. first_bad len frame.now ≡ Some bad) }
     ensures differs { IfErr result (NamesItsCause len) }
+    ensures memory { IfErr result (λ bad. bad ≢ SectBad.NoMemory) }
     ensures cause { (faults : ℕ) → IfErr result (λ bad. CountsFault bad faults faults) }
 {
     if frame[..4] != b"VSEC"[..] {

@@ -6,6 +6,7 @@
 mod bad;
 mod entries;
 mod formatting;
+mod groups;
 mod head;
 mod laws;
 mod merging;

@@ -7,14 +7,14 @@ ghost use Rattle.vt_bucket.specs.Buckets.{number_of, entries_of};
 ghost use Rattle.vt_bucket.specs.Frame.{IsFrame};
 ghost use Rattle.vt_bucket.specs.Faults.{FaultIs};
 ghost use Rattle.vt_disk.specs.Disk.{AreAmong, IsOneMore};
-ghost use Rattle.vt_model.specs.Places.{bucket_of};
 ghost use Rattle.vt_twin.specs.Frames.{HasRoom, frame_of};
+ghost use Rattle.vt_isect.specs.Entries.{IsOrdered};
 ghost use Rattle.vt_isect.specs.Faults.{damage_of};
 ghost use Rattle.vt_isect.specs.Merging.{Merges, IsOf, HasKey, HasKeys, IsAbsent, Joined, IsMerged, IsFaulty, IsDamage};
 ghost use Rattle.vt_isect.specs.Writeback.{CountsFaultOf};
 
 use crate::bad::ShardErr;
-use crate::place::bucket_number;
+use crate::groups::group;
 use vt_base::{Entry, FieldValue, Key};
 use vt_bucket::{Bucket, BucketBad, Full, ROOM, decode};
 use vt_disk::{Disk, Region};
@@ -57,25 +57,6 @@ fn number(value: u32) -> FieldValue
     FieldValue::Number(u128::from(value))
 }
 
-/// The least number of a bucket, from this one on, that has one of the entries.
-pub fn next_bucket(entries: &[Entry], total: u32, from: u64) -> Option<u32>
-    ensures found { IfSome result (λ bucket. (from ≤ bucket)
-        × ((entry : Entry) × Contains entries.now entry
-        × (bucket_of total entry.key.score.0 ≡ bucket))) }
-    ensures least { (entry : Entry) → Contains entries.now entry
-        → from ≤ bucket_of total entry.key.score.0
-        → MatchOption result ⊥ (λ bucket. bucket ≤ bucket_of total entry.key.score.0) }
-{
-    let mut least = None;
-    for entry in entries {
-        let bucket = bucket_number(total, &entry.key.score);
-        if u64::from(bucket) >= from {
-            least = Some(least.unwrap_or(bucket).min(bucket));
-        }
-    }
-    least
-}
-
 /// Reads the current frame of a bucket, which a selector with this first byte names, and makes of
 /// it one with those of the entries, too, that belong to the bucket.
 pub fn read_merged<D: Disk>(
@@ -89,6 +70,7 @@ pub fn read_merged<D: Disk>(
 ) -> Result<(), ShardErr>
     requires whole { length frame.old ≡ 8192 }
     requires room { HasRoom place 8192 (D.size disk.old) }
+    requires ordered { IsOrdered total entries.now }
     ensures merged { OnOk result ((read : List ℕ)
         × IsMerged total number entries.now read frame.new
         × (IsTrue D.tells → read ≡ frame_of place 8192 (selector % 2) (D.bytes disk.old))) }
@@ -108,12 +90,13 @@ pub fn read_merged<D: Disk>(
 
 /// Makes of a bucket's frame one with those of the entries, too, that belong to the bucket.
 fn merge_frame(frame: &mut [u8], number: u32, total: u32, entries: &[Entry]) -> Result<(), ShardErr>
-    requires { length frame.old ≡ 8192 }
+    requires whole { length frame.old ≡ 8192 }
+    requires ordered { IsOrdered total entries.now }
     ensures merged { OnOk result (IsMerged total number entries.now frame.old frame.new) }
     ensures damaged { IfErr result (IsDamage total number entries.now frame.old) }
 {
     let mut bucket = decode_bucket(frame, number)?;
-    match merge(&mut bucket, total, entries) {
+    match merge(&mut bucket, group(entries, total, number)) {
         Ok(()) => {
             bucket.encode(frame);
             Ok(())
@@ -126,47 +109,42 @@ fn merge_frame(frame: &mut [u8], number: u32, total: u32, entries: &[Entry]) -> 
     }
 }
 
-/// Puts those of the entries into a bucket that belong to it. Where it has no room for them, gives
-/// the count that it would have.
-fn merge(bucket: &mut Bucket, total: u32, entries: &[Entry]) -> Result<(), u128>
-    ensures merged { OnOk result (Merges (entries_of bucket.old)
-        (IsOf total (number_of bucket.old) entries.now) (entries_of bucket.new)) }
+/// Puts a group of entries into their bucket. Where it has no room for them, gives the count that
+/// it would have.
+fn merge(bucket: &mut Bucket, group: &[Entry]) -> Result<(), u128>
+    ensures merged { OnOk result
+        (Merges (entries_of bucket.old) (Contains group.now) (entries_of bucket.new)) }
     ensures number { number_of bucket.new ≡ number_of bucket.old }
-    ensures full { IfErr result (λ found. (263 < found) × HasKeys (Joined (entries_of bucket.old)
-        (IsOf total (number_of bucket.old) entries.now)) found) }
+    ensures full { IfErr result (λ found. (263 < found)
+        × HasKeys (Joined (entries_of bucket.old) (Contains group.now)) found) }
 {
-    for i in 0..entries.len() {
-        let entry = entries[i];
-        if bucket_number(total, &entry.key.score) == bucket.number()
-            && let Err(Full) = bucket.with(entry)
-        {
-            return Err(ROOM as u128 + count_absent(bucket, total, &entries[i..]));
+    for i in 0..group.len() {
+        if let Err(Full) = bucket.with(group[i]) {
+            return Err(ROOM as u128 + count_absent(bucket, &group[i..]));
         }
     }
     Ok(())
 }
 
-/// How many keys that belong to a bucket these entries have, and it lacks.
-fn count_absent(bucket: &Bucket, total: u32, entries: &[Entry]) -> u128
-    ensures keys { HasKeys (IsAbsent (entries_of bucket.now)
-        (IsOf total (number_of bucket.now) entries.now)) result }
+/// How many keys these entries have, and a bucket lacks.
+fn count_absent(bucket: &Bucket, entries: &[Entry]) -> u128
+    ensures keys { HasKeys (IsAbsent (entries_of bucket.now) (Contains entries.now)) result }
     ensures most { result ≤ length entries.now }
 {
     let mut absent = 0;
     for i in 0..entries.len() {
-        if is_absent(bucket, total, &entries[i].key) && !has_key(&entries[..i], &entries[i].key) {
+        if is_absent(bucket, &entries[i].key) && !has_key(&entries[..i], &entries[i].key) {
             absent += 1;
         }
     }
     absent
 }
 
-/// Whether a key belongs to a bucket that lacks it.
-fn is_absent(bucket: &Bucket, total: u32, key: &Key) -> bool
-    ensures { IsTrue result ↔ (bucket_of total key.now.score.0 ≡ number_of bucket.now)
-        × ¬ HasKey (Contains (entries_of bucket.now)) key.now }
+/// Whether a bucket lacks this key.
+fn is_absent(bucket: &Bucket, key: &Key) -> bool
+    ensures { IsTrue result ↔ ¬ HasKey (Contains (entries_of bucket.now)) key.now }
 {
-    bucket_number(total, &key.score) == bucket.number() && bucket.find(key).is_none()
+    bucket.find(key).is_none()
 }
 
 /// Whether one of the entries has this key.

@@ -72,8 +72,10 @@ pub fn mount<D: Disk>(alloc: Global, mut disk: D) -> Result<Section<D>, (SectBad
     // So much is known of a disk that doesn't tell what it holds, too.
     ensures differs { IfErr result (λ refusal. NamesItsCause (D.size disk) refusal.0) }
 
-    // It syncs and makes two reads, and changes nothing.
+    // It takes its memory first, syncs, and makes two reads, and changes nothing.
     ensures untouched { D.size disk < 41472 → disk_after result ≡ disk }
+    ensures memory_first { IfErr result (λ refusal. refusal.0 ≡ SectBad.NoMemory
+        → refusal.1 ≡ disk) }
     ensures calls { IfOk result (λ it. IsTrue D.tells
         → D.calls it.disk ≡ min (D.calls disk + 3) (2 ^ 64 - 1)) }
     ensures most_calls { IsTrue D.tells → D.calls (disk_after result) ≤ D.calls disk + 3 }
@@ -123,6 +125,7 @@ fn open<D: Disk>(alloc: Global, disk: &mut D) -> Result<Opened, SectBad>
         → RefusesMount (D.size disk.old) (current_frame head_place 8192 (D.bytes disk.old)) bad) }
     ensures differs { IfErr result (NamesItsCause (D.size disk.old)) }
     ensures untouched { D.size disk.old < 41472 → disk.new ≡ disk.old }
+    ensures memory_first { IfErr result (λ bad. bad ≡ SectBad.NoMemory → disk.new ≡ disk.old) }
     ensures calls { OnOk result (IsTrue D.tells
         → D.calls disk.new ≡ min (D.calls disk.old + 3) (2 ^ 64 - 1)) }
     ensures most_calls { IsTrue D.tells → D.calls disk.new ≤ D.calls disk.old + 3 }

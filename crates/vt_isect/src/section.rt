@@ -1,12 +1,12 @@
 //! A section that is mounted.
 
-ghost use Rattle.std.specs.Prelude.{◌≡◌, ◌≢◌, ◌↔◌, ◌+◌, ◌-◌, ◌*◌, ◌^◌, ◌<◌, ◌≤◌, min, ℕ, List, [], length, IsTrue, IsSome, IfOk, IfErr, OnOk, None, Some, Ok, Err, is_some};
+ghost use Rattle.std.specs.Prelude.{◌≡◌, ◌≢◌, ◌↔◌, ◌+◌, ◌-◌, ◌*◌, ◌^◌, ◌<◌, ◌≤◌, min, ℕ, List, [], length, IsTrue, IsSome, IfOk, IfErr, IfSome, IsOk, OnOk, None, Some, Ok, Err, is_some};
 ghost use Rattle.std.specs.List.{Contains};
 ghost use Rattle.vt_base.specs.Faults.{HasCause};
 ghost use Rattle.vt_base.specs.declared.place.Entry.{Entry};
 ghost use Rattle.vt_bucket.specs.Buckets.{number_of, entries_of as entries_in};
 ghost use Rattle.vt_bucket.specs.Frame.{IsFrame};
-ghost use Rattle.vt_disk.specs.Disk.{AreAmong, SameBut, Only};
+ghost use Rattle.vt_disk.specs.Disk.{AreAmong, SameBut, Only, IsOneMore};
 ghost use Rattle.vt_disk.specs.Region.{ChangesWithin, Inside};
 ghost use Rattle.vt_disk.specs.declared.region.Region.{Region};
 ghost use Rattle.vt_model.specs.History.{History};
@@ -16,11 +16,14 @@ ghost use Rattle.vt_twin.specs.Twin.{fresh, calls_made, next_frame};
 ghost use Rattle.vt_isect.specs.Agreement.{KnownAgrees, IsCovered, IsOfBlock, NoOthers};
 ghost use Rattle.vt_isect.specs.Head.{IsHeadFrame, encoded};
 ghost use Rattle.vt_isect.specs.Layout.{IsPlaceOf, InRange, Clears};
+ghost use Rattle.vt_isect.specs.Entries.{EntriesState, Orders};
+ghost use Rattle.vt_isect.specs.Faults.{DiffersIn};
 ghost use Rattle.vt_isect.specs.Merging.{IsFaulty};
 
 use crate::FRAME_LEN;
 use crate::bad::ShardErr;
-use crate::entries::Entries;
+use crate::entries::{Entries, items};
+use crate::groups::later;
 use crate::head::{Head, NAME_LEN};
 use crate::merging::decode_bucket;
 use crate::mounting::Opened;
@@ -101,9 +104,9 @@ impl<D: Disk> Model for Section<D> {
 
 impl<D: Disk> Section<D> {
     ghost use Rattle.vt_isect.specs.declared.phase.Phase.TheVariants.{Rest, ReadSelector, ChangeBucket, ChangeHead};
-    ghost use Rattle.vt_isect.specs.Section.{SectionState, AreInRange, IsAtRest, IsChanging, IsTodo, bucket_under_way, entries_of, mounted, HasBucket};
+    ghost use Rattle.vt_isect.specs.Section.{SectionState, AreInRange, IsAtRest, IsChanging, IsIdle, IsTodo, bucket_under_way, entries_of, mounted, HasBucket};
     ghost use Rattle.vt_isect.specs.Sound.{Known, IsReadFrom, IsSoundSection, with_bucket};
-    ghost use Rattle.vt_isect.specs.Writeback.{CountsFaultOf, BeginsFrom, calls_left};
+    ghost use Rattle.vt_isect.specs.Writeback.{CountsFaultOf, BeginsFrom, calls_left, later};
 
     /// A section as it was found.
     pub(crate) fn new(disk: D, buckets: u32, opened: Opened) -> Self
@@ -185,6 +188,7 @@ impl<D: Disk> Section<D> {
     pub fn is_changing(&self) -> bool
         ensures under_way { IsTrue result ↔ ¬ IsAtRest self.now }
         ensures left { IsTrue result ↔ (0 < calls_left self.now) }
+        ensures idle { IsAtRest self.now → IsIdle self.now }
     {
         self.phase != Phase::Rest
     }
@@ -192,12 +196,36 @@ impl<D: Disk> Section<D> {
     /// The number of the bucket that a writeback is putting entries into, if there is one. Those
     /// of lower numbers have theirs.
     pub fn bucket_under_way(&self) -> Option<u32>
-        ensures { result ≡ bucket_under_way self.now.phase self.now.bucket }
+        ensures bucket { result ≡ bucket_under_way self.now.phase self.now.bucket }
+        ensures in_range { IfSome result (InRange self.now.head self.now.buckets) }
     {
         match self.phase {
             Phase::ReadSelector | Phase::ReadFrame(_) | Phase::ChangeBucket => Some(self.bucket),
             Phase::Rest | Phase::ChangeHead => None,
         }
+    }
+
+    /// How many device calls what is under way makes at most: four for the head, and six for each
+    /// bucket. There are no more of these than entries behind the bucket under way, and that one.
+    pub fn calls_left(&self) -> u64
+        ensures { result ≡ calls_left self.now }
+    {
+        match self.phase {
+            Phase::Rest => 0,
+            Phase::ReadSelector => 6 * self.later() + 10,
+            Phase::ReadFrame(_) => 6 * self.later() + 9,
+            Phase::ChangeBucket => 6 * self.later() + 4 + self.bucket_twin.calls_left(),
+            Phase::ChangeHead => self.head_twin.calls_left(),
+        }
+    }
+
+    /// How many entries belong to buckets behind the one under way.
+    fn later(&self) -> u64
+        requires { HasBucket self.now.phase }
+        ensures later { result ≡ later self.now.head.total self.now.bucket (entries_of self.now) }
+        ensures most { 6 * result + 10 < 2 ^ 64 }
+    {
+        later(items(&self.entries), self.head.total, self.bucket) as u64
     }
 
     /// The number of the device call that stopped it, if one did.
@@ -242,6 +270,7 @@ impl<D: Disk> Section<D> {
             × ((region : Region) → IsTrue D.tells
             → IsPlaceOf (number - self.old.head.first) region
             → IsReadFrom self.old number region (D.bytes self.old.disk) frame)) }
+        ensures differs { IfErr result DiffersIn }
         ensures damaged { IfErr result (λ bad. bad ≢ ShardErr.Fault → (frame : List ℕ)
             × IsFaulty number frame bad
             × ((region : Region) → IsTrue D.tells
@@ -259,11 +288,19 @@ impl<D: Disk> Section<D> {
             → steps.new ≡ steps.old + 1) }
         ensures least_cost { steps.old ≤ steps.new }
         ensures most_cost { steps.new ≤ steps.old + 1 }
+
+        // It reads the selector, but of a bucket that is being changed, and counts a step exactly
+        // where it reads a frame.
+        ensures calls { IsTrue D.tells → ¬ IsChanging self.old number → D.calls self.new.disk
+            ≡ min (D.calls self.old.disk + 1 + (steps.new - steps.old)) (2 ^ 64 - 1) }
+        ensures calls_of_change { IsTrue D.tells → IsChanging self.old number
+            → IsOneMore (D.calls self.old.disk) (D.calls self.new.disk)
+            × (steps.new ≡ steps.old + 1) }
         ensures most_calls { IsTrue D.tells
             → D.calls self.new.disk ≤ D.calls self.old.disk + 2 }
     {
         let place = bucket_place(number - self.head.first);
-        let current = self.current_frame(number)?;
+        let current = self.current_number(number)?;
         let mut frame = [0; FRAME_LEN];
         steps.tick();
         place.read_at(
@@ -275,14 +312,16 @@ impl<D: Disk> Section<D> {
     }
 
     /// Takes in entries that are to be written to their buckets, and the mark that the head gets
-    /// behind them. It makes no device call. The entries need no order; of two with one key one is
-    /// kept. Entries of an earlier writeback that `idle` hasn't handed back are freed.
-    pub fn begin_file(&mut self, entries: Entries, mark: u64)
+    /// behind them. It makes no device call. The entries need no order, and it puts them into that
+    /// of their buckets; of two with one key one is kept. Entries of an earlier writeback that
+    /// `idle` hasn't handed back are freed.
+    pub fn begin_file(&mut self, mut entries: Entries, mark: u64)
         requires rest { IsAtRest self.old }
         requires in_range { AreInRange self.old.head self.old.buckets entries.items }
         ensures begins { BeginsFrom 0 self.new }
         ensures left { calls_left self.new ≤ 6 * length entries.items + 4 }
-        ensures entries { self.new.entries ≡ Some entries }
+        ensures entries { (ordered : EntriesState) × (self.new.entries ≡ Some ordered)
+            × Orders self.old.head.total entries ordered }
         ensures next { self.new.next ≡ record self.old.head { mark = mark } }
         ensures same { self.new ≡ record self.old {
           next = self.new.next;
@@ -309,15 +348,18 @@ impl<D: Disk> Section<D> {
             (covered : ℕ) → IsCovered score c h self.old known (Contains entries.items) covered
             → IsCovered score c h self.new known (IsTodo self.new) covered }
     {
-        self.next = Head { mark, ..self.head };
+        let next = Head { mark, ..self.head };
+        entries.order(self.head.total);
         self.entries = Some(entries);
-        self.go_on(0);
+        self.go_on(0, next);
     }
 
     /// Begins to change the head: `advance` makes the four device calls. The count of buckets
-    /// becomes what the section has. The entries of the last writeback can still be handed back.
+    /// becomes what the section has, and their numbers fit in four bytes. The entries of the last
+    /// writeback can still be handed back.
     pub fn begin_head(&mut self, state: u8, first: u32, total: u32, mark: u64)
         requires rest { IsAtRest self.old }
+        requires numbers { first + self.old.buckets ≤ 2 ^ 32 }
         ensures begins { (self.new.phase ≡ ChangeHead) × (calls_made self.new.head_twin ≡ 0)
             × (next_frame self.new.head_twin ≡ encoded self.old.name self.new.next) }
         ensures left { calls_left self.new ≡ 4 }
@@ -342,14 +384,14 @@ impl<D: Disk> Section<D> {
             → (state ≡ 1 → IsCovered score c h self.old known NoOthers mark)
             → KnownAgrees score c h self.new known }
     {
-        self.next = Head {
+        let next = Head {
             state,
             first,
             count: self.buckets,
             total,
             mark,
         };
-        self.write_head();
+        self.begin_next(next);
     }
 
     /// Formats a bucket without entries, by its number over all sections: frame 0 and a selector
@@ -421,7 +463,7 @@ impl<D: Disk> Section<D> {
 
     /// The number of the current frame of a bucket. While that is being changed, it is the one that
     /// was current before.
-    fn current_frame(&mut self, number: u32) -> Result<u8, Failed>
+    fn current_number(&mut self, number: u32) -> Result<u8, Failed>
         requires { InRange self.old.head self.old.buckets number }
         ensures bound { IfOk result (λ current. current < 2) }
         ensures changing { IfOk result (λ current. IsChanging self.old number
@@ -433,8 +475,10 @@ impl<D: Disk> Section<D> {
         ensures bytes { D.bytes self.new.disk ≡ D.bytes self.old.disk }
         ensures images { AreAmong (D.images self.new.disk) (D.images self.old.disk) }
         ensures size { D.size self.new.disk ≡ D.size self.old.disk }
-        ensures most_calls { IsTrue D.tells
-            → D.calls self.new.disk ≤ D.calls self.old.disk + 1 }
+        ensures calls { IsTrue D.tells → ¬ IsChanging self.old number
+            → IsOneMore (D.calls self.old.disk) (D.calls self.new.disk) }
+        ensures of_change { IsChanging self.old number
+            → IsOk result × (self.new ≡ self.old) }
         ensures cause { HasCause result (D.faults self.old.disk) (D.faults self.new.disk) }
     {
         if self.phase == Phase::ChangeBucket && self.bucket == number {

@@ -4,13 +4,14 @@ ghost use Rattle.std.specs.Prelude.{◌≡◌, ◌≢◌, ◌⊎◌, ◌↔◌, 
 ghost use Rattle.std.specs.Option.{option_map};
 ghost use Rattle.vt_base.specs.declared.place.Entry.{Entry};
 ghost use Rattle.vt_base.specs.declared.why.FieldValue.{FieldValue};
-ghost use Rattle.vt_disk.specs.Disk.{SameBut, ChangesAt, WithinCall, IsOneMore};
+ghost use Rattle.vt_disk.specs.Disk.{SameBut, ChangesAt, WithinCall, IsOneMore, Only};
 ghost use Rattle.vt_disk.specs.declared.region.Region.{Region};
 ghost use Rattle.vt_model.specs.History.{History};
 ghost use Rattle.vt_model.specs.Places.{Setup, bucket_count, crowd};
 ghost use Rattle.vt_twin.specs.Frames.{frame_of as twin_frame};
 ghost use Rattle.vt_twin.specs.Twin.{calls_made, next_frame, with_change, one_more};
 ghost use Rattle.vt_isect.specs.Agreement.{KnownAgrees, LeavesAgreeing};
+ghost use Rattle.vt_isect.specs.Faults.{DiffersIn};
 ghost use Rattle.vt_isect.specs.Head.{IsHead, encoded};
 ghost use Rattle.vt_isect.specs.Layout.{IsPlaceOf};
 ghost use Rattle.vt_isect.specs.Merging.{IsMerged, IsDamage};
@@ -18,8 +19,9 @@ ghost use Rattle.vt_isect.specs.Merging.{IsMerged, IsDamage};
 use crate::FRAME_LEN;
 use crate::bad::ShardErr;
 use crate::entries::items;
-use crate::head::encode_head;
-use crate::merging::{next_bucket, read_merged};
+use crate::groups::next_bucket;
+use crate::head::{Head, encode_head};
+use crate::merging::read_merged;
 use crate::phase::Phase;
 use crate::place::{bucket_place, head_place};
 use crate::section::Section;
@@ -28,11 +30,10 @@ use vt_disk::Disk;
 use vt_twin::{Step, Twin};
 
 impl<D: Disk> Section<D> {
-    ghost use Rattle.vt_isect.specs.declared.head.Head.{Head};
     ghost use Rattle.vt_isect.specs.declared.phase.Phase.TheVariants.{Rest, ReadSelector, ReadFrame, ChangeBucket, ChangeHead};
-    ghost use Rattle.vt_isect.specs.Section.{AreInRange, entries_of, HasBucket, IsAtRest};
+    ghost use Rattle.vt_isect.specs.Section.{AreFiled, entries_of, HasBucket, IsAtRest};
     ghost use Rattle.vt_isect.specs.Sound.{Known, IsSoundSection, LeavesSection, IsWhole};
-    ghost use Rattle.vt_isect.specs.Writeback.{Advances, BeginsFrom, CountsFaultOf, Follows, IsRead, Keeps, KeepsCovered, MayWrite, Writes, calls_left};
+    ghost use Rattle.vt_isect.specs.Writeback.{Advances, BeginsFrom, CountsFaultOf, Follows, IsRead, Keeps, KeepsCovered, MayWrite, Syncs, Writes, calls_left};
 
     /// Makes one device call of what is under way. Of a writeback, for each bucket: it reads the
     /// selector, reads the current frame, and makes the four calls of the change to one with the
@@ -75,14 +76,18 @@ impl<D: Disk> Section<D> {
             → Follows result self.old self.new known knows
             → KeepsCovered score c h result self.old self.new known knows }
 
-        // What it writes.
+        // What it writes, and that it syncs: behind the second call of a change and behind the
+        // fourth, a crash leaves what a read gives.
         ensures written { IsTrue D.tells → OnOk result (Writes self.old.phase self.old
             (D.bytes self.old.disk) (D.bytes self.new.disk)) }
+        ensures settled { IsTrue D.tells → Syncs self.old.phase self.old
+            → OnOk result (Only (D.bytes self.new.disk) (D.images self.new.disk)) }
 
         ensures steps { Advances result self.old self.new }
         ensures done { IfOk result (λ step. (step ≡ Step.Done)
             ↔ ((self.old.phase ≡ ChangeHead) × (calls_made self.old.head_twin ≡ 3))) }
         ensures left { OnOk result (calls_left self.new < calls_left self.old) }
+        ensures ended { IfErr result (λ _. self.new.stopped ≡ None → calls_left self.new ≡ 0) }
         ensures stopped { (n : ℕ)
             → (result ≡ Err (ShardErr.Stopped n)) ↔ (self.old.stopped ≡ Some n) }
 
@@ -94,6 +99,7 @@ impl<D: Disk> Section<D> {
             × ((region : Region) → IsTrue D.tells
             → IsPlaceOf (self.old.bucket - self.old.head.first) region
             → read ≡ twin_frame region 8192 (s % 2) (D.bytes self.old.disk))) }
+        ensures differs { IfErr result DiffersIn }
         ensures damaged { (s : ℕ) → IfErr result (λ bad. bad ≢ ShardErr.Fault
             → self.old.stopped ≡ None → self.old.phase ≡ ReadFrame s
             → (read : List ℕ) × IsDamage self.old.head.total self.old.bucket
@@ -242,6 +248,8 @@ impl<D: Disk> Section<D> {
             (D.bytes self.new.disk) (D.images self.new.disk) }
         ensures written { IsTrue D.tells → OnOk result (Writes self.old.phase self.old
             (D.bytes self.old.disk) (D.bytes self.new.disk)) }
+        ensures settled { IsTrue D.tells → Syncs self.old.phase self.old
+            → OnOk result (Only (D.bytes self.new.disk) (D.images self.new.disk)) }
         ensures steps { Advances result self.old self.new }
         ensures faults { CountsFaultOf result (D.faults self.old.disk) (D.faults self.new.disk) }
         ensures calls { IsTrue D.tells
@@ -261,8 +269,10 @@ impl<D: Disk> Section<D> {
             Ok(Step::Done) => {
                 self.bucket_frame = memory_of(self.bucket_twin.idle());
                 let from = u64::from(self.bucket) + 1;
+                let next = self.next;
+                self.next = self.head;
                 self.phase = Phase::Rest;
-                self.go_on(from);
+                self.go_on(from, next);
                 Ok(Step::More)
             }
             Err(_) => {
@@ -281,6 +291,8 @@ impl<D: Disk> Section<D> {
             (D.bytes self.new.disk) (D.images self.new.disk) }
         ensures written { IsTrue D.tells → OnOk result (Writes self.old.phase self.old
             (D.bytes self.old.disk) (D.bytes self.new.disk)) }
+        ensures settled { IsTrue D.tells → Syncs self.old.phase self.old
+            → OnOk result (Only (D.bytes self.new.disk) (D.images self.new.disk)) }
         ensures steps { Advances result self.old self.new }
         ensures faults { CountsFaultOf result (D.faults self.old.disk) (D.faults self.new.disk) }
         ensures calls { IsTrue D.tells
@@ -311,7 +323,8 @@ impl<D: Disk> Section<D> {
 
     /// Nothing is under way any more, and the head stays.
     fn end(&mut self)
-        requires { IsRead self.old.phase }
+        requires phase { IsRead self.old.phase }
+        requires goes { self.old.stopped ≡ None }
         ensures { self.new ≡ record self.old { next = self.old.head; phase = Rest } }
     {
         self.next = self.head;
@@ -319,42 +332,47 @@ impl<D: Disk> Section<D> {
     }
 
     /// Goes on with the next bucket of the entries, from this number on, or where there is none
-    /// with the head.
-    pub(crate) fn go_on(&mut self, from: u64)
+    /// with the change to this head.
+    pub(crate) fn go_on(&mut self, from: u64, next: Head)
         requires rest { self.old.phase ≡ Rest }
-        requires in_range { AreInRange self.old.head self.old.buckets (entries_of self.old) }
+        requires filed { AreFiled self.old.head self.old.buckets (entries_of self.old) }
         ensures begins { BeginsFrom from self.new }
         ensures same { (self.new ≡ record self.old {
+          next = next;
           phase = ReadSelector;
           bucket = self.new.bucket;
         }) ⊎ (self.new ≡ record self.old {
+          next = next;
           phase = ChangeHead;
-          head_twin = with_change (encoded self.old.name self.old.next) self.old.head_twin;
+          head_twin = with_change (encoded self.old.name next) self.old.head_twin;
         }) }
-        ensures fits { self.new.phase ≡ ChangeHead → IsHead self.old.next }
+        ensures fits { self.new.phase ≡ ChangeHead → IsHead next }
     {
         match next_bucket(items(&self.entries), self.head.total, from) {
             Some(bucket) => {
+                self.next = next;
                 self.bucket = bucket;
                 self.phase = Phase::ReadSelector;
             }
-            None => self.write_head(),
+            None => self.begin_next(next),
         }
     }
 
-    /// Begins the change to the next head.
-    pub(crate) fn write_head(&mut self)
+    /// Begins the change to this head.
+    pub(crate) fn begin_next(&mut self, next: Head)
         requires rest { self.old.phase ≡ Rest }
         ensures same { self.new ≡ record self.old {
+          next = next;
           phase = ChangeHead;
-          head_twin = with_change (encoded self.old.name self.old.next) self.old.head_twin;
+          head_twin = with_change (encoded self.old.name next) self.old.head_twin;
         } }
-        ensures fits { IsHead self.old.next }
+        ensures fits { IsHead next }
     {
         let Some(mut frame) = self.head_frame.take() else {
             unreachable!()
         };
-        encode_head(&self.name, &self.next, &mut frame);
+        encode_head(&self.name, &next, &mut frame);
+        self.next = next;
         self.head_twin.begin(Bytes::from_vec(frame));
         self.phase = Phase::ChangeHead;
     }

@@ -1,20 +1,17 @@
-use Rattle.std.proofs.Common.{◌≡◌, ◌⊎◌, inl, inr, ◌+◌, ◌∷◌, [], ◌++◌, ℕ, List, take, get_or, ap, sym, subst, ◌∙◌, arith}
+use Rattle.std.proofs.Common.{◌≡◌, ◌⊎◌, inl, inr, ⊎_elim, ◌+◌, ◌∷◌, [], ◌++◌, ℕ, List, take, get_or, ap, sym, subst, ◌∙◌, arith}
 use Rattle.std.specs.List.{Contains}
 use Rattle.std.proofs.lemmas.Bool.{false≢true}
 use Rattle.std.proofs.lemmas.List.{take_more, get_or_default}
 use Rattle.vt_base.specs.declared.place.Entry.{Entry}
-use Rattle.vt_bucket.specs.Buckets.{number_of, entries_of}
-use Rattle.vt_model.specs.Places.{bucket_of}
-use Rattle.vt_isect.specs.Merging.{HasKey, HasKeys, IsAbsent, IsOf}
-use Rattle.vt_isect.proofs.Merged.{keys_more, keys_same}
+use Rattle.vt_bucket.specs.Buckets.{entries_of}
+use Rattle.vt_isect.specs.Merging.{HasKey, HasKeys, IsAbsent}
+use Rattle.vt_isect.proofs.Merges.{keys_more, keys_same, decide_held}
 use Rattle.vt_isect.proofs.merging.count_absent.Goals.{then-is_absent+then-not-has_key, else-is_absent, else-is_absent-via-then-is_absent+else-not-has_key, else-is_absent-via-else-is_absent}
 use Rattle.vt_isect.proofs.merging.count_absent.Goals as goal
 
 pub loop-i-preserved : goal.loop-i-preserved
 loop-i-preserved c =
     let old : List Entry = entries_of c.args.bucket.now in
-    let n : ℕ = number_of c.args.bucket.now in
-    let total : ℕ = c.args.total in
     let xs : List Entry = c.args.entries.now in
     let i : ℕ = c.loop-i.i in
     let y : Entry = c.index-entries-i.result in
@@ -23,12 +20,12 @@ loop-i-preserved c =
     take_more xs i y c.loop-i-test.true ∙ ap (λ (x : Entry). front ++ x ∷ []) (sym c.index-entries-i.is) in
     let at = c.index-entries-i.is in
     let there : (d : Entry) → y ≡ get_or xs i d = λ d. at ∙ get_or_default xs i y d c.loop-i-test.true in
-    let back = subst (λ (e : Entry). (bucket_of total e.key.score.0 ≡ n) × ¬ HasKey (Contains old) e.key) at in
-    let of = subst (λ (e : Entry). (bucket_of total e.key.score.0 ≡ n) × ¬ HasKey (Contains old) e.key) (sym at) in
-    let same : ((¬ ((bucket_of total y.key.score.0 ≡ n) × ¬ HasKey (Contains old) y.key)) ⊎ HasKey (Contains front) y.key)
-    → HasKeys (IsAbsent old (IsOf total n (take (i + 1) xs))) c.loop-i.absent =
-    λ why. subst (λ (l : List Entry). HasKeys (IsAbsent old (IsOf total n l)) c.loop-i.absent) (sym grown)
-    (keys_same old total n front y c.loop-i.absent why c.loop-i.invariant.keys) in
+    let back = subst (λ (e : Entry). ¬ HasKey (Contains old) e.key) at in
+    let of = subst (λ (e : Entry). ¬ HasKey (Contains old) e.key) (sym at) in
+    let same : (HasKey (Contains old) y.key ⊎ HasKey (Contains front) y.key)
+    → HasKeys (IsAbsent old (Contains (take (i + 1) xs))) c.loop-i.absent =
+    λ why. subst (λ (l : List Entry). HasKeys (IsAbsent old (Contains l)) c.loop-i.absent) (sym grown)
+    (keys_same old front y c.loop-i.absent why c.loop-i.invariant.keys) in
     elim c.if-is_absent.branch [
       | then-is_absent+then-not-has_key w ↦
           let is = of (c.is_absent.ensures.0 w.if-is_absent.true) in
@@ -37,17 +34,20 @@ loop-i-preserved c =
           let no = w.if-not-has_key.true in
           false≢true (sym no ∙ yes) in
           rw w.absent-is (record {
-            keys = subst (λ (l : List Entry). HasKeys (IsAbsent old (IsOf total n l)) (c.loop-i.absent + 1)) (sym grown)
-                (keys_more old total n front y c.loop-i.absent is.0 is.1 fresh c.loop-i.invariant.keys);
+            keys = subst (λ (l : List Entry). HasKeys (IsAbsent old (Contains l)) (c.loop-i.absent + 1)) (sym grown)
+                (keys_more old front y c.loop-i.absent is fresh c.loop-i.invariant.keys);
             most = omega (arith, c.loop-i.invariant.most);
           })
       | else-is_absent w ↦ rw w.absent-is (record {
         keys = elim w.else-is_absent.branch [
           | else-is_absent-via-then-is_absent+else-not-has_key v ↦ same (inr (subst (λ (e : Entry). HasKey (Contains front) e.key) (sym (there _)) (v.has_key.ensures.0 v.if-not-has_key.false)))
-          | else-is_absent-via-else-is_absent v ↦ same (inl (λ it.
-              let yes = c.is_absent.ensures.1 (back it) in
+          | else-is_absent-via-else-is_absent v ↦ same (⊎_elim
+              (λ (has : HasKey (Contains old) y.key). inl has)
+              (λ (none : ¬ HasKey (Contains old) y.key).
+              let yes = c.is_absent.ensures.1 (back none) in
               let no = v.if-is_absent.false in
-              false≢true (sym no ∙ yes)))
+              absurd (false≢true (sym no ∙ yes)))
+              (decide_held y.key old))
         ];
         most = omega (arith, c.loop-i.invariant.most);
       })

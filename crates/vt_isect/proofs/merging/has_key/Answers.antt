@@ -3,7 +3,7 @@ use Rattle.std.specs.List.{Contains}
 use Rattle.std.proofs.lemmas.List.{take_more, take_all}
 use Rattle.vt_base.specs.declared.place.Entry.{Entry}
 use Rattle.vt_isect.specs.Merging.{HasKey}
-use Rattle.vt_isect.proofs.Merged.{no_key_more}
+use Rattle.vt_isect.proofs.Merges.{no_key_more}
 use Rattle.vt_isect.proofs.merging.has_key.Goals as goal
 
 pub loop-entry-preserved : goal.loop-entry-preserved

@@ -9,7 +9,8 @@ use Rattle.vt_isect.proofs.Stepping.{keeps_quiet, same_selector}
 use Rattle.vt_isect.proofs.Covered.{covered_kept}
 use Rattle.vt_isect.proofs.Undamaged.{no_damage}
 use Rattle.vt_isect.proofs.Within.{crash_within, agrees_within}
-use Rattle.vt_isect.proofs.Left.{bucket_made, head_made, advance_lower}
+use Rattle.vt_isect.proofs.Damages.{differs_in, fault_is}
+use Rattle.vt_isect.proofs.Left.{bucket_made, head_made, advance_lower, ends_none}
 use Rattle.vt_isect.proofs.section.Section.advance.Goals as goal
 
 pub returns-in-ReadSelector-clause-crash : goal.returns-in-ReadSelector-clause-crash
@@ -130,3 +131,33 @@ returns-in-ReadFrame-clause-undamaged g c score setup h known told sound agrees 
     (g.met.D.Disk.read_is_image _ told) sound room bad
     (λ other. let found = it other in (found.0, found.1, λ region place. found.2 region told place)))
     c.read_frame.ensures.damaged
+
+pub returns-in-ReadSelector-clause-ended : goal.returns-in-ReadSelector-clause-ended
+returns-in-ReadSelector-clause-ended g c = ends_none c.read_selector.result _ _ c.read_selector.ensures.steps
+
+pub returns-in-ReadSelector-clause-differs : goal.returns-in-ReadSelector-clause-differs
+returns-in-ReadSelector-clause-differs g c = IfErr-weaker c.read_selector.result _ _ (λ bad is. fault_is bad is) c.read_selector.ensures.refused
+
+pub returns-in-ReadFrame-clause-ended : goal.returns-in-ReadFrame-clause-ended
+returns-in-ReadFrame-clause-ended g c = ends_none c.read_frame.result _ _ c.read_frame.ensures.steps
+
+pub returns-in-ReadFrame-clause-differs : goal.returns-in-ReadFrame-clause-differs
+returns-in-ReadFrame-clause-differs g c =
+    IfErr-weaker c.read_frame.result _ _ (λ bad it. differs_in _ _ _ _ bad it) c.read_frame.ensures.damaged
+
+pub returns-in-ChangeBucket-clause-ended : goal.returns-in-ChangeBucket-clause-ended
+returns-in-ChangeBucket-clause-ended g c = ends_none c.change_bucket.result _ _ c.change_bucket.ensures.steps
+
+pub returns-in-ChangeBucket-clause-differs : goal.returns-in-ChangeBucket-clause-differs
+returns-in-ChangeBucket-clause-differs g c = IfErr-weaker c.change_bucket.result _ _ (λ bad is. fault_is bad is) c.change_bucket.ensures.refused
+
+pub returns-in-ChangeHead-clause-ended : goal.returns-in-ChangeHead-clause-ended
+returns-in-ChangeHead-clause-ended g c = ends_none c.change_head.result _ _ c.change_head.ensures.steps
+
+pub returns-in-ChangeHead-clause-differs : goal.returns-in-ChangeHead-clause-differs
+returns-in-ChangeHead-clause-differs g c = IfErr-weaker c.change_head.result _ _ (λ bad is. fault_is bad is) c.change_head.ensures.refused
+
+pub returns-in-Some-clause-ended : goal.returns-in-Some-clause-ended
+returns-in-Some-clause-ended g c =
+    ends_none (Err (Stopped c.in-Some.call)) c.args.self.now c.args.self.now
+    (ap (λ x. x.stopped) (sym c.self.view_is) ∙ c.in-Some.is, refl)

@@ -48,8 +48,8 @@ returns-in-Ok-More-clause-steps g c =
       next_of ChangeBucket _ _ phase (inl (no, phase, steps, refl)),
     )
 
-pub go_on-requires-clause-in_range : goal.go_on-requires-clause-in_range
-go_on-requires-clause-in_range g c =
+pub go_on-requires-clause-filed : goal.go_on-requires-clause-filed
+go_on-requires-clause-filed g c =
     let s = c.self.inside in
     let phase = rw (← c.self.view_is) at c.requires.phase in
     c.self.invariant.entries (subst HasBucket (sym phase) tt)
@@ -60,6 +60,7 @@ invariant_of-self-in-Ok-Done g c =
     let phase = rw (← c.self.view_is) at c.requires.phase in
     let steps = rw c.in-Ok-Done.field-0-is at c.in-Ok-Done.ensures.steps in
     let frames = at_phase s.phase ChangeBucket s.head_twin s.bucket_twin s.head_frame s.bucket_frame phase c.self.invariant.frames in
+    let goes = rw (← c.self.view_is) at c.requires.goes in
     let spare = c.memory_of.ensures ∙ c.idle.ensures.buffer ∙ ap (λ (t : TwinState). t.spare) steps in
     record {
       room = rw c.advance.ensures.size c.self.invariant.room;
@@ -69,6 +70,7 @@ invariant_of-self-in-Ok-Done g c =
       frames = (frames.0, frames.1, subst (λ (o : Option (List ℕ)). IsHere o) (sym spare) (lent_len s.bucket_twin frames.2));
       bucket = λ u. absurd u;
       entries = λ u. absurd u;
+      rest = λ u. record { goes = goes; next = refl };
       goes = λ none. ((c.self.invariant.goes none).0, ap (λ (t : TwinState). t.stopped) (c.idle.ensures.same ∙ ap without_spare steps) ∙ (c.self.invariant.goes none).1);
     }
 

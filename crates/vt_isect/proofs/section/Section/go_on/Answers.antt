@@ -12,7 +12,7 @@ pub invariant_of-self : goal.invariant_of-self
 invariant_of-self g c =
     let s = c.self.inside in
     let rest = rw (← c.self.view_is) at c.requires.rest in
-    let range = rw (← c.self.view_is) at c.requires.in_range in
+    let filed = rw (← c.self.view_is) at c.requires.filed in
     let found = rw c.items.ensures at c.in-Some.ensures.found in
     record {
       room = c.self.invariant.room;
@@ -20,8 +20,9 @@ invariant_of-self g c =
       head_len = c.self.invariant.head_len;
       bucket_len = c.self.invariant.bucket_len;
       frames = at_phase s.phase Rest s.head_twin s.bucket_twin s.head_frame s.bucket_frame rest c.self.invariant.frames;
-      bucket = λ way. subst (InRange s.head s.buckets) found.1.2 (range found.1.0 found.1.1);
-      entries = λ way. range;
+      bucket = λ way. subst (InRange s.head s.buckets) found.1.2 (filed.in_range found.1.0 found.1.1);
+      entries = λ way. filed;
+      rest = λ u. absurd (cc);
       goes = c.self.invariant.goes;
     }
 
@@ -33,7 +34,7 @@ returns-in-Some-clause-begins g c =
 pub returns-in-None-clause-begins : goal.returns-in-None-clause-begins
 returns-in-None-clause-begins g c =
     let now = c.args.self.now in
-    rw c.write_head.ensures.same (inr (
+    rw c.begin_next.ensures.same (inr (
       refl,
       refl,
       λ entry has. ⊎_elim

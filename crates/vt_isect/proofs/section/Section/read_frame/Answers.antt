@@ -7,6 +7,7 @@ use Rattle.vt_disk.specs.declared.region.Region.{Region}
 use Rattle.vt_twin.specs.Frames.{frame_of}
 use Rattle.vt_twin.specs.Twin.{TwinState, fresh, next_frame, with_change}
 use Rattle.vt_isect.specs.declared.phase.Phase.TheVariants.{ReadFrame}
+use Rattle.vt_isect.specs.Entries.{IsOrdered}
 use Rattle.vt_isect.specs.Merging.{Merges, IsOf, IsMerged, IsDamage}
 use Rattle.vt_isect.specs.Section.{HasBucket, IsHere, IsLent}
 use Rattle.vt_isect.proofs.Frames.{at_phase}
@@ -38,8 +39,15 @@ invariant_of-self g c =
       frames = (frames.0, frames.1, subst (λ (t : TwinState). IsLent t.change) (sym begun) (len, omega arith));
       bucket = λ u. c.self.invariant.bucket way;
       entries = λ u. c.self.invariant.entries way;
+      rest = λ u. absurd (cc);
       goes = λ none. ((c.self.invariant.goes none).0, ap (λ (t : TwinState). t.stopped) begun);
     }
+
+pub read_merged-merged-requires-clause-ordered : goal.read_merged-merged-requires-clause-ordered
+read_merged-merged-requires-clause-ordered g c =
+    let phase = rw (← c.self.view_is) at c.requires.phase in
+    subst (λ (l : List Entry). IsOrdered c.self.inside.head.total l) (sym c.items.ensures)
+    (c.self.invariant.entries (subst HasBucket (sym phase) tt)).ordered
 
 pub returns-in-Ok-clause-sound : goal.returns-in-Ok-clause-sound
 returns-in-Ok-clause-sound g c told =

@@ -20,6 +20,7 @@ invariant_of-self g c =
       frames = at_phase s.phase ReadSelector s.head_twin s.bucket_twin s.head_frame s.bucket_frame phase c.self.invariant.frames;
       bucket = λ u. c.self.invariant.bucket way;
       entries = λ u. c.self.invariant.entries way;
+      rest = λ u. absurd (cc);
       goes = c.self.invariant.goes;
     }
 
