@@ -131,4 +131,8 @@ def main():
 
 
 if __name__ == "__main__":
-    sys.exit(main())
+    try:
+        sys.exit(main())
+    except KeyboardInterrupt:
+        say("cut off: the crates that were proved are kept")
+        sys.exit(1)

@@ -58,7 +58,8 @@ class Crate:
             self.read_code(re.sub(r"//[^\n]*", "", text))
         for text in texts(f"{CRATES}/{name}/specs", ".antt"):
             text = re.sub(r"--[^\n]*", "", text)
-            named = r"(?m)^\s*(?:(?:pub|abbrev|unfoldable|opaque|record|data)\s+)*([^\s:(){},]+)\s*(?:[({][^\n]*)?:(?=\s)"
+            words = r"(?:(?:pub|abbrev|unfoldable|opaque|record|data)\s+)*"
+            named = rf"(?m)^\s*{words}([^\s:(){{}},]+)\s*(?:[({{][^\n]*)?:(?=\s)"
             self.definitions |= set(re.findall(named, text))
 
     def read_code(self, text):
