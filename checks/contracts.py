@@ -35,7 +35,7 @@ def behind(text, at):
 
 
 def clauses_of(text, at):
-    """The names of the clauses of the function whose head begins at this place."""
+    """The names of what the function ensures whose head begins at this place."""
     found = set()
     while True:
         stop = re.compile(r"[{;]").search(text, at)
@@ -45,7 +45,8 @@ def clauses_of(text, at):
         clause = stop and re.search(r"\b(ensures|requires)\s*([\w']*)\s*$", text[at:stop.start()])
         if not clause:
             return found
-        found.add(clause[2] or UNNAMED)
+        if clause[1] == "ensures":
+            found.add(clause[2] or UNNAMED)
         at = behind(text, stop.start())
 
 
@@ -137,12 +138,12 @@ class Documents:
                     yield number, crate, head, cells
 
     def proved(self):
-        """docs/PROVED.md: under the heading of a crate, rows of call, fact, clause and definition."""
+        """docs/PROVED.md: under the heading of a crate, rows of calls, what they promise, clauses and definitions."""
         for number, crate, head, cells in self.tables("docs/PROVED.md"):
             if head[0] == "call":
                 place = f"docs/PROVED.md:{number}"
                 if len(cells) != 4:
-                    self.wrong.append(f"{place}: a row has four cells: call, fact, clause, definition")
+                    self.wrong.append(f"{place}: a row has four cells: call, promise, clause, definition")
                     continue
                 self.fact(place, crate, quoted(cells[0]), quoted(cells[2]), quoted(cells[3]))
 
@@ -150,10 +151,28 @@ class Documents:
         """README.md: in the table of what holds, the last cell names a crate, a call of it and its clauses, and so on
         behind a semicolon."""
         for number, _, head, cells in self.tables("README.md"):
-            if head[-1] == "clause":
+            if head[-1] == "Clause":
                 for part in cells[-1].split(";"):
-                    crate, call, *clauses = quoted(part) + ["", ""][: max(0, 2 - len(quoted(part)))]
-                    self.fact(f"README.md:{number}", crate, [call], clauses)
+                    crate, *names = quoted(part) or [""]
+                    self.fact(f"README.md:{number}", crate, names[:1], names[1:])
+
+    def architecture(self):
+        """docs/ARCHITECTURE.md: in the table of structures, a row names files and laws of its crate, and a section of
+        docs/FORMATS.md."""
+        with open(os.path.join(TOP, "docs", "FORMATS.md"), encoding="utf-8") as text:
+            sections = [line[3:].strip() for line in text if line.startswith("## ")]
+        for number, _, head, cells in self.tables("docs/ARCHITECTURE.md"):
+            if head[0] != "Structure":
+                continue
+            place, crate = f"docs/ARCHITECTURE.md:{number}", quoted(cells[1])[0]
+            files = [path for cell in cells for path in quoted(cell) if "/" in path]
+            self.wrong += [f"{place}: {crate} has no {path}" for path in files
+                           if not os.path.exists(os.path.join(CRATES, crate, path))]
+            if not any(it.startswith(cells[4]) for it in sections):
+                self.wrong.append(f"{place}: docs/FORMATS.md has no section {cells[4]}")
+            laws = quoted(cells[5])
+            self.wrong += [f"{place}: {crate} has no law {law}" for law in laws
+                           if self.crates[crate].clauses(law) is None]
 
     def paths(self, names):
         """Each path in backticks is there."""
