@@ -1,0 +1,10 @@
+pub mod Lists
+pub mod Moves
+pub mod Books
+pub mod Front
+pub mod Knowing
+pub mod Sharing
+pub mod Closing
+pub mod Slots
+pub mod BitWords
+pub mod Sole
