@@ -1,0 +1,166 @@
+-- Items that are answered, one after another.
+use Rattle.std.proofs.Common.{◌≡◌, ℕ, List, [], ◌∷◌, ◌++◌, length, Bool, true, false, cond, refl, sym, ◌∙◌, ap, subst, inl, inr, arith, Result, Ok, Err, Option, Some, None, append-nil}
+use Rattle.std.specs.List.{flat_map}
+use Rattle.std.specs.Option.{option_or}
+use Rattle.std.proofs.lemmas.Grind.{flat_map-append}
+use Rattle.std.proofs.lemmas.List.{map-append}
+use Rattle.vt_base.specs.declared.why.Failed.{Failed}
+use Rattle.vt_base.specs.declared.why.Why.{Why}
+use Rattle.vt_base.specs.Protocol.{Operation, ping, TMessage, t_hello, t_goodbye, t_ask, RMessage, r_hello, r_ping, r_refused}
+use Rattle.vt_model.specs.History.{History}
+use Rattle.vt_wire.specs.Messages.{spelled}
+use Rattle.vt_session.specs.Heard.{Item, settled, asked}
+use Rattle.vt_session.specs.Hearing.{MatchMessage}
+use Rattle.vt_session.specs.Turns.{Turn, told, Cause, disk_fault, stopped, damaged, no_memory, why_of, item_of_turn, items_of, spelled_turn, cause_of, causes_of, first_why}
+use Rattle.vt_answer.specs.Asking.{reply_to, ServesMessage, DoesMessage, failure_of}
+use Rattle.vt_answer.specs.Condition.{GoesOn, Condition}
+use Rattle.vt_answer.specs.Members.{StoreOf}
+use Rattle.vt_answer.specs.Serving.{Answers, Lengthens, tells_failure}
+use Rattle.vt_answer.specs.Sessions.{AnswersItems}
+use Rattle.vt_answer.specs.Taking.{Takes}
+use Rattle.vt_answer.specs.Writing.{Writes}
+use Rattle.vt_answer.specs.declared.asking.Said.{Said}
+use Rattle.vt_answer.specs.declared.asking.Said.TheVariants.{Hello}
+use Rattle.vt_answer.proofs.Taking.{takes_none, takes_told, takes_served, takes_failed, takes_more}
+use Rattle.vt_answer.proofs.Written.{writes_more}
+
+-- a ping is answered over any history that is held
+pub ping_answered : (score_of : List ℕ → List ℕ) (c : Condition) (holds : History → Type 0)
+    (h : History) → holds h → Answers score_of c c holds h ping r_ping
+ping_answered score_of c holds h hold = record {
+  new = h;
+  number = length h;
+  holds_it = hold;
+  reply_is = refl;
+  lengthens = record {
+    later = [];
+    new_is = sym (append-nil h);
+    low = omega arith;
+    high = omega arith;
+    stands = tt;
+    alone_is = λ a. (refl, refl);
+  };
+  covered = tt;
+  stops = λ a. refl;
+}
+
+-- ---- the first failure
+
+earlier_none : (failure : Option Why) → failure ≡ option_or failure None
+earlier_none None = refl
+earlier_none (Some why) = refl
+
+earlier_on : (failure : Option Why) (causes more : List Cause)
+    → option_or (option_or failure (first_why causes)) (first_why more)
+    ≡ option_or failure (first_why (causes ++ more))
+earlier_on None [] more = refl
+earlier_on None (cause ∷ causes) more = refl
+earlier_on (Some why) causes more = refl
+
+is_failure : (cause : Cause) → tells_failure (why_of cause) ≡ true
+is_failure (disk_fault before after) = refl
+is_failure (stopped part first) = refl
+is_failure (damaged site want found) = refl
+is_failure no_memory = refl
+
+failed_by : (why : Why) (cause : Cause) → why ≡ why_of cause
+    → failure_of {X = Said} (Err why) ≡ first_why (cause ∷ [])
+failed_by why cause is =
+    ap (λ (w : Why). cond (tells_failure w) (Some w) None) is
+    ∙ ap (λ (b : Bool). cond b (Some (why_of cause)) None) (is_failure cause)
+
+-- ---- one item
+
+module _ {S : Type 0} (T : StoreOf S) where
+  pub no_item : (s : S) (h : History) (failure : Option Why) (writes : List ℕ → Type 0)
+      → T.holds s h → writes [] → AnswersItems T s s h failure failure writes []
+  no_item s h failure writes hold written = record {
+    turns = [];
+    items_are = refl;
+    takes = takes_none T s h hold;
+    written = written;
+    failure_is = earlier_none failure;
+  }
+
+  pub settled_item : (s : S) (h : History) (failure : Option Why) (writes : List ℕ → Type 0)
+      (tag : ℕ) (reply : RMessage) → T.holds s h → writes (spelled tag reply)
+      → AnswersItems T s s h failure failure writes (settled tag reply ∷ [])
+  settled_item s h failure writes tag reply hold written = record {
+    turns = told tag reply ∷ [];
+    items_are = refl;
+    takes = takes_told T s h tag reply hold;
+    written = subst writes (sym (append-nil (spelled tag reply))) written;
+    failure_is = earlier_none failure;
+  }
+
+  -- by its turn
+  by_turn : (s s' : S) (h : History) (failure failure' : Option Why) (writes : List ℕ → Type 0)
+      (turn : Turn) (said : List ℕ) → Takes T s s' h (turn ∷ []) → writes said
+      → said ≡ spelled_turn turn → failure' ≡ option_or failure (first_why (cause_of turn))
+      → AnswersItems T s s' h failure failure' writes (item_of_turn turn ∷ [])
+  by_turn s s' h failure failure' writes turn said takes written is failed = record {
+    turns = turn ∷ [];
+    items_are = refl;
+    takes = takes;
+    written = subst writes (is ∙ sym (append-nil (spelled_turn turn))) written;
+    failure_is = failed
+        ∙ ap (λ (cs : List Cause). option_or failure (first_why cs)) (sym (append-nil (cause_of turn)));
+  }
+
+  module _ (s s' : S) (h : History) (failure failure' : Option Why) (writes : List ℕ → Type 0)
+      (tag : ℕ) (on : GoesOn (T.condition s) (T.condition s')) where
+    pub message_item : (m : TMessage) (answer : Result Said Why) → T.holds s h
+        → ServesMessage T s s' h m answer → DoesMessage T s s' m answer
+        → failure' ≡ option_or failure (failure_of answer) → writes (spelled tag (reply_to answer))
+        → MatchMessage tag m (λ item. AnswersItems T s s' h failure failure' writes (item ∷ []))
+    message_item (t_hello version) answer hold serves does failed written =
+        let is : s ≡ s' = sym does in
+        let takes = subst (λ (z : S). Takes T s z h (told tag r_hello ∷ [])) is
+        (takes_told T s h tag r_hello hold) in
+        by_turn s s' h failure failure' writes (told tag r_hello) _ takes written
+        (ap (λ (a : Result Said Why). spelled tag (reply_to a)) serves)
+        (failed ∙ ap (λ (a : Result Said Why). option_or failure (failure_of a)) serves)
+    message_item t_goodbye answer hold serves does failed written = absurd serves
+    message_item (t_ask m) (Ok x) hold serves does failed written =
+        by_turn s s' h failure failure' writes _ _
+        (takes_served T s s' h tag m (reply_to (Ok x)) on does serves) written
+        (ap (spelled tag) (sym serves.reply_is)) failed
+    message_item (t_ask m) (Err why) hold (inl refused) does failed written =
+        by_turn s s' h failure failure' writes _ _
+        (takes_served T s s' h tag m (r_refused why) on does refused.1) written
+        (ap (spelled tag) (sym refused.1.reply_is))
+        (failed ∙ ap (λ (b : Bool). option_or failure (cond b (Some why) None)) refused.0)
+    message_item (t_ask m) (Err why) hold (inr fails) does failed written =
+        by_turn s s' h failure failure' writes _ _
+        (takes_failed T s s' h tag m why on does fails) written
+        (ap (λ (w : Why). spelled tag (r_refused w)) fails.why_is)
+        (failed ∙ ap (option_or failure) (failed_by why fails.cause fails.why_is))
+
+  -- ---- more items
+
+  pub more_items : {U V P : Type 0} (r : Result V Failed) (done : U) (s s' s'' : S) (h : History)
+      (failure failure' failure'' : Option Why)
+      (written waiting written' waiting' written'' waiting'' : List ℕ) (items more : List Item)
+      → (x : AnswersItems T s s' h failure failure'
+      (λ (said : List ℕ). P → Writes (Ok done) written waiting written' waiting' said) items)
+      → AnswersItems T s' s'' x.takes.new failure' failure''
+      (λ (said : List ℕ). P → Writes r written' waiting' written'' waiting'' said) more
+      → AnswersItems T s s'' h failure failure''
+      (λ (said : List ℕ). P → Writes r written waiting written'' waiting'' said) (items ++ more)
+  more_items r done s s' s'' h failure failure' failure''
+      written waiting written' waiting' written'' waiting'' items more x y = record {
+        turns = x.turns ++ y.turns;
+        items_are = map-append item_of_turn x.turns y.turns
+            ∙ ap (λ (l : List Item). l ++ items_of y.turns) x.items_are
+            ∙ ap (λ (l : List Item). items ++ l) y.items_are;
+        takes = takes_more T s s' s'' h x.turns y.turns x.takes y.takes;
+        written = λ p. subst (Writes r written waiting written'' waiting'')
+            (sym (flat_map-append spelled_turn x.turns y.turns))
+            (writes_more r done written waiting written' waiting' (flat_map spelled_turn x.turns)
+            written'' waiting'' (flat_map spelled_turn y.turns) (x.written p) (y.written p));
+        failure_is = y.failure_is
+            ∙ ap (λ (f : Option Why). option_or f (first_why (causes_of y.turns))) x.failure_is
+            ∙ earlier_on failure (causes_of x.turns) (causes_of y.turns)
+            ∙ ap (λ (cs : List Cause). option_or failure (first_why cs))
+            (sym (flat_map-append cause_of x.turns y.turns));
+      }

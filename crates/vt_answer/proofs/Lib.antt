@@ -1,0 +1,5 @@
+pub mod Written
+pub mod Taking
+pub mod Items
+pub mod Heard
+pub mod Inputs

@@ -1,0 +1,47 @@
+-- What a store was asked in turns, one after another.
+use Rattle.std.specs.Prelude.{ℕ, ◌≡◌, ◌≤◌, IsTrue, List, [], ◌∷◌, ◌++◌, length}
+use Rattle.std.specs.List.{AllByRecursion}
+use Rattle.vt_base.specs.Protocol.{Operation, ping, read, write, sync, RMessage, r_refused}
+use Rattle.vt_model.specs.History.{History}
+use Rattle.vt_session.specs.Turns.{Turn, told, served, failed, causes_of, synced_numbers, why_of}
+use Rattle.vt_session.specs.Answered.{AnsweredBy, AnsweredAlone, AreToldBy}
+use Rattle.vt_answer.specs.Condition.{faults_over, GoesOn, IsNoDamage, IsNoFault}
+use Rattle.vt_answer.specs.Members.{StoreOf}
+
+-- the store did this operation, once, and nothing else; a ping needs no store
+abbrev pub DoesOne : {S : Type 0} → StoreOf S → S → Operation → RMessage → S → Type 0
+DoesOne T s ping reply s' = s' ≡ s
+DoesOne T s (read score kind count) reply s' = T.does s (read score kind count) reply s'
+DoesOne T s (write kind bytes) reply s' = T.does s (write kind bytes) reply s'
+DoesOne T s sync reply s' = T.does s sync reply s'
+
+-- it did the operations of these turns in their order, each once, and nothing else
+abbrev pub DoesEach : {S : Type 0} → StoreOf S → S → List Turn → S → Type 0
+DoesEach T s [] last = last ≡ s
+DoesEach T s (told tag reply ∷ turns) last = DoesEach T s turns last
+DoesEach {S} T s (served tag operation number outcome ∷ turns) last =
+    (next : S) × DoesOne T s operation outcome.reply next × DoesEach T next turns last
+DoesEach {S} T s (failed tag operation number cause ∷ turns) last =
+    (next : S) × DoesOne T s operation (r_refused (why_of cause)) next
+    × DoesEach T next turns last
+
+-- A store was asked in these turns: it held `old` before them, and holds `new` behind them, which
+-- answers them, and whose first blocks are those of `old`. Where it is alone, they are answered by
+-- their own blocks behind `old`. Its parts tell of each failure, which is no damage, and what a
+-- sync was answered for is durable.
+pub record Takes {S : Type 0} (T : StoreOf S) (s s' : S) (old : History) (turns : List Turn)
+    : Type 0 where
+  pub new : History
+  pub later : History
+  pub holds_it : T.holds s' new
+  pub new_is : new ≡ old ++ later
+  pub answered : AnsweredBy T.score_of (T.condition s).setup new (length old) (length new) turns
+  pub alone : IsTrue (T.condition s).alone
+      → AnsweredAlone T.score_of (T.condition s).setup old turns new
+  pub causes : AreToldBy (faults_over (T.condition s) (T.condition s')) (causes_of turns)
+  pub undamaged : AllByRecursion IsNoDamage (causes_of turns)
+  pub stops : IsTrue (T.condition s).alone → AllByRecursion IsNoFault (causes_of turns)
+      → (T.condition s').stops ≡ (T.condition s).stops
+  pub synced : AllByRecursion (λ n. n ≤ (T.condition s').durable) (synced_numbers turns)
+  pub goes_on : GoesOn (T.condition s) (T.condition s')
+  pub does : DoesEach T s turns s'

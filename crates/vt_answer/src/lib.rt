@@ -1,0 +1,15 @@
+//! Answering what a session hears, over any store of blocks (venti(6)).
+//!
+//! A session hears, asks the store, and replies, one request at a time, so that a reader of pieces
+//! and one of a whole input are answered alike.
+#![tactic(auto)]
+
+mod answering;
+mod asking;
+mod output;
+mod store;
+
+pub use answering::Answering;
+pub use asking::{Said, ask, reply};
+pub use output::Output;
+pub use store::Store;

@@ -1,0 +1,97 @@
+//! Replies on their way out.
+
+ghost use Rattle.std.specs.Prelude.{◌≡◌, ◌+◌, ◌≤◌, [], ◌++◌, length, take, IsTrue, IfOk};
+ghost use Rattle.vt_base.specs.Faults.{HasCause};
+ghost use Rattle.vt_session.specs.Turns.{server_line};
+ghost use Rattle.vt_wire.specs.Messages.{spelled, FitsReply};
+ghost use Rattle.vt_wire.specs.Views.{reply_of};
+ghost use Rattle.vt_answer.specs.Writing.{Writes};
+
+use std::alloc::Global;
+use std::marker::Model;
+use vt_base::{Failed, MAX_BLOCK, NoMemory};
+use vt_fields::put;
+use vt_out::Sink;
+use vt_wire::{Reply, encode};
+
+/// What the server writes first.
+const SERVER_LINE: &[u8; 16] = b"venti-02-rattle\n";
+
+/// How many bytes wait at most, so that many replies go out in one put.
+const ROOM: usize = 131_072;
+
+/// The most bytes of one reply's frame, that of a block.
+const MAX_REPLY: usize = 4 + MAX_BLOCK;
+
+/// Bytes that wait to be written, which contracts see as a list.
+#[derive(Drop)]
+pub struct Output {
+    buffer: Vec<u8>,
+    used: usize,
+}
+
+impl Model for Output {
+    ghost use Rattle.std.specs.Prelude.{◌≡◌, ◌≤◌, ℕ, List, length, take};
+
+    ghost Value = { List ℕ };
+
+    ghost view = { λ o. take o.used o.buffer.items };
+
+    ghost invariant = { λ o. (length o.buffer.items ≡ 131072) × (o.used ≤ 131072) };
+}
+
+impl Output {
+    /// The server's line waits.
+    pub fn new(alloc: Global) -> Result<Self, NoMemory>
+        ensures { IfOk result (λ output. output ≡ server_line) }
+    {
+        let mut buffer = vec![in alloc; 0; ROOM]?;
+        let used = put(&mut buffer, 0, SERVER_LINE);
+        Ok(Output { buffer, used })
+    }
+
+    /// Writes all that waits.
+    pub fn flush<K: Sink>(&mut self, sink: &mut K) -> Result<(), Failed>
+        ensures written { IsTrue K.tells →
+            Writes result (K.written sink.old) self.old (K.written sink.new) self.new [] }
+        ensures empty { self.new ≡ [] }
+        ensures cause { HasCause result (K.faults sink.old) (K.faults sink.new) }
+    {
+        let used = self.used;
+        self.used = 0;
+        sink.put(&self.buffer[..used])
+    }
+
+    /// Puts a reply behind what waits. What waits is written first where there is no room for it.
+    pub fn add<K: Sink>(&mut self, sink: &mut K, tag: u8, reply: &Reply) -> Result<(), Failed>
+        requires { FitsReply (reply_of reply.now) }
+        ensures written { IsTrue K.tells →
+            Writes result (K.written sink.old) self.old (K.written sink.new) self.new (spelled tag (reply_of reply.now)) }
+        ensures cause { HasCause result (K.faults sink.old) (K.faults sink.new) }
+    {
+        if ROOM - self.used < MAX_REPLY {
+            self.flush(sink)?;
+        }
+        self.push(tag, reply);
+        Ok(())
+    }
+
+    /// Puts a reply behind what waits.
+    fn push(&mut self, tag: u8, reply: &Reply)
+        requires fits { FitsReply (reply_of reply.now) }
+        requires room { length self.old + 57348 ≤ 131072 }
+        ensures { self.new ≡ self.old ++ spelled tag (reply_of reply.now) }
+    {
+        self.used = encode_at(&mut self.buffer, self.used, tag, reply);
+    }
+}
+
+/// Writes the frame of a reply at this place, and gives the place behind it.
+fn encode_at(buffer: &mut [u8], at: usize, tag: u8, reply: &Reply) -> usize
+    requires fits { FitsReply (reply_of reply.now) }
+    requires room { at + length (spelled tag (reply_of reply.now)) ≤ length buffer.old }
+    ensures end { result ≡ at + length (spelled tag (reply_of reply.now)) }
+    ensures written { take result buffer.new ≡ take at buffer.old ++ spelled tag (reply_of reply.now) }
+{
+    at + encode(tag, reply, &mut buffer[at..])
+}
