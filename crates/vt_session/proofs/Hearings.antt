@@ -14,7 +14,7 @@ use Rattle.vt_wire.specs.declared.line.Line.TheVariants.{Whole, More, Bad}
 use Rattle.vt_wire.proofs.Frames.{split_one, splits, bytes-drop, same_framed, frame_len-framed, length-framed}
 use Rattle.vt_wire.proofs.Messages.{body_one}
 use Rattle.vt_wire.proofs.Forms.{bytes-front, bytes-back}
-use Rattle.vt_wire.proofs.Refusals.{known_type, body_read}
+use Rattle.vt_wire.proofs.RequestForms.{known_type, body_read}
 use Rattle.vt_wire.proofs.WholeLines.{line_stays, whole_is}
 use Rattle.vt_session.specs.declared.Ended.{Ended}
 use Rattle.vt_session.specs.declared.Ended.TheVariants.{Goodbye, Closed, Cut, Malformed}

@@ -1,5 +1,5 @@
 -- Parameters are read in one way, and where they stop being spelled is decided.
-use Rattle.std.proofs.Common.{◌≡◌, ◌≢◌, ℕ, zero, suc, ◌≤◌, List, [], ◌∷◌, ◌++◌, length, take, drop, refl, sym, ◌∙◌, ap, subst, arith, append_assoc, length-append, ◌⊎◌, inl, inr}
+use Rattle.std.proofs.Common.{◌≡◌, ◌≢◌, ℕ, zero, suc, ◌≤◌, List, [], ◌∷◌, ◌++◌, length, take, drop, get_or, refl, sym, ◌∙◌, ap, subst, arith, append_assoc, length-append, ◌⊎◌, inl, inr}
 use Rattle.std.specs.List.{All}
 use Rattle.std.proofs.lemmas.Bool.{cases_eq, cases_lt}
 use Rattle.std.proofs.lemmas.List.{take-append-drop, length-take-le}
@@ -46,6 +46,12 @@ none_bad [] bytes n x y = y.0 x
 none_bad (form ∷ forms) bytes zero x y = y x.0 x.1
 none_bad (form ∷ forms) bytes (suc n) x y =
     none_bad forms x.0 n x.2 (subst (λ r. IsFirstBad forms r n) (Begins-one form bytes y.0 x.0 y.1 x.1) y.2)
+
+-- a field of one byte
+pub one_byte : (xs : List ℕ) → length xs ≡ 1 → xs ≡ get_or xs 0 0 ∷ []
+one_byte [] len = absurd (omega arith)
+one_byte (x ∷ []) len = refl
+one_byte (x ∷ y ∷ xs) len = absurd (omega arith)
 
 -- ---- strings
 

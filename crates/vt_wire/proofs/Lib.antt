@@ -4,6 +4,8 @@ pub mod Frames
 pub mod Lines
 pub mod Messages
 pub mod Refusals
+pub mod ReplyForms
+pub mod RequestForms
 pub mod Texts
 pub mod Versions
 pub mod WholeLines

@@ -1,11 +1,11 @@
 -- No frame spells two messages, and replies are read apart in one way.
-use Rattle.std.proofs.Common.{◌≡◌, ◌≢◌, ℕ, ◌≤◌, List, [], ◌∷◌, ◌++◌, length, refl, sym, ◌∙◌, ap, subst, arith, append-nil}
+use Rattle.std.proofs.Common.{◌≡◌, ◌≢◌, ℕ, ◌≤◌, List, [], ◌∷◌, ◌++◌, length, refl, sym, ◌∙◌, ap, subst, arith, append-nil, length-append}
 use Rattle.std.specs.Prelude.{codes}
 use Rattle.byteorder.specs.Endian.{big_bytes}
 use Rattle.vt_base.specs.Protocol.{Operation, ping, read, write, sync, TMessage, t_hello, t_goodbye, t_ask, RMessage, r_ping, r_hello, r_read, r_write, r_sync, r_error}
 use Rattle.vt_wire.specs.Fields.{string, IsText}
 use Rattle.vt_wire.specs.Frames.{framed, IsBody}
-use Rattle.vt_wire.specs.Messages.{request_type, SpellsBody, SpellsHello, SpellsRead, SpellsWrite, SpellsParameters, Spells, reply_type, reply_parameters, spelled, FitsReply, SpellsReply, SpellsReplyParameters}
+use Rattle.vt_wire.specs.Messages.{request_type, SpellsBody, SpellsHello, SpellsRead, SpellsWrite, SpellsParameters, Spells, request_parameters, asked, FitsRequest, reply_type, reply_parameters, spelled, FitsReply, SpellsReply, SpellsReplyParameters}
 use Rattle.vt_wire.proofs.Frames.{same_front, same_number, same_framed, one_body}
 use Rattle.vt_wire.proofs.Texts.{text_tested}
 
@@ -80,6 +80,54 @@ frame_one s t m n bytes x y =
     let tag : s ≡ t = cc in
     let parameters : x.parameters ≡ y.parameters = cc in
     (tag, message_one m n x.parameters type x.parameters_are (subst (SpellsParameters n) (sym parameters) y.parameters_are))
+
+-- ---- requests that this client sends
+
+request_fits : (tag : ℕ) (m : TMessage) → FitsRequest m
+    → IsBody (request_type m ∷ tag ∷ request_parameters m)
+request_fits tag (t_ask ping) h = omega arith
+request_fits tag (t_hello version) h =
+    let short : length version ≤ 1024 = h.short in
+    let uid = length-append (string (codes "anonymous")) (0 ∷ 0 ∷ 0 ∷ []) in
+    omega (
+      arith,
+      short,
+      length-append (string version) (string (codes "anonymous") ++ (0 ∷ 0 ∷ 0 ∷ [])),
+      uid,
+    )
+request_fits tag t_goodbye h = omega arith
+request_fits tag (t_ask (read score kind count)) h =
+    omega (arith, h.0, length-append score (kind ∷ 0 ∷ big_bytes 2 count))
+request_fits tag (t_ask (write kind bytes)) h = omega (arith, h)
+request_fits tag (t_ask sync) h = omega arith
+
+request_parameters_spelled : (m : TMessage) → FitsRequest m
+    → SpellsParameters m (request_parameters m)
+request_parameters_spelled (t_ask ping) h = refl
+request_parameters_spelled (t_hello version) h = record {
+  uid = codes "anonymous";
+  strength = 0;
+  crypto = [];
+  codec = [];
+  version_text = h;
+  uid_text = text_tested (codes "anonymous") (omega arith) refl;
+  crypto_short = omega arith;
+  codec_short = omega arith;
+  spelled = refl;
+}
+request_parameters_spelled t_goodbye h = refl
+request_parameters_spelled (t_ask (read score kind count)) h =
+    record { pad = 0; score_len = h.0; count_short = h.1; spelled = refl }
+request_parameters_spelled (t_ask (write kind bytes)) h =
+    record { pad = 0 ∷ 0 ∷ 0 ∷ []; pad_len = refl; spelled = refl }
+request_parameters_spelled (t_ask sync) h = refl
+
+pub request_spelled : (tag : ℕ) (m : TMessage) → FitsRequest m → Spells tag m (asked tag m)
+request_spelled tag m h = record {
+  parameters = request_parameters m;
+  parameters_are = request_parameters_spelled m h;
+  frame = record { counted = request_fits tag m h; is = refl };
+}
 
 -- ---- replies
 

@@ -2,6 +2,7 @@
 use Rattle.std.specs.Prelude.{ℕ, zero, suc, ◌≡◌, ◌≢◌, ◌≤◌, ◌<◌, List, [], ◌∷◌, ◌++◌, length}
 use Rattle.std.specs.List.{All}
 use Rattle.byteorder.specs.Endian.{big_bytes}
+use Rattle.vt_wire.specs.declared.message.TheConstants.{MAX_STRING}
 
 -- `name[s]`: two bytes of length, and so many bytes
 abbrev pub string : List ℕ → List ℕ
@@ -9,7 +10,7 @@ string bytes = big_bytes 2 (length bytes) ++ bytes
 
 -- what may stand in a string: at most 1,024 bytes, none of them zero
 pub record IsText (bytes : List ℕ) : Type 0 where
-  pub short : length bytes ≤ 1024
+  pub short : length bytes ≤ MAX_STRING
   pub nonzero : All (λ b. b ≢ 0) bytes
 
 -- `name[n]`: one byte of length, and so many bytes

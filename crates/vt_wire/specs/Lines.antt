@@ -4,6 +4,7 @@
 use Rattle.std.specs.Prelude.{ℕ, ◌≡◌, ◌≢◌, ◌<◌, ◌++◌, ◌+◌, ◌==◌, nat_lt, nat_eq, Bool, true, false, if◌then◌else◌, Option, Some, None, List, [], ◌∷◌, length, take, drop, codes}
 use Rattle.std.specs.List.{list_any, position, common_prefix_len, join_with_byte, AllByRecursion}
 use Rattle.std.specs.Str.{bytes_eq}
+use Rattle.vt_wire.specs.declared.line.TheConstants.{MAX_LINE}
 use Rattle.vt_wire.specs.declared.line.Line.{Line}
 use Rattle.vt_wire.specs.declared.line.Line.TheVariants.{Whole, More, Bad}
 
@@ -66,10 +67,10 @@ judged line (Some place) = Bad place
 -- if there is one
 abbrev pub line_at : List ℕ → Option ℕ → Line
 line_at input (Some len) = judged (take len input) (first_wrong (take len input))
-line_at input None = if nat_lt 1024 (length input) then Bad 1024 else More
+line_at input None = if nat_lt MAX_LINE (length input) then Bad MAX_LINE else More
 
 -- The line at the front of what a client sent. It is whole with its newline, which is among the
 -- first 1,024 bytes. Where 1,025 bytes came and no newline is among the first 1,024, the line is
 -- too long, whatever they are.
 abbrev pub line_of : List ℕ → Line
-line_of input = line_at input (position (λ b. b == 10) (take 1024 input))
+line_of input = line_at input (position (λ b. b == 10) (take MAX_LINE input))

@@ -67,12 +67,40 @@ pub record Spells (tag : ℕ) (m : TMessage) (bytes : List ℕ) : Type 0 where
   pub parameters_are : SpellsParameters m parameters
   pub frame : IsFrame bytes (request_type m ∷ tag ∷ parameters)
 
+-- What this client sends. Thello has the uid `anonymous`, no strength, and neither cipher nor
+-- codec.
+abbrev pub request_parameters : TMessage → List ℕ
+request_parameters (t_ask ping) = []
+request_parameters (t_hello version) =
+    string version ++ (string (codes "anonymous") ++ (0 ∷ 0 ∷ 0 ∷ []))
+request_parameters t_goodbye = []
+request_parameters (t_ask (read score kind count)) = score ++ (kind ∷ 0 ∷ big_bytes 2 count)
+request_parameters (t_ask (write kind bytes)) = kind ∷ 0 ∷ 0 ∷ 0 ∷ bytes
+request_parameters (t_ask sync) = []
+
+-- the frame of a request under a tag, as this client sends it
+abbrev pub asked : ℕ → TMessage → List ℕ
+asked tag m = framed (request_type m ∷ tag ∷ request_parameters m)
+
+-- the request can be sent
+abbrev pub FitsRequest : TMessage → Type 0
+FitsRequest (t_ask ping) = ⊤
+FitsRequest (t_hello version) = IsText version
+FitsRequest t_goodbye = ⊤
+FitsRequest (t_ask (read score kind count)) = (length score ≡ 20) × (count < 2 ^ 16)
+FitsRequest (t_ask (write kind bytes)) = length bytes ≤ MAX_BLOCK
+FitsRequest (t_ask sync) = ⊤
+
 -- ---- R-messages
+
+-- an R-message has this type
+abbrev pub is_reply_type : ℕ → Bool
+is_reply_type t = t == 1 || t == 3 || t == 5 || t == 13 || t == 15 || t == 17
 
 abbrev pub reply_type : RMessage → ℕ
 reply_type (r_error text) = 1
 reply_type r_ping = 3
-reply_type (r_hello) = 5
+reply_type r_hello = 5
 reply_type (r_read bytes) = 13
 reply_type (r_write score) = 15
 reply_type r_sync = 17

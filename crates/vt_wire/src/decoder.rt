@@ -6,7 +6,7 @@ ghost use Rattle.vt_wire.specs.Messages.{is_request_type, Spells};
 ghost use Rattle.vt_wire.specs.Refusals.{IsCutShort, IsUnknown, IsMisspelled, Reads};
 ghost use Rattle.vt_wire.specs.Views.{message_of};
 
-use crate::parameters::{array_at, at_end, behind_list, string_at};
+use crate::parameters::{alone, array_at, at_end, behind_list, string_at};
 use crate::{Request, WireBad, frame_len};
 use vt_base::Score;
 use vt_fields::u16_at;
@@ -47,15 +47,6 @@ fn request_of(kind: u8, parameters: &[u8]) -> Result<Request<'_>, WireBad>
         16 => alone(parameters, Request::Sync),
         other => Err(WireBad::Unknown(other)),
     }
-}
-
-/// A request without parameters.
-fn alone<'a>(parameters: &[u8], request: Request<'a>) -> Result<Request<'a>, WireBad>
-    ensures ok { IfOk result (λ r. (r ≡ request.entry) × (parameters.now ≡ [])) }
-    ensures err { IfErr result (λ e. (e ≡ WireBad.Bad 0) × (parameters.now ≢ [])) }
-{
-    at_end(parameters, 0)?;
-    Ok(request)
 }
 
 /// Thello: version[s] uid[s] strength[1] crypto[n] codec[n].

@@ -79,7 +79,7 @@ fn put_parameters(buf: &mut [u8], at: usize, reply: &Reply) -> usize
 }
 
 /// Writes a string at this place, and gives the place behind it.
-fn put_string(buf: &mut [u8], at: usize, text: &[u8]) -> usize
+pub(crate) fn put_string(buf: &mut [u8], at: usize, text: &[u8]) -> usize
     requires fits { IsText text.now }
     requires room { at + length (string text.now) ≤ length buf.old }
     ensures end { result ≡ at + length (string text.now) }

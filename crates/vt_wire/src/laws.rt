@@ -8,12 +8,12 @@ ghost use Rattle.vt_base.specs.declared.why.Why.{Why};
 ghost use Rattle.vt_wire.specs.Fields.{Form, IsFirstBad};
 ghost use Rattle.vt_wire.specs.Frames.{Splits};
 ghost use Rattle.vt_wire.specs.Lines.{IsLine, first_wrong, is_02, line_of, versions};
-ghost use Rattle.vt_wire.specs.Messages.{is_request_type, SpellsBody, Spells, SpellsReply, spelled, FitsReply};
+ghost use Rattle.vt_wire.specs.Messages.{is_request_type, SpellsBody, Spells, asked, FitsRequest, SpellsReply, spelled, FitsReply};
 ghost use Rattle.vt_wire.specs.Refusals.{forms_of};
 ghost use Rattle.vt_wire.specs.Rules.{rule_words};
 ghost use Rattle.vt_wire.specs.declared.rule.Rule.{Rule};
 
-use crate::{Line, MAX_LINE};
+use crate::{Line, MAX_LINE, MAX_STRING};
 
 /// Bytes are cut into frames and a rest in one way at most.
 pub fn one_cutting()
@@ -55,6 +55,11 @@ pub fn one_reply()
 pub fn reply_is_spelled()
     ensures { (tag : ℕ) (reply : RMessage) → FitsReply reply →
         SpellsReply tag reply (spelled tag reply) }
+{}
+
+/// What this client sends spells its request.
+pub fn request_is_spelled()
+    ensures { (tag : ℕ) (m : TMessage) → FitsRequest m → Spells tag m (asked tag m) }
 {}
 
 /// A frame spells a message, or it spells none.
@@ -141,4 +146,10 @@ pub fn wrong_lines()
 pub fn whole_lines_stay()
     ensures { (input more : List ℕ) →
         line_of input ≢ Line.More → line_of (input ++ more) ≡ line_of input }
+{}
+
+/// How many bytes a string has at most, and a line with its newline.
+pub fn limits_are_fixed()
+    ensures string { MAX_STRING ≡ 1024 }
+    ensures line { MAX_LINE ≡ 1024 }
 {}

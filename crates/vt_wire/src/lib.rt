@@ -8,6 +8,8 @@ pub mod laws;
 mod line;
 mod message;
 mod parameters;
+mod replies;
+mod requests;
 mod rule;
 
 pub use decoder::decode;
@@ -15,6 +17,8 @@ pub use encoder::encode;
 pub use frame::frame_len;
 pub use line::{Line, MAX_LINE, decode_line};
 pub use message::{MAX_STRING, Reply, Request, WireBad};
+pub use replies::decode_reply;
+pub use requests::encode_request;
 pub use rule::{Rule, rule_text};
 
 #[cfg(test)]

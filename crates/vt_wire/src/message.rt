@@ -35,7 +35,7 @@ pub enum Reply<'a> {
 pub enum WireBad {
     /// It is no whole frame, or has a size below 2.
     Short,
-    /// No request has this type.
+    /// No message of that side has this type.
     Unknown(u8),
     /// The first parameter that isn't spelled is this one, counted from 0. Bytes behind the last
     /// parameter have the number one past the last.

@@ -62,3 +62,12 @@ pub(crate) fn at_end(bytes: &[u8], number: u8) -> Result<(), WireBad>
         Err(WireBad::Bad(number))
     }
 }
+
+/// A message without parameters.
+pub(crate) fn alone<T: Copy>(parameters: &[u8], message: T) -> Result<T, WireBad>
+    ensures ok { IfOk result (λ m. (m ≡ message) × (parameters.now ≡ [])) }
+    ensures err { IfErr result (λ e. (e ≡ WireBad.Bad 0) × (parameters.now ≢ [])) }
+{
+    at_end(parameters, 0)?;
+    Ok(message)
+}

@@ -171,6 +171,90 @@ fn replies_are_written(rt: HostRuntime) {
 }
 
 #[test]
+fn requests_are_written(rt: HostRuntime) {
+    let mut buf = [0xee; 64];
+    let len = encode_request(0, &Request::Hello { version: b"02" }, &mut buf);
+    let hello = b"\x00\x14\x04\x00\x00\x0202\x00\x09anonymous\x00\x00\x00";
+    sent(&rt, &buf, len, hello);
+    let read = Request::Read {
+        score: Score(ABC),
+        kind: 13,
+        count: 259,
+    };
+    let len = encode_request(2, &read, &mut buf);
+    sent(
+        &rt,
+        &buf,
+        len,
+        b"\x00\x1a\x0c\x02\xa9\x99\x3e\x36\x47\x06\x81\x6a\xba\x3e\x25\x71\x78\x50\xc2\x6c\x9c\xd0\xd8\x9d\x0d\x00\x01\x03",
+    );
+    let write = Request::Write {
+        kind: 13,
+        bytes: b"abc",
+    };
+    let len = encode_request(1, &write, &mut buf);
+    sent(&rt, &buf, len, b"\x00\x09\x0e\x01\x0d\x00\x00\x00abc");
+    let len = encode_request(3, &Request::Sync, &mut buf);
+    sent(&rt, &buf, len, b"\x00\x02\x10\x03");
+    let len = encode_request(5, &Request::Ping, &mut buf);
+    sent(&rt, &buf, len, b"\x00\x02\x02\x05");
+    let len = encode_request(4, &Request::Goodbye, &mut buf);
+    sent(&rt, &buf, len, b"\x00\x02\x06\x04");
+}
+
+#[test]
+fn replies_are_read(rt: HostRuntime) {
+    let cases: [(&[u8], u8, Reply); 7] = [
+        (
+            b"\x00\x0f\x05\x00\x00\x09anonymous\x00\x00",
+            0,
+            Reply::Hello,
+        ),
+        (b"\x00\x09\x05\x00\x00\x03sid\x01\x02", 0, Reply::Hello),
+        (b"\x00\x05\x0d\x02abc", 2, Reply::Read(b"abc")),
+        (b"\x00\x02\x0d\x04", 4, Reply::Read(b"")),
+        (b"\x00\x02\x11\x03", 3, Reply::Sync),
+        (b"\x00\x02\x03\x05", 5, Reply::Ping),
+        (
+            b"\x00\x13\x01\x02\x00\x0fcount too small",
+            2,
+            Reply::Error(b"count too small"),
+        ),
+    ];
+    for (frame, tag, reply) in cases {
+        assert_eq!(rt; decode_reply(frame), Ok((tag, reply)), "{frame:?}");
+    }
+    assert_eq!(rt;
+        decode_reply(
+            b"\x00\x16\x0f\x01\xa9\x99\x3e\x36\x47\x06\x81\x6a\xba\x3e\x25\x71\x78\x50\xc2\x6c\x9c\xd0\xd8\x9d"
+        ),
+        Ok((1, Reply::Write(Score(ABC))))
+    );
+}
+
+#[test]
+fn replies_are_refused(rt: HostRuntime) {
+    let cases: [(&[u8], WireBad); 13] = [
+        (b"", WireBad::Short),
+        (b"\x00\x01\x03", WireBad::Short),
+        (b"\x00\x02\x03\x05\x00", WireBad::Short),
+        (b"\x00\x02\x02\x05", WireBad::Unknown(2)),
+        (b"\x00\x02\x07\x05", WireBad::Unknown(7)),
+        (b"\x00\x03\x03\x05\x00", WireBad::Bad(0)),
+        (b"\x00\x03\x11\x05\x00", WireBad::Bad(0)),
+        (b"\x00\x05\x01\x05\x00\x01\x00", WireBad::Bad(0)),
+        (b"\x00\x06\x01\x05\x00\x01aa", WireBad::Bad(1)),
+        (b"\x00\x04\x05\x00\x00\x00", WireBad::Bad(1)),
+        (b"\x00\x05\x05\x00\x00\x00\x00", WireBad::Bad(2)),
+        (b"\x00\x07\x05\x00\x00\x00\x00\x00\x00", WireBad::Bad(3)),
+        (b"\x00\x15\x0f\x02abcdefghijklmnopqrs", WireBad::Bad(0)),
+    ];
+    for (frame, why) in cases {
+        assert_eq!(rt; decode_reply(frame), Err(why), "{frame:?}");
+    }
+}
+
+#[test]
 fn errors_are_written(rt: HostRuntime) {
     let mut buf = [0xee; 64];
     let len = encode(

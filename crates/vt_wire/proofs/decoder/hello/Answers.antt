@@ -1,5 +1,5 @@
 use Rattle.std.proofs.Common.{refl}
-use Rattle.vt_wire.proofs.Refusals.{hello_spelled}
+use Rattle.vt_wire.proofs.RequestForms.{hello_spelled}
 use Rattle.vt_wire.proofs.decoder.hello.Goals as goal
 
 pub returns : goal.returns

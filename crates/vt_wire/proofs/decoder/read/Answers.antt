@@ -1,6 +1,6 @@
 use Rattle.std.proofs.Common.{◌∙◌, get_or, refl, sym, subst, arith}
 use Rattle.vt_wire.specs.Messages.{SpellsRead}
-use Rattle.vt_wire.proofs.Refusals.{read_spelled}
+use Rattle.vt_wire.proofs.RequestForms.{read_spelled}
 use Rattle.vt_wire.proofs.decoder.read.Goals as goal
 
 pub returns : goal.returns

@@ -1,5 +1,5 @@
 use Rattle.vt_wire.proofs.Forms.{first_bad_one}
-use Rattle.vt_wire.proofs.Refusals.{body_or, body_not_both}
+use Rattle.vt_wire.proofs.RequestForms.{body_or, body_not_both}
 use Rattle.vt_wire.proofs.laws.one_parameter_is_the_first_bad.Goals as goal
 
 pub returns-clause-some : goal.returns-clause-some

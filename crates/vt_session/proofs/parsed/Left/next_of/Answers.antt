@@ -1,6 +1,6 @@
 use Rattle.std.proofs.Common.{arith}
 use Rattle.vt_wire.specs.declared.rule.Rule.TheVariants.{UnknownMessage, BadMessage}
-use Rattle.vt_wire.proofs.Refusals.{body_not_both}
+use Rattle.vt_wire.proofs.RequestForms.{body_not_both}
 use Rattle.vt_session.specs.Heard.{unknown, misspelled}
 use Rattle.vt_session.specs.Parsed.{unheard}
 use Rattle.vt_session.proofs.Parsing.{tag_at, rule_frame, rules_frame}
