@@ -16,7 +16,7 @@ TOP = os.path.dirname(os.path.realpath(__file__))
 PROGRAM = "vt_prog"
 FOLDER = os.path.join(TOP, "crates", PROGRAM)
 LOG = os.path.join(FOLDER, "out", "build.log")
-# What the check of the largest crate takes of the memory.
+# What the check of the largest crate takes of the memory; most take half of that.
 MEMORY = 2 << 30
 
 
