@@ -1,7 +1,8 @@
 -- Parameters are read in one way, and where they stop being spelled is decided.
-use Rattle.std.proofs.Common.{◌≡◌, ◌≢◌, ℕ, zero, suc, ◌≤◌, List, [], ◌∷◌, ◌++◌, length, take, drop, get_or, refl, sym, ◌∙◌, ap, subst, arith, append_assoc, length-append, ◌⊎◌, inl, inr}
+use Rattle.std.proofs.Common.{◌≡◌, ◌≢◌, ℕ, zero, suc, ◌≤◌, ◌==◌, ◌||◌, true, List, [], ◌∷◌, ◌++◌, length, take, drop, get_or, refl, sym, ◌∙◌, ap, subst, arith, append_assoc, length-append, ◌⊎◌, inl, inr}
 use Rattle.std.specs.List.{All}
-use Rattle.std.proofs.lemmas.Bool.{cases_eq, cases_lt}
+use Rattle.std.proofs.lemmas.Bool.{cases_eq, cases_lt, or_cases}
+use Rattle.std.proofs.lemmas.Bool.Decides.{Decides-eqb}
 use Rattle.std.proofs.lemmas.List.{take-append-drop, length-take-le}
 use Rattle.std.proofs.lemmas.List.Elements.{All-nil, All-cons, All-head, All-tail}
 use Rattle.byteorder.specs.Endian.{big_bytes, big_number}
@@ -46,6 +47,30 @@ none_bad [] bytes n x y = y.0 x
 none_bad (form ∷ forms) bytes zero x y = y x.0 x.1
 none_bad (form ∷ forms) bytes (suc n) x y =
     none_bad forms x.0 n x.2 (subst (λ r. IsFirstBad forms r n) (Begins-one form bytes y.0 x.0 y.1 x.1) y.2)
+
+-- what holds at six numbers
+pub at_six : (P : ℕ → Type 0) (a b c d e f type : ℕ)
+    → (type == a || type == b || type == c || type == d || type == e || type == f) ≡ true
+    → P a → P b → P c → P d → P e → P f → P type
+at_six P a b c d e f type known pa pb pc pd pe pf =
+    let at : (n : ℕ) → (type == n) ≡ true → P n → P type =
+    λ n is p. subst P (sym ((Decides-eqb type n).0 is)) p in
+    elim (or_cases _ _ known) [
+      | inr is ↦ at f is pf
+      | inl to_e ↦ elim (or_cases _ _ to_e) [
+        | inr is ↦ at e is pe
+        | inl to_d ↦ elim (or_cases _ _ to_d) [
+          | inr is ↦ at d is pd
+          | inl to_c ↦ elim (or_cases _ _ to_c) [
+            | inr is ↦ at c is pc
+            | inl to_b ↦ elim (or_cases _ _ to_b) [
+              | inr is ↦ at b is pb
+              | inl is ↦ at a is pa
+            ]
+          ]
+        ]
+      ]
+    ]
 
 -- a field of one byte
 pub one_byte : (xs : List ℕ) → length xs ≡ 1 → xs ≡ get_or xs 0 0 ∷ []

@@ -1,3 +1,4 @@
+pub mod Awaited
 pub mod Buffers
 pub mod Forms
 pub mod Frames

@@ -1,6 +1,6 @@
 -- A request's parameters are those of its type's forms.
 use Rattle.std.proofs.Common.{◌≡◌, ℕ, true, false, List, [], ◌∷◌, ◌++◌, length, get_or, Result, Ok, Err, refl, sym, ◌∙◌, ap, subst, arith, append-nil, ◌⊎◌, inl, inr}
-use Rattle.std.proofs.lemmas.Bool.{cases_eq, cases_Bool}
+use Rattle.std.proofs.lemmas.Bool.{cases_Bool}
 use Rattle.std.proofs.lemmas.List.{take_all}
 use Rattle.byteorder.specs.Endian.{big_bytes, big_number}
 use Rattle.byteorder.specs.Numbers.{big_from-lt}
@@ -15,8 +15,8 @@ use Rattle.vt_wire.specs.Views.{message_of}
 use Rattle.vt_wire.specs.declared.message.Request.{Request}
 use Rattle.vt_wire.specs.declared.message.WireBad.{WireBad}
 use Rattle.vt_wire.specs.declared.message.WireBad.TheVariants as bad
-use Rattle.vt_wire.proofs.Forms.{AreSpelled, none_bad, one_byte, spelled_or, bytes-front, bytes-back}
-use Rattle.vt_wire.proofs.Refusals.{IsRead, differs}
+use Rattle.vt_wire.proofs.Forms.{AreSpelled, none_bad, at_six, one_byte, spelled_or, bytes-front, bytes-back}
+use Rattle.vt_wire.proofs.Refusals.{IsRead}
 
 -- ---- spelled parameters, by forms
 
@@ -133,37 +133,6 @@ hello_found parameters x =
 
 -- ---- types
 
--- what holds of the types of T-messages
-at_types : (P : ℕ → Type 0) (type : ℕ) → is_request_type type ≡ true → P 2 → P 4 → P 6 → P 12 → P 14
-    → P 16 → P type
-at_types P type known a b c d e f = elim (cases_eq type 2) [
-  | inl is ↦ subst P (sym is) a
-  | inr n2 ↦ elim (cases_eq type 4) [
-    | inl is ↦ subst P (sym is) b
-    | inr n4 ↦ elim (cases_eq type 6) [
-      | inl is ↦ subst P (sym is) c
-      | inr n6 ↦ elim (cases_eq type 12) [
-        | inl is ↦ subst P (sym is) d
-        | inr n12 ↦ elim (cases_eq type 14) [
-          | inl is ↦ subst P (sym is) e
-          | inr n14 ↦ elim (cases_eq type 16) [
-            | inl is ↦ subst P (sym is) f
-            | inr n16 ↦
-                let e2 = differs type 2 n2 in
-                let e4 = differs type 4 n4 in
-                let e6 = differs type 6 n6 in
-                let e12 = differs type 12 n12 in
-                let e14 = differs type 14 n14 in
-                let e16 = differs type 16 n16 in
-                let none : is_request_type type ≡ false = rw (e2, e4, e6, e12, e14, e16) refl in
-                absurd (let both : true ≡ false = sym known ∙ none in cc)
-          ]
-        ]
-      ]
-    ]
-  ]
-]
-
 pub known_type : (m : TMessage) → is_request_type (request_type m) ≡ true
 known_type (t_ask ping) = refl
 known_type (t_hello version) = refl
@@ -180,7 +149,7 @@ body_or type parameters known are =
     let Either : ℕ → Type 0 = λ t. ((m : TMessage) × SpellsBody m t parameters) ⊎ ((n : ℕ) × IsFirstBad (forms_of t) parameters n) in
     let at : (t : ℕ) → (AreSpelled (forms_of t) parameters → (m : TMessage) × SpellsBody m t parameters) → Either t =
     λ t found. elim (spelled_or (forms_of t) parameters are) [ inl x ↦ inl (found x) | inr first ↦ inr first ] in
-    at_types Either type known
+    at_six Either 2 4 6 12 14 16 type known
     (at 2 (λ x. (t_ask ping, record { type_is = refl; parameters_are = x })))
     (at 4 (hello_found parameters))
     (at 6 (λ x. (t_goodbye, record { type_is = refl; parameters_are = x })))

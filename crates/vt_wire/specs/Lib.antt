@@ -1,3 +1,4 @@
+pub mod Awaited
 pub mod Fields
 pub mod Frames
 pub mod Lines

@@ -5,6 +5,7 @@ ghost use Rattle.std.specs.List.{All, list_any};
 ghost use Rattle.vt_base.specs.Bytes.{AreBytes};
 ghost use Rattle.vt_base.specs.Protocol.{TMessage, RMessage, r_error, r_refused};
 ghost use Rattle.vt_base.specs.declared.why.Why.{Why};
+ghost use Rattle.vt_wire.specs.Awaited.{IsReplyTo, IsWrongAt};
 ghost use Rattle.vt_wire.specs.Fields.{Form, IsFirstBad};
 ghost use Rattle.vt_wire.specs.Frames.{Splits};
 ghost use Rattle.vt_wire.specs.Lines.{IsLine, first_wrong, is_02, line_of, versions};
@@ -80,6 +81,17 @@ pub fn one_parameter_is_the_first_bad()
         SpellsBody m type parameters → ¬ IsFirstBad (forms_of type) parameters n }
     ensures one { (forms : List Form) (parameters : List ℕ) (m n : ℕ) →
         IsFirstBad forms parameters m → IsFirstBad forms parameters n → m ≡ n }
+{}
+
+/// The body of a frame is the reply that a client waits for, or something in it is the first that
+/// is wrong, at one place.
+pub fn replies_are_wrong_at_one_place()
+    ensures some { (tag wanted : ℕ) (body : List ℕ) → AreBytes body →
+        IsReplyTo tag wanted body ⊎ ((place : ℕ) × IsWrongAt tag wanted body place) }
+    ensures none { (tag wanted : ℕ) (body : List ℕ) (place : ℕ) →
+        IsReplyTo tag wanted body → ¬ IsWrongAt tag wanted body place }
+    ensures one { (tag wanted : ℕ) (body : List ℕ) (p q : ℕ) →
+        IsWrongAt tag wanted body p → IsWrongAt tag wanted body q → p ≡ q }
 {}
 
 /// The texts of Rerrors can be sent.
