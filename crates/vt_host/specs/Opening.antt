@@ -1,5 +1,5 @@
 -- How a file is opened as a disk.
-use Rattle.std.specs.Prelude.{◌≡◌, ◌⊎◌, ℕ, ◌<◌, ◌≤◌, Bool, true, false, List, [], ◌∷◌, Option, Some, None, is_some, unwrap_or, if◌then◌else◌}
+use Rattle.std.specs.Prelude.{◌≡◌, ◌⊎◌, ℕ, ◌<◌, ◌≤◌, Bool, true, List, [], ◌∷◌, Option, Some, None, is_some, unwrap_or, if◌then◌else◌}
 use Rattle.std.specs.Fs.{new_options, with_read, with_write, with_create}
 use Rattle.std.specs.declared.fs.OpenOptions.{OpenOptions}
 use Rattle.vt_host.specs.Calls.{Opening, FileCall, measured, resized}
@@ -12,8 +12,8 @@ disk_options create = with_create (with_write (with_read new_options true) true)
 abbrev pub opening : (name : List ℕ) (grow_to : Option ℕ) (ok : Bool) → Opening
 opening name grow_to ok = record { how = disk_options (is_some grow_to); name = name; ok = ok }
 
--- Then it is measured and, where it is shorter than wanted, filled up: these are the calls, and this
--- is the length that it then has, or none where a call failed.
+-- Then it is measured and, where it is shorter than wanted, filled up: these are the calls, and
+-- this is the length that it then has, or none where a call failed.
 abbrev pub Grows : (wanted : ℕ) (calls : List FileCall) (len : Option ℕ) → Type 0
 Grows wanted calls len =
     ((calls ≡ measured None ∷ []) × (len ≡ None))

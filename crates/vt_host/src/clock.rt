@@ -3,8 +3,8 @@
 use crate::system::ClockCalls;
 use vt_out::Clock;
 
-/// A clock of the system, as a runtime is. It gives 0 where that fails, as before 1970, and 2^32 - 1
-/// where that many seconds have passed, in 2106.
+/// A clock of the system, as a runtime is. It gives 0 where that fails, as before 1970, and
+/// 2^32 - 1 where that many seconds have passed, in 2106.
 #[derive(Drop)]
 pub struct StdClock<C>(pub C);
 

@@ -122,7 +122,7 @@ impl<F: FileCalls> Disk for FileDisk<F> {
         ensures size { disk_size self.new ≡ disk_size self.old }
         ensures cause { HasCause result (disk_faults self.old) (disk_faults self.new) }
     {
-        self.faults.counted(self.file.read_from(start, buf))
+        self.faults.counted(self.file.read_at(start, buf))
     }
 
     /// One write of the file.
@@ -132,7 +132,7 @@ impl<F: FileCalls> Disk for FileDisk<F> {
         ensures size { disk_size self.new ≡ disk_size self.old }
         ensures cause { HasCause result (disk_faults self.old) (disk_faults self.new) }
     {
-        self.faults.counted(self.file.write_from(start, chunk))
+        self.faults.counted(self.file.write_at(start, chunk))
     }
 
     /// One sync of the file.
@@ -142,6 +142,6 @@ impl<F: FileCalls> Disk for FileDisk<F> {
         ensures size { disk_size self.new ≡ disk_size self.old }
         ensures cause { HasCause result (disk_faults self.old) (disk_faults self.new) }
     {
-        self.faults.counted(self.file.flush_all())
+        self.faults.counted(self.file.sync())
     }
 }

@@ -109,7 +109,7 @@ impl<R: Abort + Drop> FileCalls for FakeFile<R> {
         answer(ok)
     }
 
-    fn read_from(&mut self, start: u64, buf: &mut [u8]) -> io::Result<()> {
+    fn read_at(&mut self, start: u64, buf: &mut [u8]) -> io::Result<()> {
         let ok = self.notes.next_is_ok();
         buf.fill(7);
         let bytes = self.notes.copy_of(buf);
@@ -117,14 +117,14 @@ impl<R: Abort + Drop> FileCalls for FakeFile<R> {
         answer(ok)
     }
 
-    fn write_from(&mut self, start: u64, chunk: &[u8]) -> io::Result<()> {
+    fn write_at(&mut self, start: u64, chunk: &[u8]) -> io::Result<()> {
         let ok = self.notes.next_is_ok();
         let bytes = self.notes.copy_of(chunk);
         self.notes.note(FileNote::Written(start, bytes, ok));
         answer(ok)
     }
 
-    fn flush_all(&mut self) -> io::Result<()> {
+    fn sync(&mut self) -> io::Result<()> {
         let ok = self.notes.next_is_ok();
         self.notes.note(FileNote::Synced(ok));
         answer(ok)

@@ -1,6 +1,8 @@
 //! The outside as it is: standard streams, the system's clock, and files as disks.
 //!
-//! Nothing is told of what they hold. Each failed call is counted.
+//! Nothing is told of what they hold. Each failed call is counted. Which calls of the system an
+//! adapter makes, in which order, and that it hands on what they answer is proved over every file,
+//! stream and clock that tells the calls that were made of it.
 #![tactic(auto)]
 
 mod clock;
@@ -14,6 +16,7 @@ pub use clock::StdClock;
 pub use disk::FileDisk;
 pub use sink::StdSink;
 pub use source::StdSource;
+pub use system::{ClockCalls, FileCalls, Opener, ReadCalls, WriteCalls};
 
 #[cfg(test)]
 mod fakes;

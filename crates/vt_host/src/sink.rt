@@ -38,7 +38,8 @@ impl<W: WriteCalls> StdSink<W> {
 fn write_through<W: WriteCalls>(output: &mut W, piece: &[u8]) -> io::Result<()>
     ensures made { IsTrue W.tells
         → WritesThrough piece.now result (W.made output.old) (W.made output.new) }
-    ensures bytes { OnOk result (Appends (W.contents output.old) (W.contents output.new) piece.now) }
+    ensures bytes { OnOk result
+        (Appends (W.contents output.old) (W.contents output.new) piece.now) }
 {
     output.put_all(piece)?;
     output.flush_all()

@@ -14,7 +14,8 @@ use vt_out::Source;
 /// How often a read that a signal interrupted is made again.
 const RETRIES: u32 = 64;
 
-/// Reads straight into the caller's buffer: one call of the system for each `take`.
+/// Reads straight into the caller's buffer: one call of the system for each `take`, which is made
+/// again where a signal interrupts it.
 #[derive(Drop)]
 pub struct StdSource<R> {
     input: R,
@@ -40,8 +41,8 @@ impl<R: ReadCalls> StdSource<R> {
 /// Makes one read, as often as a signal interrupts it.
 fn read_once<R: ReadCalls>(input: &mut R, buf: &mut [u8]) -> io::Result<usize>
     ensures fits { IfOk result (λ n. n ≤ length buf.old) }
-    ensures made { IsTrue R.tells
-        → ReadsOnce (record { buf = buf.new; answer = result }) (R.made input.old) (R.made input.new) }
+    ensures made { IsTrue R.tells → ReadsOnce (record { buf = buf.new; answer = result })
+        (R.made input.old) (R.made input.new) }
     ensures bytes { ReadConsumes (R.remaining input.old) (R.remaining input.new) result buf.new }
 {
     for _ in 0..RETRIES {

@@ -1,7 +1,8 @@
 //! What the adapters ask of the system.
 //!
 //! Each method is one call. The system tells nothing of the calls that were made of it, so that the
-//! few lines of its impls here are trusted; what stands on the traits is proved for all that tells.
+//! few lines of its impls below are trusted. What stands on the traits is proved over all that
+//! tells.
 
 ghost use Rattle.std.specs.Prelude.{◌≡◌, ◌≤◌, ◌++◌, ◌∷◌, ℕ, Bool, IsTrue, List, [], length};
 ghost use Rattle.std.specs.Prelude.{Option, IfOk, OnOk, is_ok};
@@ -48,17 +49,17 @@ pub trait FileCalls {
         ensures { IsTrue tells → made self.new ≡ made self.old ++ resized len (is_ok result) ∷ [] };
 
     /// Fills the buffer.
-    fn read_from(&mut self, start: u64, buf: &mut [u8]) -> io::Result<()>
+    fn read_at(&mut self, start: u64, buf: &mut [u8]) -> io::Result<()>
         ensures { IsTrue tells
             → made self.new ≡ made self.old ++ read start buf.new (is_ok result) ∷ [] };
 
     /// Writes the whole chunk.
-    fn write_from(&mut self, start: u64, chunk: &[u8]) -> io::Result<()>
+    fn write_at(&mut self, start: u64, chunk: &[u8]) -> io::Result<()>
         ensures { IsTrue tells
             → made self.new ≡ made self.old ++ written start chunk.now (is_ok result) ∷ [] };
 
     /// Puts on the disk what was written.
-    fn flush_all(&mut self) -> io::Result<()>
+    fn sync(&mut self) -> io::Result<()>
         ensures { IsTrue tells → made self.new ≡ made self.old ++ synced (is_ok result) ∷ [] };
 }
 
@@ -145,15 +146,15 @@ impl FileCalls for File {
         self.set_len(len)
     }
 
-    fn read_from(&mut self, start: u64, buf: &mut [u8]) -> io::Result<()> {
+    fn read_at(&mut self, start: u64, buf: &mut [u8]) -> io::Result<()> {
         self.read_exact_at(buf, start)
     }
 
-    fn write_from(&mut self, start: u64, chunk: &[u8]) -> io::Result<()> {
+    fn write_at(&mut self, start: u64, chunk: &[u8]) -> io::Result<()> {
         self.write_all_at(chunk, start)
     }
 
-    fn flush_all(&mut self) -> io::Result<()> {
+    fn sync(&mut self) -> io::Result<()> {
         self.sync_all()
     }
 }

@@ -104,13 +104,15 @@ impl Files for MemFiles {
 
     ghost faults_fit = { λ files. files.plan.faults_fit };
 
+    /// A call fails where its number is in the list, and where there is no file of this name.
     fn read(&mut self, alloc: Global, name: &Text, limit: u32) -> Result<Bytes, OutErr>
         ensures failing { (result ≡ Err OutErr.Failed)
             ↔ (Contains (files_failing self.old) (files_calls self.old)
             ⊎ (content_of (files_held self.old) name.now ≡ None)) }
         ensures content { IfOk result (λ bytes. option_map (take (limit + 1))
             (content_of (files_held self.old) name.now) ≡ Some bytes) }
-        ensures cause { CountsFault is_fault result (files_faults self.old) (files_faults self.new) }
+        ensures cause { CountsFault is_fault result
+            (files_faults self.old) (files_faults self.new) }
         ensures calls { IsOneMore (files_calls self.old) (files_calls self.new) }
         ensures held { files_held self.new ≡ files_held self.old }
         ensures list { files_failing self.new ≡ files_failing self.old }
