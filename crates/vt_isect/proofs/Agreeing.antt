@@ -8,6 +8,7 @@ use Rattle.vt_base.specs.declared.key.Key.{Key}
 use Rattle.vt_model.specs.History.{History, Accepted}
 use Rattle.vt_model.specs.Legal.{HasOtherKey}
 use Rattle.vt_model.specs.Places.{Setup, bucket_of, bucket_count}
+use Rattle.vt_twin.specs.Sound.{HasBegunSelector}
 use Rattle.vt_isect.specs.declared.head.Head.{Head}
 use Rattle.vt_isect.specs.declared.phase.Phase.{Phase}
 use Rattle.vt_isect.specs.declared.phase.Phase.TheVariants.{ChangeHead}
@@ -128,11 +129,11 @@ module _ {D : Type 0} (score : List ℕ → List ℕ) (c : Setup) (h : History) 
           subst (λ (m : ℕ). m ≤ length h) (sym (ap (λ (x : Head). x.mark) is)) cover.fits,
           λ n i within below in_it. covered NoOthers t.head.mark (λ e no. no) cover n i within (subst (λ (m : ℕ). i < m) (ap (λ (x : Head). x.mark) is) below) in_it,
         )))
-        (λ (is : (t.phase ≡ ChangeHead) × (left.0 ≡ t.next)). made
-        (ap (λ (x : Head). x.first) is.1 ∙ agrees.same_first) (ap (λ (x : Head). x.total) is.1 ∙ agrees.same_total)
-        (let cover = agrees.coming (sym (ap (λ (x : Head). x.state) is.1) ∙ live) in (
-          subst (λ (m : ℕ). m ≤ length h) (sym (ap (λ (x : Head). x.mark) is.1)) cover.fits,
-          λ n i within below in_it. covered (IsTodo t) t.next.mark (no_todo is.0) cover n i within (subst (λ (m : ℕ). i < m) (ap (λ (x : Head). x.mark) is.1) below) in_it,
+        (λ (is : (t.phase ≡ ChangeHead) × HasBegunSelector t.head_twin × (left.0 ≡ t.next)). made
+        (ap (λ (x : Head). x.first) is.2 ∙ agrees.same_first) (ap (λ (x : Head). x.total) is.2 ∙ agrees.same_total)
+        (let cover = agrees.coming (sym (ap (λ (x : Head). x.state) is.2) ∙ live) in (
+          subst (λ (m : ℕ). m ≤ length h) (sym (ap (λ (x : Head). x.mark) is.2)) cover.fits,
+          λ n i within below in_it. covered (IsTodo t) t.next.mark (no_todo is.0) cover n i within (subst (λ (m : ℕ). i < m) (ap (λ (x : Head). x.mark) is.2) below) in_it,
         )))
         left.3
       where

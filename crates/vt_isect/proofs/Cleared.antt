@@ -1,5 +1,5 @@
 -- A bucket that is cleared, and what was known of the others.
-use Rattle.std.proofs.Common.{◌≡◌, ◌≢◌, ⊎_elim, ℕ, ◌+◌, ◌-◌, ◌*◌, ◌≤◌, Bool, true, false, List, [], length, Option, Some, None, refl, sym, ◌∙◌, ap, subst, arith, cond, eqb}
+use Rattle.std.proofs.Common.{◌≡◌, ◌≢◌, ⊎_elim, ℕ, ◌+◌, ◌-◌, ◌*◌, ◌≤◌, Bool, true, false, List, Option, Some, None, refl, sym, ◌∙◌, ap, subst, arith, cond, eqb}
 use Rattle.std.specs.Prelude.{IsSome}
 use Rattle.std.specs.List.{Contains}
 use Rattle.std.proofs.lemmas.Bool.{cases_eq, cases_Bool}
@@ -94,36 +94,3 @@ module _ {D : Type 0} (t : SectionState D) (d : D) (n : ℕ) (region : Region) (
   pub others_sound : (known : Known) → IsSoundSection t known read images → IsSoundSection (record t { disk = d }) (with_bucket n None known) reads after
   others_sound known = known_sound known (with_bucket n None known) (λ k there. with_there known n k None there)
       (λ entries is. absurd (none_some entries (sym (with_here known n None) ∙ is)))
-
-  pub cleared_sound : (known : Known) → Only reads after → IsFrame n [] (current_frame region 8192 reads)
-      → IsSoundSection t known read images → IsSoundSection (record t { disk = d }) (with_bucket n (Some []) known) reads after
-  cleared_sound known only spelled = known_sound known (with_bucket n (Some []) known) (λ k there. with_there known n k (Some []) there)
-      (λ entries is. settled_holds (record t { disk = d }) n region entries reads after (still n) place only
-      (subst (λ (l : List Entry). IsFrame n l (current_frame region 8192 reads)) (some_same [] entries (sym (with_here known n (Some [])) ∙ is)) spelled))
-
-pub agrees_cleared : {D : Type 0} (score : List ℕ → List ℕ) (c : Setup) (h : History) (t : SectionState D) (d : D) (n : ℕ) (known : Known)
-    → KnownAgrees score c h t known → t.head.state ≢ 1 → t.next ≡ t.head
-    → KnownAgrees score c h (record t { disk = d }) (with_bucket n (Some []) known)
-agrees_cleared score c h t d n known agrees waits next = record {
-  keys = agrees.keys;
-  total = agrees.total;
-  same_first = agrees.same_first;
-  same_total = agrees.same_total;
-  whole = λ k within. ⊎_elim
-      (λ (here : k ≡ n). subst (λ (o : Option (List Entry)). IsSome o) (sym (ap (with_bucket n (Some []) known) here ∙ with_here known n (Some []))) refl)
-      (λ (there : k ≢ n). subst (λ (o : Option (List Entry)). IsSome o) (sym (with_there known n k (Some []) there)) (agrees.whole k within))
-      (cases_eq k n);
-  blocks = λ k entries entry within is has. ⊎_elim
-      (λ (here : k ≡ n). absurd (empty entries entry (sym is ∙ ap (with_bucket n (Some []) known) here ∙ with_here known n (Some [])) has))
-      (λ (there : k ≢ n). agrees.blocks k entries entry within (sym (with_there known n k (Some []) there) ∙ is) has)
-      (cases_eq k n);
-  todo = agrees.todo;
-  filed = λ live. absurd (waits live);
-  coming = λ live. absurd (waits (ap (λ x. x.state) (sym next) ∙ live));
-}
-  where
-    empty : (entries : List Entry) (entry : Entry) → Some entries ≡ Some [] → ¬ Contains entries entry
-    empty entries entry e has = let none : length entries ≡ 0 = ap (λ (l : List Entry). length l) (same entries e) in omega (arith, none, has.1)
-      where
-        same : (a : List Entry) → Some a ≡ Some [] → a ≡ []
-        same a q = cc

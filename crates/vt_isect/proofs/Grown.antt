@@ -43,6 +43,19 @@ module _ (score : List ℕ → List ℕ) (c : Setup) (h more : History) where
     offset_is = is.offset_is;
   }
 
+  pub entry_before : (i : ℕ) (entry : Entry) → i < length h → IsEntryOf score c (h ++ more) i entry
+      → IsEntryOf score c h i entry
+  entry_before i entry lt is = record {
+    block = is.block;
+    spot = is.spot;
+    stands = stands_before i is.block is.spot lt is.stands;
+    score_is = is.score_is;
+    kind_is = is.kind_is;
+    size_is = is.size_is;
+    arena_is = is.arena_is;
+    offset_is = is.offset_is;
+  }
+
   pub of_block_longer : (entry : Entry) → IsOfBlock score c h entry
       → IsOfBlock score c (h ++ more) entry
   of_block_longer entry is = (is.0, entry_longer is.0 entry is.1)

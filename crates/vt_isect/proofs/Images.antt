@@ -16,7 +16,7 @@ use Rattle.vt_isect.specs.Head.{IsHeadFrame}
 use Rattle.vt_isect.specs.Layout.{head_place, IsPlaceOf, InRange}
 use Rattle.vt_isect.specs.Merging.{Merges}
 use Rattle.vt_isect.specs.Section.{SectionState, IsChanging, IsOfGroup}
-use Rattle.vt_isect.specs.Sound.{Known, IsWhole, HoldsBucket, IsSoundSection, LeavesSection}
+use Rattle.vt_isect.specs.Sound.{Known, IsWhole, HoldsBucket, IsSoundSection, LeavesHead, LeavesSection}
 use Rattle.vt_isect.proofs.Moves.{begun_bound, none_made}
 
 pub is_changing_phase : (p : Phase) → (p ≡ ChangeBucket) ⊎ (p ≢ ChangeBucket)
@@ -100,7 +100,7 @@ module _ {D : Type 0} (t : SectionState D) (known : Known) (read : List ℕ) (im
   picked n has (inl within) in_it = (has n within).1
   picked n has (inr outside) in_it = absurd (outside in_it)
 
-  pub head_gives : (h : Head) × ((h ≡ t.head) ⊎ ((t.phase ≡ ChangeHead) × (h ≡ t.next))) × IsHeadFrame t.name h (current_frame head_place 8192 c)
+  pub head_gives : (h : Head) × LeavesHead t h × IsHeadFrame t.name h (current_frame head_place 8192 c)
   head_gives =
       let gives = sound_gives t.head_twin head_place sound.head_frame read images sound.head_twin c left in
       let at : (f : List ℕ) → current_frame head_place t.head_twin.frame_len c ≡ f → current_frame head_place 8192 c ≡ f =
@@ -111,7 +111,7 @@ module _ {D : Type 0} (t : SectionState D) (known : Known) (read : List ℕ) (im
       (λ (new : HasBegunSelector t.head_twin × (current_frame head_place t.head_twin.frame_len c ≡ next_frame t.head_twin)).
       ⊎_elim
       (λ (way : t.phase ≡ ChangeHead).
-      (t.next, inr (way, refl), subst (λ (f : List ℕ). IsHeadFrame t.name t.next f) (sym (at (next_frame t.head_twin) new.1)) (sound.head_changing way)))
+      (t.next, inr (way, new.0, refl), subst (λ (f : List ℕ). IsHeadFrame t.name t.next f) (sym (at (next_frame t.head_twin) new.1)) (sound.head_changing way)))
       (λ (no : t.phase ≢ ChangeHead). absurd (omega (arith, new.0, begun_bound t.head_twin, none_made t.head_twin (sound.head_rest no))))
       (is_head_phase t.phase))
       gives
@@ -125,7 +125,7 @@ module _ {D : Type 0} (t : SectionState D) (known : Known) (read : List ℕ) (im
       let all : ℕ → List Entry = λ n. pick n has (in_range t.head t.buckets n) in
       let all_is : (n : ℕ) → InRange t.head t.buckets n → InBucket n (all n) = λ n within. picked n has (in_range t.head t.buckets n) within in
       let same_first : h.0.first ≡ t.head.first = ⊎_elim (λ (e : h.0 ≡ t.head). ap (λ (x : Head). x.first) e)
-      (λ (e : (t.phase ≡ ChangeHead) × (h.0 ≡ t.next)). ap (λ (x : Head). x.first) e.1 ∙ first) h.1 in (
+      (λ (e : (t.phase ≡ ChangeHead) × HasBegunSelector t.head_twin × (h.0 ≡ t.next)). ap (λ (x : Head). x.first) e.2 ∙ first) h.1 in (
         h.0,
         all,
         record {

@@ -24,3 +24,5 @@ pub mod Covered
 pub mod Undamaged
 pub mod Ordered
 pub mod Damages
+pub mod Filled
+pub mod Bytes

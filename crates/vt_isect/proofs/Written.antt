@@ -7,27 +7,10 @@ use Rattle.vt_twin.specs.Frames.{frame_of, selector_of, selector_bytes, selector
 use Rattle.vt_twin.specs.Twin.{calls_made, next_frame}
 use Rattle.vt_isect.specs.declared.phase.Phase.{Phase}
 use Rattle.vt_isect.specs.declared.phase.Phase.TheVariants.{ChangeBucket, ChangeHead}
-use Rattle.vt_isect.specs.Layout.{head_place, IsPlaceOf, Clears}
+use Rattle.vt_isect.specs.Layout.{head_place, IsPlaceOf}
 use Rattle.vt_isect.specs.Section.{SectionState}
 use Rattle.vt_isect.specs.Writeback.{Writes, read_after}
 use Rattle.vt_isect.proofs.Places.{one_place}
-
--- a bucket whose place was formatted with a frame of no entries
-pub formatted_clears : (n j : ℕ) (place region : Region) (frame old new : List ℕ)
-    → length frame ≡ 8192 → frame ≡ bucket_frame n []
-    → frame_of place (length frame) 0 new ≡ frame
-    → selector_of place (length frame) new ≡ selector_bytes 0 (selector_len place (length frame))
-    → frame_of place (length frame) 1 new ≡ frame_of place (length frame) 1 old
-    → IsPlaceOf j place → IsPlaceOf j region → Clears n region old new
-formatted_clears n j place region frame old new len spelled stands selector idle here there =
-    let rest : place.len - 2 * length frame ≡ 512 = omega (arith, here.len, len) in
-    subst (λ (r : Region). Clears n r old new) (one_place j place region here there) (record {
-      frame = ap (λ (k : ℕ). frame_of place k 0 new) (sym len) ∙ stands ∙ spelled;
-      selector = ap (λ (k : ℕ). selector_of place k new) (sym len) ∙ selector
-          ∙ ap (λ (k : ℕ). selector_bytes 0 k) rest;
-      idle = ap (λ (k : ℕ). frame_of place k 1 new) (sym len) ∙ idle
-          ∙ ap (λ (k : ℕ). frame_of place k 1 old) len;
-    })
 
 -- what is written by what is done next
 pub writes_at : {D : Type 0} (q : Phase) (t : SectionState D) (read reads : List ℕ)

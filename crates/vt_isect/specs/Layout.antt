@@ -1,12 +1,12 @@
 -- An index section on a disk: a twin for its head, and behind it a twin for each of its buckets
 -- (Quinlan and Dorward 2002, the index; venti(8) formats one by fmtisect; the layout is this
 -- project's).
-use Rattle.std.specs.Prelude.{◌≡◌, ℕ, ◌+◌, ◌-◌, ◌*◌, ◌/◌, ◌^◌, ◌<◌, ◌≤◌, min, List, []}
+use Rattle.std.specs.Prelude.{◌≡◌, ℕ, ◌+◌, ◌-◌, ◌*◌, ◌/◌, ◌^◌, ◌<◌, ◌≤◌, min, List}
 use Rattle.std.proofs.Common.{lit<}
 use Rattle.vt_base.specs.declared.place.Entry.{Entry}
-use Rattle.vt_bucket.specs.Frame.{IsFrame, frame_of as bucket_frame}
+use Rattle.vt_bucket.specs.Frame.{IsFrame}
 use Rattle.vt_disk.specs.declared.region.Region.{Region}
-use Rattle.vt_twin.specs.Frames.{current_frame, frame_of, selector_of, selector_bytes}
+use Rattle.vt_twin.specs.Frames.{current_frame}
 use Rattle.vt_isect.specs.declared.head.Head.{Head}
 use Rattle.vt_isect.specs.Head.{IsHeadFrame}
 
@@ -18,13 +18,6 @@ head_place = record { start = 0; len = 24576; in_range = lit< tt }
 pub record IsPlaceOf (j : ℕ) (region : Region) : Type 0 where
   pub start : region.start ≡ 24576 + 16896 * j
   pub len : region.len ≡ 16896
-
--- Bucket n is cleared in this place: frame 0 is spelled without entries, the selector that names it
--- is zeros, and frame 1 stays as it was.
-pub record Clears (n : ℕ) (region : Region) (old new : List ℕ) : Type 0 where
-  pub frame : frame_of region 8192 0 new ≡ bucket_frame n []
-  pub selector : selector_of region 8192 new ≡ selector_bytes 0 512
-  pub idle : frame_of region 8192 1 new ≡ frame_of region 8192 1 old
 
 -- How many buckets a section of this length has. Buckets are numbered in four bytes, so that the
 -- end of a disk of more than 64 TiB may be left unused.

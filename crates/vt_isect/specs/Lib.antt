@@ -1,6 +1,7 @@
 pub mod Agreement
 pub mod Entries
 pub mod Faults
+pub mod Filling
 pub mod Head
 pub mod Layout
 pub mod Merging

@@ -5,7 +5,7 @@ use Rattle.vt_bucket.specs.Frame.{IsFrame}
 use Rattle.vt_disk.specs.declared.region.Region.{Region}
 use Rattle.vt_twin.specs.Frames.{frame_of, named_number, current_frame}
 use Rattle.vt_twin.specs.Twin.{TwinState, next_frame}
-use Rattle.vt_twin.specs.Sound.{IsSound}
+use Rattle.vt_twin.specs.Sound.{IsSound, HasBegunSelector}
 use Rattle.vt_isect.specs.declared.head.Head.{Head}
 use Rattle.vt_isect.specs.declared.phase.Phase.TheVariants.{ReadFrame, ChangeHead}
 use Rattle.vt_isect.specs.Head.{IsHeadFrame}
@@ -68,11 +68,17 @@ pub record IsSoundSection {D : Type 0} (t : SectionState D) (known : Known) (rea
   pub bucket : (n : ℕ) (entries : List Entry) → InRange t.head t.buckets n
       → known n ≡ Some entries → HoldsBucket t n entries read images
 
+-- The head that a crash leaves: the section's own or, once its change begins to write the selector,
+-- the next one. That is behind the change's first sync.
+abbrev pub LeavesHead : {D : Type 0} → SectionState D → Head → Type 0
+LeavesHead t head = (head ≡ t.head)
+    ⊎ ((t.phase ≡ ChangeHead) × HasBegunSelector t.head_twin × (head ≡ t.next))
+
 -- What a crash leaves is a section with the old head or, while that changes, the next one, and with
 -- the entries that are known or, in the bucket that changes, these with the group under way.
 abbrev pub LeavesSection : {D : Type 0} → SectionState D → Known → (file : List ℕ) → Type 0
 LeavesSection t known file = (head : Head) × (entries : ℕ → List Entry)
     × IsSection t.name head t.buckets entries file
-    × ((head ≡ t.head) ⊎ ((t.phase ≡ ChangeHead) × (head ≡ t.next)))
+    × LeavesHead t head
     × ((n : ℕ) (old : List Entry) → InRange t.head t.buckets n → known n ≡ Some old
     → (entries n ≡ old) ⊎ (IsChanging t n × Merges old (IsOfGroup t) (entries n)))

@@ -1,19 +1,21 @@
 //! What the layers above lean on between the calls of a section.
 
-ghost use Rattle.std.specs.Prelude.{◌≡◌, ◌≢◌, ◌⊎◌, ◌≤◌, ℕ, List, [], ◌++◌, length, IsTrue, None, Some};
+ghost use Rattle.std.specs.Prelude.{◌≡◌, ◌≢◌, ◌⊎◌, ◌<◌, ◌≤◌, ℕ, List, [], ◌++◌, length, IsTrue, None, Some};
 ghost use Rattle.std.specs.List.{AllPairs, Contains};
-ghost use Rattle.vt_disk.specs.Disk.{AreAmong};
+ghost use Rattle.vt_disk.specs.Disk.{AreAmong, Only, SameBut};
+ghost use Rattle.vt_disk.specs.Region.{Inside};
 ghost use Rattle.vt_model.specs.History.{History};
 ghost use Rattle.vt_model.specs.Legal.{HasOtherKey};
 ghost use Rattle.vt_model.specs.Places.{Setup, bucket_count, bucket_of, crowd};
 ghost use Rattle.vt_twin.specs.Frames.{current_frame};
 ghost use Rattle.vt_isect.specs.declared.head.Head.{Head};
-ghost use Rattle.vt_isect.specs.declared.phase.Phase.TheVariants.{Rest, ChangeHead};
+ghost use Rattle.vt_isect.specs.declared.phase.Phase.TheVariants.{ChangeBucket};
 ghost use Rattle.vt_isect.specs.Agreement.{IsEntryOf, IsOfBlock, HasBlock, IsInBucket, IsCovered, NoOthers, AgreesWith, KnownAgrees, LeavesAgreeing};
+ghost use Rattle.vt_isect.specs.Filling.{Reads};
 ghost use Rattle.vt_isect.specs.Head.{IsHeadFrame};
 ghost use Rattle.vt_isect.specs.Layout.{head_place, InRange, IsSection};
 ghost use Rattle.vt_isect.specs.Section.{SectionState, IsAtRest, IsTodo};
-ghost use Rattle.vt_isect.specs.Sound.{Known, IsWhole, IsSoundSection, LeavesSection, nothing_known};
+ghost use Rattle.vt_isect.specs.Sound.{Known, IsWhole, IsSoundSection, LeavesHead, LeavesSection, nothing_known};
 ghost use Rattle.vt_base.specs.declared.place.Entry.{Entry};
 
 use vt_disk::Disk;
@@ -21,7 +23,7 @@ use vt_disk::Disk;
 /// Between two calls a crash leaves a section: with the head or, while that changes, the next one,
 /// and with the entries that are known or, in the bucket that changes, these with its new ones. In
 /// state 1 it agrees with each history with which what is known does. Whatever is known, its head
-/// is one of the two.
+/// is one of the two, and the next one only behind a sync.
 pub fn images_agree<D: Disk>()
     ensures crash { (t : SectionState D) (known : Known)
         → IsSoundSection t known (D.bytes t.disk) (D.images t.disk)
@@ -35,7 +37,7 @@ pub fn images_agree<D: Disk>()
     ensures head { (t : SectionState D) (known : Known)
         → IsSoundSection t known (D.bytes t.disk) (D.images t.disk)
         → (file : List ℕ) → D.images t.disk file → (head : Head)
-        × ((head ≡ t.head) ⊎ ((t.phase ≡ ChangeHead) × (head ≡ t.next)))
+        × LeavesHead t head
         × IsHeadFrame t.name head (current_frame head_place 8192 file) }
 {}
 
@@ -59,6 +61,24 @@ pub fn soundness_is_kept<D: Disk>()
         → IsAtRest t → t.next ≡ t.head → t.head.state ≢ 1
         → ((n : ℕ) → InRange t.head t.buckets n → known n ≡ Some [])
         → KnownAgrees score c h t known }
+{}
+
+/// What is known of a bucket is read, unless that is being changed, and behind a sync what is read
+/// is known. A change of the head leaves what is read, so that its first sync settles all buckets
+/// that were filled before it.
+pub fn what_is_read_is_settled<D: Disk>()
+    ensures read { (t : SectionState D) (known : Known) → IsTrue D.tells → t.phase ≢ ChangeBucket
+        → IsSoundSection t known (D.bytes t.disk) (D.images t.disk)
+        → Reads t known (D.bytes t.disk) }
+    ensures settled { (t : SectionState D) (known knows : Known) → t.phase ≢ ChangeBucket
+        → Only (D.bytes t.disk) (D.images t.disk)
+        → IsSoundSection t known (D.bytes t.disk) (D.images t.disk)
+        → Reads t knows (D.bytes t.disk)
+        → IsSoundSection t knows (D.bytes t.disk) (D.images t.disk) }
+    ensures head { (t u : SectionState D) (known : Known)
+        → u.head ≡ t.head → u.buckets ≡ t.buckets
+        → SameBut (Inside head_place) (D.bytes t.disk) (D.bytes u.disk)
+        → Reads t known (D.bytes t.disk) → Reads u known (D.bytes u.disk) }
 {}
 
 /// What is known goes on to agree with a history whatever becomes of the disk, and when the entries
@@ -85,10 +105,14 @@ pub fn agreement_is_kept<D: Disk>()
 {}
 
 /// What agrees with a history goes on to agree with it when blocks are added: an entry stays that
-/// of its block, and what was below the mark stays there.
+/// of its block, and what was below the mark stays there. An entry of the longer history that is
+/// that of one of the first blocks is one of these.
 pub fn agreement_grows<D: Disk>()
     ensures entry { (score : List ℕ → List ℕ) (c : Setup) (h more : History) (entry : Entry)
         → IsOfBlock score c h entry → IsOfBlock score c (h ++ more) entry }
+    ensures beginning { (score : List ℕ → List ℕ) (c : Setup) (h more : History) (i : ℕ)
+        (entry : Entry) → i < length h → IsEntryOf score c (h ++ more) i entry
+        → IsEntryOf score c h i entry }
     ensures covered { (score : List ℕ → List ℕ) (c : Setup) (h more : History)
         (t : SectionState D) (known : Known) (entries : List Entry) (mark : ℕ)
         → IsCovered score c h t known (Contains entries) mark

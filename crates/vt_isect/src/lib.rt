@@ -5,6 +5,7 @@
 
 mod bad;
 mod entries;
+mod filling;
 mod formatting;
 mod groups;
 mod head;
@@ -22,7 +23,7 @@ pub use formatting::format;
 pub use head::Head;
 pub use laws::{
     agreement_grows, agreement_is_kept, blocks_are_counted, images_agree, one_key_has_one_entry,
-    sections_are_told_apart, soundness_is_kept,
+    sections_are_told_apart, soundness_is_kept, what_is_read_is_settled,
 };
 pub use mounting::mount;
 pub use place::bucket_number;

@@ -1,6 +1,6 @@
 //! Finding the section of a disk.
 
-ghost use Rattle.std.specs.Prelude.{◌≡◌, ◌⊎◌, ◌+◌, ◌-◌, ◌^◌, ◌<◌, ◌≤◌, min, ℕ, List, None, IsTrue, IfOk, IfErr, OnOk, MatchResult, length};
+ghost use Rattle.std.specs.Prelude.{◌≡◌, ◌≢◌, ◌⊎◌, ◌+◌, ◌-◌, ◌^◌, ◌<◌, ◌≤◌, min, ℕ, List, None, IsTrue, IfOk, IfErr, OnOk, MatchResult, length};
 ghost use Rattle.vt_base.specs.Faults.{HasCause};
 ghost use Rattle.vt_base.specs.declared.place.Entry.{Entry};
 ghost use Rattle.vt_bucket.specs.Frame.{IsFrame};
@@ -56,8 +56,12 @@ pub fn mount<D: Disk>(alloc: Global, mut disk: D) -> Result<Section<D>, (SectBad
         → IsSoundSection it (all_known entries) (D.bytes it.disk) (D.images it.disk)
         × KnownAgrees score c h it (all_known entries)) }
 
+    // What it tells of the head is told of a settled disk.
     ensures settled { IfOk result (λ it. IsTrue D.tells
         → Only (D.bytes it.disk) (D.images it.disk)) }
+    ensures settled_first { IfErr result (λ refusal. IsTrue D.tells → 41472 ≤ D.size disk
+        → refusal.0 ≢ SectBad.Fault → refusal.0 ≢ SectBad.NoMemory
+        → Only (D.bytes refusal.1) (D.images refusal.1)) }
     ensures refused { IfErr result (λ refusal. IsTrue D.tells
         → RefusesMount (D.size disk) (current_frame head_place 8192 (D.bytes disk)) refusal.0) }
     ensures accepted { IfOk result (λ _. IsTrue D.tells
@@ -119,6 +123,9 @@ fn open<D: Disk>(alloc: Global, disk: &mut D) -> Result<Opened, SectBad>
     ensures name { IfOk result (λ it. length it.name ≡ 64) }
     ensures room { OnOk result (41472 ≤ D.size disk.old) }
     ensures settled { OnOk result (IsTrue D.tells → Only (D.bytes disk.new) (D.images disk.new)) }
+    ensures settled_first { IfErr result (λ bad. IsTrue D.tells → 41472 ≤ D.size disk.old
+        → bad ≢ SectBad.Fault → bad ≢ SectBad.NoMemory
+        → Only (D.bytes disk.new) (D.images disk.new)) }
     ensures accepted { OnOk result (IsTrue D.tells
         → first_bad (D.size disk.old) (current_frame head_place 8192 (D.bytes disk.old)) ≡ None) }
     ensures refused { IfErr result (λ bad. IsTrue D.tells

@@ -15,7 +15,7 @@ ghost use Rattle.vt_twin.specs.Frames.{current_frame, named_number};
 ghost use Rattle.vt_twin.specs.Twin.{fresh, calls_made, next_frame};
 ghost use Rattle.vt_isect.specs.Agreement.{KnownAgrees, IsCovered, IsOfBlock, NoOthers};
 ghost use Rattle.vt_isect.specs.Head.{IsHeadFrame, encoded};
-ghost use Rattle.vt_isect.specs.Layout.{IsPlaceOf, InRange, Clears};
+ghost use Rattle.vt_isect.specs.Layout.{IsPlaceOf, InRange};
 ghost use Rattle.vt_isect.specs.Entries.{EntriesState, Orders};
 ghost use Rattle.vt_isect.specs.Faults.{DiffersIn};
 ghost use Rattle.vt_isect.specs.Merging.{IsFaulty};
@@ -392,60 +392,6 @@ impl<D: Disk> Section<D> {
             mark,
         };
         self.begin_next(next);
-    }
-
-    /// Formats a bucket without entries, by its number over all sections: frame 0 and a selector
-    /// that names it. A call that fails can be made again.
-    pub fn clear(&mut self, number: u32) -> Result<(), ShardErr>
-        requires rest { IsAtRest self.old }
-        requires in_range { InRange self.old.head self.old.buckets number }
-
-        // From then on each crash leaves it without entries.
-        ensures empty { OnOk result (IsTrue D.tells
-            → (c : List ℕ) (region : Region) → D.images self.new.disk c
-            → IsPlaceOf (number - self.old.head.first) region
-            → IsFrame number [] (current_frame region 8192 c)) }
-        ensures settled { OnOk result (IsTrue D.tells
-            → Only (D.bytes self.new.disk) (D.images self.new.disk)) }
-        ensures cleared { (known : Known) → OnOk result (IsTrue D.tells
-            → IsSoundSection self.old known (D.bytes self.old.disk) (D.images self.old.disk)
-            → IsSoundSection self.new (with_bucket number (Some []) known)
-            (D.bytes self.new.disk) (D.images self.new.disk)) }
-
-        // What it writes.
-        ensures written { OnOk result (IsTrue D.tells
-            → (region : Region) → IsPlaceOf (number - self.old.head.first) region
-            → Clears number region (D.bytes self.old.disk) (D.bytes self.new.disk)) }
-
-        // Whatever the answer, the others and the head stay.
-        ensures others { (known : Known) → IsTrue D.tells
-            → IsSoundSection self.old known (D.bytes self.old.disk) (D.images self.old.disk)
-            → IsSoundSection self.new (with_bucket number None known)
-            (D.bytes self.new.disk) (D.images self.new.disk) }
-
-        // While the mark doesn't count, what is known goes on to agree with a history.
-        ensures agrees { (score : List ℕ → List ℕ) (c : Setup) (h : History) (known : Known)
-            → KnownAgrees score c h self.old known
-            → self.old.head.state ≢ 1 → self.old.next ≡ self.old.head
-            → KnownAgrees score c h self.new (with_bucket number (Some []) known) }
-
-        ensures same { self.new ≡ record self.old { disk = self.new.disk } }
-        ensures images { (region : Region) → IsPlaceOf (number - self.old.head.first) region
-            → ChangesWithin region (D.images self.old.disk) (D.images self.new.disk) }
-        ensures bytes { (region : Region) → IsPlaceOf (number - self.old.head.first) region
-            → IsTrue D.tells → SameBut (Inside region)
-            (D.bytes self.old.disk) (D.bytes self.new.disk) }
-        ensures size { D.size self.new.disk ≡ D.size self.old.disk }
-        ensures most_calls { IsTrue D.tells
-            → D.calls self.new.disk ≤ D.calls self.old.disk + 3 }
-        ensures refused { IfErr result (λ bad. bad ≡ ShardErr.Fault) }
-        ensures faults { CountsFaultOf result (D.faults self.old.disk) (D.faults self.new.disk) }
-    {
-        let place = bucket_place(number - self.head.first);
-        let mut frame = [0; FRAME_LEN];
-        Bucket::new(number).encode(&mut frame);
-        vt_twin::format(&mut self.disk, place, &frame)?;
-        Ok(())
     }
 
     /// Hands back the entries of the last writeback, once, where there is one. While one is under

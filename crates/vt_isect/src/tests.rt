@@ -20,8 +20,8 @@ use vt_twin::Step;
 const LEN: u64 = 58_368;
 
 /// The calls before those of the test: three of formatting, three of mounting, four of each change
-/// of the head, and three for each bucket that is cleared.
-const FIRST_CALL: u64 = 20;
+/// of the head, and five for the two buckets that are cleared.
+const FIRST_CALL: u64 = 19;
 
 /// How many of those `advance` makes.
 const FIRST_ADVANCE: u64 = 8;
@@ -118,8 +118,8 @@ fn finish<D: Disk>(section: &mut Section<D>, calls: u64) -> Result<(), Fail> {
 
 /// Changes the head to this state, first bucket, count of all buckets and mark.
 fn begin_head<D: Disk>(section: &mut Section<D>, to: (u8, u32, u32, u64)) -> Result<(), Fail> {
-    if section.is_changing() {
-        return Err("a change is under way".into());
+    if section.is_changing() || to.1 > u32::MAX - section.buckets() {
+        return Err("no change may begin".into());
     }
     section.begin_head(to.0, to.1, to.2, to.3);
     see(section.is_changing(), "no change")
@@ -130,7 +130,25 @@ fn clear<D: Disk>(section: &mut Section<D>, number: u32) -> Result<Result<(), Sh
     if section.is_changing() || !section.has_bucket(number) {
         return Err("no bucket to clear".into());
     }
-    Ok(section.clear(number))
+    Ok(section.clear(number, 1))
+}
+
+/// Clears buckets 0 and 1.
+fn clear_two<D: Disk>(section: &mut Section<D>) -> Result<Result<(), ShardErr>, Fail> {
+    if section.is_changing() || section.head().first != 0 || section.buckets() < 2 {
+        return Err("no buckets to clear".into());
+    }
+    Ok(section.clear(0, 2))
+}
+
+/// Writes bucket 1 with one entry, without a sync.
+fn fill_one<D: Disk>(section: &mut Section<D>) -> Result<Result<(), ShardErr>, Fail> {
+    let mut bucket = Bucket::new(1);
+    see(bucket.with(entry(0x80, 0, 8)?).is_ok(), "no room")?;
+    if section.is_changing() || !section.has_bucket(bucket.number()) {
+        return Err("no bucket to fill".into());
+    }
+    Ok(section.fill(&bucket))
 }
 
 /// A disk that is made a section, mounted.
@@ -143,8 +161,7 @@ fn fresh<D: Disk + Drop>(alloc: Global, mut disk: D) -> Result<Section<D>, Fail>
 fn use_two<D: Disk>(section: &mut Section<D>) -> Result<(), Fail> {
     begin_head(section, (2, 0, 2, 0))?;
     finish(section, 4)?;
-    see(clear(section, 0)? == Ok(()), "bucket 0 isn't cleared")?;
-    see(clear(section, 1)? == Ok(()), "bucket 1 isn't cleared")?;
+    see(clear_two(section)? == Ok(()), "the buckets aren't cleared")?;
     begin_head(section, (1, 0, 2, 0))?;
     finish(section, 4)
 }
@@ -529,10 +546,15 @@ fn file_three<D: Disk>(alloc: Global, section: &mut Section<D>) -> Result<(), Fa
     begin(section, three(alloc)?, 3)?;
     see(section.idle().is_none(), "entries of a writeback under way")?;
     see(section.bucket_under_way() == Some(0), "no bucket 0")?;
+    see(section.calls_left() == 16, "another count of calls")?;
     see(step_after(section, 5)? == Ok(Step::More), "no end of it")?;
     see(section.bucket_under_way() == Some(1), "no bucket 1")?;
+    see(section.calls_left() == 10, "another count of calls")?;
     finish(section, 10)?;
+    see(section.calls_left() == 0, "calls at rest")?;
     let list = section.idle().ok_or("no entries are handed back")?;
+    let last = list.as_slice().last().ok_or("no entry")?;
+    see(last.place.offset == 8, "another order")?;
     see(list.into_vec().len() == 3, "other entries")?;
     see(section.idle().is_none(), "entries twice")?;
     see(level(section)? == b'3', "not all is written")
@@ -610,6 +632,54 @@ fn a_cleared_bucket_is_spelled(rt: HostRuntime) -> Result<(), Fail> {
     let mut section = fresh(rt.alloc(), disk)?;
     assert_eq!(rt; clear(&mut section, 1)?, Ok(()));
     assert!(rt; is_clear(section.into_devices())?);
+    Ok(())
+}
+
+/// The state of a section after a crash that follows this call of the change of its head to state
+/// 1, where a bucket was filled before it. In state 1 the bucket has its entry.
+fn state_when_filled(alloc: Global, call: u64, mode: usize) -> Result<u8, Fail> {
+    let mut section = fresh(alloc, disk(alloc, LEN, NEVER)?)?;
+    begin_head(&mut section, (2, 0, 2, 0))?;
+    finish(&mut section, 4)?;
+    see(
+        clear_two(&mut section)? == Ok(()),
+        "the buckets aren't cleared",
+    )?;
+    see(fill_one(&mut section)? == Ok(()), "bucket 1 isn't filled")?;
+    see(has(&mut section, 1, &[8])?, "another bucket 1")?;
+    begin_head(&mut section, (1, 0, 2, 1))?;
+    see(step_after(&mut section, call)?.is_ok(), "a fault")?;
+    let mut section = mounted(alloc, crashed(alloc, section.into_devices(), mode)?)?;
+    let state = section.head().state;
+    see(
+        state != 1 || has(&mut section, 1, &[8])?,
+        "a bucket isn't settled",
+    )?;
+    Ok(state)
+}
+
+#[test]
+fn a_filled_bucket_is_settled_before_the_head(rt: HostRuntime) -> Result<(), Fail> {
+    for (call, states) in [
+        (0, [2, 2, 2, 2]),
+        (1, [2, 2, 2, 2]),
+        (2, [2, 1, 1, 1]),
+        (3, [1, 1, 1, 1]),
+    ] {
+        for (mode, state) in states.into_iter().enumerate() {
+            let found = state_when_filled(rt.alloc(), call, mode)?;
+            assert_eq!(rt; found, state, "call {call}, mode {mode}");
+        }
+    }
+    // Each call of filling fails in turn: the write of the frame, that of the selector.
+    for (call, answer) in [
+        (6, Err(ShardErr::Fault)),
+        (7, Err(ShardErr::Fault)),
+        (8, Ok(())),
+    ] {
+        let mut section = fresh(rt.alloc(), disk(rt.alloc(), LEN, call)?)?;
+        assert_eq!(rt; fill_one(&mut section)?, answer, "call {call}");
+    }
     Ok(())
 }
 

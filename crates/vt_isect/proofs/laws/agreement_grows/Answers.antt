@@ -1,5 +1,5 @@
 use Rattle.std.specs.List.{Contains}
-use Rattle.vt_isect.proofs.Grown.{of_block_longer, covered_longer, known_longer, agrees_longer}
+use Rattle.vt_isect.proofs.Grown.{entry_before, of_block_longer, covered_longer, known_longer, agrees_longer}
 use Rattle.vt_isect.proofs.laws.agreement_grows.Goals as goal
 
 pub returns-clause-entry : goal.returns-clause-entry
@@ -13,3 +13,6 @@ returns-clause-known g c = λ score setup h more t known keys agrees. known_long
 
 pub returns-clause-section : goal.returns-clause-section
 returns-clause-section g c = λ score setup h more buckets head entries keys agrees. agrees_longer score setup h more buckets head entries keys agrees
+
+pub returns-clause-beginning : goal.returns-clause-beginning
+returns-clause-beginning g c = λ score setup h more i entry lt is. entry_before score setup h more i entry lt is
