@@ -1,0 +1,5 @@
+pub mod Cuts
+pub mod Holding
+pub mod Answering
+pub mod Talks
+pub mod Joins

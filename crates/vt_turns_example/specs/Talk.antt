@@ -1,0 +1,48 @@
+-- What a link was told, and the history that it was told of.
+use Rattle.std.specs.Prelude.{◌≡◌, ◌≢◌, ℕ, ◌≤◌, List, [], ◌∷◌, length, take, Some, None}
+use mathlib.Core.Option.{some}
+use lib.ListN.{get_elem?}
+use Rattle.vt_turns_example.specs.declared.part.Block.{Block}
+use Rattle.vt_turns_example.specs.declared.link.Ask.{Ask}
+use Rattle.vt_turns_example.specs.declared.link.Ask.TheVariants.{Write, Look}
+use Rattle.vt_turns_example.specs.declared.link.Said.{Said}
+use Rattle.vt_turns_example.specs.declared.link.Said.TheVariants.{Added, Held, Collision, NoMemory, Absent, Unknown}
+use Rattle.vt_turns_example.specs.declared.link.Line.{Line}
+use Rattle.vt_turns_example.specs.Blocks.{held}
+
+-- the answer is right for this history
+abbrev pub Answers : Ask → Said → List Block → Type 0
+Answers (Write b) Added h = held h b.key ≡ None
+Answers (Write b) Held h = held h b.key ≡ Some b.value
+Answers (Write b) Collision h = (x : ℕ) × (held h b.key ≡ Some x) × (x ≢ b.value)
+Answers (Write b) NoMemory h = Unit {0}
+Answers (Write b) Absent h = ⊥
+Answers (Write b) Unknown h = ⊥
+Answers (Look key) Added h = ⊥
+Answers (Look key) Held h = ⊥
+Answers (Look key) Collision h = ⊥
+Answers (Look key) NoMemory h = ⊥
+Answers (Look key) Absent h = held h key ≡ None
+Answers (Look key) Unknown h = Unit {0}
+
+-- Of the numbers of added blocks, those behind this answer's are `rest`: where it added a block,
+-- that block is block `at` of the history.
+abbrev pub Adds : Ask → Said → (at : ℕ) → List Block → (added rest : List ℕ) → Type 0
+Adds (Write b) Added at h added rest = (added ≡ at ∷ rest) × (get_elem? h at ≡ some b)
+Adds (Look key) Added at h added rest = ⊥
+Adds ask Held at h added rest = added ≡ rest
+Adds ask Collision at h added rest = added ≡ rest
+Adds ask NoMemory at h added rest = added ≡ rest
+Adds ask Absent at h added rest = added ≡ rest
+Adds ask Unknown at h added rest = added ≡ rest
+
+-- the line is the answer of the first `at` blocks of the history
+pub record Tells (h : List Block) (line : Line) (added rest : List ℕ) : Type 0 where
+  pub within : line.at ≤ length h
+  pub answers : Answers line.ask line.said (take line.at h)
+  pub adds : Adds line.ask line.said line.at h added rest
+
+-- each line is an answer of the history, and these are the numbers of the blocks that were added
+abbrev pub IsTalk : List Block → List Line → (added : List ℕ) → Type 0
+IsTalk h [] added = added ≡ []
+IsTalk h (line ∷ lines) added = (rest : List ℕ) × Tells h line added rest × IsTalk h lines rest
