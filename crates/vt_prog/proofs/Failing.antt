@@ -17,6 +17,7 @@ use Rattle.vt_log.specs.Log.{LogState}
 use Rattle.vt_log.specs.Reading.{CountsFault}
 use Rattle.vt_session.specs.Turns.{Cause, disk_fault, stopped, damaged, no_memory, log, section, why_of}
 use Rattle.vt_session.specs.Answered.{MayFail, ReachesParts, TakesMemory, WritesTo}
+use Rattle.vt_session.proofs.Causes.{one_rose}
 use Rattle.vt_prog.specs.Serving.{Serves, FailsFor, NoneFailed, TellsFaults, CommitsOrStops, LeavesOrStops, MayNotRead, why_unread, block_or_why}
 use Rattle.vt_prog.specs.Store.{memory}
 
@@ -95,7 +96,7 @@ module _ {D : Type 0} (score_of : List ℕ → List ℕ) (m : Operation) (reache
   by_memory takes = (no_memory, refl, (reaches, takes), tt)
 
   pub by_fault : OneHasRisen (map disk.faults old.disks) (map disk.faults new.disks) → FailsBy DiskFault
-  by_fault rose = (disk_fault (map disk.faults old.disks) (map disk.faults new.disks), refl, (reaches, (rose.which, rose.rose.1)), (refl, refl))
+  by_fault rose = (disk_fault (map disk.faults old.disks) (map disk.faults new.disks), refl, (reaches, one_rose (map disk.faults old.disks) (map disk.faults new.disks) rose.which rose.rose), (refl, refl))
 
   pub by_stop : (call : ℕ) → WritesTo score_of memory m log → old.stopped ≡ Some call → FailsBy (Stopped call)
   by_stop call writes is = (stopped log call, refl, (reaches, writes), is)

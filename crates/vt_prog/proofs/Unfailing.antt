@@ -23,7 +23,7 @@ module _ {D : Type 0} (disk : DiskOf D) (never : (device : D) → disk.faults de
   none_rose old new it =
       let was = zeros old it.which in
       let is = zeros new it.which in
-      ⊎_elim (λ more. omega (arith, was, is, more)) (λ full. omega (arith, is, full)) it.rose.1
+      omega (arith, was, is, it.rose)
 
   goes_on : {X : Type 0} (old new : LogState D) (r : Result X Why) → TellsFaults disk old new r → NoneFailed disk old new
   goes_on old new (Ok x) is = is
