@@ -1,5 +1,5 @@
-//! Writing buckets whole, while a section is built: cleared, or filled with entries. One sync serves
-//! many of them.
+//! Writing buckets whole, while a section is built: cleared, or filled with entries. One sync
+//! serves many of them.
 
 ghost use Rattle.std.specs.Prelude.{◌≡◌, ◌≢◌, ◌+◌, ◌-◌, ◌*◌, ◌^◌, ◌<◌, ◌≤◌, min, ℕ, List, [], length, IsTrue, IfErr, OnOk, OnErr, None, Some};
 ghost use Rattle.std.specs.List.{Contains};
@@ -156,7 +156,8 @@ impl<D: Disk> Section<D> {
         // From then on a read gives the entries.
         ensures read { (known : Known) → OnOk result (IsTrue D.tells
             → Reads self.old known (D.bytes self.old.disk)
-            → Reads self.new (with_bucket (number_of bucket.now) (Some (entries_of bucket.now)) known)
+            → Reads self.new
+            (with_bucket (number_of bucket.now) (Some (entries_of bucket.now)) known)
             (D.bytes self.new.disk)) }
 
         // What it writes and, where a call fails, which of the two.

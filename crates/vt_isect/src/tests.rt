@@ -660,10 +660,11 @@ fn state_when_filled(alloc: Global, call: u64, mode: usize) -> Result<u8, Fail> 
 
 #[test]
 fn a_filled_bucket_is_settled_before_the_head(rt: HostRuntime) -> Result<(), Fail> {
+    // The new selector of the head is 0, so that a5 names the old frame.
     for (call, states) in [
         (0, [2, 2, 2, 2]),
         (1, [2, 2, 2, 2]),
-        (2, [2, 1, 1, 1]),
+        (2, [2, 1, 1, 2]),
         (3, [1, 1, 1, 1]),
     ] {
         for (mode, state) in states.into_iter().enumerate() {

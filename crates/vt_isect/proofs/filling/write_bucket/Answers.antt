@@ -3,7 +3,7 @@ use Rattle.std.specs.Prelude.{OnErr}
 use Rattle.std.proofs.lemmas.Result.{on_ok_weaker}
 use Rattle.vt_disk.specs.Disk.{with_bytes, Touches, SameBut, IsOneMore}
 use Rattle.vt_twin.proofs.Formatting.{framed}
-use Rattle.vt_isect.proofs.Bytes.{first_bytes, first_images, then_bytes, then_images, only_frame, frame_left, new_frame, new_idle, new_current, new_selector}
+use Rattle.vt_isect.proofs.WriteBucket.{first_bytes, first_images, then_bytes, then_images, only_frame, frame_left, new_frame, new_idle, new_current, new_selector}
 use Rattle.vt_isect.proofs.filling.write_bucket.Goals as goal
 
 pub returns-in_err-write_at-clause-images : goal.returns-in_err-write_at-clause-images

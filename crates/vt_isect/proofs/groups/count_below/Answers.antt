@@ -1,6 +1,6 @@
 use Rattle.std.proofs.Common.{rules}
 use Rattle.std.proofs.lemmas.List.Sorted.{IsPartitionPoint-from_clause}
-use Rattle.vt_isect.proofs.Ordered.{is_below, parted, parts}
+use Rattle.vt_isect.proofs.IsOrdered.{is_below, parted, parts}
 use Rattle.vt_isect.proofs.groups.count_below.Goals as goal
 
 pub returns-clause-parts : goal.returns-clause-parts

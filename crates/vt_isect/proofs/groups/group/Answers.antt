@@ -1,5 +1,5 @@
 use Rattle.std.proofs.Common.{◌≡◌, ◌+◌, ℕ, ◌∙◌, ap, sym, subst}
-use Rattle.vt_isect.proofs.Ordered.{Parts, group_is, rest_ordered}
+use Rattle.vt_isect.proofs.IsOrdered.{Parts, group_is, rest_ordered}
 use Rattle.vt_isect.proofs.groups.group.Goals as goal
 
 pub returns : goal.returns

@@ -1,5 +1,5 @@
 use Rattle.std.proofs.Common.{sym}
-use Rattle.vt_isect.proofs.Ordered.{later_is}
+use Rattle.vt_isect.proofs.IsOrdered.{later_is}
 use Rattle.vt_isect.proofs.groups.later.Goals as goal
 
 pub returns : goal.returns

@@ -1,5 +1,5 @@
 use Rattle.std.proofs.Common.{◌≡◌, ◌∙◌, sym, subst, rules}
-use Rattle.vt_isect.proofs.Ordered.{least}
+use Rattle.vt_isect.proofs.IsOrdered.{least}
 use Rattle.vt_isect.proofs.groups.next_bucket.Goals as goal
 
 pub returns-in-Some-clause-least : goal.returns-in-Some-clause-least

@@ -1,5 +1,5 @@
 use Rattle.std.specs.List.{Contains}
-use Rattle.vt_isect.proofs.Grown.{entry_before, of_block_longer, covered_longer, known_longer, agrees_longer}
+use Rattle.vt_isect.proofs.Histories.{entry_before, of_block_longer, covered_longer, known_longer, agrees_longer}
 use Rattle.vt_isect.proofs.laws.agreement_grows.Goals as goal
 
 pub returns-clause-entry : goal.returns-clause-entry

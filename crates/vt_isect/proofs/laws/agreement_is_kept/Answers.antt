@@ -1,7 +1,7 @@
 use Rattle.std.specs.List.{Contains}
-use Rattle.vt_isect.proofs.Agreed.{agrees_disk, agrees_idle}
-use Rattle.vt_isect.proofs.Covered.{covered_at_rest}
-use Rattle.vt_isect.proofs.Stepping.{covers_more}
+use Rattle.vt_isect.proofs.KnownAgrees.{agrees_disk, agrees_idle}
+use Rattle.vt_isect.proofs.IsCovered.{covered_at_rest}
+use Rattle.vt_isect.proofs.Follows.{covers_more}
 use Rattle.vt_isect.proofs.laws.agreement_is_kept.Goals as goal
 
 pub returns-clause-disk : goal.returns-clause-disk

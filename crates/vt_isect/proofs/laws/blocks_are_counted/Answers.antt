@@ -1,4 +1,4 @@
-use Rattle.vt_isect.proofs.Counted.{blocks_most, blocks_all}
+use Rattle.vt_isect.proofs.Crowd.{blocks_most, blocks_all}
 use Rattle.vt_isect.proofs.laws.blocks_are_counted.Goals as goal
 
 pub returns-clause-most : goal.returns-clause-most

@@ -1,5 +1,5 @@
-use Rattle.vt_isect.proofs.Images.{leaves, head_gives}
-use Rattle.vt_isect.proofs.Agreeing.{leaves_agree}
+use Rattle.vt_isect.proofs.LeavesSection.{leaves, head_gives}
+use Rattle.vt_isect.proofs.AgreesWith.{leaves_agree}
 use Rattle.vt_isect.proofs.laws.images_agree.Goals as goal
 
 pub returns-clause-crash : goal.returns-clause-crash

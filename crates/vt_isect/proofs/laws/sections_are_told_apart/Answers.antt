@@ -1,4 +1,4 @@
-use Rattle.vt_isect.proofs.Apart.{one_head, one_section}
+use Rattle.vt_isect.proofs.OneSection.{one_head, one_section}
 use Rattle.vt_isect.proofs.laws.sections_are_told_apart.Goals as goal
 
 pub returns-clause-head : goal.returns-clause-head

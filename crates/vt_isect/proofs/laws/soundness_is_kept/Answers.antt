@@ -1,6 +1,6 @@
 use Rattle.std.proofs.Common.{None, refl}
-use Rattle.vt_isect.proofs.Filled.{less_sound, synced_sound}
-use Rattle.vt_isect.proofs.Moves.{section_moves}
+use Rattle.vt_isect.proofs.Fills.{less_sound, synced_sound}
+use Rattle.vt_isect.proofs.IsSoundSection.{section_moves}
 use Rattle.vt_isect.proofs.laws.soundness_is_kept.Goals as goal
 
 pub returns-clause-read_or_sync : goal.returns-clause-read_or_sync

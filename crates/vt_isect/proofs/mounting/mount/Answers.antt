@@ -3,9 +3,9 @@ use Rattle.vt_twin.specs.Frames.{current_frame}
 use Rattle.vt_twin.specs.Twin.{TwinState}
 use Rattle.vt_twin.specs.Sound.{IsSound}
 use Rattle.vt_isect.specs.Layout.{head_place}
-use Rattle.vt_isect.proofs.Apart.{one_head}
-use Rattle.vt_isect.proofs.Found.{only_calls_fail}
-use Rattle.vt_isect.proofs.Mounted.{mounted_sound, mounted_agrees}
+use Rattle.vt_isect.proofs.OneSection.{one_head}
+use Rattle.vt_isect.proofs.RefusesMount.{only_calls_fail}
+use Rattle.vt_isect.proofs.Mounts.{mounted_sound, mounted_agrees}
 use Rattle.vt_isect.proofs.mounting.mount.Goals as goal
 
 pub returns-in-Ok-clause-head : goal.returns-in-Ok-clause-head

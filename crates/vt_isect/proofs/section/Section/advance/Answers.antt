@@ -5,12 +5,12 @@ use Rattle.vt_isect.specs.declared.bad.ShardErr.TheVariants.{Stopped}
 use Rattle.vt_isect.specs.declared.phase.Phase.TheVariants.{ReadFrame}
 use Rattle.vt_isect.specs.Layout.{InRange}
 use Rattle.vt_isect.specs.Section.{HasBucket}
-use Rattle.vt_isect.proofs.Stepping.{keeps_quiet, same_selector}
-use Rattle.vt_isect.proofs.Covered.{covered_kept}
-use Rattle.vt_isect.proofs.Undamaged.{no_damage}
-use Rattle.vt_isect.proofs.Within.{crash_within, agrees_within}
-use Rattle.vt_isect.proofs.Damages.{differs_in, fault_is}
-use Rattle.vt_isect.proofs.Left.{bucket_made, head_made, advance_lower, ends_none}
+use Rattle.vt_isect.proofs.Follows.{keeps_quiet, same_selector}
+use Rattle.vt_isect.proofs.IsCovered.{covered_kept}
+use Rattle.vt_isect.proofs.IsDamage.{no_damage}
+use Rattle.vt_isect.proofs.WithinCall.{crash_within, agrees_within}
+use Rattle.vt_isect.proofs.DiffersIn.{differs_in, fault_is}
+use Rattle.vt_isect.proofs.CallsLeft.{bucket_made, head_made, advance_lower, ends_none}
 use Rattle.vt_isect.proofs.section.Section.advance.Goals as goal
 
 pub returns-in-ReadSelector-clause-crash : goal.returns-in-ReadSelector-clause-crash

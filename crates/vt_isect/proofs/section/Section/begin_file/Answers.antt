@@ -5,10 +5,10 @@ use Rattle.vt_base.specs.declared.place.Entry.{Entry}
 use Rattle.vt_isect.specs.Entries.{EntriesState, Orders}
 use Rattle.vt_isect.specs.Section.{SectionState}
 use Rattle.vt_isect.specs.Writeback.{calls_left}
-use Rattle.vt_isect.proofs.Begun.{file_agrees, file_sound}
-use Rattle.vt_isect.proofs.Covered.{file_covers}
-use Rattle.vt_isect.proofs.Left.{begun_left}
-use Rattle.vt_isect.proofs.Stepping.{covers_more}
+use Rattle.vt_isect.proofs.BeginsFrom.{file_agrees, file_sound}
+use Rattle.vt_isect.proofs.IsCovered.{file_covers}
+use Rattle.vt_isect.proofs.CallsLeft.{begun_left}
+use Rattle.vt_isect.proofs.Follows.{covers_more}
 use Rattle.vt_isect.proofs.section.Section.begin_file.Goals as goal
 
 -- an entry is among them in either order

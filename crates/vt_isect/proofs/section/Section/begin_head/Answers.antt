@@ -1,6 +1,6 @@
-use Rattle.vt_isect.proofs.Begun.{agrees_begins}
+use Rattle.vt_isect.proofs.BeginsFrom.{agrees_begins}
 use Rattle.vt_isect.proofs.Heads.{frame_has}
-use Rattle.vt_isect.proofs.Moves.{head_begins}
+use Rattle.vt_isect.proofs.IsSoundSection.{head_begins}
 use Rattle.vt_isect.proofs.section.Section.begin_head.Goals as goal
 
 pub returns-clause-sound : goal.returns-clause-sound

@@ -8,8 +8,8 @@ use Rattle.vt_disk.specs.Disk.{part}
 use Rattle.vt_isect.specs.Layout.{IsPlaceOf}
 use Rattle.vt_isect.specs.Section.{SectionState}
 use Rattle.vt_isect.specs.Sound.{IsReadFrom}
-use Rattle.vt_isect.proofs.Damages.{faulty_differs}
-use Rattle.vt_isect.proofs.Reading.{reads_from, reads_known}
+use Rattle.vt_isect.proofs.DiffersIn.{faulty_differs}
+use Rattle.vt_isect.proofs.IsReadFrom.{reads_from, reads_known}
 use Rattle.vt_isect.proofs.section.Section.bucket.Goals as goal
 
 -- the frame that was read

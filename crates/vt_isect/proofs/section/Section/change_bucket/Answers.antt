@@ -6,12 +6,12 @@ use Rattle.vt_twin.specs.declared.step.TwinErr.TheVariants.{Fault}
 use Rattle.vt_isect.specs.declared.phase.Phase.TheVariants.{ChangeBucket}
 use Rattle.vt_isect.specs.Section.{SectionState, HasBucket, IsHere}
 use Rattle.vt_isect.specs.Writeback.{IsRead, Keeps, MayWrite, Writes}
-use Rattle.vt_isect.proofs.Frames.{at_phase, lent_len}
-use Rattle.vt_isect.proofs.Moves.{idle_sound, is_fault}
-use Rattle.vt_isect.proofs.Stepping.{keeps_quiet, agrees_moves, next_of, images_wider, place_written}
+use Rattle.vt_isect.proofs.HasFrames.{at_phase, lent_len}
+use Rattle.vt_isect.proofs.IsSoundSection.{idle_sound, is_fault}
+use Rattle.vt_isect.proofs.Follows.{keeps_quiet, agrees_moves, next_of, images_wider, place_written}
 use Rattle.vt_disk.proofs.Bytes.{same_wider}
-use Rattle.vt_isect.proofs.Changes.{bucket_goes, keeps_next, goes_next}
-use Rattle.vt_isect.proofs.Written.{bucket_writes}
+use Rattle.vt_isect.proofs.Keeps.{bucket_goes, keeps_next, goes_next}
+use Rattle.vt_isect.proofs.Writes.{bucket_writes}
 use Rattle.vt_isect.proofs.section.Section.change_bucket.Goals as goal
 
 pub returns-in-Ok-More-clause-sound : goal.returns-in-Ok-More-clause-sound

@@ -3,11 +3,11 @@ use Rattle.vt_twin.specs.Twin.{TwinState, calls_made, next_frame, without_spare}
 use Rattle.vt_twin.specs.declared.step.TwinErr.TheVariants.{Fault}
 use Rattle.vt_isect.specs.declared.phase.Phase.TheVariants.{ChangeHead}
 use Rattle.vt_isect.specs.Writeback.{IsRead}
-use Rattle.vt_isect.proofs.Moves.{idle_sound, is_fault}
-use Rattle.vt_isect.proofs.Stepping.{keeps_quiet, agrees_moves, next_of, images_wider, head_written}
+use Rattle.vt_isect.proofs.IsSoundSection.{idle_sound, is_fault}
+use Rattle.vt_isect.proofs.Follows.{keeps_quiet, agrees_moves, next_of, images_wider, head_written}
 use Rattle.vt_disk.proofs.Bytes.{same_wider}
-use Rattle.vt_isect.proofs.Changes.{head_goes, keeps_head}
-use Rattle.vt_isect.proofs.Written.{head_writes}
+use Rattle.vt_isect.proofs.Keeps.{head_goes, keeps_head}
+use Rattle.vt_isect.proofs.Writes.{head_writes}
 use Rattle.vt_isect.proofs.section.Section.change_head.Goals as goal
 
 pub returns-in-Ok-More-clause-sound : goal.returns-in-Ok-More-clause-sound

@@ -7,7 +7,7 @@ use Rattle.vt_isect.specs.Agreement.{KnownAgrees}
 use Rattle.vt_isect.specs.Filling.{Fills, InBuckets, Reads, with_buckets}
 use Rattle.vt_isect.specs.Section.{SectionState}
 use Rattle.vt_isect.specs.Sound.{IsSoundSection}
-use Rattle.vt_isect.proofs.Filled.{agrees_cleared, synced_sound, synced_reads, synced_cleared, synced_empty}
+use Rattle.vt_isect.proofs.Fills.{agrees_cleared, synced_sound, synced_reads, synced_cleared, synced_empty}
 use Rattle.vt_isect.proofs.section.Section.clear.Goals as goal
 
 pub returns-in_err-write_cleared-clause-agrees : goal.returns-in_err-write_cleared-clause-agrees

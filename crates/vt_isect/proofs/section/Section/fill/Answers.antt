@@ -6,9 +6,9 @@ use Rattle.vt_bucket.specs.Frame.{IsFrame}
 use Rattle.vt_twin.specs.Frames.{current_frame}
 use Rattle.vt_isect.specs.Layout.{IsPlaceOf}
 use Rattle.vt_isect.specs.Section.{SectionState}
-use Rattle.vt_isect.proofs.Cleared.{others_sound}
-use Rattle.vt_isect.proofs.Filled.{reads_filled, agrees_filled, in_buckets}
-use Rattle.vt_isect.proofs.Stepping.{images_wider}
+use Rattle.vt_isect.proofs.WithBucket.{others_sound}
+use Rattle.vt_isect.proofs.Fills.{reads_filled, agrees_filled, in_buckets}
+use Rattle.vt_isect.proofs.Follows.{images_wider}
 use Rattle.vt_isect.proofs.section.Section.fill.Goals as goal
 
 pub returns-in_err-write_bucket-clause-others : goal.returns-in_err-write_bucket-clause-others

@@ -3,7 +3,7 @@ use Rattle.std.proofs.lemmas.Bool.{cases_lt}
 use Rattle.std.specs.List.{Contains}
 use Rattle.vt_base.specs.declared.place.Entry.{Entry}
 use Rattle.vt_isect.specs.declared.phase.Phase.TheVariants.{Rest}
-use Rattle.vt_isect.proofs.Frames.{at_phase}
+use Rattle.vt_isect.proofs.HasFrames.{at_phase}
 use Rattle.vt_isect.specs.Layout.{InRange}
 use Rattle.vt_isect.specs.Section.{entries_of, bucket_number}
 use Rattle.vt_isect.proofs.section.Section.go_on.Goals as goal

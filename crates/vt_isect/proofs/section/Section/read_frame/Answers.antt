@@ -10,12 +10,12 @@ use Rattle.vt_isect.specs.declared.phase.Phase.TheVariants.{ReadFrame}
 use Rattle.vt_isect.specs.Entries.{IsOrdered}
 use Rattle.vt_isect.specs.Merging.{Merges, IsOf, IsMerged, IsDamage}
 use Rattle.vt_isect.specs.Section.{HasBucket, IsHere, IsLent}
-use Rattle.vt_isect.proofs.Frames.{at_phase}
+use Rattle.vt_isect.proofs.HasFrames.{at_phase}
 use Rattle.vt_isect.proofs.Places.{one_place}
-use Rattle.vt_isect.proofs.Moves.{section_moves}
-use Rattle.vt_isect.proofs.Stepping.{keeps_quiet, agrees_moves, agrees_ends, reads_within, bytes_within}
-use Rattle.vt_isect.proofs.Changes.{bucket_begins}
-use Rattle.vt_isect.proofs.Written.{writes_at}
+use Rattle.vt_isect.proofs.IsSoundSection.{section_moves}
+use Rattle.vt_isect.proofs.Follows.{keeps_quiet, agrees_moves, agrees_ends, reads_within, bytes_within}
+use Rattle.vt_isect.proofs.Keeps.{bucket_begins}
+use Rattle.vt_isect.proofs.Writes.{writes_at}
 use Rattle.vt_isect.proofs.section.Section.read_frame.Goals as goal
 
 pub invariant_of-self : goal.invariant_of-self

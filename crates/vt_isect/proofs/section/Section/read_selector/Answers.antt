@@ -1,10 +1,10 @@
 use Rattle.std.proofs.Common.{◌-◌, refl, sym, subst}
 use Rattle.vt_isect.specs.declared.phase.Phase.TheVariants.{ReadSelector}
 use Rattle.vt_isect.specs.Section.{HasBucket}
-use Rattle.vt_isect.proofs.Frames.{at_phase}
-use Rattle.vt_isect.proofs.Stepping.{keeps_quiet, agrees_moves, agrees_ends, selector_read, reads_within, bytes_within}
-use Rattle.vt_isect.proofs.Moves.{section_moves}
-use Rattle.vt_isect.proofs.Written.{writes_at}
+use Rattle.vt_isect.proofs.HasFrames.{at_phase}
+use Rattle.vt_isect.proofs.Follows.{keeps_quiet, agrees_moves, agrees_ends, selector_read, reads_within, bytes_within}
+use Rattle.vt_isect.proofs.IsSoundSection.{section_moves}
+use Rattle.vt_isect.proofs.Writes.{writes_at}
 use Rattle.vt_isect.proofs.section.Section.read_selector.Goals as goal
 
 pub invariant_of-self : goal.invariant_of-self

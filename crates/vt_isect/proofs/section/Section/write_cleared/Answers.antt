@@ -8,7 +8,7 @@ use Rattle.vt_isect.specs.declared.head.Head.{Head}
 use Rattle.vt_isect.specs.Filling.{InBuckets, IsAmong, Reads, with_buckets}
 use Rattle.vt_isect.specs.Layout.{IsPlaceOf}
 use Rattle.vt_isect.specs.Sound.{Known, IsSoundSection, with_bucket}
-use Rattle.vt_isect.proofs.Filled.{cleared_none, cleared_more, next_bytes, next_written, stopped_others}
+use Rattle.vt_isect.proofs.Fills.{cleared_none, cleared_more, next_bytes, next_written, stopped_others}
 use Rattle.vt_isect.proofs.section.Section.write_cleared.Goals as goal
 
 pub loop-i-init : goal.loop-i-init

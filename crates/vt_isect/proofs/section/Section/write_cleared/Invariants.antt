@@ -1,5 +1,5 @@
 use Rattle.std.proofs.Common.{◌≡◌}
-use Rattle.vt_isect.proofs.Filled.{HasCleared}
+use Rattle.vt_isect.proofs.Fills.{HasCleared}
 use Rattle.vt_isect.proofs.section.Section.write_cleared.Given as goal
 
 abbrev pub invariant-loop-i : goal.invariant-loop-i

@@ -16,7 +16,7 @@ use Rattle.vt_isect.specs.Head.{IsHeadFrame}
 use Rattle.vt_isect.specs.Layout.{head_place, IsPlaceOf, InRange, IsSection}
 use Rattle.vt_isect.specs.Section.{SectionState, IsChanging, mounted}
 use Rattle.vt_isect.specs.Sound.{Known, IsSoundSection, all_known}
-use Rattle.vt_isect.proofs.Cleared.{settled_holds}
+use Rattle.vt_isect.proofs.WithBucket.{settled_holds}
 use Rattle.vt_isect.proofs.Places.{one_place}
 
 module _ {D : Type 0} (d : D) (buckets : ℕ) (name : List ℕ) (head : Head) (number size : ℕ) (read : List ℕ) (images : List ℕ → Type 0)

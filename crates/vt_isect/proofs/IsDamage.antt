@@ -20,8 +20,8 @@ use Rattle.vt_isect.specs.Layout.{IsPlaceOf, InRange}
 use Rattle.vt_isect.specs.Merging.{IsDamage, IsFaulty, IsOf, IsOverfull, Joined}
 use Rattle.vt_isect.specs.Section.{SectionState, HasBucket, entries_of}
 use Rattle.vt_isect.specs.Sound.{Known, IsSoundSection}
-use Rattle.vt_isect.proofs.Counted.{blocks_most}
-use Rattle.vt_isect.proofs.Moves.{begun_bound, none_made, rests_fresh}
+use Rattle.vt_isect.proofs.Crowd.{blocks_most}
+use Rattle.vt_isect.proofs.IsSoundSection.{begun_bound, none_made, rests_fresh}
 
 module _ {D : Type 0} (score : List ℕ → List ℕ) (c : Setup) (h : History) (t : SectionState D)
     (known : Known) (agrees : KnownAgrees score c h t known) (s : ℕ) (phase : t.phase ≡ ReadFrame s)

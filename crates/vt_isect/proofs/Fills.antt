@@ -21,11 +21,11 @@ use Rattle.vt_isect.specs.Filling.{Fills, InBuckets, IsAmong, Reads, with_bucket
 use Rattle.vt_isect.specs.Layout.{head_place, IsPlaceOf, InRange}
 use Rattle.vt_isect.specs.Section.{SectionState, IsChanging}
 use Rattle.vt_isect.specs.Sound.{Known, HoldsBucket, IsReadFrom, IsSoundSection, with_bucket, nothing_known}
-use Rattle.vt_isect.proofs.Cleared.{settled_holds, with_here, with_there}
+use Rattle.vt_isect.proofs.WithBucket.{settled_holds, with_here, with_there}
 use Rattle.vt_isect.proofs.Places.{one_place, head_apart, places_apart}
-use Rattle.vt_isect.proofs.Moves.{twin_reads_only}
-use Rattle.vt_isect.proofs.Reading.{reads_known}
-use Rattle.vt_isect.proofs.Stepping.{images_wider}
+use Rattle.vt_isect.proofs.IsSoundSection.{twin_reads_only}
+use Rattle.vt_isect.proofs.IsReadFrom.{reads_known}
+use Rattle.vt_isect.proofs.Follows.{images_wider}
 
 some_same : (a b : List Entry) → Some a ≡ Some b → a ≡ b
 some_same a b e = cc

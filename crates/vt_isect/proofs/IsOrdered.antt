@@ -12,7 +12,7 @@ use Rattle.vt_model.specs.Places.{bucket_of}
 use Rattle.vt_isect.specs.Entries.{IsOrdered}
 use Rattle.vt_isect.specs.Merging.{IsOf}
 use Rattle.vt_isect.specs.Writeback.{later}
-use Rattle.vt_isect.proofs.Left.{below, not_below}
+use Rattle.vt_isect.proofs.CallsLeft.{below, not_below}
 
 abbrev number : ℕ → Entry → ℕ
 number total entry = bucket_of total entry.key.score.0

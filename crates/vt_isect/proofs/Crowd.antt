@@ -15,7 +15,7 @@ use Rattle.vt_model.specs.Legal.{HasOtherKey}
 use Rattle.vt_model.specs.Places.{Setup, Spot, StandsAt, bucket_of, bucket_count, crowd}
 use Rattle.vt_isect.specs.Agreement.{IsEntryOf, IsOfBlock, HasBlock, IsInBucket}
 use Rattle.vt_isect.specs.Merging.{HasKey}
-use Rattle.vt_isect.proofs.Agreeing.{get_at, get_below, same_block}
+use Rattle.vt_isect.proofs.AgreesWith.{get_at, get_below, same_block}
 use Rattle.vt_isect.proofs.Merges.{decide_keys, cons_cases, in_cons}
 
 -- ---- one key

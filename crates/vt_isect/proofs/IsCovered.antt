@@ -20,10 +20,10 @@ use Rattle.vt_isect.specs.Layout.{InRange}
 use Rattle.vt_isect.specs.Section.{SectionState, HasBucket, IsOfGroup, IsTodo, entries_of, bucket_number}
 use Rattle.vt_isect.specs.Sound.{Known}
 use Rattle.vt_isect.specs.Writeback.{Advances, BeginsFrom, Completes, Follows, GoesOn, KeepsCovered, NextPhase}
-use Rattle.vt_isect.proofs.Agreeing.{merged_has}
-use Rattle.vt_isect.proofs.Begun.{Begins}
-use Rattle.vt_isect.proofs.Stepping.{covers_more}
-use Rattle.vt_isect.proofs.Within.{Stands, stands, completes_or}
+use Rattle.vt_isect.proofs.AgreesWith.{merged_has}
+use Rattle.vt_isect.proofs.BeginsFrom.{Begins}
+use Rattle.vt_isect.proofs.Follows.{covers_more}
+use Rattle.vt_isect.proofs.WithinCall.{Stands, stands, completes_or}
 
 -- ---- a step
 

@@ -25,11 +25,11 @@ use Rattle.vt_isect.specs.Layout.{head_place, IsPlaceOf, InRange}
 use Rattle.vt_isect.specs.Merging.{Merges, IsOf}
 use Rattle.vt_isect.specs.Section.{SectionState, HasBucket, IsChanging, IsOfGroup, IsTodo, entries_of, bucket_number}
 use Rattle.vt_isect.specs.Sound.{Known, HoldsBucket, IsSoundSection, with_bucket, nothing_known}
-use Rattle.vt_isect.proofs.Agreeing.{merged_blocks, merged_has}
-use Rattle.vt_isect.proofs.Moves.{section_moves, head_begins, Passes, reads_pass, others_pass, bucket_passes, twin_reads_only, rests_fresh, begins_sound, begun_bound, none_made}
+use Rattle.vt_isect.proofs.AgreesWith.{merged_blocks, merged_has}
+use Rattle.vt_isect.proofs.IsSoundSection.{section_moves, head_begins, Passes, reads_pass, others_pass, bucket_passes, twin_reads_only, rests_fresh, begins_sound, begun_bound, none_made}
 use Rattle.vt_isect.proofs.Places.{one_place, head_room, place_room, head_apart, apart_from_head, places_apart}
 use Rattle.vt_isect.specs.Writeback.{BeginsFrom, Follows, GoesOn, Keeps, NextPhase}
-use Rattle.vt_isect.proofs.Stepping.{next_of}
+use Rattle.vt_isect.proofs.Follows.{next_of}
 
 -- ---- a bucket
 

@@ -18,8 +18,8 @@ use Rattle.vt_isect.specs.Layout.{InRange}
 use Rattle.vt_isect.specs.Section.{SectionState}
 use Rattle.vt_isect.specs.Sound.{Known, IsWhole, IsSoundSection, LeavesSection}
 use Rattle.vt_isect.specs.Writeback.{Advances, Completes, EndsWith, Follows, GoesOn, Keeps}
-use Rattle.vt_isect.proofs.Agreeing.{leaves_agree}
-use Rattle.vt_isect.proofs.Images.{leaves, is_changing_phase}
+use Rattle.vt_isect.proofs.AgreesWith.{leaves_agree}
+use Rattle.vt_isect.proofs.LeavesSection.{leaves, is_changing_phase}
 
 -- what a step leaves of where the section stands
 pub record Stands {D : Type 0} (t u : SectionState D) : Type 0 where

@@ -17,8 +17,8 @@ use Rattle.vt_isect.specs.Layout.{InRange}
 use Rattle.vt_isect.specs.Sound.{Known, IsSoundSection}
 use Rattle.vt_isect.specs.Writeback.{BeginsFrom}
 use Rattle.vt_isect.proofs.Heads.{frame_has}
-use Rattle.vt_isect.proofs.Moves.{section_moves, head_begins}
-use Rattle.vt_isect.proofs.Stepping.{covers_more}
+use Rattle.vt_isect.proofs.IsSoundSection.{section_moves, head_begins}
+use Rattle.vt_isect.proofs.Follows.{covers_more}
 
 -- what is known agrees with the head that begins to be written
 pub agrees_begins : {D : Type 0} (score : List ℕ → List ℕ) (c : Setup) (h : History) (t : SectionState D) (next : Head) (hw : TwinState) (known : Known)

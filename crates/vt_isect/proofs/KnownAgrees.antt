@@ -6,7 +6,7 @@ use Rattle.vt_isect.specs.declared.phase.Phase.TheVariants.{Rest}
 use Rattle.vt_isect.specs.Agreement.{NoOthers, KnownAgrees}
 use Rattle.vt_isect.specs.Section.{SectionState, HasBucket, IsTodo}
 use Rattle.vt_isect.specs.Sound.{Known}
-use Rattle.vt_isect.proofs.Stepping.{covers_more}
+use Rattle.vt_isect.proofs.Follows.{covers_more}
 
 pub agrees_disk : {D : Type 0} (score : List ℕ → List ℕ) (c : Setup) (h : History) (t : SectionState D) (d : D) (known : Known)
     → KnownAgrees score c h t known → KnownAgrees score c h (record t { disk = d }) known

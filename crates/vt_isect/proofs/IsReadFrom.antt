@@ -9,8 +9,8 @@ use Rattle.vt_twin.specs.Twin.{TwinState}
 use Rattle.vt_isect.specs.Layout.{IsPlaceOf, InRange}
 use Rattle.vt_isect.specs.Section.{SectionState, IsChanging}
 use Rattle.vt_isect.specs.Sound.{Known, IsReadFrom, IsSoundSection}
-use Rattle.vt_isect.proofs.Images.{changing}
-use Rattle.vt_isect.proofs.Moves.{begun_bound, none_made}
+use Rattle.vt_isect.proofs.LeavesSection.{changing}
+use Rattle.vt_isect.proofs.IsSoundSection.{begun_bound, none_made}
 use Rattle.vt_isect.proofs.Places.{one_place}
 
 -- what was read at the number of the current frame

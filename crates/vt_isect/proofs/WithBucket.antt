@@ -18,7 +18,7 @@ use Rattle.vt_isect.specs.Agreement.{KnownAgrees}
 use Rattle.vt_isect.specs.Layout.{head_place, IsPlaceOf, InRange}
 use Rattle.vt_isect.specs.Section.{SectionState, IsChanging}
 use Rattle.vt_isect.specs.Sound.{Known, HoldsBucket, IsSoundSection, with_bucket}
-use Rattle.vt_isect.proofs.Moves.{others_pass, bucket_passes}
+use Rattle.vt_isect.proofs.IsSoundSection.{others_pass, bucket_passes}
 use Rattle.vt_isect.proofs.Places.{head_room, place_room, head_apart, places_apart}
 
 -- what is known of this bucket, and of another
