@@ -1,18 +1,17 @@
 -- What an answer says of the history.
 use Rattle.std.proofs.Common.{◌≡◌, ◌≢◌, ℕ, zero, suc, ◌+◌, ◌<◌, eqb, eq-eqb, ne_eqb, List, [], ◌∷◌, ◌++◌, length, take, get_or, sym, refl, ap, ◌∙◌, subst, arith, Bool, true, false, ◌==◌, if◌then◌else◌, append-nil, length-append}
-use Rattle.std.specs.Prelude.{Option, Some, None, ◌≤◌, ◌%◌}
+use Rattle.std.specs.Prelude.{Option, Some, None}
 use Rattle.std.proofs.lemmas.List.{take_all}
 use Rattle.std.proofs.lemmas.Bool.Decides.{nat_tests}
 use mathlib.Core.Option.{some, some-injective, some-ne-none}
 use mathlib.Core.List.{IsPrefix}
-use native.Mathlib.Decide.{ℕ_discrete}
 use lib.ListN.{get_elem?}
 use Rattle.atomic_table.proofs.Lists.{at_last}
 use Rattle.vt_turns.proofs.Lists.{prefix_length, longer_prefix}
 use Rattle.vt_turns_example.specs.declared.part.Block.{Block}
 use Rattle.vt_turns_example.specs.declared.link.Ask.TheVariants.{Write, Look}
 use Rattle.vt_turns_example.specs.declared.link.Said.{Said}
-use Rattle.vt_turns_example.specs.declared.link.Said.TheVariants.{Added, Held, Collision, NoMemory, Absent, Unknown}
+use Rattle.vt_turns_example.specs.declared.link.Said.TheVariants.{Added, Held, Collision, NoMemory, Absent}
 use Rattle.vt_turns_example.specs.Blocks.{held, number_from}
 use Rattle.vt_turns.specs.Steps.{Loads}
 use Rattle.vt_turns.specs.Calls.{FindsUnset}

@@ -1,5 +1,5 @@
 -- Talks of a longer history, and one talk behind another.
-use Rattle.std.proofs.Common.{◌≡◌, ℕ, suc, ◌+◌, ◌<◌, ◌≤◌, List, [], ◌∷◌, ◌++◌, length, take, sym, refl, ap, ◌∙◌, subst, arith, append-nil, append_assoc}
+use Rattle.std.proofs.Common.{◌≡◌, ℕ, ◌≤◌, List, [], ◌∷◌, ◌++◌, length, take, sym, refl, ap, ◌∙◌, subst, arith, append-nil, append_assoc}
 use Rattle.std.proofs.lemmas.List.{take-append-le}
 use mathlib.Core.Option.{some}
 use mathlib.Core.List.{IsPrefix}
@@ -13,7 +13,7 @@ use Rattle.vt_turns_example.specs.declared.link.Ask.TheVariants.{Write, Look}
 use Rattle.vt_turns_example.specs.declared.link.Said.{Said}
 use Rattle.vt_turns_example.specs.declared.link.Said.TheVariants.{Added, Held, Collision, NoMemory, Absent, Unknown}
 use Rattle.vt_turns_example.specs.declared.link.Line.{Line}
-use Rattle.vt_turns_example.specs.Talk.{Answers, Adds, Tells, IsTalk}
+use Rattle.vt_turns_example.specs.Talk.{Answers, Adds, IsTalk}
 use Rattle.vt_turns_example.specs.Stores.{Pass, TheView, Answered}
 use Rattle.vt_turns_example.specs.Work.{Works}
 

@@ -1,5 +1,5 @@
 -- Which keys there are, and the place of a key's Bloom bit.
-use Rattle.std.specs.Prelude.{ℕ, ◌<◌, ◌-◌, ◌^◌, ◌%◌}
+use Rattle.std.specs.Prelude.{ℕ, ◌<◌, ◌-◌, ◌^◌}
 use Rattle.vt_turns_example.specs.declared.link.Ask.{Ask}
 use Rattle.vt_turns_example.specs.declared.link.Ask.TheVariants.{Write, Look}
 

@@ -1,5 +1,5 @@
 -- What a history one block longer holds, and why a part stays sound.
-use Rattle.std.proofs.Common.{◌≡◌, ◌≢◌, ℕ, suc, ◌+◌, ◌≤◌, eq-eqb, ne_eqb, List, [], ◌∷◌, ◌++◌, length, sym, refl, ap, ◌∙◌, arith, Bool, true, false, ◌==◌, if◌then◌else◌}
+use Rattle.std.proofs.Common.{◌≡◌, ◌≢◌, ℕ, suc, ne_eqb, List, [], ◌∷◌, ◌++◌, sym, ap, ◌∙◌, Bool, true, false, ◌==◌, if◌then◌else◌}
 use Rattle.std.specs.Prelude.{Option, Some, None}
 use Rattle.vt_turns.specs.Meaning.{Lawful}
 use Rattle.vt_turns_example.specs.declared.part.Block.{Block}

@@ -4,7 +4,6 @@ use Rattle.std.specs.Ordering.{nat_cmp}
 use Rattle.std.specs.BTreeMap.{get}
 use Rattle.vt_turns_example.specs.declared.part.Block.{Block}
 use Rattle.vt_turns_example.specs.declared.part.Shard.{Shard as TheShard}
-use Rattle.vt_turns_example.specs.declared.part.Log.{Log as TheLog}
 use Rattle.vt_turns_example.specs.declared.part.Part.{Part}
 use Rattle.vt_turns_example.specs.declared.part.Part.TheVariants.{Log, Shard}
 use Rattle.vt_turns.specs.Meaning.{Meaning}

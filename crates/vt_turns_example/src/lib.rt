@@ -22,7 +22,7 @@ pub use running::run;
 pub use script::{Script, Scripts};
 pub use serving::serve;
 pub use store::Store;
-pub use workers::{End, Served, Serves, Started, serve_all, serve_two};
+pub use workers::{End, Served, Serves, Started, meet, serve_all, serve_two};
 
 #[cfg(test)]
 mod tests;

@@ -7,6 +7,7 @@ use std::alloc::{AllocError, Global};
 use std::test::Fail;
 
 /// How many lines have each answer.
+#[derive(Drop)]
 struct Counts {
     added: u64,
     held: u64,
@@ -119,5 +120,19 @@ fn two_threads_write_and_look(rt: HostRuntime) -> Result<(), Fail> {
     assert_eq!(rt; counts.collisions, 1);
     assert_eq!(rt; counts.absent, 2);
     assert_eq!(rt; counts.others, 0);
+    Ok(())
+}
+
+/// A pass that meets another one knows of its block.
+#[test]
+fn passes_that_meet_have_seen_the_same(rt: HostRuntime) -> Result<(), Fail> {
+    let (store, mut pass) = open(rt.alloc(), 1)?;
+    let mut other = store.split(&mut pass);
+    let line = store.write(&rt, &mut pass, Block { key: 5, value: 6 });
+    assert!(rt; line.said == Said::Added);
+    meet(&store, &mut pass, &mut other);
+    assert_eq!(rt; store.count(&mut other), 1);
+    let line = store.write(&rt, &mut other, Block { key: 5, value: 7 });
+    assert!(rt; line.said == Said::Collision);
     Ok(())
 }

@@ -1,7 +1,9 @@
 //! Workers, of which each serves a link in a thread of its own.
 
 ghost use Rattle.std.specs.Prelude.{◌≡◌, ◌+◌, ◌<◌, ◌≤◌, [], MatchOption, vec_len, vec_capacity};
-ghost use Rattle.vt_turns.specs.Views.{view};
+ghost use mathlib.Core.List.{IsPrefix};
+ghost use Rattle.vt_turns.specs.Views.{view, HoldsNone};
+ghost use Rattle.vt_turns.specs.Calls.{IsPassOf};
 ghost use Rattle.vt_turns_example.specs.Stores.{IsFree};
 ghost use Rattle.vt_turns_example.specs.Work.{Works};
 ghost use Rattle.vt_turns_example.specs.Workers.{Begins, AllBegun, Begun, Joins, HasServed, ServedTwo, less};
@@ -103,12 +105,30 @@ fn finish<R: Threads, L: Link>(rt: &R, started: Started<L>) -> Served<L>
 /// Takes in another pass, and all that it has seen.
 fn join_pass(store: &Store, pass: &mut Pass<Part, Block>, other: Pass<Part, Block>)
     requires free { IsFree store.now pass.old }
-    requires other { IsFree store.now other }
+    requires other { IsPassOf store.now.turns other × HoldsNone (view other) }
     ensures free { IsFree store.now pass.new }
     ensures joins { Joins (view pass.old) (view other) (view pass.new) }
 {
     store.turns.join(pass, other);
     store.turns.front(pass);
+}
+
+/// Tells each of two passes what the other one has seen.
+pub fn meet(store: &Store, first: &mut Pass<Part, Block>, second: &mut Pass<Part, Block>)
+    requires first { IsFree store.now first.old }
+    requires second { IsFree store.now second.old }
+    ensures free { IsFree store.now first.new × IsFree store.now second.new }
+    ensures first { IsPrefix (view first.old).seen (view first.new).seen
+        × IsPrefix (view second.old).seen (view first.new).seen }
+    ensures second { IsPrefix (view second.old).seen (view second.new).seen
+        × IsPrefix (view first.old).seen (view second.new).seen }
+    ensures share { ((view first.new).share ≡ (view first.old).share)
+        × ((view second.new).share ≡ (view second.old).share) }
+{
+    let note = store.turns.note(first);
+    join_pass(store, second, note);
+    let note = store.turns.note(second);
+    join_pass(store, first, note);
 }
 
 /// Starts a worker for each link, at most `count` of them.

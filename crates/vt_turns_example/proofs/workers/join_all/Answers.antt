@@ -18,7 +18,8 @@ join_pass-requires-clause-other g c =
     let h = c.in-Some.ensures.steps in
     let b = c.loop-started.invariant.begun 0 c.in-Some.started (ap (λ l. get_elem? l 0) h.0) in
     let w = c.finish-other.ensures b.0 b.3 in
-    works_in c.args.store.now b.0 c.finish-other.result.pass (g.L.Link.told c.finish-other.result.link) b.2 w
+    let free = works_in c.args.store.now b.0 c.finish-other.result.pass (g.L.Link.told c.finish-other.result.link) b.2 w in
+    (free.0.0, free.1)
 
 pub loop-started-preserved : goal.loop-started-preserved
 loop-started-preserved g c =

@@ -1,4 +1,4 @@
-use Rattle.std.proofs.Common.{rules, ◌∙◌, ap, arith, ◌≡◌}
+use Rattle.std.proofs.Common.{rules, ◌∙◌, ap, arith}
 use Rattle.vt_turns.specs.Views.{turn_of}
 use Rattle.vt_turns_example.specs.Stores.{TheView}
 use Rattle.vt_turns_example.proofs.Joins.{less_more, split_same, begun_more}

@@ -2,7 +2,6 @@ use Rattle.std.proofs.Common.{◌≡◌, ◌∙◌, ◌∷◌, [], ◌++◌, ap,
 use mathlib.Core.List.{IsPrefix}
 use lib.ListN.{get_elem?}
 use Rattle.vt_turns.proofs.Lists.{inside}
-use Rattle.vt_turns_example.specs.declared.part.Block.{Block}
 use Rattle.vt_turns_example.specs.declared.part.Part.TheVariants.{Log, Shard}
 use Rattle.vt_turns_example.specs.Blocks.{held}
 use Rattle.vt_turns_example.proofs.Holding.{took_both, none_again}
