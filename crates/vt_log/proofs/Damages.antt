@@ -1,21 +1,29 @@
--- The two values of a damage differ.
+-- The two values of a damage are of one form, and differ.
 use Rattle.std.proofs.Common.{◌≡◌, ◌≢◌, ◌⊎◌, ⊎_elim, inl, inr, ℕ, ◌+◌, ◌-◌, ◌<◌, ◌≤◌, Bool, true, false, not, Option, Some, None, List, length, take, refl, sym, ◌∙◌, ap, subst, arith, Err, Result}
-use Rattle.std.specs.Prelude.{◌==◌, nat_lt, if◌then◌else◌, codes, slice_index}
+use Rattle.std.specs.Prelude.{◌==◌, ◌||◌, ◌&&◌, nat_lt, if◌then◌else◌, codes, slice_index}
 use Rattle.std.specs.Str.{bytes_eq}
 use Rattle.std.proofs.lemmas.Bool.{cases_lt, eqb-false, ltb-true}
+use Rattle.std.proofs.lemmas.Bool.Decides.{nat_tests}
 use Rattle.std.proofs.lemmas.Slice.Eq.{bytes_eq-Decides}
 use Rattle.vt_base.specs.declared.key.Key.{Key}
 use Rattle.vt_base.specs.declared.place.Place.{Place}
 use Rattle.vt_base.specs.declared.score.Score.{Score}
 use Rattle.vt_base.specs.declared.why.FieldValue.{FieldValue}
 use Rattle.vt_base.specs.declared.why.FieldValue.TheVariants.{Number, Score as ScoreValue}
+use Rattle.vt_base.specs.Damage.{Differ}
 use Rattle.vt_base.specs.Kind.{is_kind}
+use Rattle.vt_base.specs.declared.TheConstants.{MAX_BLOCK}
 use Rattle.vt_log.specs.Members.{DiskOf}
 use Rattle.vt_clump.specs.declared.reading.ClumpBad.{ClumpBad}
 use Rattle.vt_clump.specs.Faults.{or_else, bad_encoding, bad_size, bad_header, other_score, first_bad}
 use Rattle.vt_clump.specs.Spelling.{size_in, uncsize_in, stored_in}
+use Rattle.vt_arena.specs.declared.bad.BackBad.{BackBad}
+use Rattle.vt_arena.specs.declared.bad.BackBad.TheVariants.{Damaged as EntryDamaged, Fault as EntryFault}
 use Rattle.vt_arena.specs.declared.bad.ReadBad.{ReadBad}
 use Rattle.vt_arena.specs.declared.bad.ReadBad.TheVariants.{Damaged}
+use Rattle.vt_arena.specs.declared.directory.At.{At}
+use Rattle.vt_arena.specs.Directory.{kind_in, size_in as size_in_entry, uncsize_in as uncsize_in_entry, is_out_of_sum, first_bad as first_bad_entry}
+use Rattle.vt_arena.specs.Places.{block_room}
 use Rattle.vt_arena.specs.Reading.{HasHeader, damage_of, IsDamaged}
 use Rattle.vt_log.specs.Log.{LogState}
 use Rattle.vt_log.specs.Queue.{IsNowhere}
@@ -27,18 +35,18 @@ use Rattle.vt_log.proofs.Places.{slice_get_there}
 
 -- this fault of a clump, if there is one, has two values
 abbrev HasTwo : Option ClumpBad → Type 0
-HasTwo (Some bad) = (damage_of bad).0 ≢ (damage_of bad).1
+HasTwo (Some bad) = Differ (damage_of bad).0 (damage_of bad).1
 HasTwo None = Unit
 
 -- two numbers that differ are two values
-numbers : (m n : ℕ) → m ≢ n → Number m ≢ Number n
-numbers m n other same = other (cc)
+numbers : (m n : ℕ) → m ≢ n → Differ (Number m) (Number n)
+numbers m n other = record { form = tt; values = λ same. other (cc) }
 
--- a choice of two faults, and the first of two
-choose : (b : Bool) (x y : Option ClumpBad) → (b ≡ true → HasTwo x) → (b ≡ false → HasTwo y)
-    → HasTwo (if b then x else y)
-choose true x y first other = first refl
-choose false x y first other = other refl
+-- what holds of both sides of a choice holds of the choice
+choose : {A : Type 0} (P : A → Type 0) (b : Bool) (x y : A) → (b ≡ true → P x) → (b ≡ false → P y)
+    → P (if b then x else y)
+choose P true x y first other = first refl
+choose P false x y first other = other refl
 
 joined : (x y : Option ClumpBad) → HasTwo x → HasTwo y → HasTwo (or_else x y)
 joined None y first later = later
@@ -47,17 +55,17 @@ joined (Some bad) y first later = first
 -- each test of a clump that fails tells two values
 encoding_two : (n : ℕ) → HasTwo (bad_encoding n)
 encoding_two n =
-    choose (n == 1) _ _ (λ _. tt)
-    (λ other. choose (n == 2) _ _ (λ _. numbers 1 2 (λ same. omega arith))
+    choose HasTwo (n == 1) _ _ (λ _. tt)
+    (λ other. choose HasTwo (n == 2) _ _ (λ _. numbers 1 2 (λ same. omega arith))
     (λ _. numbers 1 n (λ same. eqb-false n 1 other (sym same))))
 
 size_two : (size uncsize room : ℕ) → HasTwo (bad_size size uncsize room)
 size_two size uncsize room =
-    choose (not (uncsize == size)) _ _ (λ other. numbers size uncsize (λ same. grind (arith)))
-    (λ _. choose (size == 0) _ _ (λ _. numbers 1 0 (λ same. omega arith))
-    (λ _. choose (nat_lt 57344 size) _ _
+    choose HasTwo (not (uncsize == size)) _ _ (λ other. numbers size uncsize (λ same. grind (arith)))
+    (λ _. choose HasTwo (size == 0) _ _ (λ _. numbers 1 0 (λ same. omega arith))
+    (λ _. choose HasTwo (nat_lt 57344 size) _ _
     (λ large. numbers 57344 size (λ same. omega (arith, ltb-true 57344 size large)))
-    (λ _. choose (nat_lt room size) _ _
+    (λ _. choose HasTwo (nat_lt room size) _ _
     (λ large. numbers room size (λ same. omega (arith, ltb-true room size large)))
     (λ _. tt))))
 
@@ -69,24 +77,30 @@ kind_two n none same =
 
 header_two : (bytes : List ℕ) → HasTwo (bad_header bytes)
 header_two bytes =
-    choose (nat_lt (length bytes) 38) _ _ (λ _. numbers 38 0 (λ same. omega arith))
-    (λ _. choose (not (bytes_eq (take 4 bytes) (codes "VCLP"))) _ _ (λ other same.
-    let magic : codes "VCLP" ≡ take 4 bytes = cc in
-    let equal : bytes_eq (take 4 bytes) (codes "VCLP") ≡ true =
-    (bytes_eq-Decides (take 4 bytes) (codes "VCLP")).1 (sym magic) in
-    let no : not true ≡ true = ap not (sym equal) ∙ other in
-    absurd (cc))
-    (λ _. choose (not (is_kind (slice_index bytes 4))) _ _ (λ none. numbers 13 _ (kind_two _ none))
+    choose HasTwo (nat_lt (length bytes) 38) _ _ (λ _. numbers 38 0 (λ same. omega arith))
+    (λ _. choose HasTwo (not (bytes_eq (take 4 bytes) (codes "VCLP"))) _ _ (λ other. record {
+      form = tt;
+      values = λ same.
+          let magic : codes "VCLP" ≡ take 4 bytes = cc in
+          let equal : bytes_eq (take 4 bytes) (codes "VCLP") ≡ true =
+          (bytes_eq-Decides (take 4 bytes) (codes "VCLP")).1 (sym magic) in
+          let no : not true ≡ true = ap not (sym equal) ∙ other in
+          absurd (cc);
+    })
+    (λ _. choose HasTwo (not (is_kind (slice_index bytes 4))) _ _ (λ none. numbers 13 _ (kind_two _ none))
     (λ _. joined (bad_encoding (slice_index bytes 29)) _ (encoding_two (slice_index bytes 29))
     (size_two (size_in bytes) (uncsize_in bytes) (length bytes - 38)))))
 
 score_two : (want found : List ℕ) → HasTwo (other_score want found)
 score_two want found =
-    choose (bytes_eq found want) _ _ (λ _. tt) (λ other same.
-    let score : record { 0 = want } ≡ record { 0 = found } = cc in
-    let equal : bytes_eq found want ≡ true =
-    (bytes_eq-Decides found want).1 (sym (ap (λ (s : Score). s.0) score)) in
-    absurd (cc))
+    choose HasTwo (bytes_eq found want) _ _ (λ _. tt) (λ other. record {
+      form = tt;
+      values = λ same.
+          let score : record { 0 = want } ≡ record { 0 = found } = cc in
+          let equal : bytes_eq found want ≡ true =
+          (bytes_eq-Decides found want).1 (sym (ap (λ (s : Score). s.0) score)) in
+          absurd (cc);
+    })
 
 first_two : (score_of : List ℕ → List ℕ) (bytes : List ℕ) → HasTwo (first_bad score_of bytes)
 first_two score_of bytes =
@@ -94,21 +108,31 @@ first_two score_of bytes =
     (score_two (stored_in bytes).score (score_of (stored_in bytes).block))
 
 damaged_two : (score_of : List ℕ → List ℕ) (bytes : List ℕ) (want found : FieldValue)
-    → IsDamaged score_of bytes want found → want ≢ found
-damaged_two score_of bytes want found it same =
-    let two = subst HasTwo it.1 (first_two score_of bytes) in
-    two (ap (λ (p : FieldValue × FieldValue). p.0) it.2 ∙ same
-    ∙ sym (ap (λ (p : FieldValue × FieldValue). p.1) it.2))
+    → IsDamaged score_of bytes want found → Differ want found
+damaged_two score_of bytes want found it =
+    subst (λ (p : FieldValue × FieldValue). Differ p.0 p.1) it.2
+    (subst HasTwo it.1 (first_two score_of bytes))
+
+-- two values that are those
+pub as_two : (want found a b : FieldValue) → want ≡ a → found ≡ b → Differ a b → Differ want found
+as_two want found a b want_is found_is two =
+    subst (λ (v : FieldValue). Differ v found) (sym want_is)
+    (subst (λ (v : FieldValue). Differ a v) (sym found_is) two)
 
 -- so does a clump that has another key
-key_two : (key : Key) (kind : ℕ) (score : List ℕ) (want found : FieldValue)
-    → IsOther key kind score want found → want ≢ found
-key_two key kind score want found other same = ⊎_elim
-    (λ (it : (kind ≢ key.kind) × (want ≡ Number key.kind) × (found ≡ Number kind)). it.0 (cc))
+pub key_two : (key : Key) (kind : ℕ) (score : List ℕ) (want found : FieldValue)
+    → IsOther key kind score want found → Differ want found
+key_two key kind score want found other = ⊎_elim
+    (λ (it : (kind ≢ key.kind) × (want ≡ Number key.kind) × (found ≡ Number kind)).
+    as_two want found _ _ it.1 it.2 (numbers key.kind kind (λ same. it.0 (sym same))))
     (λ (it : (kind ≡ key.kind) × (score ≢ key.score.0) × (want ≡ ScoreValue key.score)
     × (found ≡ ScoreValue (record { 0 = score }))).
-    let same_score : key.score ≡ record { 0 = score } = cc in
-    it.1 (sym (ap (λ (s : Score). s.0) same_score)))
+    as_two want found _ _ it.2 it.3 (record {
+      form = tt;
+      values = λ same.
+          let same_score : key.score ≡ record { 0 = score } = cc in
+          it.1 (sym (ap (λ (s : Score). s.0) same_score));
+    }))
     other
 
 -- a header can lie at an offset, or it can't
@@ -125,7 +149,7 @@ header_cases len offset = ⊎_elim
 pub answer_two : {D : Type 0} (score_of : List ℕ → List ℕ) (disk : DiskOf D) (l : LogState D) (place : Place) (key : Key) (result : Result (List ℕ) ReadBad)
     → IsWhole disk l → IsNowhere l.queue.places place → place.arena < length l.layout
     → AnswersRead score_of disk l place key result
-    → (want found : FieldValue) → result ≡ Err (Damaged want found) → want ≢ found
+    → (want found : FieldValue) → result ≡ Err (Damaged want found) → Differ want found
 answer_two score_of disk l place key result whole none within answer want found bad =
     let at = slice_get_there l.layout place.arena within in
     let len = (at_slice (IsOnDisk disk l.disks) l.layout _ at.0 whole.regions at.1).len in
@@ -135,9 +159,43 @@ answer_two score_of disk l place key result whole none within answer want found 
     ⊎_elim (damaged_two score_of stored.0 want found)
     (λ (other : (_ ≡ None) × _). key_two key _ _ want found other.1)
     (subst (ReadsAs score_of key stored.0) bad stored.2))
-    (λ (no : ¬ HasHeader at.0.len place.offset) (same : want ≡ found).
+    (λ (no : ¬ HasHeader at.0.len place.offset).
     let told : Err (Damaged want found) ≡ Err (Damaged (Number 24576) (Number place.offset)) =
     sym bad ∙ answer.outside at.0 none at.1 no in
-    let offset : 24576 ≡ place.offset = cc in
-    no (omega (arith, offset), omega (arith, offset, len)))
+    let want_is : want ≡ Number 24576 = cc in
+    let found_is : found ≡ Number place.offset = cc in
+    as_two want found _ _ want_is found_is (numbers 24576 place.offset
+    (λ offset. no (omega (arith, offset), omega (arith, offset, len)))))
     (header_cases at.0.len place.offset)
+
+-- ---- an entry of a directory
+
+-- where the sum of the clumps doesn't come out, it isn't that of what is left
+out_of_sum : (at : At) (size : ℕ) → is_out_of_sum at size ≡ true → at.end ≢ block_room size
+out_of_sum at size out same = grind (arith, nat_tests)
+
+-- this fault of an entry, if there is one, has two values
+abbrev EntryHasTwo : Option BackBad → Type 0
+EntryHasTwo (Some (EntryDamaged want found)) = Differ want found
+EntryHasTwo (Some EntryFault) = Unit
+EntryHasTwo None = Unit
+
+pub entry_two : (used : ℕ) (at : At) (entry : List ℕ) (want found : FieldValue) → at.end ≤ used
+    → first_bad_entry used at entry ≡ Some (EntryDamaged want found) → Differ want found
+entry_two used at entry want found within bad = subst EntryHasTwo bad
+    (choose EntryHasTwo (not (is_kind (kind_in entry))) _ _
+    (λ none. numbers 13 _ (kind_two _ none))
+    (λ _. choose EntryHasTwo (size == 0 || nat_lt MAX_BLOCK size) _ _
+    (λ none. numbers 1 size (λ same.
+    let of_one : (1 == 0 || nat_lt MAX_BLOCK 1) ≡ true =
+    ap (λ (n : ℕ). n == 0 || nat_lt MAX_BLOCK n) same ∙ none in
+    absurd (cc)))
+    (λ _. choose EntryHasTwo (not (uncsize_in_entry entry == size)) _ _
+    (λ other. numbers size (uncsize_in_entry entry) (λ same. grind (arith)))
+    (λ _. choose EntryHasTwo (is_out_of_sum at size) _ _
+    (λ out. numbers used (used - at.end + block_room size)
+    (λ same. out_of_sum at size out (omega (arith, same, within))))
+    (λ _. tt)))))
+  where
+    size : ℕ
+    size = size_in_entry entry

@@ -15,9 +15,9 @@ use Rattle.vt_model.specs.Places.{lengths_in}
 use Rattle.vt_arena.specs.Layout.{Content}
 use Rattle.vt_arena.specs.Places.{lengths_of}
 use Rattle.vt_log.specs.Logs.{accepted, blocks_from}
-use Rattle.vt_log.proofs.Appending.{lengths_none}
+use Rattle.vt_log.proofs.Appends.{lengths_none}
 use Rattle.vt_log.proofs.Memory.{slice_get_left, slice_get_right}
-use Rattle.vt_log.proofs.Walks.{blocks_below}
+use Rattle.vt_log.proofs.IsBehind.{blocks_below}
 
 -- how many blocks stand in the arenas before this one
 abbrev pub blocks_before : (arena : ℕ) → List Content → ℕ

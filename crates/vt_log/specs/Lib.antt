@@ -12,3 +12,4 @@ pub mod Whole
 pub mod Formatting
 pub mod Mounting
 pub mod Members
+pub mod View

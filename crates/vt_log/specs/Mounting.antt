@@ -1,7 +1,8 @@
 -- How a log is found.
-use Rattle.std.specs.Prelude.{◌≡◌, ⊤, ℕ, ◌+◌, ◌%◌, ◌≤◌, All, Bool, IsTrue, None, Some, List, length, map, sum_by, take, slice_get, Result, Ok, Err}
+use Rattle.std.specs.Prelude.{◌≡◌, ◌⊎◌, ⊤, ℕ, ◌+◌, ◌%◌, ◌<◌, ◌≤◌, All, Bool, IsTrue, None, Some, List, length, map, sum_by, take, slice_get, Result, Ok, Err}
 use Rattle.vt_log.specs.Members.{DiskOf}
 use Rattle.vt_disk.specs.declared.region.Region.{Region}
+use Rattle.vt_disk.specs.Disk.{Only}
 use Rattle.vt_twin.specs.Frames.{named_number}
 use Rattle.vt_part.specs.declared.layout.ArenaRegion.{ArenaRegion}
 use Rattle.vt_part.specs.declared.part.Part.{Part}
@@ -31,6 +32,37 @@ pub record AreRead {D : Type 0} (disk : DiskOf D) (most : ℕ) (old new : List (
   pub disks : HoldTheSame disk (disks_of old) (disks_of new)
   pub calls_most : IsTrue disk.tells
       → sum_by disk.calls (disks_of new) ≤ sum_by disk.calls (disks_of old) + most
+
+-- a crash leaves of these partitions' disks just what a read gives
+abbrev pub AreSettled : {D : Type 0} → DiskOf D → List (Part D) → Type 0
+AreSettled disk parts =
+    IsTrue disk.tells → All (λ part. Only (disk.bytes part) (disk.images part)) (disks_of parts)
+
+-- Syncing them stopped at this one's disk: one call was made of it and of each before it, and the
+-- partitions behind it are as they were.
+pub record StopsSyncing {D : Type 0} (disk : DiskOf D) (old new : List (Part D)) : Type 0 where
+  pub part : ℕ
+  pub within : part < length old
+  pub calls_most : IsTrue disk.tells
+      → sum_by disk.calls (disks_of new) ≤ sum_by disk.calls (disks_of old) + (part + 1)
+  pub behind : (i : ℕ) → part < i → slice_get new i ≡ slice_get old i
+
+-- What is told of the disks' bytes is told of settled ones. Nothing is read behind a sync that
+-- fails, and where two partitions have one name no call is made.
+abbrev pub IsTold : {D : Type 0} → DiskOf D → (old new : List (Part D)) → LogBad → Type 0
+IsTold disk old new (PartRefused bad) = new ≡ old
+IsTold disk old new (Arena i bad) = AreSettled disk new
+IsTold disk old new (Order i clumps) = AreSettled disk new
+IsTold disk old new Fault = StopsSyncing disk old new ⊎ AreSettled disk new
+IsTold disk old new NoMemory = (new ≡ old) ⊎ AreSettled disk new
+
+-- a refusal before any call
+abbrev pub IsEarly : LogBad → Type 0
+IsEarly (PartRefused bad) = ⊤
+IsEarly (Arena i bad) = ⊥
+IsEarly (Order i clumps) = ⊥
+IsEarly Fault = ⊥
+IsEarly NoMemory = ⊤
 
 -- these are the fields of an arena's current head, as the files have it
 abbrev pub AreFieldsAt : (files : List (List ℕ)) → ArenaRegion → (fields : List ℕ) → Type 0

@@ -1,6 +1,8 @@
 //! Walking a log from its last block to the first.
 
-ghost use Rattle.std.specs.Prelude.{◌≡◌, ◌≢◌, ◌↔◌, ◌⊎◌, ◌∷◌, ◌++◌, ◌+◌, ◌-◌, ◌<◌, ◌≤◌, ℕ, List, Some, None, Ok, IsTrue, IfOk, IfErr, MatchOption, MatchResult, length, map, slice_get};
+ghost use Rattle.std.specs.Prelude.{◌≡◌, ◌≢◌, ◌↔◌, ◌⊎◌, ◌∷◌, ◌++◌, ◌+◌, ◌-◌, ◌<◌, ◌≤◌, ℕ, List, Some, None, Ok, Err, IsTrue, IfOk, IfErr, MatchOption, MatchResult, length, map, slice_get};
+ghost use Rattle.vt_base.specs.Damage.{Differ};
+ghost use Rattle.vt_base.specs.declared.why.FieldValue.{FieldValue};
 ghost use Rattle.vt_base.specs.declared.place.Info.{Info};
 ghost use Rattle.vt_base.specs.declared.place.Place.{Place};
 ghost use Rattle.vt_disk.specs.declared.region.Region.{Region};
@@ -113,6 +115,11 @@ impl<D: Disk, S: Scorer> Log<D, S> {
             × GivesEntry arena tail.old.left found.head.used at entry result
             × Moves arena at tail.new result }
         ensures none { (result ≡ Ok None) ↔ (tail.old.left ≡ 0) }
+
+        // The two values of a damage are of one form, and differ.
+        ensures differ { (want found : FieldValue) → result ≡ Err (BackBad.Damaged want found)
+            → Differ want found }
+
         ensures tail { IsTailOf self.new tail.new }
         ensures left { MatchResult result (λ it. MatchOption it (tail.new.left ≡ tail.old.left)
             (λ _. tail.new.left + 1 ≡ tail.old.left)) (λ _. tail.new.left ≡ tail.old.left) }
@@ -205,6 +212,8 @@ impl<D: Disk, S: Scorer> Log<D, S> {
             → IsAt self.old tail.old.arena r region disk → (entry : List ℕ)
             × (IsTrue D.tells → entry ≡ last_entry region tail.old.at.index (D.bytes disk))
             × GivesEntry tail.old.arena tail.old.left found.head.used tail.old.at entry result }
+        ensures differ { (want found : FieldValue) → result ≡ Err (BackBad.Damaged want found)
+            → Differ want found }
         ensures moved { Moves tail.old.arena tail.old.at tail.new result }
         ensures some { result ≢ Ok None }
         ensures tail { IsTailOf self.new tail.new }
@@ -243,6 +252,8 @@ impl<D: Disk, S: Scorer> Log<D, S> {
             → IsAt self.old arena r region disk → (entry : List ℕ)
             × (IsTrue D.tells → entry ≡ last_entry region at.old.index (D.bytes disk))
             × Walks found.head.number found.head.used at.old entry result }
+        ensures differ { (want found : FieldValue) → result ≡ Err (BackBad.Damaged want found)
+            → Differ want found }
         ensures moved { IfOk result (λ info. (at.new.index + 1 ≡ at.old.index)
             × (at.new.end + block_room info.size ≡ at.old.end)) }
         ensures stays { IfErr result (λ _. at.new ≡ at.old) }

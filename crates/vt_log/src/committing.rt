@@ -18,9 +18,9 @@ use vt_twin::{Step, TwinErr};
 
 impl<D: Disk, S: Scorer> Log<D, S> {
     ghost use Rattle.vt_log.specs.Answers.{Advances, Spares};
-    ghost use Rattle.vt_log.specs.Committing.{Stages, IsReady, TakesAll, Prepares, MakesOrEnds};
+    ghost use Rattle.vt_log.specs.Committing.{Stages, IsReady, TakesAll, Prepares, MakesOneCall};
     ghost use Rattle.vt_log.specs.Faults.{CountsFaultAt};
-    ghost use Rattle.vt_log.specs.Log.{LogState, queued, packed_of, next_filling, disk_in_use};
+    ghost use Rattle.vt_log.specs.Log.{LogState, queued, front, packed_of, next_filling, disk_in_use};
     ghost use Rattle.vt_log.specs.Queue.{WaitsFor};
     ghost use Rattle.vt_log.specs.Owed.{owed, seal_calls};
     ghost use Rattle.vt_log.specs.Sound.{IsSound, IsAt, AreWithinCall, StandForPrefix};
@@ -78,7 +78,8 @@ impl<D: Disk, S: Scorer> Log<D, S> {
         ensures kept { (self.new.layout ≡ self.old.layout) × (self.new.tables ≡ self.old.tables)
             × (self.new.base ≡ self.old.base) × (self.new.filling ≡ self.old.filling) }
 
-        // Where the next block goes stays.
+        // The count of accepted blocks stays, and where the next block goes.
+        ensures front { front self.new ≡ front self.old }
         ensures next { (n : ℕ) → next_filling self.new n ≡ next_filling self.old n }
 
         // The first call of a commit begins it with all that waits for the arena, and with its
@@ -174,33 +175,7 @@ impl<D: Disk, S: Scorer> Log<D, S> {
         requires runs { self.old.stopped ≡ None }
         requires some { 0 < queued self.old }
         requires ready { IsReady self.old }
-        ensures sound { (h : History) → IsTrue D.tells
-            → IsSound S.score_of D.Disk self.old h → IsSound S.score_of D.Disk self.new h }
-        ensures crash { (h : History) → IsTrue D.tells
-            → IsSound S.score_of D.Disk self.old h
-            → (files : List (List ℕ)) → AreWithinCall D.Disk self.old.disks self.new.disks files
-            → StandForPrefix S.score_of self.old files h }
-        ensures makes { MakesOrEnds result self.old self.new }
-        ensures batch { TakesAll self.old
-            → calls_made self.old.arena + 1 < commit_calls self.old.arena → TakesAll self.new }
-        ensures last { (n : ℕ) → result ≡ Ok (Progress.Durable n)
-            → calls_made self.old.arena + 1 ≡ commit_calls self.old.arena }
-        ensures kept { (self.new.layout ≡ self.old.layout) × (self.new.tables ≡ self.old.tables)
-            × (self.new.base ≡ self.old.base) × (self.new.filling ≡ self.old.filling) }
-        ensures one_call { IsTrue D.tells → (before after : D)
-            → slice_get self.old.disks (disk_in_use self.old) ≡ Some before
-            → slice_get self.new.disks (disk_in_use self.old) ≡ Some after
-            → IsOneMore (D.calls before) (D.calls after) }
-        ensures spares { Spares (disk_in_use self.old) self.old.disks self.new.disks }
-        ensures in_use { disk_in_use self.old < length self.old.disks }
-        ensures within { (r : ArenaRegion) (region : Region) (before after : D)
-            → IsAt self.old self.old.committing r region before
-            → slice_get self.new.disks r.part ≡ Some after
-            → ChangesWithin region (D.images before) (D.images after)
-            × (IsTrue D.tells → SameBut (Inside region) (D.bytes before) (D.bytes after)) }
-        ensures sizes { map D.size self.new.disks ≡ map D.size self.old.disks }
-        ensures cause { CountsFaultAt (disk_in_use self.old) result
-            (map D.faults self.old.disks) (map D.faults self.new.disks) }
+        ensures { MakesOneCall S.score_of D.Disk self.old self.new result }
     {
         let call = self.calls;
         self.calls = call.saturating_add(1);

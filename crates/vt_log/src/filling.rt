@@ -1,6 +1,7 @@
 //! How full an arena is.
 
 ghost use Rattle.std.specs.Prelude.{◌≡◌, ◌+◌, ◌<◌, ◌^◌};
+ghost use Rattle.vt_model.specs.declared.TheConstants.{CLUMP_HEADER_LEN};
 ghost use Rattle.vt_arena.specs.Places.{block_room};
 
 use vt_arena::ArenaHead;
@@ -33,7 +34,7 @@ impl Filling {
 
     /// The arena with one more block, of `n` bytes.
     pub fn with(self, n: u32) -> Filling
-        requires used { self.used + n + 38 < 2 ^ 64 }
+        requires used { self.used + n + CLUMP_HEADER_LEN < 2 ^ 64 }
         requires clumps { self.clumps + 1 < 2 ^ 32 }
         ensures { result ≡ with_room_taken n self }
     {

@@ -3,6 +3,7 @@
 ghost use Rattle.std.specs.Prelude.{◌≡◌, ◌↔◌, ◌+◌, ◌<◌, ◌≤◌, ◌^◌, Some, Err, Result, IsTrue, IsFalse, OnOk, IfSome, MatchResult, is_some, length, map, slice_get};
 ghost use Rattle.vt_disk.specs.Disk.{part as part_of};
 ghost use Rattle.vt_clump.specs.Clumps.{IsPacked};
+ghost use Rattle.vt_model.specs.declared.TheConstants.{CLUMP_HEADER_LEN};
 ghost use Rattle.vt_model.specs.History.{History};
 ghost use Rattle.vt_model.specs.Places.{next_arena};
 ghost use Rattle.vt_part.specs.declared.layout.ArenaRegion.{ArenaRegion};
@@ -50,43 +51,16 @@ pub struct Log<D: Disk, S: Scorer> {
 }
 
 impl<D: Disk, S: Scorer> Model for Log<D, S> {
-    ghost use Rattle.std.specs.Prelude.{map};
-    ghost use Rattle.vt_part.specs.Parts.{disk_of, tables_of};
     ghost use Rattle.vt_log.specs.Log.{LogState};
 
     ghost Value = { LogState D };
 
+    ghost use Rattle.vt_log.specs.View.{state_of};
     ghost use Rattle.vt_log.specs.Whole.{IsWhole};
 
-    ghost view = { λ l. record {
-      disks = map (λ part. disk_of part) l.parts.items;
-      tables = tables_of l.parts.items;
-      layout = l.layout;
-      heads = l.heads.items;
-      base = l.base;
-      committing = l.committing;
-      arena = l.arena;
-      queue = l.queue;
-      filling = l.filling;
-      durable = l.durable;
-      calls = l.calls;
-      stopped = l.stopped;
-    } };
+    ghost view = { state_of };
 
-    ghost invariant = { λ l. IsWhole D.Disk (record {
-      disks = map (λ part. disk_of part) l.parts.items;
-      tables = tables_of l.parts.items;
-      layout = l.layout;
-      heads = l.heads.items;
-      base = l.base;
-      committing = l.committing;
-      arena = l.arena;
-      queue = l.queue;
-      filling = l.filling;
-      durable = l.durable;
-      calls = l.calls;
-      stopped = l.stopped;
-    }) };
+    ghost invariant = { λ l. IsWhole D.Disk (state_of l) };
 }
 
 impl<D: Disk, S: Scorer> Log<D, S> {
@@ -230,7 +204,7 @@ impl<D: Disk, S: Scorer> Log<D, S> {
     fn next_filling(&self, n: u32) -> Option<Filling>
         ensures next { result ≡ next_filling self.now n }
         ensures small { IfSome result
-            (λ f. (f.used + n + 38 < 2 ^ 31) × (f.clumps + 1 < 2 ^ 32)) }
+            (λ f. (f.used + n + CLUMP_HEADER_LEN < 2 ^ 31) × (f.clumps + 1 < 2 ^ 32)) }
     {
         let filling = self.filling;
         if self.fits(filling, n) {

@@ -1,6 +1,6 @@
 //! Making partitions a log, and finding the log of partitions.
 
-ghost use Rattle.std.specs.Prelude.{◌≡◌, ◌⊎◌, ◌+◌, ◌*◌, ◌^◌, ◌<◌, ◌≤◌, [], ℕ, Bool, List, All, Some, IsTrue, IfOk, IfErr, OnOk, MatchResult, None, length, map, sum_by, slice_get};
+ghost use Rattle.std.specs.Prelude.{◌≡◌, ◌⊎◌, ◌+◌, ◌*◌, ◌^◌, ◌<◌, ◌≤◌, [], ℕ, Bool, List, All, Some, IsTrue, IfOk, IfErr, OnOk, OnErr, MatchResult, None, length, map, sum_by, slice_get};
 ghost use Rattle.vt_base.specs.Faults.{HasCause};
 ghost use Rattle.vt_disk.specs.Disk.{Only};
 ghost use Rattle.vt_model.specs.History.{History};
@@ -15,10 +15,10 @@ ghost use Rattle.vt_arena.specs.Heads.{fields_of};
 ghost use Rattle.vt_arena.specs.Places.{IsArenaLen};
 ghost use Rattle.vt_log.specs.Answers.{HoldTheSame};
 ghost use Rattle.vt_log.specs.Faults.{AreFields, RefusesMount, CountsFault, OneHasRisen, IsMountedBy, out_of_order};
-ghost use Rattle.vt_log.specs.Formatting.{IsEmpty, ChangesInHeads};
+ghost use Rattle.vt_log.specs.Formatting.{IsEmpty, ChangesInHeads, StopsAt, StopsIn};
 ghost use Rattle.vt_log.specs.Log.{IsMounted, disks_of, disks_after};
 ghost use Rattle.vt_log.specs.Logs.{IsLog, arena_count};
-ghost use Rattle.vt_log.specs.Mounting.{AreRead, AreFieldsAt, FindsNext, refused_by, IsFound, AreFound, RefusesArenas, ArePassed, IsFirstOpen, IsRoomFor};
+ghost use Rattle.vt_log.specs.Mounting.{IsTold, IsEarly, StopsSyncing, AreRead, AreFieldsAt, FindsNext, refused_by, IsFound, AreFound, RefusesArenas, ArePassed, IsFirstOpen, IsRoomFor};
 ghost use Rattle.vt_log.specs.Queue.{no_queue};
 ghost use Rattle.vt_log.specs.Sound.{IsSound, AreImages};
 ghost use Rattle.vt_log.specs.Whole.{IsOnDisk};
@@ -56,6 +56,9 @@ pub fn format<D: Disk>(parts: &mut [Part<D>]) -> Result<(), Failed>
     ensures size { map D.size (disks_of parts.new) ≡ map D.size (disks_of parts.old) }
     ensures most_calls { IsTrue D.tells → sum_by D.calls (disks_of parts.new)
         ≤ sum_by D.calls (disks_of parts.old) + 3 * arena_count (tables_of parts.old) }
+
+    // Nothing further is written behind a failed call.
+    ensures stops { OnErr result (StopsIn D.Disk parts.old parts.new) }
     ensures cause { MatchResult result
         (λ _. map D.faults (disks_of parts.new) ≡ map D.faults (disks_of parts.old))
         (λ _. OneHasRisen (map D.faults (disks_of parts.old))
@@ -77,6 +80,7 @@ fn format_part<D: Disk>(part: &mut Part<D>) -> Result<(), Failed>
     ensures size { D.size (disk_of part.new) ≡ D.size (disk_of part.old) }
     ensures most_calls { IsTrue D.tells → D.calls (disk_of part.new)
         ≤ D.calls (disk_of part.old) + 3 * (table_of part.old).count }
+    ensures stops { OnErr result (StopsAt D.Disk part.old part.new) }
     ensures cause { HasCause result (D.faults (disk_of part.old)) (D.faults (disk_of part.new)) }
 {
     for arena in 0..part.count() {
@@ -119,6 +123,9 @@ pub fn mount<D: Disk, S: Scorer + Drop>(
         × MatchResult result (λ log. IsMountedBy (layout_of (tables_of parts.items)) fields log)
         (λ refusal. RefusesMount (names_of parts.items) (layout_of (tables_of parts.items)) fields
         refusal.0) }
+
+    // A refusal is told of disks that are settled, and nothing is read behind a failed sync.
+    ensures told { IfErr result (λ refusal. IsTold D.Disk parts.items refusal.1.items refusal.0) }
 
     // It writes nothing, and syncs each disk and reads each head once.
     ensures handed_back { IfErr result (λ refusal. tables_of refusal.1.items
@@ -220,6 +227,7 @@ fn find_log<D: Disk>(alloc: Global, parts: &mut [Part<D>]) -> Result<Opened, Log
     ensures queue { IfOk result (λ it. it.queue ≡ no_queue) }
     ensures settled { OnOk result (IsTrue D.tells
         → All (λ disk. Only (D.bytes disk) (D.images disk)) (disks_of parts.new)) }
+    ensures told { IfErr result (IsTold D.Disk parts.old parts.new) }
     ensures read { AreRead D.Disk
         (length parts.old + 2 * arena_count (tables_of parts.old)) parts.old parts.new }
     ensures cause { MatchResult result
@@ -240,6 +248,7 @@ fn list<D>(alloc: Global, parts: &[Part<D>]) -> Result<Layout, LogBad>
     ensures distinct { OnOk result (AreDistinct (names_of parts.now)) }
     ensures refused { (layout : List ArenaRegion) (fields : List (List ℕ))
         → IfErr result (RefusesMount (names_of parts.now) layout fields) }
+    ensures early { IfErr result IsEarly }
     ensures cause { (counts : List ℕ) → IfErr result (λ bad. CountsFault bad counts counts) }
 {
     match vt_part::list(alloc, parts) {
@@ -254,6 +263,7 @@ fn sync_all<D: Disk>(parts: &mut [Part<D>]) -> Result<(), LogBad>
     ensures settled { OnOk result (IsTrue D.tells
         → All (λ disk. Only (D.bytes disk) (D.images disk)) (disks_of parts.new)) }
     ensures fault { IfErr result (λ bad. bad ≡ LogBad.Fault) }
+    ensures stops { OnErr result (StopsSyncing D.Disk parts.old parts.new) }
     ensures read { AreRead D.Disk (length parts.old) parts.old parts.new }
     ensures cause { MatchResult result
         (λ _. map D.faults (disks_of parts.new) ≡ map D.faults (disks_of parts.old))

@@ -1,6 +1,9 @@
 //! Reading a block.
 
 ghost use Rattle.std.specs.Prelude.{◌≡◌, ◌≢◌, ◌⊎◌, ◌∷◌, ◌++◌, ◌+◌, ◌<◌, ◌≤◌, ℕ, List, Some, Err, IsTrue, IfOk, IfErr, OnOk, MatchResult, length, map, drop, slice_get};
+ghost use Rattle.vt_base.specs.Damage.{Differ};
+ghost use Rattle.vt_base.specs.declared.TheConstants.{MAX_BLOCK};
+ghost use Rattle.vt_base.specs.declared.why.FieldValue.{FieldValue};
 ghost use Rattle.vt_disk.specs.declared.region.Region.{Region};
 ghost use Rattle.vt_clump.specs.declared.packed.Packed.{Packed};
 ghost use Rattle.vt_clump.specs.Spelling.{Stored};
@@ -52,12 +55,12 @@ impl<D: Disk, S: Scorer> Log<D, S> {
             → MatchResult result (λ block. block ≡ e.block.bytes)
             (λ bad. (bad ≡ ReadBad.Fault) ⊎ (bad ≡ ReadBad.NoMemory)) }
 
-        // For any place and key the answer is what stands there. The two values of a damage differ,
-        // where there is an arena.
+        // For any place and key the answer is what stands there. The two values of a damage are of
+        // one form and differ, where there is an arena.
         ensures answer { AnswersRead S.score_of D.Disk self.old place key.now result }
         ensures differ { 0 < length self.old.layout → (want found : FieldValue)
-            → result ≡ Err (ReadBad.Damaged want found) → want ≢ found }
-        ensures whole { IfOk result (λ block. length block ≤ 57344) }
+            → result ≡ Err (ReadBad.Damaged want found) → Differ want found }
+        ensures whole { IfOk result (λ block. length block ≤ MAX_BLOCK) }
 
         // One step is counted where a clump is read, and none else. It makes two reads at most, and
         // changes nothing.
@@ -115,7 +118,7 @@ impl<D: Disk, S: Scorer> Log<D, S> {
             → HasBlocks region a.stored (D.bytes disk) → a.stored ≡ before ++ s ∷ behind
             → place.offset ≡ offset_of before → MatchResult result (IsRead s)
             (λ bad. (bad ≡ ReadBad.Fault) ⊎ (bad ≡ ReadBad.NoMemory)) }
-        ensures whole { IfOk result (λ clump. length clump.bytes ≤ 57344) }
+        ensures whole { IfOk result (λ clump. length clump.bytes ≤ MAX_BLOCK) }
         ensures cost { (r : ArenaRegion) → slice_get self.old.layout place.arena ≡ Some r
             → HasHeader r.len place.offset → steps.new ≡ steps.old + 1 }
         ensures reads { OnlyReads S.score_of D.Disk 2 self.old self.new }
@@ -158,7 +161,7 @@ fn copy_queued(alloc: Global, packed: &Packed, key: &Key) -> Result<Bytes, ReadB
     ensures key { IfOk result (λ _. (packed.now.kind ≡ key.now.kind)
         × (packed.now.score ≡ key.now.score)) }
     ensures block { IfOk result (λ block. block ≡ drop CLUMP_HEADER_LEN packed.now.bytes) }
-    ensures whole { IfOk result (λ block. length block ≤ 57344) }
+    ensures whole { IfOk result (λ block. length block ≤ MAX_BLOCK) }
     ensures other { IfErr result (λ bad. (bad ≡ ReadBad.NoMemory)
         ⊎ IsDamagedBy key.now packed.now.kind packed.now.score.0 bad) }
 {

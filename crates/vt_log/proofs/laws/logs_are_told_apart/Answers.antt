@@ -1,4 +1,4 @@
-use Rattle.vt_log.proofs.Once.{one_log}
+use Rattle.vt_log.proofs.IsLog.{one_log}
 use Rattle.vt_log.proofs.laws.logs_are_told_apart.Goals as goal
 
 pub returns : goal.returns

@@ -1,7 +1,7 @@
 use Rattle.std.proofs.Common.{◌≡◌, ◌*◌, take, map, IsTrue}
 use Rattle.vt_log.specs.Log.{disks_of}
 use Rattle.vt_log.specs.Mounting.{AreRead, AreFound}
-use Rattle.vt_log.proofs.Finding.{fields_there, fields_of_all, Passes}
+use Rattle.vt_log.proofs.AreFound.{fields_there, fields_of_all, Passes}
 use Rattle.vt_log.proofs.mounting.find_all.Given as goal
 
 -- the arenas so far pass, and these are their heads

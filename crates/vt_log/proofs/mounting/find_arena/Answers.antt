@@ -5,7 +5,7 @@ use Rattle.vt_log.specs.declared.bad.LogBad.{LogBad}
 use Rattle.vt_log.specs.Faults.{CountsFault}
 use Rattle.vt_log.specs.Log.{disks_of}
 use Rattle.vt_log.specs.Mounting.{FindsNext}
-use Rattle.vt_log.proofs.Finding.{read_set, same_counts, part_of_region, fields_for, found_for, finds_ok, finds_err, refused_counts}
+use Rattle.vt_log.proofs.AreFound.{read_set, same_counts, part_of_region, fields_for, found_for, finds_ok, finds_err, refused_counts}
 use Rattle.vt_log.proofs.mounting.find_arena.Goals as goal
 
 pub offset_bounds-parts-r : goal.offset_bounds-parts-r

@@ -1,5 +1,5 @@
 -- The disks are synced, and the arenas found.
-use Rattle.std.proofs.Common.{◌+◌, ◌*◌, List, length, map, sym, ap, subst, arith}
+use Rattle.std.proofs.Common.{◌≡◌, ◌+◌, ◌*◌, List, length, map, inl, inr, sym, ap, subst, arith, Ok, Err, Result, IfErr}
 use Rattle.std.specs.Prelude.{All}
 use Rattle.std.proofs.lemmas.List.Elements.{All-weaker}
 use Rattle.std.proofs.lemmas.Result.{err_from_is_err_and}
@@ -7,11 +7,14 @@ use Rattle.vt_part.specs.declared.layout.ArenaRegion.{ArenaRegion}
 use Rattle.vt_part.specs.Layout.{layout_of}
 use Rattle.vt_part.specs.Parts.{tables_of}
 use Rattle.vt_part.proofs.Layouts.{layouts_have_lengths}
+use Rattle.vt_log.specs.declared.bad.LogBad.{LogBad}
+use Rattle.vt_log.specs.declared.bad.LogBad.TheVariants.{NoMemory}
 use Rattle.vt_log.specs.Log.{disks_of}
 use Rattle.vt_log.specs.Logs.{arena_count}
+use Rattle.vt_log.specs.Mounting.{IsTold}
 use Rattle.vt_log.specs.Whole.{IsOnDisk}
-use Rattle.vt_log.proofs.Finding.{read_then, on_held, fields_there, fields_are, settled_held, found_stands, on_ok}
-use Rattle.vt_log.proofs.Mounted.{regions_on}
+use Rattle.vt_log.proofs.AreFound.{read_then, on_held, fields_there, fields_are, settled_held, found_stands, on_ok, told_early, told_behind}
+use Rattle.vt_log.proofs.FoundLog.{regions_on}
 use Rattle.vt_log.proofs.mounting.find_log.Goals as goal
 
 pub returns-in_err-layout-clause-answer : goal.returns-in_err-layout-clause-answer
@@ -69,3 +72,33 @@ returns-clause-read g c =
     read_then g.D.Disk (length c.args.parts.now) (2 * length c.in_ok-layout.layout) (length c.args.parts.now + 2 * arena_count (tables_of c.args.parts.now))
     c.args.parts.now c.sync_all.new.parts c.find_all.new.parts
     (omega (arith, ap (λ (rs : List ArenaRegion). length rs) c.in_ok-layout.ensures.listed, layouts_have_lengths (tables_of c.args.parts.now))) c.sync_all.ensures.read c.find_all.ensures.read
+
+-- ---- what a refusal is told of
+
+pub returns-in_err-layout-clause-told : goal.returns-in_err-layout-clause-told
+returns-in_err-layout-clause-told g c =
+    let e = err_from_is_err_and c.from_residual.result c.from_residual.ensures.1 in
+    rw (e.1, e.2) (told_early g.D.Disk c.args.parts.now _ c.in_err-layout.ensures.early)
+
+pub returns-in_err-sync_all-clause-told : goal.returns-in_err-sync_all-clause-told
+returns-in_err-sync_all-clause-told g c =
+    let e = err_from_is_err_and c.from_residual-in_err-sync_all.result c.from_residual-in_err-sync_all.ensures.1 in
+    rw (e.1, e.2, c.in_err-sync_all.ensures.fault) (inl c.in_err-sync_all.ensures.stops)
+
+pub returns-in_err-heads-clause-told : goal.returns-in_err-heads-clause-told
+returns-in_err-heads-clause-told g c =
+    let e = err_from_is_err_and c.from_residual-in_err-heads.result c.from_residual-in_err-heads.ensures.1 in
+    let answer = c.in_err-heads.ensures.answer in
+    rw (e.1, e.2) (told_behind g.D.Disk c.args.parts.now c.find_all.new.parts _ answer.0 _ answer.2
+    (λ told. settled_held g.D.Disk (disks_of c.sync_all.new.parts) (disks_of c.find_all.new.parts) c.find_all.ensures.read.disks
+    (c.in_ok-sync_all.ensures.settled told)))
+
+pub returns-clause-told : goal.returns-clause-told
+returns-clause-told g c =
+    on_error (IsTold g.D.Disk c.args.parts.now c.find_all.new.parts) c.make_room.result c.make_room.ensures.memory (inr (λ told.
+    settled_held g.D.Disk (disks_of c.sync_all.new.parts) (disks_of c.find_all.new.parts) c.find_all.ensures.read.disks
+    (c.in_ok-sync_all.ensures.settled told)))
+  where
+    on_error : {T : Type 0} (P : LogBad → Type 0) (result : Result T LogBad) → IfErr result (λ bad. bad ≡ NoMemory) → P NoMemory → IfErr result P
+    on_error P (Ok it) memory holds = tt
+    on_error P (Err bad) memory holds = subst P (sym memory) holds

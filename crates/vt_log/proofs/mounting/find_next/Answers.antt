@@ -2,7 +2,7 @@
 use Rattle.std.proofs.Common.{sym, subst, Bool, Err}
 use Rattle.std.proofs.lemmas.Result.{err_from_is_err_and}
 use Rattle.vt_log.specs.Mounting.{FindsNext}
-use Rattle.vt_log.proofs.Finding.{next_refused, order_passes, order_refused}
+use Rattle.vt_log.proofs.AreFound.{next_refused, order_passes, order_refused}
 use Rattle.vt_log.proofs.mounting.find_next.Goals as goal
 
 pub returns-in_err-found-clause-answer : goal.returns-in_err-found-clause-answer

@@ -10,8 +10,9 @@ use Rattle.vt_part.specs.Table.{Table}
 use Rattle.vt_log.specs.Faults.{OneHasRisen}
 use Rattle.vt_log.specs.Log.{disks_of}
 use Rattle.vt_log.specs.Logs.{IsLog}
-use Rattle.vt_log.proofs.Formatted.{tables_set, counts_set, risen_part, calls_part, stays_set, empty_set, count_more, room_kept, empty_log, settled_parts}
-use Rattle.vt_log.proofs.Mounted.{regions_on}
+use Rattle.vt_log.proofs.IsEmpty.{tables_set, counts_set, risen_part, calls_part, stays_set, empty_set, stops_here, count_more, room_kept, empty_log, settled_parts}
+use Rattle.vt_log.proofs.FoundLog.{regions_on}
+use Rattle.vt_log.proofs.Memory.{slice_get_set_other}
 use Rattle.vt_log.proofs.mounting.format.Goals as goal
 
 pub format_part-requires : goal.format_part-requires
@@ -61,6 +62,16 @@ returns-in_err-format_part-clause-most_calls g c told =
       sum_by-take-le (λ (t : Table). t.count) (tables_of c.args.parts.now) (i + 1),
     )
 
+pub returns-in_err-format_part-clause-stops : goal.returns-in_err-format_part-clause-stops
+returns-in_err-format_part-clause-stops g c =
+    let ps = c.loop-part.parts in
+    let i = c.loop-part.part-index in
+    let p = get_or ps i c.part-item.result in
+    let q = c.format_part.new.part in
+    let at : slice_get ps i ≡ Some p = slice_get-get_or ps i c.part-item.result (omega arith) in
+    let e = err_from_is_err_and c.from_residual.result c.from_residual.ensures.1 in
+    rw e.1 (stops_here ps i p q at g.D.Disk c.args.parts.now c.loop-part.invariant.rest c.loop-part.invariant.empty c.in_err-format_part.ensures.stops)
+
 pub returns-in_err-format_part-clause-cause : goal.returns-in_err-format_part-clause-cause
 returns-in_err-format_part-clause-cause g c =
     let ps = c.loop-part.parts in
@@ -84,6 +95,7 @@ loop-part-preserved g c =
       tables = tables_set ps i p q at c.format_part.ensures.table ∙ c.loop-part.invariant.tables;
       empty = λ told. empty_set ps i p q at g.D.Disk (c.loop-part.invariant.empty told) (c.in_ok-format_part.ensures.empty told);
       stays = stays_set ps i p q at g.D.Disk c.args.parts.now c.loop-part.invariant.tables c.loop-part.invariant.stays c.format_part.ensures.stays;
+      rest = λ k most. slice_get_set_other ps i k q (λ same. omega (arith, most, same)) ∙ c.loop-part.invariant.rest k (omega (arith, most));
       size = counts_set ps i p q at g.D.Disk.size c.format_part.ensures.size ∙ c.loop-part.invariant.size;
       calls = λ told. omega (
         arith,

@@ -14,6 +14,7 @@ invariant-loop-part g l = record {
   empty : IsTrue g.D.Disk.tells → (k : ℕ) (part : _) → k < l.part-index → slice_get l.parts k ≡ Some part → IsEmpty g.D.Disk part;
   stays : (k : ℕ) (before after : Part _) → slice_get l.fn.parts k ≡ Some before → slice_get l.parts k ≡ Some after
       → ChangesInHeads g.D.Disk (table_of before) (disk_of before) (disk_of after);
+  rest : (k : ℕ) → l.part-index ≤ k → slice_get l.parts k ≡ slice_get l.fn.parts k;
   size : map g.D.Disk.size (disks_of l.parts) ≡ map g.D.Disk.size (disks_of l.fn.parts);
   calls : IsTrue g.D.Disk.tells → sum_by g.D.Disk.calls (disks_of l.parts) ≤ sum_by g.D.Disk.calls (disks_of l.fn.parts) + 3 * arena_count (take l.part-index (tables_of l.fn.parts));
   faults : map g.D.Disk.faults (disks_of l.parts) ≡ map g.D.Disk.faults (disks_of l.fn.parts);

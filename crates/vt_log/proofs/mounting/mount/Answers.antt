@@ -9,9 +9,9 @@ use Rattle.vt_log.specs.Answers.{HoldTheSame}
 use Rattle.vt_log.specs.Faults.{AreFields, IsMountedBy, RefusesMount}
 use Rattle.vt_log.specs.Log.{LogState, disks_of}
 use Rattle.vt_log.specs.Logs.{arena_count}
-use Rattle.vt_log.specs.Mounting.{found_log}
+use Rattle.vt_log.specs.Mounting.{found_log, IsTold}
 use Rattle.vt_log.specs.Whole.{IsWhole}
-use Rattle.vt_log.proofs.Mounted.{given_back, found_of, found_whole, mounted_by, mount_sound, mount_is, regions_on, numbers_small, log_passes, not_refused}
+use Rattle.vt_log.proofs.FoundLog.{given_back, found_of, found_whole, mounted_by, mount_sound, mount_is, regions_on, numbers_small, log_passes, not_refused}
 use Rattle.vt_log.proofs.mounting.mount.Goals as goal
 
 pub into_log-requires-clause-whole : goal.into_log-requires-clause-whole
@@ -108,3 +108,11 @@ returns-in-Err-clause-found g c h base told distinct log =
     not_refused (names_of items) (layout_of (tables_of items)) answer.0 c.in-Err.bad distinct
     (log_passes g.D.Disk (disks_of items) (layout_of (tables_of items)) answer.0 g.S.Scorer.score_of h base (regions_on g.D.Disk g.met.D.Disk.size_fits items c.requires.rooms) (numbers_small items) are log)
     (subst (λ (ps : List (Part _)). RefusesMount (names_of ps) (layout_of (tables_of ps)) answer.0 c.in-Err.bad) c.deref_mut.ensures.value answer.2)
+
+pub returns-in-Err-clause-told : goal.returns-in-Err-clause-told
+returns-in-Err-clause-told g c =
+    let new = c.find_log.new.parts in
+    let items = c.args.parts.items in
+    let back : take c.args.parts.len (new ++ drop (length new) items) ≡ new = given_back c.args.parts.len new items (omega arith) (omega arith) in
+    subst (λ (ps : List (Part _)). IsTold g.D.Disk items ps c.in-Err.bad) (sym back)
+    (subst (λ (ps : List (Part _)). IsTold g.D.Disk ps new c.in-Err.bad) c.deref_mut.ensures.value c.in-Err.ensures.told)

@@ -6,7 +6,7 @@ use Rattle.vt_part.specs.declared.layout.ArenaRegion.{ArenaRegion}
 use Rattle.vt_arena.specs.declared.head.Found.{Found}
 use Rattle.vt_arena.specs.Arena.{fresh_arena}
 use Rattle.vt_log.specs.Mounting.{IsRoomFor}
-use Rattle.vt_log.proofs.Finding.{room_there}
+use Rattle.vt_log.proofs.AreFound.{room_there}
 use Rattle.vt_log.proofs.mounting.room_for.Goals as goal
 
 abbrev no_region : ArenaRegion

@@ -1,5 +1,6 @@
 -- One more disk is synced.
-use Rattle.std.proofs.Common.{◌+◌, ℕ, List, length, get_or, map, set, sym, ◌∙◌, subst, arith}
+use Rattle.std.proofs.Common.{◌≡◌, ◌+◌, ℕ, List, length, get_or, map, set, sym, ◌∙◌, subst, arith, Some}
+use Rattle.std.specs.Prelude.{slice_get}
 use Rattle.std.proofs.lemmas.List.{length-map}
 use Rattle.std.proofs.lemmas.Option.{slice_get-get_or}
 use Rattle.std.proofs.lemmas.Result.{err_from_is_err_and}
@@ -7,7 +8,8 @@ use Rattle.vt_part.specs.declared.part.Part.{Part}
 use Rattle.vt_part.specs.Parts.{disk_of}
 use Rattle.vt_log.specs.Faults.{OneHasRisen}
 use Rattle.vt_log.specs.Log.{disks_of}
-use Rattle.vt_log.proofs.Finding.{read_set, read_then, settled_more, settled_all, same_counts, risen_counts}
+use Rattle.vt_log.proofs.AreFound.{read_set, read_then, sync_stops, settled_more, settled_all, same_counts, risen_counts}
+use Rattle.vt_log.proofs.Memory.{slice_get_set_other}
 use Rattle.vt_log.proofs.mounting.sync_all.Goals as goal
 
 pub returns-in_err-sync-clause-read : goal.returns-in_err-sync-clause-read
@@ -17,6 +19,16 @@ returns-in_err-sync-clause-read g c =
     read_then g.D.Disk c.loop-part.part-index 1 (length c.args.parts.now) c.args.parts.now c.loop-part.parts _ (omega arith) c.loop-part.invariant.read
     (read_set g.D.Disk 1 c.loop-part.part-index c.loop-part.parts p c.sync.new.self at
     c.sync.ensures.bytes c.sync.ensures.images c.sync.ensures.size (λ told. omega (arith, c.sync.ensures.calls told)))
+
+pub returns-in_err-sync-clause-stops : goal.returns-in_err-sync-clause-stops
+returns-in_err-sync-clause-stops g c =
+    let ps = c.loop-part.parts in
+    let i = c.loop-part.part-index in
+    let p = get_or ps i c.part-item.result in
+    let at : slice_get ps i ≡ Some p = slice_get-get_or ps i c.part-item.result (omega arith) in
+    let e = err_from_is_err_and c.from_residual.result c.from_residual.ensures.1 in
+    rw e.1 (sync_stops g.D.Disk c.args.parts.now ps i p c.sync.new.self at c.loop-part.invariant.rest c.loop-part.invariant.read
+    (λ told. omega (arith, c.sync.ensures.calls told)))
 
 pub returns-in_err-sync-clause-cause : goal.returns-in_err-sync-clause-cause
 returns-in_err-sync-clause-cause g c =
@@ -34,6 +46,8 @@ loop-part-preserved g c =
     record {
       settled = λ told. settled_more g.D.Disk c.loop-part.parts c.loop-part.part-index p c.sync.new.self at
           (λ image left. c.in_ok-sync.ensures.settled told image left ∙ sym c.sync.ensures.bytes) (c.loop-part.invariant.settled told);
+      rest = λ k most. slice_get_set_other c.loop-part.parts c.loop-part.part-index k _ (λ same. omega (arith, most, same))
+          ∙ c.loop-part.invariant.rest k (omega (arith, most));
       read = read_then g.D.Disk c.loop-part.part-index 1 (c.loop-part.part-index + 1) c.args.parts.now c.loop-part.parts _ (omega arith) c.loop-part.invariant.read
           (read_set g.D.Disk 1 c.loop-part.part-index c.loop-part.parts p c.sync.new.self at
           c.sync.ensures.bytes c.sync.ensures.images c.sync.ensures.size (λ told. omega (arith, c.sync.ensures.calls told)));

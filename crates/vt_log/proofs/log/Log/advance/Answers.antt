@@ -3,7 +3,7 @@ use Rattle.std.proofs.Common.{refl, ◌∙◌, ap, subst, arith}
 use Rattle.std.proofs.lemmas.Grind.{common_steps}
 use Rattle.vt_log.specs.Log.{LogState}
 use Rattle.vt_log.specs.Whole.{IsWhole}
-use Rattle.vt_log.proofs.Advancing.{advances, next_kept, batch_begins, batch_of_none, call_as_prepared, stand_as_prepared, at_as_prepared, within_as_prepared, in_use}
+use Rattle.vt_log.proofs.Advances.{advances, front_kept, next_kept, batch_begins, batch_of_none, call_as_prepared, stand_as_prepared, at_as_prepared, within_as_prepared, in_use}
 use Rattle.vt_log.proofs.Calls.{rest_stands}
 use Rattle.vt_log.proofs.log.Log.advance.Goals as goal
 
@@ -39,6 +39,12 @@ returns-clause-one_call g c told runs some = call_as_prepared g.D.Disk c.args.se
 
 pub returns-then-is_empty-clause-batch : goal.returns-then-is_empty-clause-batch
 returns-then-is_empty-clause-batch g c runs rest = batch_of_none _ c.args.self.now (subst (IsWhole _) c.self.view_is c.self.invariant) (grind (arith, common_steps))
+
+pub returns-clause-front : goal.returns-clause-front
+returns-clause-front g c =
+    front_kept g.D.Disk c.make_call.result c.args.self.now c.make_call.new.self
+    (subst (IsWhole _) c.self.view_is c.self.invariant)
+    (advances c.args.self.now c.prepare.new.self c.make_call.new.self c.make_call.result c.prepare.ensures.prepares c.make_call.ensures.makes c.make_call.ensures.last)
 
 pub returns-clause-next : goal.returns-clause-next
 returns-clause-next g c n =

@@ -2,7 +2,7 @@
 use Rattle.std.proofs.Common.{◌≡◌, ◌<◌, ◌+◌, sym, ◌∙◌, subst, ap, refl, Some, None, Option, option_map}
 use Rattle.vt_log.specs.declared.filling.Filling.{Filling}
 use Rattle.vt_log.specs.Log.{LogState, queued, next_filling}
-use Rattle.vt_log.proofs.Appending.{append_whole, append_at, next_arena_is}
+use Rattle.vt_log.proofs.Appends.{append_whole, append_at, next_arena_is}
 use Rattle.vt_log.proofs.log.Log.append.Goals as goal
 
 pub invariant_of-self : goal.invariant_of-self

@@ -7,7 +7,7 @@ use Rattle.vt_log.specs.Back.{TailState, GivesEntry, Moves}
 use Rattle.vt_log.specs.Log.{LogState}
 use Rattle.vt_log.specs.Sound.{IsAt}
 use Rattle.vt_log.proofs.Places.{slice_get_there}
-use Rattle.vt_log.proofs.Walking.{tail_inside, next_once, no_next}
+use Rattle.vt_log.proofs.StepsBack.{tail_inside, next_once, no_next}
 use Rattle.vt_log.proofs.log.Log.back.Goals as goal
 
 pub returns-then-tail-eq0-clause-entry : goal.returns-then-tail-eq0-clause-entry

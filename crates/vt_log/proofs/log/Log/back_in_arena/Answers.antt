@@ -6,14 +6,14 @@ use Rattle.vt_base.specs.declared.place.Info.{Info}
 use Rattle.vt_disk.specs.declared.region.Region.{Region}
 use Rattle.vt_part.specs.declared.layout.ArenaRegion.{ArenaRegion}
 use Rattle.vt_arena.specs.declared.bad.BackBad.{BackBad}
-use Rattle.vt_arena.specs.declared.bad.BackBad.TheVariants.{Fault}
+use Rattle.vt_arena.specs.declared.bad.BackBad.TheVariants.{Fault, Damaged}
 use Rattle.vt_arena.specs.declared.directory.At.{At}
 use Rattle.vt_arena.specs.declared.head.Found.{Found}
 use Rattle.vt_arena.specs.Directory.{last_entry, Walks, IsAt as IsAtBlock}
 use Rattle.vt_log.specs.Back.{TailState, IsBehind, StepsBack, GivesEntry}
 use Rattle.vt_log.specs.Sound.{IsAt}
 use Rattle.vt_log.proofs.Places.{slice_get_there}
-use Rattle.vt_log.proofs.Walking.{tail_inside, at_last, arena_steps, gives_bad, gives_info}
+use Rattle.vt_log.proofs.StepsBack.{tail_inside, at_last, arena_steps, gives_bad, gives_info}
 use Rattle.vt_log.proofs.log.Log.back_in_arena.Goals as goal
 
 pub read_entry-requires-clause-arena : goal.read_entry-requires-clause-arena
@@ -131,3 +131,9 @@ returns-clause-entry g c found q region disk has there =
       gives_info found.head.number t.arena t.left found.head.used t.at walks.0 info _ walks.2
           (omega (arith, left, c.requires.tail.left, c.requires.some)) refl refl refl arena,
     )
+
+pub returns-in_err-info-clause-differ : goal.returns-in_err-info-clause-differ
+returns-in_err-info-clause-differ g c want found bad =
+    let handed = err_from_is_err_and c.from_residual.result c.from_residual.ensures.1 in
+    let same : handed.0 ≡ Damaged want found = cc in
+    c.in_err-info.ensures.differ want found (ap (λ (b : BackBad). Err b) (sym handed.2 ∙ same))

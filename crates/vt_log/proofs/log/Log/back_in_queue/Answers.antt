@@ -3,7 +3,7 @@ use Rattle.std.proofs.Common.{◌≡◌, ◌-◌, ℕ, refl, ap, subst, arith, S
 use Rattle.std.specs.Prelude.{slice_get}
 use Rattle.vt_log.specs.Back.{TailState}
 use Rattle.vt_log.specs.Log.{LogState, packed_of}
-use Rattle.vt_log.proofs.Walking.{queue_steps}
+use Rattle.vt_log.proofs.StepsBack.{queue_steps}
 use Rattle.vt_log.proofs.log.Log.back_in_queue.Goals as goal
 
 pub returns-clause-queued : goal.returns-clause-queued

@@ -3,7 +3,7 @@ use Rattle.std.proofs.Common.{rules, List, refl, ap, subst, arith, get_or}
 use Rattle.vt_part.specs.declared.layout.ArenaRegion.{ArenaRegion}
 use Rattle.vt_log.specs.Whole.{IsWhole}
 use Rattle.vt_log.proofs.Disks.{cause_set}
-use Rattle.vt_log.proofs.Lent.{no_region, lent}
+use Rattle.vt_log.proofs.OnlyReads.{no_region, lent}
 use Rattle.vt_log.proofs.log.Log.bytes.Goals as goal
 
 pub invariant_of-self : goal.invariant_of-self

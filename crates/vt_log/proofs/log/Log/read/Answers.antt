@@ -12,9 +12,9 @@ use Rattle.vt_log.specs.Logs.{accepted}
 use Rattle.vt_log.specs.Queue.{IsFirstAt, spot_of}
 use Rattle.vt_log.specs.Reading.{ReadsAs}
 use Rattle.vt_log.specs.Whole.{IsWhole}
-use Rattle.vt_log.proofs.Answering.{nowhere_in, no_other, queued_gives, queued_block, unread, reads_block, reads_other, not_free, answers_queued, answers_nowhere, answers_there}
+use Rattle.vt_log.proofs.AnswersRead.{nowhere_in, no_other, queued_gives, queued_block, unread, reads_block, reads_other, not_free, answers_queued, answers_nowhere, answers_there}
 use Rattle.vt_log.proofs.Damages.{answer_two}
-use Rattle.vt_log.proofs.Standing.{place_once, queued_as, stored_at}
+use Rattle.vt_log.proofs.StoredAt.{place_once, queued_as, stored_at}
 use Rattle.vt_log.proofs.log.Log.read.Goals as goal
 
 pub returns-in-Some-clause-block : goal.returns-in-Some-clause-block

@@ -8,7 +8,7 @@ use Rattle.vt_base.specs.declared.why.FieldValue.TheVariants.{Number}
 use Rattle.vt_model.specs.declared.TheConstants.{HEAD_LEN}
 use Rattle.vt_part.specs.declared.layout.ArenaRegion.{ArenaRegion}
 use Rattle.vt_log.specs.Whole.{IsWhole}
-use Rattle.vt_log.proofs.Lent.{no_region, region_at, lent, blocks_lent, reads_cause, read_whole, unchanged}
+use Rattle.vt_log.proofs.OnlyReads.{no_region, region_at, lent, blocks_lent, reads_cause, read_whole, unchanged}
 use Rattle.vt_log.proofs.log.Log.read_clump.Goals as goal
 use Rattle.vt_log.proofs.log.Log.read_clump.Goals.{then-has_header, else-has_header}
 

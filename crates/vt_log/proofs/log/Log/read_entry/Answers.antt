@@ -1,6 +1,6 @@
 -- One disk is read.
-use Rattle.std.proofs.Common.{rules, ◌≡◌, List, ℕ, IsTrue, refl, sym, ◌∙◌, ap, subst, arith, get_or, ◌+◌, ◌^◌, ◌<◌}
-use Rattle.std.proofs.lemmas.Option.{get_or_from_slice_get}
+use Rattle.std.proofs.Common.{rules, ◌≡◌, List, ℕ, IsTrue, refl, sym, ◌∙◌, ap, subst, arith, get_or, length, ◌+◌, ◌^◌, ◌<◌}
+use Rattle.std.proofs.lemmas.Option.{get_or_from_slice_get, slice_get_read}
 use Rattle.vt_disk.specs.declared.region.Region.{Region}
 use Rattle.vt_arena.specs.declared.head.Found.{Found}
 use Rattle.vt_arena.specs.Directory.{last_entry, Walks}
@@ -8,7 +8,8 @@ use Rattle.vt_arena.specs.Layout.{IsContent}
 use Rattle.vt_part.specs.declared.layout.ArenaRegion.{ArenaRegion}
 use Rattle.vt_log.specs.Log.{LogState}
 use Rattle.vt_log.specs.Whole.{IsWhole}
-use Rattle.vt_log.proofs.Lent.{no_region, region_at, lent, blocks_lent, backs_cause}
+use Rattle.vt_log.proofs.Damages.{entry_two}
+use Rattle.vt_log.proofs.OnlyReads.{no_region, region_at, lent, blocks_lent, backs_cause}
 use Rattle.vt_log.proofs.log.Log.read_entry.Goals as goal
 
 pub invariant_of-self : goal.invariant_of-self
@@ -58,6 +59,13 @@ returns g c =
           → entry ≡ last_entry made c.args.at.now.index (g.D.Disk.bytes d))
           × Walks f.head.number f.head.used c.args.at.now entry c.info.result)
           (it.disk_one q region disk at) c.info.ensures.answer));
+      differ = λ want found bad.
+          let at_f = slice_get_read c.args.self.now.heads (length c.args.self.now.heads) c.args.arena f
+          refl c.requires.arena
+          (c.index.ensures ∙ ap (λ (l : LogState _). get_or l.heads c.args.arena f) c.self.view_is) in
+          let answer = c.info.ensures.answer in
+          entry_two f.head.used c.args.at.now answer.0 want found (c.requires.head f at_f).1
+          (subst (Walks f.head.number f.head.used c.args.at.now answer.0) bad answer.2);
       moved = search rules;
       stays = search rules;
       committed = λ found q region disk number a before behind s tells has at content blocks split

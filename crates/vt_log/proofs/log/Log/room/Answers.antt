@@ -3,7 +3,7 @@ use Rattle.std.proofs.Common.{◌≡◌, ◌∙◌, ap, Option}
 use Rattle.std.specs.Prelude.{is_some}
 use Rattle.vt_log.specs.declared.filling.Filling.{Filling}
 use Rattle.vt_log.specs.Log.{has_next}
-use Rattle.vt_log.proofs.Appending.{has_next_is}
+use Rattle.vt_log.proofs.Appends.{has_next_is}
 use Rattle.vt_log.proofs.log.Log.room.Goals as goal
 
 pub returns : goal.returns

@@ -5,7 +5,7 @@ use Rattle.std.proofs.lemmas.Option.{slice_get_read}
 use Rattle.vt_arena.specs.declared.head.Found.{Found}
 use Rattle.vt_log.specs.Back.{TailState}
 use Rattle.vt_log.specs.Log.{LogState}
-use Rattle.vt_log.proofs.Walking.{skip_some, skip_more, skip_behind}
+use Rattle.vt_log.proofs.StepsBack.{skip_some, skip_more, skip_behind}
 use Rattle.vt_log.proofs.log.Log.skip_empty.Goals as goal
 
 pub loop-tail-preserved : goal.loop-tail-preserved

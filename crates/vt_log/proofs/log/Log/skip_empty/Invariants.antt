@@ -1,6 +1,6 @@
 -- No arena that was passed has a block, and the next one is whole.
 use Rattle.vt_log.specs.Back.{TailState}
-use Rattle.vt_log.proofs.Walking.{IsSkipped}
+use Rattle.vt_log.proofs.StepsBack.{IsSkipped}
 use Rattle.vt_log.proofs.log.Log.skip_empty.Given as goal
 
 abbrev pub invariant-loop-tail : goal.invariant-loop-tail

@@ -2,8 +2,8 @@
 use Rattle.std.proofs.Common.{◌<◌, sym, ◌∙◌, subst, length, arith}
 use Rattle.vt_log.specs.Log.{LogState}
 use Rattle.vt_log.specs.Queue.{WaitsFor}
-use Rattle.vt_log.proofs.Owing.{prepared_owed}
-use Rattle.vt_log.proofs.Stagings.{seal_whole, seal_sound}
+use Rattle.vt_log.proofs.Owed.{prepared_owed}
+use Rattle.vt_log.proofs.Stages.{seal_whole, seal_sound}
 use Rattle.vt_log.proofs.log.Log.stage_all.Goals as goal
 
 pub invariant_of-self : goal.invariant_of-self

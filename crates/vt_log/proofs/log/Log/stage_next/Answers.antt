@@ -1,5 +1,5 @@
 -- The block was let in where it fits, and goes to the arena for which it waited.
-use Rattle.vt_log.proofs.Stagings.{staged_whole, staged_fits, staged_sound}
+use Rattle.vt_log.proofs.Stages.{staged_whole, staged_fits, staged_sound}
 use Rattle.vt_log.proofs.log.Log.stage_next.Goals as goal
 
 pub stage-requires-clause-fits : goal.stage-requires-clause-fits

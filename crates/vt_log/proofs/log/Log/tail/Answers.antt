@@ -1,7 +1,7 @@
 -- No arena is behind the last one.
 use Rattle.std.proofs.Common.{◌≡◌, ◌∙◌, ap, length, rules}
 use Rattle.vt_log.specs.Log.{LogState, queued}
-use Rattle.vt_log.proofs.Walks.{tail_behind}
+use Rattle.vt_log.proofs.IsBehind.{tail_behind}
 use Rattle.vt_log.proofs.log.Log.tail.Goals as goal
 
 pub returns-clause-behind : goal.returns-clause-behind

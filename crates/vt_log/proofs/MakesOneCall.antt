@@ -29,23 +29,22 @@ use Rattle.vt_log.specs.declared.bad.Progress.{Progress}
 use Rattle.vt_log.specs.declared.bad.Progress.TheVariants.{Step as StepMade, Durable}
 use Rattle.vt_log.specs.declared.bad.LogErr.{LogErr}
 use Rattle.vt_log.specs.declared.bad.LogErr.TheVariants.{Fault, Stopped}
-use Rattle.vt_log.specs.declared.log.Log.TheInside.{Inside as InLog}
 use Rattle.vt_log.specs.declared.queue.Waiting.{Waiting}
 use Rattle.vt_log.specs.Answers.{MakesCall, EndsCommit, Spares}
-use Rattle.vt_log.specs.Committing.{IsReady, TakesAll, MakesOrEnds}
+use Rattle.vt_log.specs.Committing.{IsReady, TakesAll, MakesOrEnds, MakesOneCall}
 use Rattle.vt_log.specs.Faults.{CountsFaultAt}
 use Rattle.vt_log.specs.Log.{LogState, queued, packed_of, disk_in_use}
 use Rattle.vt_log.specs.Logs.{IsRegionOf}
 use Rattle.vt_log.specs.Sound.{IsAt, IsSound, AreWithinCall, StandForPrefix}
 use Rattle.vt_log.specs.Queue.{QueueState}
 use Rattle.vt_log.specs.Whole.{IsOnDisk, IsWhole}
-use Rattle.vt_log.proofs.Advancing.{committing_there}
+use Rattle.vt_log.proofs.Advances.{committing_there}
 use Rattle.vt_log.proofs.Calls.{KeepsArena, ChangesRegion, step_keeps, fault_keeps, call_whole, call_sound, call_stands, same_region}
 use Rattle.vt_log.proofs.Disks.{map_same, spares_set, risen_set, parts_disks, parts_tables}
-use Rattle.vt_log.proofs.Endings.{EndsArena, last_ends, ended, ended_whole, ended_sound, turned, turned_whole, turned_sound, IsEnding, next_there}
-use Rattle.vt_log.proofs.Held.{with_disk, part_there}
+use Rattle.vt_log.proofs.EndsCommit.{EndsArena, last_ends, ended, ended_whole, ended_sound, turned, turned_whole, turned_sound, IsEnding, next_there}
+use Rattle.vt_log.proofs.HoldTheSame.{with_disk, part_there}
 use Rattle.vt_log.proofs.Memory.{slice_get_other, at_slice, slice_get_set_same, slice_get_set_other}
-use Rattle.vt_log.proofs.Owing.{step_made, call_owed, ended_owed, turned_owed}
+use Rattle.vt_log.proofs.Owed.{step_made, call_owed, ended_owed, turned_owed}
 
 -- what a call of an arena's commit tells
 pub record IsAdvanced {D : Type 0} (score_of : List ℕ → List ℕ) (disk : DiskOf D)
@@ -73,24 +72,6 @@ pub record IsCalled {D : Type 0} (score_of : List ℕ → List ℕ) (disk : Disk
   pub ready : IsReady l
   pub at : IsAt l l.committing r region d
   pub made : IsAdvanced score_of disk l.arena region d e b step
-
--- what the clauses say of it
-pub record IsMade {D : Type 0} (score_of : List ℕ → List ℕ) (disk : DiskOf D)
-    (l k : LogState D) (result : Result Progress LogErr) : Type 0 where
-  pub whole : IsWhole disk k
-  pub sound : (h : History) → IsTrue disk.tells → IsSound score_of disk l h → IsSound score_of disk k h
-  pub crash : (h : History) → IsTrue disk.tells → IsSound score_of disk l h → (files : List (List ℕ)) → AreWithinCall disk l.disks k.disks files → StandForPrefix score_of l files h
-  pub makes : MakesOrEnds result l k
-  pub batch : TakesAll l → calls_made l.arena + 1 < commit_calls l.arena → TakesAll k
-  pub last : (n : ℕ) → result ≡ Ok (Durable n) → calls_made l.arena + 1 ≡ commit_calls l.arena
-  pub kept : (k.layout ≡ l.layout) × (k.tables ≡ l.tables) × (k.base ≡ l.base) × (k.filling ≡ l.filling)
-  pub spares : Spares (disk_in_use l) l.disks k.disks
-  pub in_use : disk_in_use l < length l.disks
-  pub within : (q : ArenaRegion) (other : Region) (before after : D) → IsAt l l.committing q other before → slice_get k.disks q.part ≡ Some after
-      → ChangesWithin other (disk.images before) (disk.images after) × (IsTrue disk.tells → SameBut (Inside other) (disk.bytes before) (disk.bytes after))
-  pub sizes : map disk.size k.disks ≡ map disk.size l.disks
-  pub one_call : IsTrue disk.tells → (before after : D) → slice_get l.disks (disk_in_use l) ≡ Some before → slice_get k.disks (disk_in_use l) ≡ Some after → IsOneMore (disk.calls before) (disk.calls after)
-  pub cause : CountsFaultAt (disk_in_use l) result (map disk.faults l.disks) (map disk.faults k.disks)
 
 -- ---- the disks
 
@@ -193,7 +174,7 @@ takes_all l part e b calls stopped keeps all = record {
 pub more_made : {D : Type 0} (score_of : List ℕ → List ℕ) (disk : DiskOf D)
     (l : LogState D) (r : ArenaRegion) (region : Region) (d e : D) (b : ArenaState)
     → IsCalled score_of disk l r region d e b (Ok More)
-    → IsMade score_of disk l (called l r.part e b (one_more l.calls) l.stopped) (Ok StepMade)
+    → MakesOneCall score_of disk l (called l r.part e b (one_more l.calls) l.stopped) (Ok StepMade)
 more_made score_of disk l r region d e b it = record {
   whole = call_whole disk l r.part d e b (one_more l.calls) l.stopped it.whole it.ready keeps runs it.at.disk_is it.made.size_is;
   sound = λ h told sound. call_sound score_of disk l h r region d e b (one_more l.calls) l.stopped sound it.ready keeps runs it.at
@@ -227,7 +208,7 @@ more_made score_of disk l r region d e b it = record {
 pub fault_made : {D : Type 0} (score_of : List ℕ → List ℕ) (disk : DiskOf D)
     (l : LogState D) (r : ArenaRegion) (region : Region) (d e : D) (b : ArenaState) (err : TwinErr)
     → IsCalled score_of disk l r region d e b (Err err)
-    → IsMade score_of disk l (called l r.part e b (one_more l.calls) (Some l.calls)) (Err Fault)
+    → MakesOneCall score_of disk l (called l r.part e b (one_more l.calls) (Some l.calls)) (Err Fault)
 fault_made score_of disk l r region d e b (TwinStopped n) it = absurd (let off = it.made.stopped n refl in let on = it.whole.runs it.runs in cc)
 fault_made score_of disk l r region d e b TwinFault it = record {
   whole = call_whole disk l r.part d e b (one_more l.calls) (Some l.calls) it.whole it.ready keeps runs it.at.disk_is it.made.size_is;
@@ -310,7 +291,7 @@ ends_commit l found b m has head_is calls heads durable staged waiting places = 
 pub ended_made : {D : Type 0} (score_of : List ℕ → List ℕ) (disk : DiskOf D)
     (l : LogState D) (r : ArenaRegion) (found : Found) (region : Region) (d e : D) (b : ArenaState)
     → IsCalled score_of disk l r region d e b (Ok Done) → IsLast l r found b → b.next.sealed ≡ false
-    → IsMade score_of disk l (ended l r.part e found b (one_more l.calls)) (Ok (Durable (l.durable + length l.arena.staged)))
+    → MakesOneCall score_of disk l (ended l r.part e found b (one_more l.calls)) (Ok (Durable (l.durable + length l.arena.staged)))
 ended_made {D = D} score_of disk l r found region d e b it last no_seal = record {
   whole = ended_whole disk l r found d e b (one_more l.calls) it.whole ends unsealed it.at.arena last.has last.fit it.at.disk_is it.made.size_is;
   sound = λ h told sound.
@@ -353,7 +334,7 @@ pub turned_made : {D : Type 0} (score_of : List ℕ → List ℕ) (disk : DiskOf
     (l : LogState D) (r q : ArenaRegion) (found next : Found) (region : Region) (d e : D) (b : ArenaState) (len : ℕ)
     → ((device : D) → IsTrue disk.tells → disk.images device (disk.bytes device)) → IsCalled score_of disk l r region d e b (Ok Done) → IsLast l r found b
     → b.next.sealed ≡ true → slice_get l.layout (l.committing + 1) ≡ Some q → slice_get l.heads (l.committing + 1) ≡ Some next → len ≡ q.len
-    → IsMade score_of disk l (turned l r.part e found b (one_more l.calls) len next) (Ok (Durable (l.durable + length l.arena.staged)))
+    → MakesOneCall score_of disk l (turned l r.part e found b (one_more l.calls) len next) (Ok (Durable (l.durable + length l.arena.staged)))
 turned_made {D = D} score_of disk l r q found next region d e b len read it last seals next_here next_has len_is = record {
   whole = turned_whole disk l r q found next d e b (one_more l.calls) len it.whole ends sealed it.at.arena last.has last.fit it.at.disk_is it.made.size_is next_here next_has len_is;
   sound = λ h told sound.
@@ -405,23 +386,6 @@ parts_state {D = D} ps i p e v disks tables at =
     let ds : map (λ (part : Part D). disk_of part) (set ps i (record p { disk = e })) ≡ set v.disks i e = parts_disks ps i p e ∙ ap (λ (xs : List D). set xs i e) (sym disks) in
     let ts : tables_of (set ps i (record p { disk = e })) ≡ v.tables = parts_tables ps i p e at ∙ sym tables in
     λ j. record v { disks = ds j; tables = ts j }
-
--- the log as its calls see it
-abbrev pub seen : {D S : Type 0} → InLog D S → LogState D
-seen l = record {
-  disks = map (λ part. disk_of part) l.parts.items;
-  tables = tables_of l.parts.items;
-  layout = l.layout;
-  heads = l.heads.items;
-  base = l.base;
-  committing = l.committing;
-  arena = l.arena;
-  queue = l.queue;
-  filling = l.filling;
-  durable = l.durable;
-  calls = l.calls;
-  stopped = l.stopped;
-}
 
 -- the region of an arena, as an index reads it
 abbrev pub region_at : List ArenaRegion → ℕ → ArenaRegion
@@ -543,11 +507,11 @@ called_in score_of disk ps p v m r e b step it =
 pub more_in_parts : {D : Type 0} {score_of : List ℕ → List ℕ} {disk : DiskOf D}
     {ps : List (Part D)} {p : Part D} {v m : LogState D} {r : ArenaRegion} {e : D} {b : ArenaState} {step : Step} {calls : ℕ}
     → IsCalledIn score_of disk ps p v m r e b (Ok step) → step ≡ More → calls ≡ one_more v.calls
-    → IsMade score_of disk m (with_disk ps r.part p e (record v { arena = b; calls = calls })) (Ok StepMade)
+    → MakesOneCall score_of disk m (with_disk ps r.part p e (record v { arena = b; calls = calls })) (Ok StepMade)
 more_in_parts {D = D} {score_of = score_of} {disk = disk}
     {ps = ps} {p = p} {v = v} {m = m} {r = r} {e = e} {b = b} {step = step} {calls = calls} it more is =
-    subst (λ (x : LogState D). IsMade score_of disk x (with_disk ps r.part p e (record v { arena = b; calls = calls })) (Ok StepMade)) made.there.view
-    (subst (λ (x : LogState D). IsMade score_of disk v x (Ok StepMade)) (sym state)
+    subst (λ (x : LogState D). MakesOneCall score_of disk x (with_disk ps r.part p e (record v { arena = b; calls = calls })) (Ok StepMade)) made.there.view
+    (subst (λ (x : LogState D). MakesOneCall score_of disk v x (Ok StepMade)) (sym state)
     (more_made score_of disk v r made.region (disk_of p) e b (called_in score_of disk ps p v m r e b (Ok More) made)))
   where
     made : IsCalledIn score_of disk ps p v m r e b (Ok More)
@@ -565,11 +529,11 @@ more_in_parts {D = D} {score_of = score_of} {disk = disk}
 pub fault_in_parts : {D : Type 0} {score_of : List ℕ → List ℕ} {disk : DiskOf D}
     {ps : List (Part D)} {p : Part D} {v m : LogState D} {r : ArenaRegion} {e : D} {b : ArenaState} {err : TwinErr} {calls : ℕ}
     → IsCalledIn score_of disk ps p v m r e b (Err err) → calls ≡ one_more v.calls
-    → IsMade score_of disk m (with_disk ps r.part p e (record v { arena = b; calls = calls; stopped = Some v.calls })) (Err Fault)
+    → MakesOneCall score_of disk m (with_disk ps r.part p e (record v { arena = b; calls = calls; stopped = Some v.calls })) (Err Fault)
 fault_in_parts {D = D} {score_of = score_of} {disk = disk}
     {ps = ps} {p = p} {v = v} {m = m} {r = r} {e = e} {b = b} {err = err} {calls = calls} made is =
-    subst (λ (x : LogState D). IsMade score_of disk x (with_disk ps r.part p e (record v { arena = b; calls = calls; stopped = Some v.calls })) (Err Fault)) made.there.view
-    (subst (λ (x : LogState D). IsMade score_of disk v x (Err Fault)) (sym state)
+    subst (λ (x : LogState D). MakesOneCall score_of disk x (with_disk ps r.part p e (record v { arena = b; calls = calls; stopped = Some v.calls })) (Err Fault)) made.there.view
+    (subst (λ (x : LogState D). MakesOneCall score_of disk v x (Err Fault)) (sym state)
     (fault_made score_of disk v r made.region (disk_of p) e b err (called_in score_of disk ps p v m r e b (Err err) made)))
   where
     are : AreParts ps r.part p v
@@ -592,12 +556,12 @@ pub record Settles {D : Type 0} (v : LogState D) (found : Found) (b : ArenaState
 pub ended_in_parts : {D : Type 0} {score_of : List ℕ → List ℕ} {disk : DiskOf D}
     {ps : List (Part D)} {p : Part D} {v m : LogState D} {r : ArenaRegion} {found : Found} {e : D} {b : ArenaState} {step : Step} {heads : List Found} {queue : QueueState} {durable calls : ℕ}
     → IsCalledIn score_of disk ps p v m r e b (Ok step) → step ≡ Done → IsLast v r found b → Settles v found b heads queue durable calls → b.next.sealed ≡ false
-    → IsMade score_of disk m (with_disk ps r.part p e (record v { heads = heads; arena = b; queue = queue; durable = durable; calls = calls })) (Ok (Durable durable))
+    → MakesOneCall score_of disk m (with_disk ps r.part p e (record v { heads = heads; arena = b; queue = queue; durable = durable; calls = calls })) (Ok (Durable durable))
 ended_in_parts {D = D} {score_of = score_of} {disk = disk}
     {ps = ps} {p = p} {v = v} {m = m} {r = r} {found = found} {e = e} {b = b} {step = step} {heads = heads} {queue = queue} {durable = durable} {calls = calls} it done last settles no_seal =
-    subst (λ (x : LogState D). IsMade score_of disk x k (Ok (Durable durable))) made.there.view
-    (subst (λ (x : LogState D). IsMade score_of disk v x (Ok (Durable durable))) (sym state)
-    (subst (λ (n : ℕ). IsMade score_of disk v (ended v r.part e found b (one_more v.calls)) (Ok (Durable n))) (sym settles.durable_is)
+    subst (λ (x : LogState D). MakesOneCall score_of disk x k (Ok (Durable durable))) made.there.view
+    (subst (λ (x : LogState D). MakesOneCall score_of disk v x (Ok (Durable durable))) (sym state)
+    (subst (λ (n : ℕ). MakesOneCall score_of disk v (ended v r.part e found b (one_more v.calls)) (Ok (Durable n))) (sym settles.durable_is)
     (ended_made score_of disk v r found made.region (disk_of p) e b (called_in score_of disk ps p v m r e b (Ok Done) made) last no_seal)))
   where
     made : IsCalledIn score_of disk ps p v m r e b (Ok Done)
@@ -626,14 +590,14 @@ pub turned_in_parts : {D : Type 0} {score_of : List ℕ → List ℕ} {disk : Di
     {ps : List (Part D)} {p : Part D} {v m : LogState D} {r q : ArenaRegion} {found next : Found} {e : D} {b turn : ArenaState} {step : Step} {heads : List Found} {queue : QueueState} {durable calls : ℕ}
     → ((device : D) → IsTrue disk.tells → disk.images device (disk.bytes device)) → IsCalledIn score_of disk ps p v m r e b (Ok step) → step ≡ Done → IsLast v r found b
     → Settles v found b heads queue durable calls → b.next.sealed ≡ true → IsNextArena v q next → turn ≡ fresh_arena q.len (next.selector % 2) next.head
-    → IsMade score_of disk m
+    → MakesOneCall score_of disk m
     (with_disk ps r.part p e (record v { heads = heads; committing = v.committing + 1; arena = turn; queue = queue; durable = durable; calls = calls })) (Ok (Durable durable))
 turned_in_parts {D = D} {score_of = score_of} {disk = disk}
     {ps = ps} {p = p} {v = v} {m = m} {r = r} {q = q} {found = found} {next = next} {e = e} {b = b} {turn = turn} {step = step} {heads = heads} {queue = queue} {durable = durable} {calls = calls}
     read it done last settles seals is_next turn_is =
-    subst (λ (x : LogState D). IsMade score_of disk x k (Ok (Durable durable))) made.there.view
-    (subst (λ (x : LogState D). IsMade score_of disk v x (Ok (Durable durable))) (sym state)
-    (subst (λ (n : ℕ). IsMade score_of disk v (turned v r.part e found b (one_more v.calls) q.len next) (Ok (Durable n))) (sym settles.durable_is)
+    subst (λ (x : LogState D). MakesOneCall score_of disk x k (Ok (Durable durable))) made.there.view
+    (subst (λ (x : LogState D). MakesOneCall score_of disk v x (Ok (Durable durable))) (sym state)
+    (subst (λ (n : ℕ). MakesOneCall score_of disk v (turned v r.part e found b (one_more v.calls) q.len next) (Ok (Durable n))) (sym settles.durable_is)
     (turned_made score_of disk v r q found next made.region (disk_of p) e b q.len read (called_in score_of disk ps p v m r e b (Ok Done) made) last seals is_next.here is_next.has refl)))
   where
     made : IsCalledIn score_of disk ps p v m r e b (Ok Done)

@@ -27,7 +27,7 @@ use Rattle.vt_log.specs.Sound.{IsAt}
 use Rattle.vt_log.specs.Whole.{IsOnDisk, IsWhole}
 use Rattle.vt_log.proofs.Calls.{same_region}
 use Rattle.vt_log.proofs.Disks.{map_same, spares_set, calls_set, risen_set}
-use Rattle.vt_log.proofs.Held.{IsReadOnly, read_only, with_disk, part_there}
+use Rattle.vt_log.proofs.HoldTheSame.{IsReadOnly, read_only, with_disk, part_there}
 use Rattle.vt_log.proofs.Memory.{at_slice}
 
 -- the region of an arena

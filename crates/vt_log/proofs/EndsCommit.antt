@@ -39,7 +39,7 @@ use Rattle.vt_log.proofs.Contents.{blocks_set, split_set, split_sealed, longer_p
 use Rattle.vt_log.proofs.Fillings.{fits_within, turned_arena}
 use Rattle.vt_log.proofs.Images.{number_is}
 use Rattle.vt_log.proofs.Memory.{at_slice, at_drop, slice_get_set_same, slice_get_set_other, slice_get_drop}
-use Rattle.vt_log.proofs.Stagings.{turned_same}
+use Rattle.vt_log.proofs.Stages.{turned_same}
 
 -- what the last call leaves of an arena
 pub record EndsArena (a b : ArenaState) : Type 0 where

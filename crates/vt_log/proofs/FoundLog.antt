@@ -48,7 +48,7 @@ use Rattle.vt_log.specs.Sound.{IsAt, IsSplit, IsFilledBy, IsSound}
 use Rattle.vt_log.specs.Whole.{IsOnDisk, IsWhole}
 use Rattle.vt_log.proofs.Calls.{same_region}
 use Rattle.vt_log.proofs.Contents.{split_order, blocks_arenas, last_arena_le}
-use Rattle.vt_log.proofs.Finding.{fields_of_all, on_held}
+use Rattle.vt_log.proofs.AreFound.{fields_of_all, on_held}
 use Rattle.vt_log.proofs.Memory.{slice_get_other, at_slice}
 
 -- ---- the regions

@@ -1,5 +1,5 @@
 -- Partitions that are read, and what is found of their arenas.
-use Rattle.std.proofs.Common.{◌≡◌, ◌≢◌, ⊎_elim, ℕ, zero, suc, ◌+◌, ◌*◌, ◌%◌, ◌<◌, ◌≤◌, ◌==◌, ◌||◌, Bool, true, false, cond, List, [], ◌∷◌, ◌++◌, length, get_or, map, set, take, drop, refl, sym, ◌∙◌, ap, subst, arith, append_assoc, append-nil, take-append-drop, Some, None, Option, option_map, Ok, Err, Result, IsTrue}
+use Rattle.std.proofs.Common.{◌≡◌, ◌≢◌, ⊎_elim, inl, inr, ℕ, zero, suc, ◌+◌, ◌*◌, ◌%◌, ◌<◌, ◌≤◌, ◌==◌, ◌||◌, Bool, true, false, cond, List, [], ◌∷◌, ◌++◌, length, get_or, map, set, take, drop, refl, sym, ◌∙◌, ap, subst, arith, append_assoc, append-nil, take-append-drop, Some, None, Option, option_map, Ok, Err, Result, IsTrue}
 use Rattle.std.specs.Prelude.{All, slice_get, slice_index, sum_by, not, OnOk}
 use Rattle.std.proofs.lemmas.Bool.{cases_eq}
 use Rattle.std.proofs.lemmas.List.{length-map, length_push, map-append, drop_more, drop_all, map_more, length-take-le}
@@ -30,7 +30,7 @@ use Rattle.vt_log.specs.Answers.{HoldTheSame}
 use Rattle.vt_log.specs.Faults.{AreFields, CountsFault, OneHasRisen, bad_arena, first_of_two, out_of_order, first_bad}
 use Rattle.vt_log.specs.Log.{disks_of}
 use Rattle.vt_log.specs.Logs.{IsRegionOf}
-use Rattle.vt_log.specs.Mounting.{AreRead, AreFieldsAt, FindsNext, refused_by, IsFound, AreFound, RefusesArenas, ArePassed, IsRoomFor}
+use Rattle.vt_log.specs.Mounting.{IsTold, IsEarly, AreSettled, StopsSyncing, AreRead, AreFieldsAt, FindsNext, refused_by, IsFound, AreFound, RefusesArenas, ArePassed, IsRoomFor}
 use Rattle.vt_log.specs.Whole.{IsOnDisk}
 use Rattle.vt_log.proofs.Calls.{same_region}
 use Rattle.vt_log.proofs.Disks.{map_same, parts_disks, parts_tables, calls_set, hold_set, risen_set}
@@ -120,6 +120,24 @@ module _ {D : Type 0} (disk : DiskOf D) where
         tables = parts_tables ps i p d at;
         disks = subst (λ (ds : List D). HoldTheSame disk (disks_of ps) ds) (sym is) (hold_set disk (disks_of ps) i (disk_of p) d was same_bytes among same_size);
         calls_most = λ told. subst (λ (ds : List D). sum_by disk.calls ds ≤ sum_by disk.calls (disks_of ps) + n) (sym is) (calls_set disk.calls (disks_of ps) i (disk_of p) d n was (most told));
+      }
+
+  -- a sync that fails is the last call
+  pub sync_stops : (old ps : List (Part D)) (i : ℕ) (p : Part D) (d : D) → slice_get ps i ≡ Some p
+      → ((k : ℕ) → i ≤ k → slice_get ps k ≡ slice_get old k) → AreRead disk i old ps
+      → (IsTrue disk.tells → disk.calls d ≤ disk.calls (disk_of p) + 1)
+      → StopsSyncing disk old (set ps i (record p { disk = d }))
+  sync_stops old ps i p d at rest read most =
+      let was : slice_get (disks_of ps) i ≡ Some (disk_of p) = slice_get-map (λ (part : Part D). disk_of part) ps i ∙ rw at in
+      let is = parts_disks ps i p d in
+      record {
+        part = i;
+        within = slice_get_within old i p (sym (rest i (omega arith)) ∙ at);
+        calls_most = λ told.
+            let one = subst (λ (ds : List D). sum_by disk.calls ds ≤ sum_by disk.calls (disks_of ps) + 1) (sym is)
+            (calls_set disk.calls (disks_of ps) i (disk_of p) d 1 was (most told)) in
+            omega (arith, one, read.calls_most told);
+        behind = λ k more. slice_get_set_other ps i k (record p { disk = d }) (λ same. omega (arith, more, same)) ∙ rest k (omega (arith, more));
       }
 
   -- what is settled stays settled
@@ -464,3 +482,21 @@ pub found_stands : {D : Type 0} (disk : DiskOf D) (ds : List D) (rs : List Arena
 found_stands {D = D} disk ds rs heads i r found regions are at at_found =
     let on = at_slice (IsOnDisk disk ds) rs i r regions at in
     (on.len, (are.each i r (disk.bytes on.device) found at (slice_get-map disk.bytes ds r.part ∙ ap (option_map disk.bytes) on.has) at_found).stands)
+
+-- ---- what is told
+
+-- a refusal that comes before any call, and one that comes behind the syncs
+pub told_early : {D : Type 0} (disk : DiskOf D) (ps : List (Part D)) (bad : LogBad) → IsEarly bad → IsTold disk ps ps bad
+told_early disk ps (PartRefused bad) early = refl
+told_early disk ps (Arena i bad) early = absurd early
+told_early disk ps (Order i clumps) early = absurd early
+told_early disk ps Fault early = absurd early
+told_early disk ps NoMemory early = inl refl
+
+pub told_behind : {D : Type 0} (disk : DiskOf D) (old new : List (Part D)) (layout : List ArenaRegion) (fields : List (List ℕ)) (bad : LogBad)
+    → RefusesArenas layout fields bad → AreSettled disk new → IsTold disk old new bad
+told_behind disk old new layout fields (PartRefused bad) refuses settled = absurd refuses
+told_behind disk old new layout fields (Arena i bad) refuses settled = settled
+told_behind disk old new layout fields (Order i clumps) refuses settled = settled
+told_behind disk old new layout fields Fault refuses settled = inr settled
+told_behind disk old new layout fields NoMemory refuses settled = inr settled

@@ -3,7 +3,9 @@ use Rattle.std.proofs.Common.{◌≡◌, ◌≢◌, ⊎_elim, ℕ, ◌+◌, ◌<
 use Rattle.std.specs.Option.{option_map_or}
 use Rattle.std.specs.Prelude.{IsTrue, IsFalse, slice_get, if◌then◌else◌}
 use Rattle.std.proofs.lemmas.Bool.{cases_eq}
+use Rattle.std.proofs.lemmas.List.{length-drop}
 use Rattle.std.proofs.lemmas.Option.{slice_get_within, slice_get_cases}
+use Rattle.vt_base.specs.declared.place.Place.{Place}
 use Rattle.vt_log.specs.Members.{DiskOf}
 use Rattle.vt_disk.specs.declared.region.Region.{Region}
 use Rattle.vt_disk.specs.Disk.{IsOneMore}
@@ -21,13 +23,13 @@ use Rattle.vt_log.specs.Answers.{Advances, MakesCall, EndsCommit}
 use Rattle.vt_log.specs.Committing.{TakesAll, Prepares, MakesOrEnds}
 use Rattle.vt_log.specs.declared.filling.Filling.{Filling}
 use Rattle.vt_log.specs.declared.queue.Waiting.{Waiting}
-use Rattle.vt_log.specs.Log.{LogState, queued, disk_in_use, filled_as, fits_in, next_filling}
+use Rattle.vt_log.specs.Log.{LogState, queued, front, disk_in_use, filled_as, fits_in, next_filling}
 use Rattle.vt_log.specs.Queue.{WaitsFor}
 use Rattle.vt_log.specs.Sound.{IsAt, AreWithinCall, StandForPrefix}
 use Rattle.vt_log.specs.Whole.{IsOnDisk, IsWhole, Fill, turned_to}
 use Rattle.vt_log.proofs.Fillings.{fits_within, turned_arena, fill_arena}
 use Rattle.vt_log.proofs.Memory.{at_slice}
-use Rattle.vt_log.proofs.Owing.{none_made}
+use Rattle.vt_log.proofs.Owed.{none_made}
 
 makes_call : {D : Type 0} (old m new : LogState D) → Prepares old m → MakesCall m new → MakesCall old new
 makes_call {D = D} old m new prep it = record {
@@ -105,6 +107,24 @@ in_use disk l whole some = ⊎_elim
     rw it.2 (slice_get_within l.disks it.0.part on.device on.has))
     (λ (past : (length l.layout ≤ l.committing) × (slice_get l.layout l.committing ≡ None)). absurd (omega (arith, past.0, committing_there disk l whole some)))
     (slice_get_cases l.layout l.committing).1
+
+-- no block is lost, and none comes in: those that a commit ends with leave the queue
+pub front_kept : {D : Type 0} (disk : DiskOf D) (r : Result Progress LogErr) (old new : LogState D)
+    → IsWhole disk old → Advances r old new → front new ≡ front old
+front_kept disk (Ok Idle) old new whole it = ap (λ (l : LogState _). front l) it.1
+front_kept disk (Ok Step) old new whole it =
+    omega (arith, it.0.durable, ap (λ (ps : List Place). length ps) it.0.places)
+front_kept disk (Ok (Durable n)) old new whole it =
+    omega (
+      arith,
+      it.0.durable,
+      ap (λ (ps : List Place). length ps) it.0.places,
+      whole.places,
+      length-drop (length old.arena.staged) old.queue.places,
+    )
+front_kept disk (Err Fault) old new whole it =
+    omega (arith, it.0.durable, ap (λ (ps : List Place). length ps) it.0.places)
+front_kept disk (Err (Stopped call)) old new whole it = ap (λ (l : LogState _). front l) it.1
 
 -- ---- where the next block goes
 

@@ -31,8 +31,8 @@ use Rattle.vt_log.specs.Queue.{spot_of}
 use Rattle.vt_log.specs.Sound.{IsSound}
 use Rattle.vt_log.proofs.Memory.{slice_get_other, at_slice}
 use Rattle.vt_log.proofs.Places.{blocks_before, take_blocks, block_at, lengths_take, slice_get_there, split_at}
-use Rattle.vt_log.proofs.Standing.{HasContent, has_content, queued_as, front_take, front_same}
-use Rattle.vt_log.proofs.Walks.{blocks_below}
+use Rattle.vt_log.proofs.StoredAt.{HasContent, has_content, queued_as, front_take, front_same}
+use Rattle.vt_log.proofs.IsBehind.{blocks_below}
 
 clumps_before : (arena : ℕ) → List Found → ℕ
 clumps_before arena heads = sum_by (λ found. found.head.clumps) (take arena heads)

@@ -1,6 +1,6 @@
 -- Partitions whose arenas have no blocks.
 use Rattle.std.proofs.Common.{◌≡◌, ◌≢◌, ⊎_elim, ℕ, ◌+◌, ◌<◌, ◌≤◌, Bool, List, [], ◌∷◌, length, get_or, map, set, take, refl, sym, ◌∙◌, ap, subst, arith, Some, option_map}
-use Rattle.std.specs.Prelude.{All, slice_get, sum_by}
+use Rattle.std.specs.Prelude.{All, IsTrue, slice_get, sum_by}
 use Rattle.std.proofs.lemmas.Bool.{cases_eq}
 use Rattle.std.proofs.lemmas.List.{length-map, map-set}
 use Rattle.std.proofs.lemmas.List.Elements.{All-map}
@@ -9,7 +9,7 @@ use Rattle.std.proofs.lemmas.Option.{slice_get_within, slice_get-get_or, slice_g
 use Rattle.vt_base.specs.Faults.{HasRisen}
 use Rattle.vt_log.specs.Members.{DiskOf}
 use Rattle.vt_disk.specs.declared.region.Region.{Region}
-use Rattle.vt_disk.specs.Disk.{IsAligned, ChangesAt, Only}
+use Rattle.vt_disk.specs.Disk.{IsAligned, SameBut, ChangesAt, Only}
 use Rattle.vt_disk.specs.Region.{region_bytes}
 use Rattle.vt_disk.proofs.Bytes.{same_then, same_wider, part_same}
 use Rattle.vt_twin.proofs.Places.{changes_then}
@@ -25,7 +25,7 @@ use Rattle.vt_arena.specs.Places.{IsArenaLen}
 use Rattle.vt_arena.specs.Sound.{IsRegion}
 use Rattle.vt_arena.proofs.Regions.{arena_in_region}
 use Rattle.vt_log.specs.Faults.{OneHasRisen}
-use Rattle.vt_log.specs.Formatting.{AreEmpty, IsEmpty, InHeads, ChangesInHeads}
+use Rattle.vt_log.specs.Formatting.{AreEmpty, IsEmpty, InFirstHeads, ChangesInFirst, ChangesInHeads, StopsAt, StopsIn}
 use Rattle.vt_log.specs.Log.{disks_of}
 use Rattle.vt_log.specs.Logs.{first_unsealed, IsUntouched, InOrder, HasArena, IsLog, arena_count}
 use Rattle.vt_log.specs.Sound.{AreImages}
@@ -33,9 +33,9 @@ use Rattle.vt_log.specs.Whole.{IsOnDisk}
 use Rattle.vt_log.proofs.Calls.{same_region}
 use Rattle.vt_log.proofs.Contents.{untouched_blocks}
 use Rattle.vt_log.proofs.Disks.{map_same, calls_set, risen_set}
-use Rattle.vt_log.proofs.Finding.{map_there}
+use Rattle.vt_log.proofs.AreFound.{map_there}
 use Rattle.vt_log.proofs.Memory.{slice_get_other, at_slice, slice_get_set_same, slice_get_set_other}
-use Rattle.vt_log.proofs.Mounted.{arena_len}
+use Rattle.vt_log.proofs.FoundLog.{arena_len}
 
 -- ---- one partition
 
@@ -47,23 +47,55 @@ region_fits size t number region table less start len room = record {
   len = subst IsArenaLen (sym len) (arena_len t.arena_size table.arena_size);
 }
 
--- and its head
-pub among_heads : (t : Table) (number : ℕ) (region : Region) → number < t.count → region.start ≡ start_of t number → (p : ℕ) → InHead region p → InHeads t p
-among_heads t number region less start p in_head = (number, less, omega (arith, start, in_head.0), omega (arith, start, in_head.1))
-
 pub changes_wider : (P Q : ℕ → Type 0) (before after : List ℕ → Type 0) → ((i : ℕ) → P i → Q i) → ChangesAt P before after → ChangesAt Q before after
 changes_wider P Q before after wider changes c left =
     let from = changes c left in
     (from.0, from.1, same_wider P Q wider from.0 c from.2)
 
-pub heads_then : {D : Type 0} (disk : DiskOf D) (t : Table) (a b c : D)
-    → ChangesInHeads disk t a b → ChangesInHeads disk t b c → ChangesInHeads disk t a c
-heads_then disk t a b c one two = (
-  λ told. same_then (InHeads t) (disk.bytes a) (disk.bytes b) (disk.bytes c) (one.0 told) (two.0 told),
-  changes_then (InHeads t) (disk.images a) (disk.images b) (disk.images c) one.1 two.1,
+-- changes in the heads of the first arenas, one after another, and in more of them
+pub heads_then : {D : Type 0} (disk : DiskOf D) (t : Table) (n : ℕ) (a b c : D)
+    → ChangesInFirst disk t n a b → ChangesInFirst disk t n b c → ChangesInFirst disk t n a c
+heads_then disk t n a b c one two = (
+  λ told. same_then (InFirstHeads t n) (disk.bytes a) (disk.bytes b) (disk.bytes c) (one.0 told) (two.0 told),
+  changes_then (InFirstHeads t n) (disk.images a) (disk.images b) (disk.images c) one.1 two.1,
 )
 
+pub heads_wider : {D : Type 0} (disk : DiskOf D) (t : Table) (m n : ℕ) (a b : D) → m ≤ n
+    → ChangesInFirst disk t m a b → ChangesInFirst disk t n a b
+heads_wider disk t m n a b most changes = (
+  λ told. same_wider (InFirstHeads t m) (InFirstHeads t n) among (disk.bytes a) (disk.bytes b) (changes.0 told),
+  changes_wider (InFirstHeads t m) (InFirstHeads t n) (disk.images a) (disk.images b) among changes.1,
+)
+  where
+    among : (p : ℕ) → InFirstHeads t m p → InFirstHeads t n p
+    among p in_heads = (in_heads.0, omega (arith, in_heads.1, most), in_heads.2, in_heads.3)
+
+-- one more head changes
+pub heads_more : {D : Type 0} (disk : DiskOf D) (t : Table) (k : ℕ) (region : Region) (a b c : D)
+    → ChangesInFirst disk t k a b → region.start ≡ start_of t k
+    → (IsTrue disk.tells → SameBut (InHead region) (disk.bytes b) (disk.bytes c))
+    → ChangesAt (InHead region) (disk.images b) (disk.images c) → ChangesInFirst disk t (k + 1) a c
+heads_more disk t k region a b c first start same changes =
+    heads_then disk t (k + 1) a b c (heads_wider disk t k (k + 1) a b (omega arith) first) (
+      λ told. same_wider (InHead region) (InFirstHeads t (k + 1)) among (disk.bytes b) (disk.bytes c) (same told),
+      changes_wider (InHead region) (InFirstHeads t (k + 1)) (disk.images b) (disk.images c) among changes,
+    )
+  where
+    among : (p : ℕ) → InHead region p → InFirstHeads t (k + 1) p
+    among p in_head = (k, omega arith, omega (arith, start, in_head.0), omega (arith, start, in_head.1))
+
 -- a head that is written leaves the arenas before it
+pub empty_kept : (t : Table) (k : ℕ) (region : Region) (before after : List ℕ → Type 0) → IsTable t
+    → region.start ≡ start_of t k → AreEmpty t k before → ChangesAt (InHead region) before after
+    → AreEmpty t k after
+empty_kept t k region before after table start none changes score_of number other c less other_start other_len left =
+    let from = changes c left in
+    let apart = arenas_follow t number k less in
+    let sizes = arena_len t.arena_size table.arena_size in
+    let stays : region_bytes other c ≡ region_bytes other from.0 =
+    part_same (InHead region) other.start other.len from.0 c from.2 (λ i above below in_head. absurd (omega (arith, above, below, in_head.0, start, other_start, other_len, apart))) in
+    arena_in_region score_of other number empty from.0 c (omega (arith, other_len, sizes.0)) stays (none score_of number other from.0 less other_start other_len from.1)
+
 pub empty_more : (t : Table) (k : ℕ) (region : Region) (before after : List ℕ → Type 0) → IsTable t → region.start ≡ start_of t k → region.len ≡ t.arena_size → AreEmpty t k before → ChangesAt (InHead region) before after
     → ((score_of : List ℕ → List ℕ) (c : List ℕ) → after c → IsArena score_of region k empty c) → AreEmpty t (k + 1) after
 empty_more t k region before after table start len none changes new score_of number other c less other_start other_len left = ⊎_elim
@@ -71,13 +103,7 @@ empty_more t k region before after table start len none changes new score_of num
     let same : region ≡ other = same_region region other (start ∙ ap (start_of t) (sym here) ∙ sym other_start) (len ∙ sym other_len) in
     subst (λ (z : Region). IsArena score_of z number empty c) same (subst (λ (n : ℕ). IsArena score_of region n empty c) (sym here) (new score_of c left)))
     (λ (there : number ≢ k).
-    let from = changes c left in
-    let earlier : number < k = omega (arith, less, there) in
-    let apart = arenas_follow t number k earlier in
-    let sizes = arena_len t.arena_size table.arena_size in
-    let stays : region_bytes other c ≡ region_bytes other from.0 =
-    part_same (InHead region) other.start other.len from.0 c from.2 (λ i above below in_head. absurd (omega (arith, above, below, in_head.0, start, other_start, other_len, apart))) in
-    arena_in_region score_of other number empty from.0 c (omega (arith, other_len, sizes.0)) stays (none score_of number other from.0 earlier other_start other_len from.1))
+    empty_kept t k region before after table start none changes score_of number other c (omega (arith, less, there)) other_start other_len left)
     (cases_eq number k)
 
 pub empty_whole : (t u : Table) (n : ℕ) (images : List ℕ → Type 0) → u ≡ t → u.count ≤ n → AreEmpty t n images → AreEmpty u u.count images
@@ -116,7 +142,7 @@ module _ {D : Type 0} (ps : List (Part D)) (i : ℕ) (p q : Part D) (at : slice_
       let same : q ≡ after = same_Some q after (sym (slice_get_set_same ps i q (slice_get_within ps i p at)) ∙ sym (ap (slice_get (set ps i q)) here) ∙ is) in
       let table : table_of p ≡ table_of before = map_there (λ (part : Part D). table_of part) old ps k before p tables was there in
       subst (λ (x : Part D). ChangesInHeads disk (table_of before) (disk_of before) (disk_of x)) same
-      (heads_then disk (table_of before) (disk_of before) (disk_of p) (disk_of q) (stays k before p was there)
+      (heads_then disk (table_of before) (table_of before).count (disk_of before) (disk_of p) (disk_of q) (stays k before p was there)
       (subst (λ (t : Table). ChangesInHeads disk t (disk_of p) (disk_of q)) table step)))
       (λ (other : k ≢ i). stays k before after was (sym (slice_get_set_other ps i k q other) ∙ is))
       (cases_eq k i)
@@ -129,6 +155,21 @@ module _ {D : Type 0} (ps : List (Part D)) (i : ℕ) (p q : Part D) (at : slice_
       subst (IsEmpty disk) same new)
       (λ (other : k ≢ i). before k part (omega (arith, less, other)) (sym (slice_get_set_other ps i k q other) ∙ is))
       (cases_eq k i)
+
+  -- and where it stops
+  pub stops_here : (disk : DiskOf D) (old : List (Part D)) → ((k : ℕ) → i ≤ k → slice_get ps k ≡ slice_get old k)
+      → (IsTrue disk.tells → (k : ℕ) (part : Part D) → k < i → slice_get ps k ≡ Some part → IsEmpty disk part)
+      → StopsAt disk p q → StopsIn disk old (set ps i q)
+  stops_here disk old rest done stop = record {
+    part = i;
+    within = slice_get_within old i p (sym (rest i (omega arith)) ∙ at);
+    done = λ told k part less is. done told k part less (sym (slice_get_set_other ps i k q (λ same. omega (arith, less, same))) ∙ is);
+    here = λ before after was is.
+        let p_is : p ≡ before = same_Some p before (sym at ∙ rest i (omega arith) ∙ was) in
+        let q_is : q ≡ after = same_Some q after (sym (slice_get_set_same ps i q (slice_get_within ps i p at)) ∙ is) in
+        subst (λ (x : Part D). StopsAt disk before x) q_is (subst (λ (x : Part D). StopsAt disk x q) p_is stop);
+    behind = λ k more. slice_get_set_other ps i k q (λ same. omega (arith, more, same)) ∙ rest k (omega (arith, more));
+  }
 
 -- how many arenas the first partitions have
 pub count_more : {D : Type 0} (old ps : List (Part D)) (i : ℕ) (p : Part D) → tables_of ps ≡ tables_of old → slice_get ps i ≡ Some p

@@ -11,7 +11,7 @@ use Rattle.vt_log.specs.Back.{IsBehind}
 use Rattle.vt_log.specs.Log.{LogState, front, queued}
 use Rattle.vt_log.specs.Logs.{accepted, blocks_from}
 use Rattle.vt_log.specs.Sound.{IsSound}
-use Rattle.vt_log.proofs.Appending.{lengths_none}
+use Rattle.vt_log.proofs.Appends.{lengths_none}
 
 -- each block is in one of the arenas
 pub blocks_below : (k : ℕ) (contents : List Content) → All (λ e. e.arena < k + length contents) (blocks_from k contents)
