@@ -1,5 +1,5 @@
 -- Input that ends well is answered to its end.
-use Rattle.std.proofs.Common.{◌≡◌, List, [], ◌++◌, ℕ, length, Bool, true, false, cond, refl, sym, ◌∙◌, ap, subst, ◌⊎◌, inl, inr, append-nil, arith, length-append}
+use Rattle.std.proofs.Common.{◌≡◌, List, [], ◌++◌, ℕ, length, Bool, true, false, cond, refl, sym, ◌∙◌, ap, subst, ◌⊎◌, inl, inr, append-nil, arith, length-append, Ok, Err}
 use Rattle.vt_base.specs.Bytes.{AreBytes}
 use Rattle.vt_base.specs.Faults.{HasRisen}
 use Rattle.vt_session.specs.declared.Ended.{Ended}
@@ -8,10 +8,11 @@ use Rattle.vt_session.specs.Heard.{Item, Heard}
 use Rattle.vt_session.specs.Turns.{Turn, items_of}
 use Rattle.vt_session.specs.Talk.{Carries}
 use Rattle.vt_session.proofs.Hearings.{heard_one, heard_last}
-use Rattle.vt_prog.specs.declared.session.Outcome.{Outcome}
-use Rattle.vt_prog.specs.Sessions.{IsSession, HasCauses, SinkCause}
-use Rattle.vt_prog.specs.Statuses.{status_of, status_of_end}
-use Rattle.vt_prog.specs.Runs.{EndsWell}
+use Rattle.vt_answer.specs.Sessions.{SinkCause}
+use Rattle.vt_prog.specs.declared.commands.session.SessionEnd.{SessionEnd}
+use Rattle.vt_prog.specs.declared.failure.Failure.TheVariants as failures
+use Rattle.vt_prog.specs.Failure.{Outcome}
+use Rattle.vt_prog.specs.Commands.Session.{IsSession, HasCauses, EndsWell, outcome_of, outcome_of_end}
 
 -- an input that ends well ends no other way
 well_is : (had : List ℕ) (items : List Item) (ended : Ended) → EndsWell had → Heard had items ended → (ended ≡ Goodbye) ⊎ (ended ≡ Closed)
@@ -19,36 +20,39 @@ well_is had items ended well heard =
     let same = heard_one had well.items items well.ended ended well.heard heard in
     elim (well.well) [ inl e ↦ inl (sym same.1 ∙ e) | inr e ↦ inr (sym same.1 ∙ e) ]
 
-end_status : (ended : Ended) (had input left output : List ℕ) (turns : List Turn) (read_failed : Bool) (sink sink' : ℕ) → AreBytes had → EndsWell had → had ≡ input ++ left
+abbrev IsWell : Outcome → Type 0
+IsWell outcome = (outcome ≡ Ok tt) ⊎ (outcome ≡ Err failures.NoMemory)
+
+end_outcome : (ended : Ended) (n : ℕ) (had input left output : List ℕ) (turns : List Turn) (read_failed : Bool) (sink sink' : ℕ) → AreBytes had → EndsWell had → had ≡ input ++ left
     → (ended ≡ Cut → left ≡ []) → Carries input output turns ended → (ended ≡ ReadFault → read_failed ≡ true) → read_failed ≡ false → SinkCause ended sink sink' → ¬ (HasRisen sink sink')
-    → (status_of_end ended ≡ 0) ⊎ (status_of_end ended ≡ 8)
-end_status Goodbye had input left output turns read_failed sink sink' bytes well parts none carried fault no_fault cause stood = inl refl
-end_status Closed had input left output turns read_failed sink sink' bytes well parts none carried fault no_fault cause stood = inl refl
-end_status Cut had input left output turns read_failed sink sink' bytes well parts none carried fault no_fault cause stood =
+    → IsWell (outcome_of_end ended n)
+end_outcome Goodbye n had input left output turns read_failed sink sink' bytes well parts none carried fault no_fault cause stood = inl refl
+end_outcome Closed n had input left output turns read_failed sink sink' bytes well parts none carried fault no_fault cause stood = inl refl
+end_outcome Cut n had input left output turns read_failed sink sink' bytes well parts none carried fault no_fault cause stood =
     let whole : had ≡ input = parts ∙ ap (λ (l : List ℕ). input ++ l) (none refl) ∙ append-nil input in
     elim (well_is had (items_of turns) Cut well (subst (λ (i : List ℕ). Heard i (items_of turns) Cut) (sym whole) carried.0.0)) [ inl e ↦ absurd (cc) | inr e ↦ absurd (cc) ]
-end_status (Malformed place) had input left output turns read_failed sink sink' bytes well parts none carried fault no_fault cause stood =
+end_outcome (Malformed place) n had input left output turns read_failed sink sink' bytes well parts none carried fault no_fault cause stood =
     let heard = heard_last input left (items_of turns) (Malformed place) (subst AreBytes parts bytes) carried.0 (λ e. cc) (λ e. cc) in
     elim (well_is had (items_of turns) (Malformed place) well (subst (λ (i : List ℕ). Heard i (items_of turns) (Malformed place)) (sym parts) heard)) [
       | inl e ↦ absurd (cc)
       | inr e ↦ absurd (cc)
     ]
-end_status Spent had input left output turns read_failed sink sink' bytes well parts none carried fault no_fault cause stood =
+end_outcome Spent n had input left output turns read_failed sink sink' bytes well parts none carried fault no_fault cause stood =
     absurd (omega (arith, well.short, ap length parts, length-append input left, carried.1))
-end_status ReadFault had input left output turns read_failed sink sink' bytes well parts none carried fault no_fault cause stood =
+end_outcome ReadFault n had input left output turns read_failed sink sink' bytes well parts none carried fault no_fault cause stood =
     let failed = fault refl in absurd (cc)
-end_status WriteFault had input left output turns read_failed sink sink' bytes well parts none carried fault no_fault cause stood = absurd (stood cause)
-end_status NoMemory had input left output turns read_failed sink sink' bytes well parts none carried fault no_fault cause stood = inr refl
+end_outcome WriteFault n had input left output turns read_failed sink sink' bytes well parts none carried fault no_fault cause stood = absurd (stood cause)
+end_outcome NoMemory n had input left output turns read_failed sink sink' bytes well parts none carried fault no_fault cause stood = inr refl
 
-pub ends_well : (score : List ℕ → List ℕ) (outcome : Outcome) (had left before after : List ℕ) (source source' sink sink' : ℕ) → AreBytes had → EndsWell had
-    → IsSession score outcome had left before after → HasCauses outcome source source' sink sink' → ¬ (HasRisen source source') → ¬ (HasRisen sink sink')
-    → (status_of outcome.read_failed outcome.ran_out outcome.ended ≡ 0) ⊎ (status_of outcome.read_failed outcome.ran_out outcome.ended ≡ 8)
-ends_well score outcome had left before after source source' sink sink' bytes well x causes no_read no_write =
-    elim (outcome.read_failed) as (λ b. outcome.read_failed ≡ b → (cond b 6 (cond outcome.ran_out 8 (status_of_end outcome.ended)) ≡ 0) ⊎ (cond b 6 (cond outcome.ran_out 8 (status_of_end outcome.ended)) ≡ 8)) [
+pub ends_well : (score : List ℕ → List ℕ) (end : SessionEnd) (had left before after : List ℕ) (source source' sink sink' : ℕ) → AreBytes had → EndsWell had
+    → IsSession score end had left before after → HasCauses end source source' sink sink' → ¬ (HasRisen source source') → ¬ (HasRisen sink sink')
+    → IsWell (outcome_of end)
+ends_well score end had left before after source source' sink sink' bytes well x causes no_read no_write =
+    elim (end.read_failed) as (λ b. end.read_failed ≡ b → IsWell (cond b (Err failures.ReadFault) (cond end.ran_out (Err failures.NoMemory) (outcome_of_end end.ended end.taken)))) [
       | true ↦ λ e. absurd (no_read (causes.read e))
-      | false ↦ λ e. elim (outcome.ran_out) as (λ b. (cond b 8 (status_of_end outcome.ended) ≡ 0) ⊎ (cond b 8 (status_of_end outcome.ended) ≡ 8)) [
+      | false ↦ λ e. elim (end.ran_out) as (λ b. IsWell (cond b (Err failures.NoMemory) (outcome_of_end end.ended end.taken))) [
         | true ↦ inr refl
-        | false ↦ end_status outcome.ended had x.input left x.output x.turns outcome.read_failed sink sink' bytes well x.took.parts x.took.cut x.alone.carried causes.read_fault e
+        | false ↦ end_outcome end.ended end.taken had x.input left x.output x.turns end.read_failed sink sink' bytes well x.took.parts x.took.cut x.alone.carried causes.read_fault e
             causes.write no_write
       ]
     ] refl

@@ -1,6 +1,8 @@
 -- How a store fails where its log does.
-use Rattle.std.proofs.Common.{◌≡◌, ◌⊎◌, ⊎_elim, inl, inr, ℕ, List, map, refl, sym, ◌∙◌, ap, subst, Option, Some, None, Ok, Err, Result}
-use Rattle.std.specs.Prelude.{◌↔◌, IfErr}
+use Rattle.std.proofs.Common.{◌≡◌, ◌⊎◌, ⊎_elim, inl, inr, ℕ, List, map, refl, sym, ◌∙◌, ap, subst, Option, Some, None, Ok, Err, Result, ◌<◌, ◌^◌, ◌-◌, arith, zero, suc, [], ◌∷◌}
+use Rattle.std.proofs.lemmas.Bool.{cases_lt}
+use Rattle.vt_base.specs.Faults.{HasRisen}
+use Rattle.std.specs.Prelude.{◌↔◌, IfErr, slice_index}
 use Rattle.vt_base.specs.declared.place.Place.{Place}
 use Rattle.vt_base.specs.declared.why.Why.{Why}
 use Rattle.vt_base.specs.declared.why.Why.TheVariants.{DiskFault, Stopped, NoMemory}
@@ -17,9 +19,25 @@ use Rattle.vt_log.specs.Log.{LogState}
 use Rattle.vt_log.specs.Reading.{CountsFault}
 use Rattle.vt_session.specs.Turns.{Cause, disk_fault, stopped, damaged, no_memory, log, section, why_of}
 use Rattle.vt_session.specs.Answered.{MayFail, ReachesParts, TakesMemory, WritesTo}
-use Rattle.vt_session.proofs.Causes.{one_rose}
 use Rattle.vt_prog.specs.Serving.{Serves, FailsFor, NoneFailed, TellsFaults, CommitsOrStops, LeavesOrStops, MayNotRead, why_unread, block_or_why}
 use Rattle.vt_prog.specs.Store.{memory}
+
+-- ---- counts that rise
+
+pub rises : (old new : ℕ) → HasRisen old new → (old < new) ⊎ (new ≡ 2 ^ 64 - 1)
+rises old new is = ⊎_elim
+    (λ below. inl (omega (arith, below, is)))
+    (λ above. inr (omega (arith, above, is))) (cases_lt old (2 ^ 64 - 1))
+
+-- of disks of which no call fails no count rises
+module _ {D : Type 0} (disk : DiskOf D) (never : (device : D) → disk.faults device ≡ 0) where
+  pub zeros : (disks : List D) (i : ℕ) → slice_index (map disk.faults disks) i ≡ 0
+  zeros [] i = refl
+  zeros (device ∷ disks) zero = never device
+  zeros (device ∷ disks) (suc i) = zeros disks i
+
+  pub none_rose : (old new : List D) → OneHasRisen (map disk.faults old) (map disk.faults new) → ⊥
+  none_rose old new it = omega (arith, zeros old it.which, zeros new it.which, it.rose)
 
 -- ---- a call of the log
 
@@ -96,7 +114,7 @@ module _ {D : Type 0} (score_of : List ℕ → List ℕ) (m : Operation) (reache
   by_memory takes = (no_memory, refl, (reaches, takes), tt)
 
   pub by_fault : OneHasRisen (map disk.faults old.disks) (map disk.faults new.disks) → FailsBy DiskFault
-  by_fault rose = (disk_fault (map disk.faults old.disks) (map disk.faults new.disks), refl, (reaches, one_rose (map disk.faults old.disks) (map disk.faults new.disks) rose.which rose.rose), (refl, refl))
+  by_fault rose = (disk_fault (map disk.faults old.disks) (map disk.faults new.disks), refl, (reaches, (rose.which, rises _ _ rose.rose)), (refl, refl))
 
   pub by_stop : (call : ℕ) → WritesTo score_of memory m log → old.stopped ≡ Some call → FailsBy (Stopped call)
   by_stop call writes is = (stopped log call, refl, (reaches, writes), is)

@@ -1,8 +1,12 @@
+pub mod Asked
+pub mod Change
+pub mod Command
+pub mod Commands
+pub mod Failure
 pub mod Hosts
+pub mod Members
 pub mod Memory
 pub mod Reading
-pub mod Runs
+pub mod Run
 pub mod Serving
-pub mod Sessions
-pub mod Statuses
 pub mod Store

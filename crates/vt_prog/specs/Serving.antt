@@ -5,7 +5,7 @@ use Rattle.vt_base.specs.declared.place.Place.{Place}
 use Rattle.vt_base.specs.declared.why.Site.TheVariants.{Clump}
 use Rattle.vt_base.specs.declared.why.Why.{Why}
 use Rattle.vt_base.specs.declared.why.Why.TheVariants.{DiskFault, Stopped, Damaged, NoMemory}
-use Rattle.vt_base.specs.Protocol.{Operation, TMessage, t_hello, t_goodbye, t_ask, RMessage, r_hello, r_ping, r_sync, r_write, r_read, r_refused}
+use Rattle.vt_base.specs.Protocol.{Operation, RMessage, r_refused}
 use Rattle.vt_log.specs.Members.{DiskOf}
 use Rattle.vt_model.specs.History.{History}
 use Rattle.vt_model.specs.Answer.{answer, with_added}
@@ -22,17 +22,8 @@ use Rattle.vt_log.specs.Log.{LogState, queued}
 use Rattle.vt_log.specs.Reading.{AnswersRead}
 use Rattle.vt_session.specs.Turns.{Cause, disk_fault, stopped, damaged, no_memory, log, section, why_of}
 use Rattle.vt_session.specs.Answered.{MayFail}
-use Rattle.vt_prog.specs.declared.answers.Said.{Said}
-use Rattle.vt_prog.specs.declared.answers.Said.TheVariants.{Hello, Ping, Synced, Score, Block}
+use Rattle.vt_answer.specs.Serving.{tells_failure}
 use Rattle.vt_prog.specs.Store.{StoreState, memory}
-
--- the store failed, and it isn't the model that refuses
-abbrev pub tells_failure : Why → Bool
-tells_failure DiskFault = Bool.true
-tells_failure (Stopped call) = Bool.true
-tells_failure (Damaged site want found) = Bool.true
-tells_failure NoMemory = Bool.true
-tells_failure why = Bool.false
 
 -- The model's answer to an operation was given, and the store holds the history with what that
 -- adds; or it failed, for a cause that the operation may meet, and holds what it held.
@@ -47,24 +38,6 @@ Serves score_of holds fails h m message (Err why) =
     × holds (with_added h outcome.added))
     ⊎ ((cause : Cause) × (why ≡ why_of cause) × MayFail score_of memory m cause × fails cause
     × holds h)
-
--- the reply that says what is answered to a message
-abbrev pub reply_to : Result Said Why → RMessage
-reply_to (Ok Hello) = r_hello
-reply_to (Ok Ping) = r_ping
-reply_to (Ok Synced) = r_sync
-reply_to (Ok (Score score)) = r_write score.0
-reply_to (Ok (Block block)) = r_read block
-reply_to (Err why) = r_refused why
-
--- A message is answered so: a hello is said back, and nothing changes; an operation is served, and
--- fails for want of memory alone. A goodbye has no answer.
-abbrev pub ServesMessage : (score_of : List ℕ → List ℕ) → (holds : History → Type 0) → History
-    → TMessage → Result Said Why → Type 0
-ServesMessage score_of holds h (t_hello version) answer = (answer ≡ Ok Hello) × holds h
-ServesMessage score_of holds h t_goodbye answer = ⊥
-ServesMessage score_of holds h (t_ask m) answer =
-    Serves score_of holds (λ cause. cause ≡ no_memory) h m (λ said. reply_to (Ok said)) answer
 
 -- Why the store may fail in a call that leaves its log so: a call of a disk failed, and these are
 -- the counts of its disks' faults before it and behind it; the log had stopped; or memory ran out.

@@ -1,44 +1,39 @@
 //! Lines that say what went wrong.
 
-ghost use Rattle.std.specs.Prelude.{◌≡◌, ◌≤◌, ◌++◌, [], length, decimal, IsTrue};
-ghost use Rattle.vt_prog.specs.Statuses.{complaint, complaint_of, Attempts};
+ghost use Rattle.std.specs.Prelude.{◌≤◌, ◌++◌, length, decimal};
+ghost use Rattle.vt_prog.specs.Change.{sink_change, Attempts};
+ghost use Rattle.vt_prog.specs.Failure.{line, line_of};
 
-use crate::session::Outcome;
+use crate::failure::Failure;
 use itoa::Buffer;
 use vt_fields::put;
 use vt_out::Sink;
-use vt_session::Ended;
 
 /// How long a text is at most.
 const MAX_TEXT: usize = 64;
 
-/// Says why a session did not end well. Where it did, nothing is said.
-pub fn complain_of<F: Sink>(sink: &mut F, outcome: &Outcome)
-    ensures { IsTrue F.tells → Attempts (F.written sink.old) (F.written sink.new) (F.faults sink.old) (F.faults sink.new)
-        (complaint_of outcome.now.read_failed outcome.now.ran_out outcome.now.ended outcome.now.taken) }
+/// Says why a command did not end well. Where it did, nothing is said.
+pub fn complain_of<F: Sink>(sink: &mut F, outcome: Result<(), Failure>)
+    ensures { Attempts (sink_change F.Sink sink.old sink.new) (line_of outcome) }
 {
-    if outcome.read_failed {
-        return complain(sink, b"read fault");
-    }
-    if outcome.ran_out {
-        return complain(sink, b"no memory");
-    }
-    match outcome.ended {
-        Ended::Goodbye | Ended::Closed => {}
-        Ended::Cut => complain_at(sink, b"cut at ", outcome.taken),
-        Ended::Malformed(place) => complain_at(sink, b"malformed at ", place),
-        Ended::Spent => complain_at(sink, b"spent at ", outcome.taken),
-        Ended::ReadFault => complain(sink, b"read fault"),
-        Ended::WriteFault => complain(sink, b"write fault"),
-        Ended::NoMemory => complain(sink, b"no memory"),
+    let Err(failure) = outcome else {
+        return;
+    };
+    match failure {
+        Failure::BadWords => complain(sink, b"bad command line"),
+        Failure::Cut(taken) => complain_at(sink, b"cut at ", taken),
+        Failure::Malformed(place) => complain_at(sink, b"malformed at ", place),
+        Failure::Spent(taken) => complain_at(sink, b"spent at ", taken),
+        Failure::ReadFault => complain(sink, b"read fault"),
+        Failure::WriteFault => complain(sink, b"write fault"),
+        Failure::NoMemory => complain(sink, b"no memory"),
     }
 }
 
 /// Writes a line with a place at its end, if the sink takes it.
 fn complain_at<F: Sink>(sink: &mut F, what: &[u8], place: u64)
     requires { length what.now ≤ 24 }
-    ensures { IsTrue F.tells → Attempts (F.written sink.old) (F.written sink.new) (F.faults sink.old) (F.faults sink.new)
-        (complaint (what.now ++ decimal place)) }
+    ensures { Attempts (sink_change F.Sink sink.old sink.new) (line (what.now ++ decimal place)) }
 {
     let mut digits = Buffer::new();
     let digits = digits.format(place).as_bytes();
@@ -49,10 +44,9 @@ fn complain_at<F: Sink>(sink: &mut F, what: &[u8], place: u64)
 }
 
 /// Writes a line, if the sink takes it.
-pub fn complain<F: Sink>(sink: &mut F, text: &[u8])
+fn complain<F: Sink>(sink: &mut F, text: &[u8])
     requires { length text.now ≤ 64 }
-    ensures { IsTrue F.tells → Attempts (F.written sink.old) (F.written sink.new) (F.faults sink.old) (F.faults sink.new)
-        (complaint text.now) }
+    ensures { Attempts (sink_change F.Sink sink.old sink.new) (line text.now) }
 {
     let mut line = [0; 8 + MAX_TEXT];
     let at = put(&mut line, 0, b"venti: ");

@@ -1,17 +1,21 @@
 //! The program: a Venti server and its tools (venti(8)).
 #![tactic(auto)]
 
-mod answers;
+mod command;
+mod commands;
 mod complaint;
 mod entries;
+mod failure;
 mod host;
 mod input;
+pub mod laws;
 mod memory;
-mod output;
 mod run;
-mod session;
 mod store;
 
+pub use command::{Command, command_of};
+pub use commands::session::{SessionEnd, session};
+pub use failure::{Failure, status};
 pub use host::{Host, Streams};
 pub use run::{run, run_with};
 use std::alloc::Global;
@@ -21,9 +25,6 @@ use std::process::ExitCode;
 use std::rt::Env;
 use vt_base::{NoMemory, Text};
 use vt_host::{StdSink, StdSource};
-
-#[cfg(test)]
-mod tests;
 
 fn main(rt: HostRuntime) -> ExitCode {
     let Ok(words) = words(&rt) else {

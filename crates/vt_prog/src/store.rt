@@ -27,6 +27,7 @@ use vt_log::{Log, LogErr, Progress};
 use vt_model::BUCKET_ROOM;
 use vt_steps::Steps;
 
+mod asked;
 #[cfg(test)]
 mod tests;
 
@@ -91,6 +92,7 @@ impl<D: Disk, L: Ledger, S: Scorer> LogStore<D, L, S> {
         ensures stopped { (call : ℕ) → self.old.log.stopped ≡ Some call
             → IsBlock (record { kind = kind; bytes = bytes.now })
             → (result ≡ Err (Why.Stopped call)) × (self.new ≡ self.old) }
+        ensures still { (call : ℕ) → self.old.log.stopped ≡ Some call → self.new ≡ self.old }
     {
         let kind = Kind::from_wire(kind).ok_or(Why::BadType)?;
         if bytes.len() > MAX_BLOCK {
@@ -155,6 +157,7 @@ impl<D: Disk, L: Ledger, S: Scorer> LogStore<D, L, S> {
             h sync (λ _. r_sync) result }
         ensures cause { CommitsOrStops D.Disk self.old.log self.new.log result }
         ensures durable { OnOk result (queued self.new.log ≡ 0) }
+        ensures stays_durable { self.old.log.durable ≤ self.new.log.durable }
         ensures stopped { (call : ℕ) → self.old.log.stopped ≡ Some call
             → (result ≡ Err (Why.Stopped call)) × (self.new ≡ self.old) }
     {
@@ -315,6 +318,7 @@ fn commit<D: Disk, S: Scorer>(log: &mut Log<D, S>) -> Result<(), Why>
         → IsSound S.score_of D.Disk log.new h }
     ensures cause { CommitsOrStops D.Disk log.old log.new result }
     ensures none { OnOk result (queued log.new ≡ 0) }
+    ensures durable { log.old.durable ≤ log.new.durable }
     ensures stopped { (call : ℕ) → log.old.stopped ≡ Some call
         → (result ≡ Err (Why.Stopped call)) × (log.new ≡ log.old) }
     ensures setup { setup_of log.new ≡ setup_of log.old }

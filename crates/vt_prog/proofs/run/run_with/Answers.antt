@@ -1,16 +1,22 @@
--- by the words
-use Rattle.vt_prog.proofs.Complete.{ends_well}
+-- what was done, and then the line on the fault sink
+use Rattle.std.proofs.Common.{◌∙◌, subst}
+use Rattle.vt_prog.specs.Change.{work_of, sink_change, Attempts}
+use Rattle.vt_prog.specs.Failure.{line_of}
+use Rattle.vt_prog.proofs.Ran.{ran}
 use Rattle.vt_prog.proofs.run.run_with.Goals as goal
 
-pub returns-then-not-is_session-clause-complained : goal.returns-then-not-is_session-clause-complained
-returns-then-not-is_session-clause-complained g c other tells =
+pub returns : goal.returns
+returns g c =
     let again = g.met.H.Host.lent_again in
-    simp again (rw (← c.fault_sink.ensures.fault_sink) (c.complain.ensures tells))
-
-pub returns-clause-complete : goal.returns-clause-complete
-returns-clause-complete g c words tells tells' well no_read no_write =
-    let again = g.met.H.Host.lent_again in
-    let quiet = simp again at no_read in
-    let quiet' = simp again at no_write in
-    rw c.status.ensures (ends_well g.S.Scorer.score_of c.session-outcome.result _ _ _ _ _ _ _ _ (g.met.H.Source.Source.left_bytes _) well (c.session-outcome.ensures.told tells tells')
-    c.session-outcome.ensures.causes quiet quiet')
+    let before = g.H.Host.lent c.args.host.now in
+    let done = g.H.Host.lent c.do_words-outcome.new.host in
+    let sink = g.H.FaultSink.Sink in
+    let is = c.fault_sink.ensures.fault_sink ∙ c.do_words-outcome.ensures.quiet in
+    let complained = subst (λ s. Attempts (sink_change sink s c.complain_of.new.sink)
+    (line_of c.do_words-outcome.result)) is c.complain_of.ensures in
+    simp again (record {
+      did = ran (work_of g.H.Source.Source g.H.Sink.Sink sink before done)
+          (sink_change sink before.fault_sink c.complain_of.new.sink) g.S.Scorer.score_of
+          c.args.words.now c.do_words-outcome.result c.status.result c.status.ensures
+          c.do_words-outcome.ensures.cause c.do_words-outcome.ensures.does complained;
+    })

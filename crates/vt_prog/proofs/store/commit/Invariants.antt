@@ -1,5 +1,5 @@
 -- the log stays sound, and goes on
-use Rattle.std.proofs.Common.{◌≡◌, ℕ, Some}
+use Rattle.std.proofs.Common.{◌≡◌, ◌≤◌, ℕ, Some}
 use Rattle.std.specs.Prelude.{IsTrue}
 use Rattle.vt_model.specs.History.{History}
 use Rattle.vt_log.specs.Log.{setup_of}
@@ -13,6 +13,7 @@ invariant-loop g l = record {
   sound : (h : History) → IsTrue g.D.Disk.tells → IsSound g.S.Scorer.score_of g.D.Disk l.fn.log h
       → IsSound g.S.Scorer.score_of g.D.Disk l.log h;
   on : NoneFailed g.D.Disk l.fn.log l.log;
+  durable : l.fn.log.durable ≤ l.log.durable;
   setup : setup_of l.log ≡ setup_of l.fn.log;
   stays : (call : ℕ) → l.fn.log.stopped ≡ Some call → l.log ≡ l.fn.log;
 }

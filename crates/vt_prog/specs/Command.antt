@@ -1,0 +1,19 @@
+-- The words of each command (venti(8)).
+use Rattle.std.specs.Prelude.{ℕ, ◌&&◌, List, [], ◌∷◌, Option, Some, None, codes, if◌then◌else◌}
+use Rattle.std.specs.Str.{bytes_eq}
+use Rattle.vt_prog.specs.declared.command.Command.{Command}
+use Rattle.vt_prog.specs.declared.command.Command.TheVariants.{Session}
+
+-- the words of a session in memory
+abbrev pub session_words : List (List ℕ)
+session_words = codes "session" ∷ codes ":memory:" ∷ []
+
+-- the command that words of this count spell, if they spell one
+abbrev pub command_of_two : (name store : List ℕ) → Option Command
+command_of_two name store =
+    if bytes_eq name (codes "session") && bytes_eq store (codes ":memory:") then Some Session
+    else None
+
+abbrev pub command_of : List (List ℕ) → Option Command
+command_of (name ∷ store ∷ []) = command_of_two name store
+command_of words = None

@@ -1,0 +1,150 @@
+//! The command `session :memory:`: one session over a store in memory.
+
+ghost use Rattle.std.specs.Prelude.{◌≡◌, ◌<◌, [], None, IsTrue, IfOk};
+ghost use Rattle.vt_session.specs.Turns.{server_line};
+ghost use Rattle.vt_prog.specs.Change.{work_of};
+ghost use Rattle.vt_prog.specs.Commands.Session.{DoesSession, IsSession, HasCauses, end_of_session, outcome_of};
+ghost use Rattle.vt_prog.specs.Failure.{HasCauseIn};
+ghost use Rattle.vt_prog.specs.Reading.{is_fault as is_fault_of};
+ghost use Rattle.vt_prog.specs.Store.{HoldsInMemory};
+
+use crate::failure::Failure;
+use crate::host::Host;
+use crate::input::{Reading, read_all};
+use crate::memory::{ARENA_LEN, empty_log};
+use crate::store::LogStore;
+use std::alloc::Global;
+use std::marker::Brand;
+use std::sync::ledger::{Blank, Ledger};
+use vt_answer::Answering;
+use vt_base::{NoMemory, Scorer};
+use vt_disk::Disk;
+use vt_memdisk::MemDisk;
+use vt_part::BLOCK_LEN;
+use vt_session::Ended;
+use vt_steps::Steps;
+
+#[cfg(test)]
+mod tests;
+
+/// How a session ended, and what else its outcome depends on.
+#[derive(Clone, Copy, Debug, PartialEq, Eq)]
+pub struct SessionEnd {
+    pub ended: Ended,
+    /// A read failed.
+    pub read_failed: bool,
+    /// Memory ran out in a request.
+    pub ran_out: bool,
+    /// How many bytes were taken.
+    pub taken: u64,
+}
+
+/// Reads the source to its end, and answers it as one session over a store that begins empty.
+pub fn session<H: Host, S: Scorer>(alloc: Global, host: &mut H, scorer: &S) -> Result<(), Failure>
+    ensures does { DoesSession S.score_of result (work_of H.Source.Source H.Sink.Sink
+        H.FaultSink.Sink (H.lent host.old) (H.lent host.new)) }
+    ensures cause { HasCauseIn (work_of H.Source.Source H.Sink.Sink H.FaultSink.Sink
+        (H.lent host.old) (H.lent host.new)) result }
+    ensures quiet { (H.lent host.new).fault_sink ≡ (H.lent host.old).fault_sink }
+{
+    let end = hold_session::<Brand, H, S>(alloc, host, scorer, Blank::new(1));
+    outcome_of(end)
+}
+
+/// The outcome of a session that ended so.
+fn outcome_of(end: SessionEnd) -> Result<(), Failure>
+    ensures { result ≡ outcome_of end }
+{
+    if end.read_failed {
+        return Err(Failure::ReadFault);
+    }
+    if end.ran_out {
+        return Err(Failure::NoMemory);
+    }
+    match end.ended {
+        Ended::Goodbye | Ended::Closed => Ok(()),
+        Ended::Cut => Err(Failure::Cut(end.taken)),
+        Ended::Malformed(place) => Err(Failure::Malformed(place)),
+        Ended::Spent => Err(Failure::Spent(end.taken)),
+        Ended::ReadFault => Err(Failure::ReadFault),
+        Ended::WriteFault => Err(Failure::WriteFault),
+        Ended::NoMemory => Err(Failure::NoMemory),
+    }
+}
+
+/// Reads the whole input, and then answers it.
+fn hold_session<L: Ledger, H: Host, S: Scorer>(
+    alloc: Global,
+    host: &mut H,
+    scorer: &S,
+    blank: Blank,
+) -> SessionEnd
+    requires name { blank.name ≡ L.name }
+    requires parts { blank.parts ≡ L.parts }
+    requires some { 0 < L.parts }
+    ensures told { IsTrue H.Source.tells → IsTrue H.Sink.tells → IsSession S.score_of result
+        (H.Source.left (H.lent host.old).source) (H.Source.left (H.lent host.new).source)
+        (H.Sink.written (H.lent host.old).sink) (H.Sink.written (H.lent host.new).sink) }
+    ensures causes { HasCauses result
+        (H.Source.faults (H.lent host.old).source) (H.Source.faults (H.lent host.new).source)
+        (H.Sink.faults (H.lent host.old).sink) (H.Sink.faults (H.lent host.new).sink) }
+    ensures fault_sink { (H.lent host.new).fault_sink ≡ (H.lent host.old).fault_sink }
+{
+    let nothing = SessionEnd {
+        ended: Ended::NoMemory,
+        read_failed: false,
+        ran_out: false,
+        taken: 0,
+    };
+    // Memory for the answers is taken first: what was read is answered, also where the reading fails.
+    let Ok((mut store, mut answering)) = prepare::<L, S>(alloc, scorer, blank) else {
+        return nothing;
+    };
+    let Ok((input, reading)) = read_all(alloc, host.source()) else {
+        return nothing;
+    };
+    let ended = answering.answer_input(alloc, &mut store, &input, host.sink());
+    SessionEnd {
+        ended: ended_of(reading, ended),
+        read_failed: is_fault(reading),
+        // A store in memory fails for want of it alone.
+        ran_out: answering.failure().is_some(),
+        taken: input.len() as u64,
+    }
+}
+
+fn is_fault(reading: Reading) -> bool
+    ensures { result ≡ is_fault_of reading }
+{
+    matches!(reading, Reading::Fault)
+}
+
+/// How a session ends whose input was read so and heard to this end.
+fn ended_of(reading: Reading, ended: Ended) -> Ended
+    ensures { result ≡ end_of_session reading ended }
+{
+    match (reading, ended) {
+        (Reading::Limit, Ended::Closed | Ended::Cut) => Ended::Spent,
+        (Reading::Fault, Ended::Closed | Ended::Cut) => Ended::ReadFault,
+        _ => ended,
+    }
+}
+
+/// A store without blocks, and answers that begin with the server's line.
+fn prepare<L: Ledger, S: Scorer>(
+    alloc: Global,
+    scorer: &S,
+    blank: Blank,
+) -> Result<(LogStore<MemDisk, L, &S>, Answering), NoMemory>
+    requires name { blank.name ≡ L.name }
+    requires parts { blank.parts ≡ L.parts }
+    requires some { 0 < L.parts }
+    ensures empty { IfOk result (λ it. HoldsInMemory S.score_of ⟦<MemDisk as Disk>⟧ it.0 []) }
+    ensures line { IfOk result (λ it. it.1 ≡ record { waiting = server_line; failure = None }) }
+{
+    let disk = MemDisk::new(alloc, BLOCK_LEN as u64 + ARENA_LEN)?;
+    let log = empty_log(alloc, disk, scorer)?;
+    let store = LogStore::new(alloc, scorer, log, Steps::new(blank));
+    let answering = Answering::new(alloc)?;
+    Ok((store, answering))
+}
