@@ -178,9 +178,7 @@ impl Rig {
     fn reads(&mut self, alloc: Global, offset: u64, block: &[u8]) -> bool {
         match self.read(alloc, offset) {
             Ok(clump) => {
-                clump.bytes.as_slice() == block
-                    && clump.kind == Kind::DATA
-                    && clump.time == 0
+                clump.bytes.as_slice() == block && clump.kind == Kind::DATA && clump.time == 0
             }
             Err(_) => false,
         }
