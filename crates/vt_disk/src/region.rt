@@ -17,20 +17,19 @@ pub struct Region {
 }
 
 impl Region {
-    ghost use Rattle.vt_disk.specs.Disk.{Touches, SameBut, part, with_bytes, AreAmong, ChangesAt, IsOneMore};
+    ghost use Rattle.vt_disk.specs.Disk.{Touches, part, with_bytes, AreAmong};
     ghost use Rattle.vt_base.specs.Faults.{HasCause};
+    ghost use Rattle.vt_disk.specs.Calls.{OnlyReads, WritesAt, MadeCalls};
     ghost use Rattle.vt_disk.specs.Region.{FitsDisk};
 
     /// Reads from a place in the region, counted from its start.
     pub fn read_at<D: Disk>(self, disk: &mut D, at: u64, buf: &mut [u8]) -> Result<(), Failed>
         requires region { FitsDisk self (D.size disk.old) }
         requires within { at + length buf.old ≤ self.len }
+        ensures reads { OnlyReads D.Disk 1 disk.old disk.new }
         ensures read { OnOk result (IsTrue D.tells
             → buf.new ≡ part (self.start + at) (length buf.old) (D.bytes disk.old)) }
-        ensures bytes { D.bytes disk.new ≡ D.bytes disk.old }
-        ensures images { AreAmong (D.images disk.new) (D.images disk.old) }
-        ensures size { D.size disk.new ≡ D.size disk.old }
-        ensures calls { IsTrue D.tells → IsOneMore (D.calls disk.old) (D.calls disk.new) }
+        ensures calls { MadeCalls D.Disk 1 disk.old disk.new }
         ensures cause { HasCause result (D.faults disk.old) (D.faults disk.new) }
     {
         disk.read_at(self.start + at, buf)
@@ -40,15 +39,12 @@ impl Region {
     pub fn write_at<D: Disk>(self, disk: &mut D, at: u64, chunk: &[u8]) -> Result<(), Failed>
         requires region { FitsDisk self (D.size disk.old) }
         requires within { at + length chunk.now ≤ self.len }
+        ensures writes { WritesAt D.Disk (Touches (self.start + at) (length chunk.now)) 1
+            disk.old disk.new }
         ensures written { OnOk result (IsTrue D.tells
             → D.bytes disk.new ≡ with_bytes (self.start + at) chunk.now (D.bytes disk.old)) }
-        ensures others { IsTrue D.tells → SameBut
-            (Touches (self.start + at) (length chunk.now)) (D.bytes disk.old) (D.bytes disk.new) }
-        ensures images { ChangesAt
-            (Touches (self.start + at) (length chunk.now)) (D.images disk.old) (D.images disk.new) }
         ensures kept { AreAmong (D.images disk.old) (D.images disk.new) }
-        ensures size { D.size disk.new ≡ D.size disk.old }
-        ensures calls { IsTrue D.tells → IsOneMore (D.calls disk.old) (D.calls disk.new) }
+        ensures calls { MadeCalls D.Disk 1 disk.old disk.new }
         ensures cause { HasCause result (D.faults disk.old) (D.faults disk.new) }
     {
         disk.write_at(self.start + at, chunk)
