@@ -1,4 +1,5 @@
 pub mod Cells
+pub mod Crashes
 pub mod Memory
 pub mod Sectors
 pub mod Writes

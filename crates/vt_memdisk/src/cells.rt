@@ -4,8 +4,10 @@ ghost use Rattle.std.specs.Prelude.{◌≡◌, ◌+◌, ◌-◌, ◌*◌, ◌/�
 ghost use Rattle.vt_base.specs.Bytes.{AreBytes};
 ghost use Rattle.vt_disk.specs.Disk.{part, with_bytes};
 ghost use Rattle.vt_memdisk.specs.Cells.{is_pending, NonePending, Marks, byte_after, chosen};
+ghost use Rattle.vt_memdisk.specs.Crashes.{IsLeftBy};
 
 use crate::choices::choose;
+use crate::crash::{CrashMode, leave};
 use crate::dirty::Dirty;
 use std::alloc::{AllocError, Global};
 
@@ -128,5 +130,15 @@ impl Cells {
         ensures synced { self.new.synced ≡ self.old.synced }
     {
         choose(&mut self.content, &self.synced, &self.pending, choice);
+    }
+
+    /// The pending bytes become what a crash in this mode leaves of them.
+    pub fn leave(&mut self, mode: CrashMode)
+        ensures content { IsLeftBy mode self.old.pending.items self.old.synced.items
+            self.old.content.items self.new.content.items }
+        ensures pending { self.new.pending ≡ self.old.pending }
+        ensures synced { self.new.synced ≡ self.old.synced }
+    {
+        leave(&mut self.content, &self.synced, &self.pending, mode);
     }
 }

@@ -4,11 +4,13 @@
 
 mod cells;
 mod choices;
+mod crash;
 mod dirty;
 mod laws;
 mod mem_disk;
 mod plan;
 
+pub use crash::CrashMode;
 pub use laws::{each_image_is_chosen, memory_as_a_disk, nothing_pending, unsynced_writes};
 pub use mem_disk::MemDisk;
 pub use plan::{Listed, Never, Plan};

@@ -1,6 +1,7 @@
 //! A disk in memory.
 
 use crate::cells::Cells;
+use crate::crash::CrashMode;
 use crate::plan::{Listed, Never, Plan};
 use std::alloc::Global;
 use vt_base::{Failed, NoMemory};
@@ -63,6 +64,7 @@ impl<P: Plan> MemDisk<P> {
     ghost use Rattle.std.specs.Prelude.{◌≡◌, ◌<◌, ℕ, [], length, slice_index, IfOk};
     ghost use Rattle.vt_disk.specs.Disk.{Only};
     ghost use Rattle.vt_memdisk.specs.Cells.{is_pending, NonePending, chosen};
+    ghost use Rattle.vt_memdisk.specs.Crashes.{IsLeftBy};
     ghost use Rattle.vt_memdisk.specs.Memory.{memory_bytes, memory_synced, memory_pending, memory_plan};
 
     fn with_plan(alloc: Global, len: u64, plan: P) -> Result<Self, NoMemory>
@@ -91,7 +93,7 @@ impl<P: Plan> MemDisk<P> {
     /// the other. A choice below 256 is that byte, 257 the written byte, any other the synced byte,
     /// as where there is no choice left. No call fails from then on, and calls are numbered from 0
     /// again.
-    pub fn crash(self, choice: &[u16]) -> Self
+    pub fn crash(mut self, choice: &[u16]) -> Self
         ensures bytes { memory_bytes result
             ≡ chosen (memory_pending self) (memory_synced self) (memory_bytes self) choice.now }
         ensures image { ⟦<MemDisk<P> as Disk>⟧.images self (memory_bytes result) }
@@ -101,8 +103,36 @@ impl<P: Plan> MemDisk<P> {
         ensures calls { P.calls (memory_plan result) ≡ 0 }
         ensures faults { P.faults (memory_plan result) ≡ P.faults (memory_plan self) }
     {
+        self.cells.choose(choice);
+        self.restarted()
+    }
+
+    /// The disk after a crash that leaves of its pending bytes what the mode says. As after
+    /// `crash`, no call fails from then on, and calls are numbered from 0 again.
+    pub fn crash_in(mut self, mode: CrashMode) -> Self
+        ensures bytes { IsLeftBy mode (memory_pending self) (memory_synced self)
+            (memory_bytes self) (memory_bytes result) }
+        ensures image { ⟦<MemDisk<P> as Disk>⟧.images self (memory_bytes result) }
+        ensures pending { NonePending (memory_pending result) }
+        ensures settled { Only (memory_bytes result) (⟦<MemDisk<P> as Disk>⟧.images result) }
+        ensures listed { P.listed (memory_plan result) ≡ [] }
+        ensures calls { P.calls (memory_plan result) ≡ 0 }
+        ensures faults { P.faults (memory_plan result) ≡ P.faults (memory_plan self) }
+    {
+        self.cells.leave(mode);
+        self.restarted()
+    }
+
+    /// What is read is all that there is, and the machine starts again.
+    fn restarted(self) -> Self
+        ensures bytes { memory_bytes result ≡ memory_bytes self }
+        ensures pending { NonePending (memory_pending result) }
+        ensures settled { Only (memory_bytes result) (⟦<MemDisk<P> as Disk>⟧.images result) }
+        ensures listed { P.listed (memory_plan result) ≡ [] }
+        ensures calls { P.calls (memory_plan result) ≡ 0 }
+        ensures faults { P.faults (memory_plan result) ≡ P.faults (memory_plan self) }
+    {
         let mut disk = self;
-        disk.cells.choose(choice);
         disk.cells.settle();
         disk.plan.restart();
         disk

@@ -44,14 +44,20 @@ fn a_large_disk_is_written_and_synced(rt: HostRuntime) -> Result<(), Fail> {
     Ok(())
 }
 
-/// The bytes after a crash of a disk that holds 1 to 8, of which bytes 2 to 5 were written over
-/// with 20 and not synced.
-fn crashed(rt: &HostRuntime, choice: &[u16]) -> Result<[u8; 8], Fail> {
+/// A disk that holds 1 to 8, of which bytes 2 to 5 were written over with 20 and not synced.
+fn written(rt: &HostRuntime) -> Result<MemDisk, Fail> {
     let mut disk = MemDisk::new(rt.alloc(), 8)?;
     disk.write_at(0, &[1, 2, 3, 4, 5, 6, 7, 8])?;
     disk.sync()?;
     disk.write_at(2, &[20; 4])?;
-    let mut disk = disk.crash(choice);
+    Ok(disk)
+}
+
+/// The bytes of a disk of 8.
+fn bytes(mut disk: MemDisk) -> Result<[u8; 8], Fail> {
+    if disk.len() != 8 {
+        return Err("another length".into());
+    }
     let mut bytes = [0; 8];
     disk.read_at(0, &mut bytes)?;
     Ok(bytes)
@@ -59,22 +65,34 @@ fn crashed(rt: &HostRuntime, choice: &[u16]) -> Result<[u8; 8], Fail> {
 
 #[test]
 fn a_crash_leaves_what_was_chosen(rt: HostRuntime) -> Result<(), Fail> {
-    assert_eq!(rt; crashed(&rt, &[256; 4])?, [1, 2, 3, 4, 5, 6, 7, 8]);
-    assert_eq!(rt; crashed(&rt, &[257; 4])?, [1, 2, 20, 20, 20, 20, 7, 8]);
-    assert_eq!(rt;
-        crashed(&rt, &[257, 256, 257, 256])?,
-        [1, 2, 20, 4, 20, 6, 7, 8]
-    );
-    assert_eq!(rt;
-        crashed(&rt, &[0xa5; 4])?,
-        [1, 2, 0xa5, 0xa5, 0xa5, 0xa5, 7, 8]
-    );
-    // A short list, and a number that is no choice, stand for the synced byte.
-    assert_eq!(rt;
-        crashed(&rt, &[257, 258, 255])?,
-        [1, 2, 20, 4, 255, 6, 7, 8]
-    );
-    assert_eq!(rt; crashed(&rt, &[])?, [1, 2, 3, 4, 5, 6, 7, 8]);
+    for (choice, left) in [
+        ([256; 4].as_slice(), [3, 4, 5, 6]),
+        ([257; 4].as_slice(), [20; 4]),
+        ([257, 256, 257, 256].as_slice(), [20, 4, 20, 6]),
+        ([0xa5; 4].as_slice(), [0xa5; 4]),
+        // A short list, and a number that is no choice, stand for the synced byte.
+        ([257, 258, 255].as_slice(), [20, 4, 255, 6]),
+        ([].as_slice(), [3, 4, 5, 6]),
+    ] {
+        let [a, b, c, d] = left;
+        assert_eq!(rt;
+            bytes(written(&rt)?.crash(choice))?,
+            [1, 2, a, b, c, d, 7, 8]
+        );
+    }
+    Ok(())
+}
+
+#[test]
+fn a_crash_leaves_what_its_mode_says(rt: HostRuntime) -> Result<(), Fail> {
+    let left = [[3, 4, 5, 6], [20; 4], [20, 4, 20, 6], [0xa5; 4]];
+    for (mode, [a, b, c, d]) in CrashMode::ALL.into_iter().zip(left) {
+        assert_eq!(rt;
+            bytes(written(&rt)?.crash_in(mode))?,
+            [1, 2, a, b, c, d, 7, 8],
+            "{mode:?}"
+        );
+    }
     Ok(())
 }
 

@@ -1,6 +1,6 @@
 use Rattle.std.proofs.Common.{sym, ◌∙◌, ap}
 use Rattle.vt_memdisk.proofs.Combinations.{only_synced}
-use Rattle.vt_memdisk.proofs.mem_disk.MemDisk.crash.Goals as goal
+use Rattle.vt_memdisk.proofs.mem_disk.MemDisk.restarted.Goals as goal
 
 pub returns-clause-settled : goal.returns-clause-settled
 returns-clause-settled g c =
