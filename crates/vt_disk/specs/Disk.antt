@@ -3,15 +3,16 @@
 -- between two syncs is this project's model.
 use Rattle.std.specs.Prelude.{◌≡◌, ◌⊎◌, ℕ, ◌+◌, ◌%◌, ◌<◌, ◌≤◌, List, ◌++◌, length, take, drop, slice_index}
 pub use Rattle.vt_base.specs.Faults.{IsOneMore}
+use Rattle.vt_disk.specs.declared.TheConstants.{SECTOR_LEN}
 
 -- Which bytes a write of n bytes from `start` on touches: until the next sync, a crash may leave
 -- anything there.
 unfoldable pub Touches : (start n : ℕ) → ℕ → Type 0
 Touches start n i = (start ≤ i) × (i < start + n)
 
--- a place between two sectors, which have 512 bytes each
+-- a place between two sectors
 abbrev pub IsAligned : ℕ → Type 0
-IsAligned place = place % 512 ≡ 0
+IsAligned place = place % SECTOR_LEN ≡ 0
 
 -- the n bytes from `start` on
 abbrev pub part : {A : Type 0} → (start n : ℕ) → List A → List A

@@ -1,2 +1,5 @@
 -- The ghost members of a disk as one record, which a clause writes `D.Disk`.
-pub use Rattle.vt_disk.specs.declared.disk.Disk.{Ghosts as DiskOf}
+use Rattle.vt_disk.specs.declared.disk.Disk.{Ghosts}
+
+abbrev pub DiskOf : Type 0 → Type 1
+DiskOf D = Ghosts D

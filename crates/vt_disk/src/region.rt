@@ -1,6 +1,10 @@
 //! A bounded part of a disk.
 
-ghost use Rattle.std.specs.Prelude.{◌≡◌, ◌+◌, ◌≤◌, ◌^◌, ◌<◌, length, IsTrue, OnOk};
+ghost use Rattle.std.specs.Prelude.{◌≡◌, ◌+◌, ◌≤◌, length, IsTrue, OnOk};
+ghost use Rattle.vt_base.specs.Faults.{HasCause};
+ghost use Rattle.vt_disk.specs.Calls.{OnlyReads, WritesAt, MadeCalls};
+ghost use Rattle.vt_disk.specs.Disk.{Touches, part, with_bytes, AreAmong};
+ghost use Rattle.vt_disk.specs.Region.{FitsDisk};
 
 use crate::Disk;
 use vt_base::Failed;
@@ -13,15 +17,9 @@ pub struct Region {
     pub start: u64,
     /// How many bytes it has.
     pub len: u64,
-    ghost in_range: { start + len < 2 ^ 64 },
 }
 
 impl Region {
-    ghost use Rattle.vt_disk.specs.Disk.{Touches, part, with_bytes, AreAmong};
-    ghost use Rattle.vt_base.specs.Faults.{HasCause};
-    ghost use Rattle.vt_disk.specs.Calls.{OnlyReads, WritesAt, MadeCalls};
-    ghost use Rattle.vt_disk.specs.Region.{FitsDisk};
-
     /// Reads from a place in the region, counted from its start.
     pub fn read_at<D: Disk>(self, disk: &mut D, at: u64, buf: &mut [u8]) -> Result<(), Failed>
         requires region { FitsDisk self (D.size disk.old) }

@@ -2,6 +2,7 @@
 
 ghost use Rattle.std.specs.Prelude.{◌≡◌, ◌+◌, ◌-◌, ◌*◌, ◌/◌, ◌^◌, ◌<◌, ◌≤◌, ℕ, Bool, false, List, length, drop, replicate, slice_index, if◌then◌else◌, IfOk};
 ghost use Rattle.vt_base.specs.Bytes.{AreBytes};
+ghost use Rattle.vt_disk.specs.declared.TheConstants.{SECTOR_LEN};
 ghost use Rattle.vt_disk.specs.Disk.{part, with_bytes};
 ghost use Rattle.vt_memdisk.specs.Cells.{is_pending, NonePending, Marks, byte_after, chosen};
 ghost use Rattle.vt_memdisk.specs.Crashes.{IsLeftBy};
@@ -10,9 +11,7 @@ use crate::choices::choose;
 use crate::crash::{CrashMode, leave};
 use crate::dirty::Dirty;
 use std::alloc::{AllocError, Global};
-
-/// The granule of what a sync settles.
-const SECTOR: usize = 512;
+use vt_disk::SECTOR_LEN;
 
 /// The bytes of a disk.
 #[derive(Drop)]
@@ -27,11 +26,11 @@ pub struct Cells {
     ghost in_range: { length content.items < 2 ^ 64 },
     ghost synced_length: { length synced.items ≡ length content.items },
     ghost pending_length: { length pending.items ≡ length content.items },
-    ghost sectors: { length dirty.place.items ≡ length content.items / 512 + 1 },
+    ghost sectors: { length dirty.place.items ≡ length content.items / SECTOR_LEN + 1 },
     ghost settled: { (i : ℕ) → is_pending pending.items i ≡ false
         → slice_index content.items i ≡ slice_index synced.items i },
     ghost clean: { (i : ℕ) → i < length content.items
-        → dirty.count ≤ slice_index dirty.place.items (i / 512)
+        → dirty.count ≤ slice_index dirty.place.items (i / SECTOR_LEN)
         → is_pending pending.items i ≡ false },
 }
 
@@ -72,7 +71,7 @@ impl Cells {
             content: vec![in alloc; 0; len]?,
             synced: vec![in alloc; 0; len]?,
             pending: vec![in alloc; false; len]?,
-            dirty: Dirty::new(alloc, len / SECTOR + 1)?,
+            dirty: Dirty::new(alloc, len / SECTOR_LEN + 1)?,
         })
     }
 
@@ -83,7 +82,7 @@ impl Cells {
         ensures content { self.new.content ≡ self.old.content }
         ensures synced { self.new.synced ≡ self.old.synced }
     {
-        self.dirty.add_range(start / SECTOR, (start + n) / SECTOR);
+        self.dirty.add_range(start / SECTOR_LEN, (start + n) / SECTOR_LEN);
         set_all(&mut self.pending, start, n, true);
     }
 
@@ -104,8 +103,8 @@ impl Cells {
         ensures content { self.new.content ≡ self.old.content }
         ensures count { self.new.dirty.count ≡ self.old.dirty.count - 1 }
     {
-        let start = self.dirty.last() * SECTOR;
-        let n = SECTOR.min(self.content.len() - start);
+        let start = self.dirty.last() * SECTOR_LEN;
+        let n = SECTOR_LEN.min(self.content.len() - start);
         copy_range(&mut self.synced, &self.content, start, n);
         set_all(&mut self.pending, start, n, false);
         self.dirty.drop_last();

@@ -4,8 +4,11 @@ use Rattle.std.proofs.Math.Nat.{mul-le-mul_left}
 use Rattle.std.proofs.lemmas.Bool.{cases_lt}
 use Rattle.vt_disk.specs.declared.region.Region.{Region}
 use Rattle.vt_disk.specs.Disk.{Touches, IsAligned, SameBut, ChangesAt}
-use Rattle.vt_disk.specs.Region.{Inside, ChangesWithin}
-use Rattle.vt_disk.proofs.Bytes.{touches_within, part_same, same_refl, same_then, same_wider, aligned_sum, aligned_product}
+use Rattle.vt_disk.specs.Calls.{WritesAt, WritesWithin}
+use Rattle.vt_disk.specs.Members.{DiskOf}
+use Rattle.vt_disk.specs.Region.{Inside}
+use Rattle.vt_disk.proofs.Bytes.{touches_within, part_same, aligned_sum, aligned_product}
+use Rattle.vt_disk.proofs.Calls.{writes_wider}
 use Rattle.vt_twin.specs.declared.calls.Call.{Call}
 use Rattle.vt_twin.specs.declared.calls.Call.TheVariants.{WriteFrame, SyncFrame, WriteSelector, SyncSelector}
 use Rattle.vt_twin.specs.Frames.{HasRoom, frame_start, selector_start, selector_len, frame_of, named_number}
@@ -56,21 +59,21 @@ module _ (region : Region) (n size : ℕ) (room : HasRoom region n size) where
 
   module _ (current : ℕ) (two : current < 2) where
     -- no call touches the current frame
-    pub current_free : (call : Call) (i : ℕ) → InFrame region n current i → ¬ TouchedBy call region n current i
+    pub current_free : (call : Call) (i : ℕ) → InFrame region n current i → ¬ TouchedBy (number_of call) region n current i
     current_free WriteFrame i here touched = frames_apart current i two here (in_frame (1 - current) i touched)
     current_free SyncFrame i here touched = touched
     current_free WriteSelector i here touched = before_selector current i two here (in_selector i touched).0
     current_free SyncSelector i here touched = touched
 
     -- none but the first touches the idle one
-    pub idle_free : (call : Call) → 1 ≤ number_of call → (i : ℕ) → InFrame region n (1 - current) i → ¬ TouchedBy call region n current i
+    pub idle_free : (call : Call) → 1 ≤ number_of call → (i : ℕ) → InFrame region n (1 - current) i → ¬ TouchedBy (number_of call) region n current i
     idle_free WriteFrame later i here touched = omega (arith, later)
     idle_free SyncFrame later i here touched = touched
     idle_free WriteSelector later i here touched = before_selector (1 - current) i (omega arith) here (in_selector i touched).0
     idle_free SyncSelector later i here touched = touched
 
     -- none but the third touches the selector
-    pub selector_free : (call : Call) → ¬ (number_of call ≡ 2) → ¬ TouchedBy call region n current (selector_start region n)
+    pub selector_free : (call : Call) → ¬ (number_of call ≡ 2) → ¬ TouchedBy (number_of call) region n current (selector_start region n)
     selector_free WriteFrame other touched =
         before_selector (1 - current) (selector_start region n) (omega arith) (in_frame (1 - current) (selector_start region n) touched) (omega arith)
     selector_free SyncFrame other touched = touched
@@ -78,7 +81,7 @@ module _ (region : Region) (n size : ℕ) (room : HasRoom region n size) where
     selector_free SyncSelector other touched = touched
 
     -- what a call touches lies in the region
-    touched_inside : (call : Call) (i : ℕ) → TouchedBy call region n current i → Inside region i
+    pub touched_inside : (call : Call) (i : ℕ) → TouchedBy (number_of call) region n current i → Inside region i
     touched_inside WriteFrame i touched =
         let here = in_frame (1 - current) i touched in
         (omega (arith, here.0), omega (arith, here.1, frame_bound n (1 - current) (omega arith), room.least))
@@ -89,13 +92,8 @@ module _ (region : Region) (n size : ℕ) (room : HasRoom region n size) where
     touched_inside SyncSelector i touched = absurd touched
 
     -- so what changes where it touches changes in the region alone
-    pub bytes_inside : (call : Call) (old new : List ℕ) → SameBut (TouchedBy call region n current) old new → SameBut (Inside region) old new
-    bytes_inside call = same_wider (TouchedBy call region n current) (Inside region) (touched_inside call)
-
-    pub images_inside : (call : Call) (before after : List ℕ → Type 0) → ChangesAt (TouchedBy call region n current) before after → ChangesWithin region before after
-    images_inside call before after changes c left =
-        let from = changes c left in
-        (from.0, from.1, bytes_inside call from.0 c from.2)
+    pub writes_inside : {D : Type 0} (disk : DiskOf D) (call : Call) (most : ℕ) (old new : D) → WritesAt disk (TouchedBy (number_of call) region n current) most old new → WritesWithin disk region most old new
+    writes_inside disk call most old new = writes_wider disk (TouchedBy (number_of call) region n current) (Inside region) (touched_inside call) most most (omega arith) old new
 
   -- a frame and the selector lie in the region
   pub frame_inside : (number i : ℕ) → number < 2 → InFrame region n number i → Inside region i
@@ -124,14 +122,3 @@ module _ (P : ℕ → Type 0) (region : Region) (n : ℕ) where
     names_same free number names c left =
         let from = changes c left in
         named_same free from.0 c from.2 ∙ names from.0 from.1
-
--- one change after another
-pub changes_then : (P : ℕ → Type 0) (first second third : List ℕ → Type 0) → ChangesAt P first second → ChangesAt P second third → ChangesAt P first third
-changes_then P first second third one two c left =
-    let back = two c left in
-    let from = one back.0 back.1 in
-    (from.0, from.1, same_then P from.0 back.0 c from.2 back.2)
-
--- fewer images
-pub changes_none : (P : ℕ → Type 0) (first second : List ℕ → Type 0) → ((c : List ℕ) → second c → first c) → ChangesAt P first second
-changes_none P first second fewer c left = (c, fewer c left, same_refl P c)

@@ -59,11 +59,11 @@ crash_gives t later region old read reads before after sound sound_later same_le
 
 module _ (t : TwinState) (region : Region) (size : ℕ) (room : HasRoom region t.frame_len size)
     (old read reads : List ℕ) (before after : List ℕ → Type 0) (call : Call) (made : calls_made t ≡ number_of call)
-    (same : SameBut (TouchedBy call region t.frame_len t.current) read reads)
-    (changes : ChangesAt (TouchedBy call region t.frame_len t.current) before after)
+    (same : SameBut (TouchedBy (number_of call) region t.frame_len t.current) read reads)
+    (changes : ChangesAt (TouchedBy (number_of call) region t.frame_len t.current) before after)
     (sound : IsSound t region old read before) where
   P : ℕ → Type 0
-  P = TouchedBy call region t.frame_len t.current
+  P = TouchedBy (number_of call) region t.frame_len t.current
 
   kept_after : HasFrame region t.frame_len t.current old after
   unfolding P

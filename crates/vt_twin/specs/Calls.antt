@@ -1,5 +1,5 @@
 -- The four device calls of a change.
-use Rattle.std.specs.Prelude.{◌≡◌, ◌==◌, ◌⊎◌, ℕ, ◌-◌, List, Option, Some, None, if◌then◌else◌}
+use Rattle.std.specs.Prelude.{◌≡◌, ◌==◌, ◌⊎◌, ℕ, zero, suc, ◌-◌, List, Option, Some, None, if◌then◌else◌}
 use Rattle.vt_disk.specs.declared.region.Region.{Region}
 use Rattle.vt_disk.specs.Disk.{Touches}
 use Rattle.vt_twin.specs.declared.calls.Call.{Call}
@@ -32,9 +32,9 @@ next_call SyncFrame = Some WriteSelector
 next_call WriteSelector = Some SyncSelector
 next_call SyncSelector = None
 
--- what a call may change
-abbrev pub TouchedBy : Call → Region → (n current : ℕ) → ℕ → Type 0
-TouchedBy WriteFrame region n current i = Touches (frame_start region n (1 - current)) n i
-TouchedBy SyncFrame region n current i = ⊥
-TouchedBy WriteSelector region n current i = Touches (selector_start region n) (selector_len region n) i
-TouchedBy SyncSelector region n current i = ⊥
+-- what a call of a change may change, where `made` calls came before it
+abbrev pub TouchedBy : (made : ℕ) → Region → (n current : ℕ) → ℕ → Type 0
+TouchedBy zero region n current i = Touches (frame_start region n (1 - current)) n i
+TouchedBy (suc (suc zero)) region n current i =
+    Touches (selector_start region n) (selector_len region n) i
+TouchedBy made region n current i = ⊥

@@ -2,16 +2,17 @@
 -- selector's first byte names the current frame. No manual page fixes how a store changes a block
 -- of its own whole; this is the project's layout.
 use Rattle.std.specs.Prelude.{ℕ, ◌+◌, ◌-◌, ◌*◌, ◌%◌, ◌≤◌, List, ◌∷◌, replicate, slice_index}
+use Rattle.vt_disk.specs.declared.TheConstants.{SECTOR_LEN, BLOCK_LEN}
 use Rattle.vt_disk.specs.declared.region.Region.{Region}
 use Rattle.vt_disk.specs.Disk.{IsAligned, part, with_bytes}
 use Rattle.vt_disk.specs.Region.{FitsDisk}
 
--- A region of a disk of this size that holds two frames of n bytes and a selector of 512 to 8,192
--- bytes, each of them whole sectors, so that a torn write of one leaves the others.
+-- A region of a disk of this size that holds two frames of n bytes and a selector of a sector to a
+-- block, each of them whole sectors, so that a torn write of one leaves the others.
 pub record HasRoom (region : Region) (n size : ℕ) : Type 0 where
   pub within : FitsDisk region size
-  pub least : 2 * n + 512 ≤ region.len
-  pub most : region.len ≤ 2 * n + 8192
+  pub least : 2 * n + SECTOR_LEN ≤ region.len
+  pub most : region.len ≤ 2 * n + BLOCK_LEN
   pub aligned_start : IsAligned region.start
   pub aligned_len : IsAligned region.len
   pub aligned_frames : IsAligned n

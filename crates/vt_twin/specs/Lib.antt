@@ -1,4 +1,5 @@
 pub mod Calls
+pub mod Formatting
 pub mod Frames
 pub mod Sound
 pub mod Twin

@@ -1,7 +1,6 @@
 -- A twin as its calls see it.
-use Rattle.std.specs.Prelude.{◌≡◌, ℕ, ◌+◌, ◌-◌, List, [], Option, Some, None, is_some, if◌then◌else◌, Result, Ok, Err}
+use Rattle.std.specs.Prelude.{◌≡◌, ℕ, ◌+◌, ◌-◌, Bool, true, false, List, [], Option, Some, None, is_some, if◌then◌else◌, Result, Ok, Err}
 use Rattle.std.specs.Option.{option_map_or}
-use Rattle.vt_base.specs.Faults.{HasRisen}
 pub use Rattle.vt_base.specs.Faults.{one_more}
 use Rattle.vt_twin.specs.declared.step.Step.{Step}
 use Rattle.vt_twin.specs.declared.step.Step.TheVariants.{More, Done}
@@ -84,8 +83,7 @@ Advances (Ok Done) old new = new ≡ after_last old
 Advances (Err Fault) old new = new ≡ after_fault old
 Advances (Err (Stopped n)) old new = new ≡ old
 
--- a fault comes only where the count of faults rises, and it rises only then
-abbrev pub CountsFault : Result Step TwinErr → (old new : ℕ) → Type 0
-CountsFault (Ok step) old new = new ≡ old
-CountsFault (Err Fault) old new = HasRisen old new
-CountsFault (Err (Stopped n)) old new = new ≡ old
+-- the answer tells of a fault of the disk in this call
+abbrev pub is_fault : TwinErr → Bool
+is_fault Fault = true
+is_fault (Stopped n) = false

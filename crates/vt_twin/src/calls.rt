@@ -1,13 +1,14 @@
 //! The device calls of a change.
 
 ghost use Rattle.std.specs.Prelude.{◌≡◌, ◌+◌, ◌-◌, ◌*◌, ◌<◌, ◌≤◌, length, IsTrue, OnOk};
-ghost use Rattle.vt_disk.specs.Disk.{Touches, SameBut, ChangesAt, Only, IsOneMore};
 ghost use Rattle.vt_base.specs.Faults.{HasCause};
+ghost use Rattle.vt_disk.specs.Calls.{WritesAt, MadeCalls, IsSynced};
+ghost use Rattle.vt_disk.specs.Disk.{Touches};
 ghost use Rattle.vt_twin.specs.Frames.{HasRoom, selector_start, selector_len, with_selector};
 ghost use Rattle.vt_twin.specs.Calls.{bytes_after, number_of, next_call, IsSync, TouchedBy};
 
 use vt_base::Failed;
-use vt_disk::{Disk, Region};
+use vt_disk::{BLOCK_LEN, Disk, Region};
 
 /// A device call of a change.
 #[derive(Clone, Copy, Debug, PartialEq, Eq)]
@@ -17,9 +18,6 @@ pub enum Call {
     WriteSelector,
     SyncSelector,
 }
-
-/// The most bytes of a selector.
-const SELECTOR_MAX: usize = 8192;
 
 /// The call behind this one, if it isn't the last.
 pub fn next(call: Call) -> Option<Call>
@@ -54,19 +52,15 @@ pub fn write_selector<D: Disk>(
     number: u8,
 ) -> Result<(), Failed>
     requires { HasRoom region frame_len (D.size disk.old) }
+    ensures writes { WritesAt D.Disk
+        (Touches (selector_start region frame_len) (selector_len region frame_len)) 1
+        disk.old disk.new }
     ensures written { OnOk result (IsTrue D.tells → D.bytes disk.new
         ≡ with_selector region frame_len number (D.bytes disk.old)) }
-    ensures others { IsTrue D.tells
-        → SameBut (Touches (selector_start region frame_len) (selector_len region frame_len))
-        (D.bytes disk.old) (D.bytes disk.new) }
-    ensures images { ChangesAt
-        (Touches (selector_start region frame_len) (selector_len region frame_len))
-        (D.images disk.old) (D.images disk.new) }
-    ensures size { D.size disk.new ≡ D.size disk.old }
-    ensures calls { IsTrue D.tells → IsOneMore (D.calls disk.old) (D.calls disk.new) }
+    ensures calls { MadeCalls D.Disk 1 disk.old disk.new }
     ensures cause { HasCause result (D.faults disk.old) (D.faults disk.new) }
 {
-    let mut selector = [0; SELECTOR_MAX];
+    let mut selector = [0; BLOCK_LEN];
     selector[0] = number;
     let len = (region.len - 2 * frame_len) as usize;
     region.write_at(disk, 2 * frame_len, &selector[..len])
@@ -84,17 +78,12 @@ pub fn make_call<D: Disk>(
     requires number { current < 2 }
     requires whole { length frame.now ≡ frame_len }
     requires room { HasRoom region frame_len (D.size disk.old) }
+    ensures writes { WritesAt D.Disk (TouchedBy (number_of call) region frame_len current) 1
+        disk.old disk.new }
     ensures written { OnOk result (IsTrue D.tells → D.bytes disk.new
         ≡ bytes_after (number_of call) region frame_len current frame.now (D.bytes disk.old)) }
-    ensures settled { OnOk result (IsTrue D.tells → IsSync (number_of call)
-        → Only (D.bytes disk.new) (D.images disk.new)) }
-    ensures others { IsTrue D.tells
-        → SameBut (TouchedBy call region frame_len current)
-        (D.bytes disk.old) (D.bytes disk.new) }
-    ensures images { ChangesAt (TouchedBy call region frame_len current)
-        (D.images disk.old) (D.images disk.new) }
-    ensures size { D.size disk.new ≡ D.size disk.old }
-    ensures calls { IsTrue D.tells → IsOneMore (D.calls disk.old) (D.calls disk.new) }
+    ensures settled { IsSync (number_of call) → OnOk result (IsSynced D.Disk disk.new) }
+    ensures calls { MadeCalls D.Disk 1 disk.old disk.new }
     ensures cause { HasCause result (D.faults disk.old) (D.faults disk.new) }
 {
     match call {

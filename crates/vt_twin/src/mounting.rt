@@ -1,9 +1,9 @@
 //! Formatting a twin, and finding its current frame.
 
-ghost use Rattle.std.specs.Prelude.{◌≡◌, ◌+◌, ◌-◌, ◌*◌, ◌%◌, ◌^◌, ◌≤◌, min, List, ℕ, length, IsTrue, IfOk, OnOk};
-ghost use Rattle.vt_disk.specs.Disk.{SameBut, AreAmong, Only};
+ghost use Rattle.std.specs.Prelude.{◌≡◌, ◌⊎◌, ◌+◌, ◌-◌, ◌*◌, ◌%◌, ◌≤◌, List, ℕ, length, IsTrue, IfOk, OnOk, OnErr};
 ghost use Rattle.vt_base.specs.Faults.{HasCause};
-ghost use Rattle.vt_disk.specs.Region.{Inside, ChangesWithin};
+ghost use Rattle.vt_disk.specs.Calls.{OnlyReads, WritesWithin, MadeCalls, IsSynced};
+ghost use Rattle.vt_twin.specs.Formatting.{EndsFormat};
 ghost use Rattle.vt_twin.specs.Frames.{HasRoom, frame_of, selector_of, selector_len, selector_bytes, named_number, current_frame};
 ghost use Rattle.vt_twin.specs.Twin.{fresh};
 ghost use Rattle.vt_twin.specs.Sound.{IsSound};
@@ -25,15 +25,13 @@ pub fn format<D: Disk>(disk: &mut D, region: Region, frame: &[u8]) -> Result<(),
         → frame_of region n 1 (D.bytes disk.new) ≡ frame_of region n 1 (D.bytes disk.old)) }
     ensures current { let n = length frame.now in OnOk result (IsTrue D.tells
         → current_frame region n (D.bytes disk.new) ≡ frame.now) }
-    ensures settled { OnOk result (IsTrue D.tells → Only (D.bytes disk.new) (D.images disk.new)) }
+    ensures settled { OnOk result (IsSynced D.Disk disk.new) }
 
-    // Nothing outside the region changes.
-    ensures images { ChangesWithin region (D.images disk.old) (D.images disk.new) }
-    ensures bytes { IsTrue D.tells → SameBut (Inside region) (D.bytes disk.old) (D.bytes disk.new) }
-    ensures size { D.size disk.new ≡ D.size disk.old }
-    ensures calls { IsTrue D.tells
-        → OnOk result (D.calls disk.new ≡ min (D.calls disk.old + 3) (2 ^ 64 - 1)) }
-    ensures most_calls { IsTrue D.tells → D.calls disk.new ≤ D.calls disk.old + 3 }
+    // Nothing outside the region changes, and nothing is written behind a call that fails.
+    ensures writes { WritesWithin D.Disk region 3 disk.old disk.new }
+    ensures calls { OnOk result (MadeCalls D.Disk 3 disk.old disk.new) }
+    ensures failed { OnErr result ((made : ℕ)
+        × EndsFormat D.Disk region frame.now made disk.old disk.new) }
     ensures cause { HasCause result (D.faults disk.old) (D.faults disk.new) }
 {
     region.write_at(disk, 0, frame)?;
@@ -51,15 +49,13 @@ pub fn mount<D: Disk>(disk: &mut D, region: Region, frame_len: u64) -> Result<Tw
     ensures sound { IfOk result (λ twin. IsTrue D.tells
         → IsSound twin region (current_frame region frame_len (D.bytes disk.old))
         (D.bytes disk.new) (D.images disk.new)) }
-    ensures settled { OnOk result (IsTrue D.tells → Only (D.bytes disk.new) (D.images disk.new)) }
+    ensures settled { OnOk result (IsSynced D.Disk disk.new) }
 
-    // It writes nothing.
-    ensures bytes { D.bytes disk.new ≡ D.bytes disk.old }
-    ensures images { AreAmong (D.images disk.new) (D.images disk.old) }
-    ensures size { D.size disk.new ≡ D.size disk.old }
-    ensures calls { IsTrue D.tells
-        → OnOk result (D.calls disk.new ≡ min (D.calls disk.old + 2) (2 ^ 64 - 1)) }
-    ensures most_calls { IsTrue D.tells → D.calls disk.new ≤ D.calls disk.old + 2 }
+    // It writes nothing, and reads nothing behind a sync that fails.
+    ensures reads { OnlyReads D.Disk 2 disk.old disk.new }
+    ensures calls { OnOk result (MadeCalls D.Disk 2 disk.old disk.new) }
+    ensures failed { OnErr result (MadeCalls D.Disk 1 disk.old disk.new
+        ⊎ (MadeCalls D.Disk 2 disk.old disk.new × IsSynced D.Disk disk.new)) }
     ensures cause { HasCause result (D.faults disk.old) (D.faults disk.new) }
 {
     disk.sync()?;

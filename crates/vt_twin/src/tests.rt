@@ -5,12 +5,12 @@ ghost use Rattle.vt_memdisk.specs.Memory.{memory_bytes};
 ghost use Rattle.vt_twin.specs.Twin.{fresh};
 
 use super::*;
-use std::alloc::{AllocError, Global};
+use std::alloc::Global;
 use std::process::Abort;
 use std::test::Fail;
 use vt_base::{Bytes, Failed, NoMemory};
 use vt_disk::{Disk, Region};
-use vt_memdisk::{Listed, MemDisk};
+use vt_memdisk::{CrashMode, Listed, MemDisk};
 
 const LEN: u64 = 2560;
 
@@ -108,25 +108,6 @@ fn check_stopped(
     Ok(())
 }
 
-/// What a crash leaves of the pending bytes: the synced ones in mode 0, the written ones in mode 1,
-/// the written ones at even places in mode 2, and a5 in mode 3.
-fn choice(alloc: Global, disk: &MemDisk<Listed>, mode: usize) -> Result<Vec<u16>, AllocError>
-    requires { length (memory_bytes disk.now) ≡ LEN }
-{
-    let mut choice = Vec::new(alloc);
-    for at in 0..LEN {
-        if disk.pending(at) {
-            choice.push(match mode {
-                0 => 256,
-                1 => 257,
-                2 => if at % 2 == 0 { 257 } else { 256 },
-                _ => 0xa5,
-            })?;
-        }
-    }
-    Ok(choice)
-}
-
 fn bytes(alloc: Global, frame: &Frame) -> Result<Bytes, NoMemory>
     ensures { IfOk result (λ it. length it ≡ 512) }
 {
@@ -162,7 +143,7 @@ fn every_selector_gives_a_whole_frame(rt: HostRuntime) -> Result<(), Fail> {
 
 #[test]
 fn a_change_is_stopped_anywhere(rt: HostRuntime) -> Result<(), Fail> {
-    // The call at which a change ends, whether it fails, and in which mode a crash then leaves the
+    // The call at which a change ends, whether it fails, and in which modes a crash then leaves the
     // new frame.
     for (call, fails, is_new) in [
         (0, true, [false, false, false, false]),
@@ -174,7 +155,7 @@ fn a_change_is_stopped_anywhere(rt: HostRuntime) -> Result<(), Fail> {
         (3, true, [false, true, true, true]),
         (3, false, [true, true, true, true]),
     ] {
-        for (mode, is_new) in is_new.into_iter().enumerate() {
+        for (mode, is_new) in CrashMode::ALL.into_iter().zip(is_new) {
             let failing = if fails { FIRST_CALL + call } else { u64::MAX };
             let (mut disk, mut twin) = mounted(&rt, failing)?;
             let frame = bytes(rt.alloc(), &NEW)?;
@@ -183,14 +164,13 @@ fn a_change_is_stopped_anywhere(rt: HostRuntime) -> Result<(), Fail> {
                 assert_eq!(rt; step, Err(TwinErr::Fault));
                 check_stopped(&rt, &mut twin, &mut disk, call)?;
             }
-            let choice = choice(rt.alloc(), &disk, mode)?;
-            let mut disk = disk.crash(&choice);
+            let mut disk = disk.crash_in(mode);
             let twin = mount(&mut disk, REGION, 512)?;
             let want = if is_new { NEW } else { OLD };
             assert_eq!(rt;
                 current_frame(&mut disk, &twin)?,
                 want,
-                "call {call}, mode {mode}"
+                "call {call}, {mode:?}"
             );
         }
     }

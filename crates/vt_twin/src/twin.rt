@@ -54,11 +54,12 @@ impl Model for Twin {
 }
 
 impl Twin {
-    ghost use Rattle.vt_disk.specs.Disk.{SameBut, Only, WithinCall, IsOneMore};
-    ghost use Rattle.vt_disk.specs.Region.{Inside, ChangesWithin};
+    ghost use Rattle.vt_base.specs.Faults.{CountsFault};
+    ghost use Rattle.vt_disk.specs.Calls.{WritesAt, WritesWithin, MadeCalls, IsSynced};
+    ghost use Rattle.vt_disk.specs.Disk.{WithinCall};
     ghost use Rattle.vt_twin.specs.Frames.{HasRoom, frame_of, current_frame};
-    ghost use Rattle.vt_twin.specs.Twin.{fresh, with_change, without_spare, calls_made, next_frame, Advances, CountsFault};
-    ghost use Rattle.vt_twin.specs.Calls.{bytes_after, IsSync};
+    ghost use Rattle.vt_twin.specs.Twin.{fresh, with_change, without_spare, calls_made, next_frame, Advances, is_fault};
+    ghost use Rattle.vt_twin.specs.Calls.{bytes_after, IsSync, TouchedBy};
     ghost use Rattle.vt_twin.specs.Sound.{IsSound, GivesOldOrNew, frame_after};
 
     /// A twin with frames of `frame_len` bytes whose current one is named by this first byte of its
@@ -173,29 +174,27 @@ impl Twin {
             ≡ frame_after result self.old old }
 
         // What it writes, and that it syncs.
+        ensures writes { WritesAt D.Disk
+            (TouchedBy (calls_made self.old) region self.old.frame_len self.old.current) 1
+            disk.old disk.new }
         ensures written { IsTrue D.tells → OnOk result (D.bytes disk.new
             ≡ bytes_after (calls_made self.old) region self.old.frame_len self.old.current
             (next_frame self.old) (D.bytes disk.old)) }
-        ensures settled { IsTrue D.tells → IsSync (calls_made self.old)
-            → OnOk result (Only (D.bytes disk.new) (D.images disk.new)) }
+        ensures settled { IsSync (calls_made self.old) → OnOk result (IsSynced D.Disk disk.new) }
 
         ensures steps { Advances result self.old self.new }
         ensures len { self.new.frame_len ≡ self.old.frame_len }
         ensures done { IfOk result (λ step. (step ≡ Step.Done) ↔ (calls_made self.old ≡ 3)) }
         ensures stopped { (n : ℕ)
             → (result ≡ Err (TwinErr.Stopped n)) ↔ (self.old.stopped ≡ Some n) }
-        ensures faults { CountsFault result (D.faults disk.old) (D.faults disk.new) }
+        ensures faults { CountsFault is_fault result (D.faults disk.old) (D.faults disk.new) }
 
         // It makes one call or, where it is stopped, none.
-        ensures calls { IsTrue D.tells → self.old.stopped ≡ None
-            → IsOneMore (D.calls disk.old) (D.calls disk.new) }
+        ensures calls { self.old.stopped ≡ None → MadeCalls D.Disk 1 disk.old disk.new }
         ensures untouched { IsSome self.old.stopped → disk.new ≡ disk.old }
 
         // Nothing outside the region changes.
-        ensures images { ChangesWithin region (D.images disk.old) (D.images disk.new) }
-        ensures bytes { IsTrue D.tells
-            → SameBut (Inside region) (D.bytes disk.old) (D.bytes disk.new) }
-        ensures size { D.size disk.new ≡ D.size disk.old }
+        ensures within { WritesWithin D.Disk region 1 disk.old disk.new }
     {
         if let Some(call) = self.stopped {
             return Err(TwinErr::Stopped(call));
