@@ -9,7 +9,7 @@ use Rattle.vt_disk.specs.declared.region.Region.{Region}
 use Rattle.vt_disk.specs.Disk.{part}
 use Rattle.vt_twin.specs.Frames.{named_number}
 use Rattle.vt_arena.specs.declared.TheConstants.{FRAME_LEN, FIELDS_LEN}
-use Rattle.vt_arena.specs.Faults.{bad_value, first_bad, Finds}
+use Rattle.vt_arena.specs.Faults.{bad_value, first_bad, Finds, Mounts}
 use Rattle.vt_arena.specs.declared.bad.ArenaBad.{ArenaBad}
 use Rattle.vt_arena.specs.declared.bad.ArenaBad.TheVariants.{NotFormatted, Torn, Fault, NoMemory}
 use Rattle.vt_arena.specs.Heads.{fields_of, flag_of, number_in, clumps_in, used_in}
@@ -59,3 +59,10 @@ finds_bad number len fields NotFormatted is memory = is
 finds_bad number len fields (Torn field found want) is memory = is
 finds_bad number len fields Fault is memory = tt
 finds_bad number len fields NoMemory is memory = memory refl
+
+-- what finding answers, mounting does
+pub mounts_bad : (number len : ℕ) (fields : List ℕ) (bad : ArenaBad) → Finds number len fields (Err bad) → Mounts number len fields (Err bad)
+mounts_bad number len fields NotFormatted finds = finds
+mounts_bad number len fields (Torn field found want) finds = finds
+mounts_bad number len fields Fault finds = tt
+mounts_bad number len fields NoMemory finds = absurd finds

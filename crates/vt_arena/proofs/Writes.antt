@@ -5,8 +5,10 @@ use Rattle.std.specs.Option.{option_map_or}
 use Rattle.std.proofs.lemmas.List.{take-map, map-append, take_more, take_all, length-take-le, length-map}
 use Rattle.vt_disk.specs.declared.region.Region.{Region}
 use Rattle.vt_disk.specs.Disk.{Touches, SameBut, ChangesAt, part}
-use Rattle.vt_disk.specs.Region.{Inside, ChangesWithin}
-use Rattle.vt_disk.proofs.Bytes.{same_wider}
+use Rattle.vt_disk.specs.Calls.{WritesAt, WritesWithin}
+use Rattle.vt_disk.specs.Members.{DiskOf}
+use Rattle.vt_disk.specs.Region.{Inside}
+use Rattle.vt_disk.proofs.Calls.{writes_wider}
 use Rattle.vt_twin.specs.Frames.{HasRoom}
 use Rattle.vt_twin.specs.Twin.{TwinState, Change, calls_made}
 use Rattle.vt_twin.specs.Sound.{IsSound as IsSoundTwin}
@@ -17,20 +19,15 @@ use Rattle.vt_clump.specs.Clumps.{IsPacked, stored_of}
 use Rattle.vt_model.specs.declared.TheConstants.{HEAD_LEN}
 use Rattle.vt_arena.specs.declared.TheConstants.{FRAME_LEN}
 use Rattle.vt_arena.specs.Arena.{ArenaState, added_by}
-use Rattle.vt_arena.specs.Layout.{Content, HasBlocks, StandsAt, entry_bytes, entry_of, clumps_of, directory_of, clumps_place, directory_place, used_of}
+use Rattle.vt_arena.specs.Layout.{Content, HasBlocks, StandsAt, entry_bytes, entry_of, clumps_of, directory_of, clumps_place, directory_place, head_place, used_of}
 use Rattle.vt_arena.specs.Places.{directory_room}
 use Rattle.vt_arena.specs.Sound.{IsRegion, IsSound, HasPieces, clumps_made, entries_made}
 use Rattle.vt_arena.specs.Whole.{staged_room}
 use Rattle.vt_arena.proofs.Layouts.{touched_within, stands-sum, stands_same, length-clumps, used-packed, All-stored, all_take, clumps-push, directory-push}
 
--- the region of the head's twin
-unfoldable pub head_region : (region : Region) → HEAD_LEN ≤ region.len → Region
-head_region region least =
-    record { start = region.start; len = HEAD_LEN; in_range = omega (arith, region.in_range, least) }
-
-pub head_room : (region : Region) (size n : ℕ) → IsRegion region size → (least : HEAD_LEN ≤ region.len) → n ≡ FRAME_LEN → HasRoom (head_region region least) n size
-unfolding head_region
-head_room region size n is least n_is = subst (λ (k : ℕ). HasRoom (head_region region least) k size) (sym n_is) record {
+-- the head's twin has its place
+pub head_room : (region : Region) (size n : ℕ) → IsRegion region size → n ≡ FRAME_LEN → HasRoom (head_place region) n size
+head_room region size n is n_is = subst (λ (k : ℕ). HasRoom (head_place region) k size) (sym n_is) record {
   within = omega (arith, is.within, is.len.0);
   least = omega arith;
   most = omega arith;
@@ -44,11 +41,9 @@ pub twin_elsewhere : (t : TwinState) (region : Region) (size : ℕ) → IsRegion
     → (P : ℕ → Type 0) → ((i : ℕ) → P i → region.start ≤ i → i < region.start + HEAD_LEN → ⊥)
     → (old read reads : List ℕ) (before after : List ℕ → Type 0) → SameBut P read reads → ChangesAt P before after
     → IsSoundTwin t region old read before → IsSoundTwin t region old reads after
-unfolding head_region
 twin_elsewhere t region size is frame_len P apart old read reads before after same changes sound =
-    let least : HEAD_LEN ≤ region.len = omega (arith, is.len.0) in
-    let kept : IsSoundTwin t (head_region region least) old reads after =
-    sound_elsewhere t (head_region region least) size (head_room region size t.frame_len is least frame_len) P
+    let kept : IsSoundTwin t (head_place region) old reads after =
+    sound_elsewhere t (head_place region) size (head_room region size t.frame_len is frame_len) P
     (λ i here inside. apart i here inside.0 inside.1) old read reads before after same changes
     (record { number = sound.number; kept = sound.kept; named = sound.named; written = sound.written; synced = sound.synced; selected = sound.selected }) in
     record { number = kept.number; kept = kept.kept; named = kept.named; written = kept.written; synced = kept.synced; selected = kept.selected }
@@ -252,14 +247,15 @@ module _ (score_of : List ℕ → List ℕ) (s : ArenaState) (region : Region) (
             (subst (λ (l : List ℕ). StandsAt place l reads) (sym both) (stands-sum place piece (directory_of (take j (added_by s))) reads there behind)));
       })
 
--- a write within the region
-pub within_region : (region : Region) (place n : ℕ) → region.start ≤ place → place + n ≤ region.start + region.len → (old new : List ℕ) → SameBut (Touches place n) old new → SameBut (Inside region) old new
-within_region region place n above below old new =
-    same_wider (Touches place n) (Inside region) (λ i touched. let here = touched_within place n i touched in (omega (arith, here.0, above), omega (arith, here.1, below))) old new
+module _ {D : Type 0} (disk : DiskOf D) (region : Region) where
+  -- a write within the region
+  pub writes_in_region : (place n : ℕ) → region.start ≤ place → place + n ≤ region.start + region.len → (old new : D) → WritesAt disk (Touches place n) 1 old new → WritesWithin disk region 1 old new
+  writes_in_region place n above below =
+      writes_wider disk (Touches place n) (Inside region) (λ i touched. let here = touched_within place n i touched in (omega (arith, here.0, above), omega (arith, here.1, below))) 1 1 (omega arith)
 
-pub changes_in_region : (region : Region) (place n : ℕ) → region.start ≤ place → place + n ≤ region.start + region.len → (before after : List ℕ → Type 0) → ChangesAt (Touches place n) before after → ChangesWithin region before after
-changes_in_region region place n above below before after changes c left =
-    let from = changes c left in (from.0, from.1, within_region region place n above below from.0 c from.2)
+  -- a call of the head's change
+  pub writes_in_head : HEAD_LEN ≤ region.len → (old new : D) → WritesWithin disk (head_place region) 1 old new → WritesWithin disk region 1 old new
+  writes_in_head least = writes_wider disk (Inside (head_place region)) (Inside region) (λ i here. (here.0, omega (arith, here.1, least))) 1 1 (omega arith)
 
 pub entry_is : (score_of : List ℕ → List ℕ) (p : Packed) → IsPacked score_of p → entry_bytes p.kind p.len p.score.0 ≡ entry_of (stored_of p)
 entry_is score_of p is i = entry_bytes (is.kind i) (is.len i) (is.score i)

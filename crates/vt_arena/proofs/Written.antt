@@ -13,7 +13,7 @@ use Rattle.vt_model.specs.declared.TheConstants.{HEAD_LEN}
 use Rattle.vt_arena.specs.declared.TheConstants.{FRAME_LEN}
 use Rattle.vt_arena.specs.Arena.{ArenaState, pieces}
 use Rattle.vt_arena.specs.Heads.{frame_of}
-use Rattle.vt_arena.specs.Layout.{entry_bytes, directory_place}
+use Rattle.vt_arena.specs.Layout.{entry_bytes, directory_place, head_place}
 use Rattle.vt_arena.specs.Places.{directory_room}
 use Rattle.vt_arena.specs.Whole.{staged_room}
 use Rattle.vt_arena.specs.Written.{Writes}
@@ -51,7 +51,7 @@ module _ (a : ArenaState) (region : Region) (old new bytes : List ℕ) (q : Pack
         omega (arith, place_is, ap staged_room front) in
         write ∙ (λ i. with_bytes (there i) (same i) old);
     entry = λ p before behind split at. absurd (omega (arith, below, at));
-    head = λ head start len all. absurd (omega (arith, below, all));
+    head = λ all. absurd (omega (arith, below, all));
   }
 
   pub writes_entry : length a.staged ≤ a.written → a.written < pieces a
@@ -71,18 +71,8 @@ module _ (a : ArenaState) (region : Region) (old new bytes : List ℕ) (q : Pack
         let there : place ≡ directory_place region (a.head.clumps + length before + 1) =
         omega (arith, place_is, index_is, len, fits) in
         write ∙ (λ i. with_bytes (there i) (same i) old);
-    head = λ head start len all. absurd (omega (arith, below, all));
+    head = λ all. absurd (omega (arith, below, all));
   }
-
--- what a call of a twin writes hangs on its region's numbers alone
-bytes_moved : (made n current : ℕ) (r s : Region) (frame file : List ℕ)
-    → r.start ≡ s.start → r.len ≡ s.len
-    → bytes_after made r n current frame file ≡ bytes_after made s n current frame file
-bytes_moved made n current r s frame file start len = λ i.
-    if made == 0 then with_bytes (start i + n * (1 - current)) frame file
-    else if made == 2
-    then with_bytes (start i + 2 * n) (selector_bytes (1 - current) (len i - 2 * n)) file
-    else file
 
 -- what the next call of the head's change writes, where one has begun or begins now
 abbrev changed_bytes : ArenaState → Region → (old : List ℕ) → (begun : Bool) → List ℕ
@@ -91,24 +81,22 @@ changed_bytes a head old begun =
     bytes_after (calls_made t) head FRAME_LEN a.twin.current (next_frame t) old
 
 -- once the change of the head has begun
-pub writes_head : (a : ArenaState) (region place : Region) (old new : List ℕ)
-    → place.start ≡ region.start → place.len ≡ HEAD_LEN
+pub writes_head : (a : ArenaState) (region : Region) (old new : List ℕ)
     → a.written ≡ pieces a → IsSome a.twin.change → a.twin.frame_len ≡ FRAME_LEN
-    → new ≡ bytes_after (calls_made a.twin) place a.twin.frame_len a.twin.current
+    → new ≡ bytes_after (calls_made a.twin) (head_place region) a.twin.frame_len a.twin.current
     (next_frame a.twin) old
     → Writes a region old new
-writes_head a region place old new place_start place_len all begun frame_len write = record {
+writes_head a region old new all begun frame_len write = record {
   clump = λ p before behind split at.
       absurd (omega (arith, all, at, count_is a.staged before behind p split));
   entry = λ p before behind split at.
       absurd (omega (arith, all, at, count_is a.staged before behind p split));
-  head = λ head start len made.
+  head = λ made.
       write
       ∙ ap (λ (n : ℕ).
-      bytes_after (calls_made a.twin) place n a.twin.current (next_frame a.twin) old) frame_len
-      ∙ bytes_moved (calls_made a.twin) FRAME_LEN a.twin.current place head (next_frame a.twin) old
-      (place_start ∙ sym start) (place_len ∙ sym len)
-      ∙ ap (changed_bytes a head old) (sym begun);
+      bytes_after (calls_made a.twin) (head_place region) n a.twin.current (next_frame a.twin) old)
+      frame_len
+      ∙ ap (changed_bytes a (head_place region) old) (sym begun);
 }
 
 -- and where the step begins it
@@ -120,7 +108,7 @@ writes_first (Err e) a region old new rest writes = tt
 writes_first (Ok step) a region old new rest writes = record {
   clump = writes.clump;
   entry = writes.entry;
-  head = λ head start len made.
-      writes.head head start len made
-      ∙ ap (changed_bytes a head old) (sym (ap (λ (change : Option Change). is_some change) rest));
+  head = λ made.
+      writes.head made
+      ∙ ap (changed_bytes a (head_place region) old) (sym (ap (λ (change : Option Change). is_some change) rest));
 }

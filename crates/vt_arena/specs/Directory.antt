@@ -1,7 +1,7 @@
 -- Walking the directory from its last entry to the first.
-use Rattle.std.specs.Prelude.{◌≡◌, ⊤, ℕ, ◌+◌, ◌-◌, ◌==◌, ◌&&◌, ◌||◌, nat_lt, not, Bool, if◌then◌else◌, Option, Some, None, Result, Ok, Err, List, length, take, drop, slice_index}
+use Rattle.std.specs.Prelude.{◌≡◌, ⊤, ℕ, ◌+◌, ◌-◌, ◌==◌, ◌&&◌, ◌||◌, nat_lt, not, Bool, true, false, if◌then◌else◌, Option, Some, None, Result, Ok, Err, List, length, take, drop, slice_index}
 use Rattle.byteorder.specs.Endian.{big_number}
-use Rattle.vt_base.specs.Faults.{HasRisen}
+use Rattle.vt_base.specs.Damage.{Differ}
 use Rattle.vt_base.specs.declared.TheConstants.{MAX_BLOCK}
 use Rattle.vt_base.specs.Kind.{is_kind}
 use Rattle.vt_base.specs.declared.place.Info.{Info}
@@ -83,7 +83,12 @@ Walks number used at entry (Err Fault) = ⊤
 Walks number used at entry (Err (Damaged want found)) =
     first_bad used at entry ≡ Some (Damaged want found)
 
--- a fault comes only where the count of faults rises, and it rises only then
-abbrev pub CountsFault : BackBad → (old new : ℕ) → Type 0
-CountsFault Fault old new = HasRisen old new
-CountsFault (Damaged want found) old new = new ≡ old
+-- the answer tells of a fault of the disk in this call
+abbrev pub is_fault : BackBad → Bool
+is_fault Fault = true
+is_fault (Damaged want found) = false
+
+-- what was wanted and what was found aren't the same
+abbrev pub NamesDamage : BackBad → Type 0
+NamesDamage Fault = ⊤
+NamesDamage (Damaged want found) = Differ want found

@@ -1,12 +1,12 @@
 -- Why an arena can't be mounted.
-use Rattle.std.specs.Prelude.{◌≡◌, ◌==◌, ⊤, ℕ, ◌+◌, ◌≤◌, nat_lt, not, if◌then◌else◌, Option, Some, None, Result, Ok, Err, List, codes, length, take}
+use Rattle.std.specs.Prelude.{◌≡◌, ◌==◌, ⊤, ℕ, ◌+◌, ◌≤◌, nat_lt, Bool, true, false, not, if◌then◌else◌, Option, Some, None, Result, Ok, Err, List, codes, length, take}
 use Rattle.std.specs.Str.{bytes_eq}
-use Rattle.vt_base.specs.Faults.{HasRisen}
 use Rattle.vt_arena.specs.declared.bad.Field.TheVariants.{Version, Number, Sealed, Used}
 use Rattle.vt_arena.specs.declared.bad.ArenaBad.{ArenaBad}
 use Rattle.vt_arena.specs.declared.bad.ArenaBad.TheVariants.{Fault, NotFormatted, Torn, NoMemory}
 use Rattle.vt_arena.specs.declared.head.ArenaHead.{ArenaHead}
 use Rattle.vt_arena.specs.declared.head.Found.{Found}
+use Rattle.vt_arena.specs.Arena.{ArenaState}
 use Rattle.vt_arena.specs.Heads.{fields_of, version_in, number_in, sealed_in, clumps_in, used_in}
 use Rattle.vt_arena.specs.Places.{directory_room, arena_room}
 
@@ -41,12 +41,14 @@ Finds number len fields (Err Fault) = ⊤
 Finds number len fields (Err NoMemory) = ⊥
 
 -- and what mounting does; memory runs out only where no test fails
-abbrev pub RefusesMount : (number len : ℕ) → (fields : List ℕ) → ArenaBad → Type 0
-RefusesMount number len fields NotFormatted = first_bad number len fields ≡ Some NotFormatted
-RefusesMount number len fields (Torn field found want) =
+abbrev pub Mounts : (number len : ℕ) → (fields : List ℕ) → Result ArenaState ArenaBad → Type 0
+Mounts number len fields (Ok a) =
+    (first_bad number len fields ≡ None) × (fields_of a.head ≡ fields)
+Mounts number len fields (Err NotFormatted) = first_bad number len fields ≡ Some NotFormatted
+Mounts number len fields (Err (Torn field found want)) =
     first_bad number len fields ≡ Some (Torn field found want)
-RefusesMount number len fields Fault = ⊤
-RefusesMount number len fields NoMemory = first_bad number len fields ≡ None
+Mounts number len fields (Err Fault) = ⊤
+Mounts number len fields (Err NoMemory) = first_bad number len fields ≡ None
 
 -- a head of this number, for which an arena of this length has room
 pub record CanStand (number len : ℕ) (h : ArenaHead) : Type 0 where
@@ -55,9 +57,9 @@ pub record CanStand (number len : ℕ) (h : ArenaHead) : Type 0 where
   pub chain : length h.chain.0 ≡ 20
   pub fit : h.used + directory_room h.clumps ≤ arena_room len
 
--- a fault comes only where the count of faults rises, and it rises only then
-abbrev pub CountsFault : ArenaBad → (old new : ℕ) → Type 0
-CountsFault Fault old new = HasRisen old new
-CountsFault NotFormatted old new = new ≡ old
-CountsFault (Torn field found want) old new = new ≡ old
-CountsFault NoMemory old new = new ≡ old
+-- the refusal tells of a fault of the disk in this call
+abbrev pub is_fault : ArenaBad → Bool
+is_fault Fault = true
+is_fault NotFormatted = false
+is_fault (Torn field found want) = false
+is_fault NoMemory = false

@@ -1,10 +1,11 @@
 -- What the bytes of an arena stand for (Quinlan and Dorward 2002, the data log; the layout is this
 -- project's): a head that is changed whole, clumps one behind another, and at the region's end a
 -- directory that grows downwards, so that its last entry stands first.
-use Rattle.std.specs.Prelude.{◌≡◌, ℕ, ◌+◌, ◌-◌, ◌<◌, ◌≤◌, Bool, List, [], ◌∷◌, ◌++◌, All, length, take, reverse, replicate, fold, sum_by}
+use Rattle.std.specs.Prelude.{◌≡◌, ℕ, ◌+◌, ◌-◌, Bool, List, [], ◌∷◌, ◌++◌, All, length, take, reverse, replicate, fold, sum_by}
 use Rattle.std.specs.List.{flat_map}
 use Rattle.vt_disk.specs.declared.region.Region.{Region}
 use Rattle.vt_disk.specs.Disk.{part}
+use Rattle.vt_disk.specs.Region.{Inside}
 use Rattle.vt_twin.specs.Frames.{current_frame}
 use Rattle.vt_clump.specs.Spelling.{Stored, IsStored, spelled, sizes}
 use Rattle.vt_model.specs.declared.TheConstants.{HEAD_LEN}
@@ -66,9 +67,13 @@ clumps_place region before = region.start + HEAD_LEN + used_of before
 abbrev pub directory_place : Region → (entries : ℕ) → ℕ
 directory_place region entries = region.start + region.len - directory_room entries
 
--- place i of the disk lies in the head of the region's arena
+-- where the head of the region's arena stands
+abbrev pub head_place : Region → Region
+head_place region = record { start = region.start; len = HEAD_LEN }
+
+-- place i of the disk lies in it
 abbrev pub InHead : Region → ℕ → Type 0
-InHead region i = (region.start ≤ i) × (i < region.start + HEAD_LEN)
+InHead region i = Inside (head_place region) i
 
 -- the clumps of these blocks and their directory stand in the region
 pub record HasBlocks (region : Region) (stored : List Stored) (file : List ℕ) : Type 0 where

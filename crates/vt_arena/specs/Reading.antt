@@ -1,6 +1,5 @@
 -- What reading a clump answers.
-use Rattle.std.specs.Prelude.{◌≡◌, ⊤, ℕ, ◌+◌, ◌-◌, ◌≤◌, min, List, Some, None, Result, Ok, Err, codes}
-use Rattle.vt_base.specs.Faults.{HasRisen}
+use Rattle.std.specs.Prelude.{◌≡◌, ⊤, ℕ, ◌+◌, ◌-◌, ◌≤◌, min, Bool, true, false, List, Some, None, Result, Ok, Err, codes}
 use Rattle.vt_base.specs.declared.why.FieldValue.{FieldValue}
 use Rattle.vt_base.specs.declared.why.FieldValue.TheVariants.{Number, Score as ScoreValue, Magic as MagicValue}
 use Rattle.vt_disk.specs.declared.region.Region.{Region}
@@ -54,8 +53,8 @@ ReadsAs score_of bytes (Err (Damaged want found)) = IsDamaged score_of bytes wan
 ReadsAs score_of bytes (Err NoMemory) = ⊤
 ReadsAs score_of bytes (Err Fault) = ⊤
 
--- a fault comes only where the count of faults rises, and it rises only then
-abbrev pub CountsFault : ReadBad → (old new : ℕ) → Type 0
-CountsFault Fault old new = HasRisen old new
-CountsFault (Damaged want found) old new = new ≡ old
-CountsFault NoMemory old new = new ≡ old
+-- the answer tells of a fault of the disk in this call
+abbrev pub is_fault : ReadBad → Bool
+is_fault Fault = true
+is_fault (Damaged want found) = false
+is_fault NoMemory = false

@@ -5,7 +5,22 @@ use Rattle.vt_twin.specs.Twin.{calls_made}
 use Rattle.vt_clump.specs.declared.packed.Packed.{Packed}
 use Rattle.vt_arena.specs.declared.TheConstants.{FRAME_LEN, FIELDS_LEN, STAGED_MAX}
 use Rattle.vt_arena.specs.declared.arena.Arena.TheInside.{Inside}
+use Rattle.vt_arena.specs.Arena.{ArenaState}
 use Rattle.vt_arena.specs.Places.{IsArenaLen, block_room, directory_room, arena_room}
+
+-- as its calls see it
+abbrev pub state_of : Inside → ArenaState
+state_of a = record {
+  number = a.number;
+  len = a.len;
+  twin = a.twin;
+  head = a.head;
+  next = a.next;
+  staged = a.staged.items;
+  written = a.written;
+  calls = a.calls;
+  stopped = a.stopped;
+}
 
 -- what staged clumps take
 abbrev pub staged_room : List Packed → ℕ

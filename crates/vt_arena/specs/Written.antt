@@ -8,7 +8,7 @@ use Rattle.vt_clump.specs.declared.packed.Packed.{Packed}
 use Rattle.vt_model.specs.declared.TheConstants.{HEAD_LEN}
 use Rattle.vt_arena.specs.declared.TheConstants.{FRAME_LEN}
 use Rattle.vt_arena.specs.Arena.{ArenaState, pieces, changing}
-use Rattle.vt_arena.specs.Layout.{entry_bytes, directory_place}
+use Rattle.vt_arena.specs.Layout.{entry_bytes, directory_place, head_place}
 use Rattle.vt_arena.specs.Whole.{staged_room}
 
 -- After a step that succeeds a read gives `new`, where it gave `old` before. The step writes the
@@ -23,7 +23,6 @@ pub record Writes (a : ArenaState) (region : Region) (old new : List ℕ) : Type
       → a.written ≡ length a.staged + length before
       → new ≡ with_bytes (directory_place region (a.head.clumps + length before + 1))
       (entry_bytes p.kind p.len p.score.0) old
-  pub head : (head : Region) → head.start ≡ region.start → head.len ≡ HEAD_LEN
-      → a.written ≡ pieces a
-      → new ≡ bytes_after (twin_calls_made (changing a)) head FRAME_LEN a.twin.current
-      (next_frame (changing a)) old
+  pub head : a.written ≡ pieces a
+      → new ≡ bytes_after (twin_calls_made (changing a)) (head_place region) FRAME_LEN
+      a.twin.current (next_frame (changing a)) old

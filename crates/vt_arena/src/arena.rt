@@ -47,27 +47,18 @@ impl Model for Arena {
 
     ghost Value = { ArenaState };
 
-    ghost use Rattle.vt_arena.specs.Whole.{IsWhole};
+    ghost use Rattle.vt_arena.specs.Whole.{IsWhole, state_of};
 
-    ghost view = { λ a. record {
-      number = a.number;
-      len = a.len;
-      twin = a.twin;
-      head = a.head;
-      next = a.next;
-      staged = a.staged.items;
-      written = a.written;
-      calls = a.calls;
-      stopped = a.stopped;
-    } };
+    ghost view = { state_of };
 
     ghost invariant = { IsWhole };
 }
 
 impl Arena {
-    ghost use Rattle.vt_disk.specs.Disk.{SameBut, Only, WithinCall, IsOneMore};
-    ghost use Rattle.vt_disk.specs.Region.{Inside, ChangesWithin};
-    ghost use Rattle.vt_twin.specs.Twin.{CountsFault};
+    ghost use Rattle.vt_base.specs.Faults.{CountsFault};
+    ghost use Rattle.vt_disk.specs.Calls.{WritesWithin, MadeCalls, IsSynced};
+    ghost use Rattle.vt_disk.specs.Disk.{WithinCall};
+    ghost use Rattle.vt_twin.specs.Twin.{is_fault};
     ghost use Rattle.vt_arena.specs.Layout.{Content, IsArena};
     ghost use Rattle.vt_arena.specs.Arena.{fresh_arena, fits, is_committing, with_staged, with_seal, next_content, commit_calls, calls_made, Advances, content_after};
     ghost use Rattle.vt_arena.specs.Places.{IsArenaLen, directory_room, arena_room};
@@ -229,8 +220,7 @@ impl Arena {
             → IsArena score_of region self.old.number (next_content self.old old) c }
 
         // After the last call a read gives what every image is.
-        ensures settled { IsTrue D.tells → result ≡ Ok Step.Done
-            → Only (D.bytes disk.new) (D.images disk.new) }
+        ensures settled { result ≡ Ok Step.Done → IsSynced D.Disk disk.new }
 
         // It writes one piece of the commit, or what the head's change writes, and nothing else.
         ensures written { IsTrue D.tells
@@ -243,18 +233,14 @@ impl Arena {
             ↔ (calls_made self.old + 1 ≡ commit_calls self.old)) }
         ensures stopped { (n : ℕ)
             → (result ≡ Err (TwinErr.Stopped n)) ↔ (self.old.stopped ≡ Some n) }
-        ensures faults { CountsFault result (D.faults disk.old) (D.faults disk.new) }
+        ensures faults { CountsFault is_fault result (D.faults disk.old) (D.faults disk.new) }
 
         // It makes one call or, where it is stopped, none.
-        ensures calls { IsTrue D.tells → self.old.stopped ≡ None
-            → IsOneMore (D.calls disk.old) (D.calls disk.new) }
+        ensures calls { self.old.stopped ≡ None → MadeCalls D.Disk 1 disk.old disk.new }
         ensures untouched { IsSome self.old.stopped → disk.new ≡ disk.old }
 
         // Nothing outside the region changes.
-        ensures images { ChangesWithin region (D.images disk.old) (D.images disk.new) }
-        ensures bytes { IsTrue D.tells
-            → SameBut (Inside region) (D.bytes disk.old) (D.bytes disk.new) }
-        ensures size { D.size disk.new ≡ D.size disk.old }
+        ensures writes { WritesWithin D.Disk region 1 disk.old disk.new }
     {
         if let Some(call) = self.stopped {
             return Err(TwinErr::Stopped(call));

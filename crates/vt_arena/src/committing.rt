@@ -2,8 +2,7 @@
 
 ghost use Rattle.std.specs.Prelude.{◌≡◌, ◌↔◌, ◌+◌, ◌-◌, ◌*◌, ◌<◌, ◌≤◌, ℕ, List, length, IsTrue, IsSome, IfOk, IfErr, OnOk, MatchResult, None, Ok};
 ghost use Rattle.vt_base.specs.Faults.{HasCause};
-ghost use Rattle.vt_disk.specs.Disk.{SameBut, Only, IsOneMore};
-ghost use Rattle.vt_disk.specs.Region.{Inside, ChangesWithin};
+ghost use Rattle.vt_disk.specs.Calls.{WritesWithin, MadeCalls, IsSynced};
 ghost use Rattle.vt_arena.specs.Layout.{Content, entry_bytes as entry_bytes_of};
 
 use crate::arena::Arena;
@@ -35,8 +34,7 @@ impl Arena {
             → IsSound score_of self.old region old (D.bytes disk.old) (D.images disk.old)
             → IsSound score_of self.new region (content_after result self.old old)
             (D.bytes disk.new) (D.images disk.new) }
-        ensures settled { IsTrue D.tells → result ≡ Ok Step.Done
-            → Only (D.bytes disk.new) (D.images disk.new) }
+        ensures settled { result ≡ Ok Step.Done → IsSynced D.Disk disk.new }
         ensures written { IsTrue D.tells
             → OnOk result (Writes self.old region (D.bytes disk.old) (D.bytes disk.new)) }
         ensures len { self.new.len ≡ self.old.len }
@@ -45,11 +43,8 @@ impl Arena {
             ↔ (calls_made self.old + 1 ≡ commit_calls self.old)) }
         ensures fault { IfErr result (λ bad. bad ≡ TwinErr.Fault) }
         ensures faults { HasCause result (D.faults disk.old) (D.faults disk.new) }
-        ensures calls { IsTrue D.tells → IsOneMore (D.calls disk.old) (D.calls disk.new) }
-        ensures images { ChangesWithin region (D.images disk.old) (D.images disk.new) }
-        ensures bytes { IsTrue D.tells
-            → SameBut (Inside region) (D.bytes disk.old) (D.bytes disk.new) }
-        ensures size { D.size disk.new ≡ D.size disk.old }
+        ensures calls { MadeCalls D.Disk 1 disk.old disk.new }
+        ensures writes { WritesWithin D.Disk region 1 disk.old disk.new }
     {
         let count = self.staged.len();
         if self.written < count {
@@ -81,11 +76,8 @@ impl Arena {
             (λ step. (step ≡ Step.More) × (self.new ≡ after_piece self.old))
             (λ bad. (bad ≡ TwinErr.Fault) × (self.new ≡ stopped_at_call self.old)) }
         ensures faults { HasCause result (D.faults disk.old) (D.faults disk.new) }
-        ensures calls { IsTrue D.tells → IsOneMore (D.calls disk.old) (D.calls disk.new) }
-        ensures images { ChangesWithin region (D.images disk.old) (D.images disk.new) }
-        ensures bytes { IsTrue D.tells
-            → SameBut (Inside region) (D.bytes disk.old) (D.bytes disk.new) }
-        ensures size { D.size disk.new ≡ D.size disk.old }
+        ensures calls { MadeCalls D.Disk 1 disk.old disk.new }
+        ensures writes { WritesWithin D.Disk region 1 disk.old disk.new }
     {
         let packed = &self.staged[self.written];
         let room = block_room(packed.len);
@@ -124,11 +116,8 @@ impl Arena {
             (λ step. (step ≡ Step.More) × (self.new ≡ after_piece self.old))
             (λ bad. (bad ≡ TwinErr.Fault) × (self.new ≡ stopped_at_call self.old)) }
         ensures faults { HasCause result (D.faults disk.old) (D.faults disk.new) }
-        ensures calls { IsTrue D.tells → IsOneMore (D.calls disk.old) (D.calls disk.new) }
-        ensures images { ChangesWithin region (D.images disk.old) (D.images disk.new) }
-        ensures bytes { IsTrue D.tells
-            → SameBut (Inside region) (D.bytes disk.old) (D.bytes disk.new) }
-        ensures size { D.size disk.new ≡ D.size disk.old }
+        ensures calls { MadeCalls D.Disk 1 disk.old disk.new }
+        ensures writes { WritesWithin D.Disk region 1 disk.old disk.new }
     {
         let index = self.written - self.staged.len();
         let entry = entry_bytes(&self.staged[index]);
@@ -174,8 +163,7 @@ impl Arena {
             → IsSound score_of self.old region old (D.bytes disk.old) (D.images disk.old)
             → IsSound score_of self.new region (content_after result self.old old)
             (D.bytes disk.new) (D.images disk.new) }
-        ensures settled { IsTrue D.tells → result ≡ Ok Step.Done
-            → Only (D.bytes disk.new) (D.images disk.new) }
+        ensures settled { result ≡ Ok Step.Done → IsSynced D.Disk disk.new }
         ensures written { IsTrue D.tells
             → OnOk result (Writes self.old region (D.bytes disk.old) (D.bytes disk.new)) }
         ensures len { self.new.len ≡ self.old.len }
@@ -184,11 +172,8 @@ impl Arena {
             ↔ (twin_calls_made self.old.twin ≡ 3)) }
         ensures fault { IfErr result (λ bad. bad ≡ TwinErr.Fault) }
         ensures faults { HasCause result (D.faults disk.old) (D.faults disk.new) }
-        ensures calls { IsTrue D.tells → IsOneMore (D.calls disk.old) (D.calls disk.new) }
-        ensures images { ChangesWithin region (D.images disk.old) (D.images disk.new) }
-        ensures bytes { IsTrue D.tells
-            → SameBut (Inside region) (D.bytes disk.old) (D.bytes disk.new) }
-        ensures size { D.size disk.new ≡ D.size disk.old }
+        ensures calls { MadeCalls D.Disk 1 disk.old disk.new }
+        ensures writes { WritesWithin D.Disk region 1 disk.old disk.new }
     {
         let head = Region {
             start: region.start,

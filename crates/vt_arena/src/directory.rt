@@ -1,10 +1,11 @@
 //! The directory, from its last entry to the first.
 
 ghost use Rattle.std.specs.Prelude.{◌≡◌, ◌+◌, ◌-◌, ◌<◌, ◌≤◌, ◌^◌, ℕ, List, IsTrue, IfOk, IfErr, MatchResult, None, Some, length, Ok, Err, ◌++◌, ◌∷◌};
-ghost use Rattle.vt_disk.specs.Disk.{AreAmong, IsOneMore};
+ghost use Rattle.vt_base.specs.Faults.{CountsFault};
+ghost use Rattle.vt_disk.specs.Calls.{OnlyReads, MadeCalls};
 ghost use Rattle.vt_disk.specs.Region.{FitsDisk};
 ghost use Rattle.vt_clump.specs.Spelling.{Stored};
-ghost use Rattle.vt_arena.specs.Directory.{first_bad, last_entry, IsInfoOf, Walks, IsAt, IsInfo, CountsFault};
+ghost use Rattle.vt_arena.specs.Directory.{first_bad, last_entry, IsInfoOf, Walks, IsAt, IsInfo, NamesDamage, is_fault};
 ghost use Rattle.vt_arena.specs.Layout.{Content, IsContent, HasBlocks, head_of};
 ghost use Rattle.vt_arena.specs.Places.{IsArenaLen, block_room, directory_room, arena_room};
 
@@ -73,13 +74,13 @@ pub fn info<D: Disk>(
         → IsAt before s at.old
         → MatchResult result (IsInfo number before s) (λ bad. bad ≡ BackBad.Fault) }
 
+    // What a damage names differs, on any disk.
+    ensures differs { IfErr result NamesDamage }
+
     // It writes nothing.
-    ensures calls { IsTrue D.tells → IsOneMore (D.calls disk.old) (D.calls disk.new) }
-    ensures bytes { D.bytes disk.new ≡ D.bytes disk.old }
-    ensures images { AreAmong (D.images disk.new) (D.images disk.old) }
-    ensures size { D.size disk.new ≡ D.size disk.old }
-    ensures cause { MatchResult result (λ _. D.faults disk.new ≡ D.faults disk.old)
-        (λ bad. CountsFault bad (D.faults disk.old) (D.faults disk.new)) }
+    ensures reads { OnlyReads D.Disk 1 disk.old disk.new }
+    ensures calls { MadeCalls D.Disk 1 disk.old disk.new }
+    ensures cause { CountsFault is_fault result (D.faults disk.old) (D.faults disk.new) }
 {
     let mut entry = [0; DIRECTORY_ENTRY_LEN];
     let place = region.len - directory_room(u64::from(at.index));
@@ -104,6 +105,7 @@ fn decode(entry: &[u8; DIRECTORY_ENTRY_LEN], head: &ArenaHead, at: At) -> Result
         (λ bad. first_bad head.now.used at entry.now ≡ Some bad) }
     ensures info { IfOk result (IsInfoOf head.now.number at entry.now) }
     ensures within { IfOk result (λ info. block_room info.size ≤ at.end) }
+    ensures differs { IfErr result NamesDamage }
 {
     let Some(kind) = Kind::from_wire(entry[0]) else {
         return Err(damaged(13, u64::from(entry[0])));

@@ -22,16 +22,24 @@ pub use laws::{
 };
 pub use mounting::{find, format, mount};
 pub use reading::{has_header, read};
+use vt_disk::BLOCK_LEN;
 use vt_model::{CLUMP_HEADER_LEN, DIRECTORY_ENTRY_LEN, HEAD_LEN};
 
 /// How many bytes a frame of the head has.
-pub const FRAME_LEN: usize = 8192;
+pub const FRAME_LEN: usize = BLOCK_LEN;
 
-/// How many bytes of a frame the head's fields are.
-pub const FIELDS_LEN: usize = 43;
+const _: () = prove!(FRAME_LEN == 8192);
+
+/// How many bytes of a frame the head's fields are: magic, version, number, sealed, clumps, used
+/// and chain.
+pub const FIELDS_LEN: usize = 4 + 2 + 4 + 1 + 4 + 8 + 20;
+
+const _: () = prove!(FIELDS_LEN == 43);
 
 /// How many clumps may be staged for one commit.
 pub const STAGED_MAX: usize = 64;
+
+const _: () = prove!(STAGED_MAX == 64);
 
 /// What a block of `n` bytes takes of an arena.
 fn block_room(n: u32) -> u64

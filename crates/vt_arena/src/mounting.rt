@@ -1,13 +1,14 @@
 //! Making a region an arena, and finding the arena of a region.
 
-ghost use Rattle.std.specs.Prelude.{◌≡◌, ◌⊎◌, ◌+◌, ◌-◌, ◌*◌, ◌%◌, ◌^◌, ◌≤◌, min, [], ℕ, Bool, List, IsTrue, IfOk, IfErr, OnOk, MatchResult, None, Err};
-ghost use Rattle.vt_base.specs.Faults.{HasCause};
-ghost use Rattle.vt_disk.specs.Disk.{SameBut, AreAmong, ChangesAt, Only};
+ghost use Rattle.std.specs.Prelude.{◌≡◌, ◌⊎◌, ◌+◌, ◌-◌, ◌*◌, ◌%◌, ◌≤◌, [], ℕ, Bool, List, IsTrue, IfOk, OnOk, OnErr, MatchResult, None, Err};
+ghost use Rattle.vt_base.specs.Faults.{HasCause, CountsFault};
+ghost use Rattle.vt_disk.specs.Calls.{OnlyReads, WritesWithin, MadeCalls, IsSynced};
+ghost use Rattle.vt_twin.specs.Formatting.{EndsFormat};
 ghost use Rattle.vt_twin.specs.Frames.{frame_of as frame_at, named_number, selector_start, selector_bytes};
 ghost use Rattle.vt_arena.specs.Arena.{fresh_arena};
-ghost use Rattle.vt_arena.specs.Faults.{first_bad, Finds, RefusesMount, CanStand, CountsFault};
+ghost use Rattle.vt_arena.specs.Faults.{Finds, Mounts, CanStand, is_fault};
 ghost use Rattle.vt_arena.specs.Heads.{frame_of};
-ghost use Rattle.vt_arena.specs.Layout.{Content, IsArena, StandsAt, InHead, fields_at, head_of, empty};
+ghost use Rattle.vt_arena.specs.Layout.{Content, IsArena, StandsAt, fields_at, head_place, head_of, empty};
 ghost use Rattle.vt_arena.specs.Sound.{IsRegion, IsSound};
 
 use crate::arena::Arena;
@@ -27,7 +28,7 @@ pub fn format<D: Disk>(disk: &mut D, region: Region, number: u32) -> Result<(), 
     // Every image is the empty arena.
     ensures empty { (score_of : List ℕ → List ℕ) → IsTrue D.tells → OnOk result
         ((c : List ℕ) → D.images disk.new c → IsArena score_of region number empty c) }
-    ensures settled { OnOk result (IsTrue D.tells → Only (D.bytes disk.new) (D.images disk.new)) }
+    ensures settled { OnOk result (IsSynced D.Disk disk.new) }
 
     // Byte for byte, frame 0 is its head and zeros, and the selector is zeros.
     ensures frame { (score_of : List ℕ → List ℕ) → IsTrue D.tells → OnOk result
@@ -38,13 +39,12 @@ pub fn format<D: Disk>(disk: &mut D, region: Region, number: u32) -> Result<(), 
     ensures idle { IsTrue D.tells → OnOk result (frame_at region FRAME_LEN 1 (D.bytes disk.new)
         ≡ frame_at region FRAME_LEN 1 (D.bytes disk.old)) }
 
-    // Nothing outside the head changes.
-    ensures images { ChangesAt (InHead region) (D.images disk.old) (D.images disk.new) }
-    ensures bytes { IsTrue D.tells → SameBut (InHead region) (D.bytes disk.old) (D.bytes disk.new) }
-    ensures size { D.size disk.new ≡ D.size disk.old }
-    ensures calls { IsTrue D.tells
-        → OnOk result (D.calls disk.new ≡ min (D.calls disk.old + 3) (2 ^ 64 - 1)) }
-    ensures most_calls { IsTrue D.tells → D.calls disk.new ≤ D.calls disk.old + 3 }
+    // Nothing outside the head changes, and nothing is written behind a call that fails.
+    ensures writes { WritesWithin D.Disk (head_place region) 3 disk.old disk.new }
+    ensures calls { OnOk result (MadeCalls D.Disk 3 disk.old disk.new) }
+    ensures failed { (score_of : List ℕ → List ℕ) → OnErr result ((made : ℕ)
+        × EndsFormat D.Disk (head_place region) (frame_of (head_of score_of number empty)) made
+        disk.old disk.new) }
     ensures cause { HasCause result (D.faults disk.old) (D.faults disk.new) }
 {
     let head = ArenaHead {
@@ -83,15 +83,11 @@ pub fn find<D: Disk>(disk: &mut D, region: Region, number: u32) -> Result<Found,
         → it.selector % 2 ≡ named_number region FRAME_LEN (D.bytes disk.old)) }
     ensures checked { IfOk result (λ it. CanStand number region.len it.head) }
 
-    // It makes two reads, and writes nothing.
-    ensures bytes { D.bytes disk.new ≡ D.bytes disk.old }
-    ensures images { AreAmong (D.images disk.new) (D.images disk.old) }
-    ensures size { D.size disk.new ≡ D.size disk.old }
-    ensures calls { IsTrue D.tells → (result ≡ Err ArenaBad.Fault)
-        ⊎ (D.calls disk.new ≡ min (D.calls disk.old + 2) (2 ^ 64 - 1)) }
-    ensures most_calls { IsTrue D.tells → D.calls disk.new ≤ D.calls disk.old + 2 }
-    ensures cause { MatchResult result (λ _. D.faults disk.new ≡ D.faults disk.old)
-        (λ bad. CountsFault bad (D.faults disk.old) (D.faults disk.new)) }
+    // It makes two reads, none of them behind one that fails, and writes nothing.
+    ensures reads { OnlyReads D.Disk 2 disk.old disk.new }
+    ensures calls { ((result ≡ Err ArenaBad.Fault) × MadeCalls D.Disk 1 disk.old disk.new)
+        ⊎ MadeCalls D.Disk 2 disk.old disk.new }
+    ensures cause { CountsFault is_fault result (D.faults disk.old) (D.faults disk.new) }
 {
     let mut selector = [0];
     let Ok(()) = region.read_at(disk, 2 * FRAME_LEN as u64, &mut selector) else {
@@ -121,11 +117,10 @@ pub fn mount<D: Disk>(
 ) -> Result<Arena, ArenaBad>
     requires { IsRegion region (D.size disk.old) }
 
-    // Each refusal comes exactly where its test is the first to fail.
-    ensures accepted { OnOk result (IsTrue D.tells
-        → first_bad number region.len (fields_at region (D.bytes disk.old)) ≡ None) }
-    ensures refused { IfErr result (λ bad. IsTrue D.tells
-        → RefusesMount number region.len (fields_at region (D.bytes disk.old)) bad) }
+    // It is mounted, and each refusal comes, exactly as the fields say that were read.
+    ensures answer { (fields : List ℕ)
+        × (IsTrue D.tells → fields ≡ fields_at region (D.bytes disk.old))
+        × Mounts number region.len fields result }
 
     // The arena is the one that is there.
     ensures fresh { IfOk result (λ a. a ≡ fresh_arena region.len a.twin.current a.head) }
@@ -134,18 +129,16 @@ pub fn mount<D: Disk>(
         → MatchResult result
         (λ a. IsSound score_of a region old (D.bytes disk.new) (D.images disk.new))
         (λ bad. (bad ≡ ArenaBad.Fault) ⊎ (bad ≡ ArenaBad.NoMemory)) }
-    ensures settled { OnOk result (IsTrue D.tells → Only (D.bytes disk.new) (D.images disk.new)) }
     ensures checked { IfOk result (λ a. CanStand number region.len a.head) }
 
+    // Nothing is read behind a sync that fails, so that what is told is told of a settled disk.
+    ensures settled { ((result ≡ Err ArenaBad.Fault) × MadeCalls D.Disk 1 disk.old disk.new)
+        ⊎ IsSynced D.Disk disk.new }
+
     // It makes a sync and two reads, and writes nothing.
-    ensures bytes { D.bytes disk.new ≡ D.bytes disk.old }
-    ensures images { AreAmong (D.images disk.new) (D.images disk.old) }
-    ensures size { D.size disk.new ≡ D.size disk.old }
-    ensures calls { IsTrue D.tells → (result ≡ Err ArenaBad.Fault)
-        ⊎ (D.calls disk.new ≡ min (D.calls disk.old + 3) (2 ^ 64 - 1)) }
-    ensures most_calls { IsTrue D.tells → D.calls disk.new ≤ D.calls disk.old + 3 }
-    ensures cause { MatchResult result (λ _. D.faults disk.new ≡ D.faults disk.old)
-        (λ bad. CountsFault bad (D.faults disk.old) (D.faults disk.new)) }
+    ensures reads { OnlyReads D.Disk 3 disk.old disk.new }
+    ensures calls { (result ≡ Err ArenaBad.Fault) ⊎ MadeCalls D.Disk 3 disk.old disk.new }
+    ensures cause { CountsFault is_fault result (D.faults disk.old) (D.faults disk.new) }
 {
     let Ok(()) = disk.sync() else {
         return Err(ArenaBad::Fault);

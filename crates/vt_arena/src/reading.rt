@@ -2,13 +2,14 @@
 
 ghost use Rattle.std.specs.Prelude.{◌≡◌, ◌⊎◌, ◌+◌, ◌≤◌, ◌∷◌, ◌++◌, min, ◌-◌, ◌^◌, ℕ, List, length, IsTrue, IfOk, IfErr, OnOk, Ok, Err, MatchResult};
 ghost use Rattle.vt_base.specs.Bytes.{AreBytes};
-ghost use Rattle.vt_disk.specs.Disk.{AreAmong, IsOneMore};
+ghost use Rattle.vt_base.specs.Faults.{CountsFault};
+ghost use Rattle.vt_disk.specs.Calls.{OnlyReads, MadeCalls};
 ghost use Rattle.vt_disk.specs.Region.{FitsDisk};
 ghost use Rattle.vt_clump.specs.Spelling.{Stored, IsStored, size_in};
 ghost use Rattle.vt_clump.specs.Clumps.{IsRead};
 ghost use Rattle.vt_arena.specs.Layout.{Content, IsContent, HasBlocks};
 ghost use Rattle.vt_arena.specs.Places.{offset_of};
-ghost use Rattle.vt_arena.specs.Reading.{HasHeader, clump_at, header_at, damage_of, ReadsAs, CountsFault};
+ghost use Rattle.vt_arena.specs.Reading.{HasHeader, clump_at, header_at, damage_of, ReadsAs, is_fault};
 
 use crate::bad::ReadBad;
 use std::alloc::Global;
@@ -51,14 +52,9 @@ pub fn read<D: Disk, S: Scorer>(
 
     // It makes two reads at most, and none where no header lies there. It writes nothing.
     ensures untouched { ¬ HasHeader region.len offset → disk.new ≡ disk.old }
-    ensures calls { IsTrue D.tells
-        → OnOk result (D.calls disk.new ≡ min (D.calls disk.old + 2) (2 ^ 64 - 1)) }
-    ensures most_calls { IsTrue D.tells → D.calls disk.new ≤ D.calls disk.old + 2 }
-    ensures bytes { D.bytes disk.new ≡ D.bytes disk.old }
-    ensures images { AreAmong (D.images disk.new) (D.images disk.old) }
-    ensures size { D.size disk.new ≡ D.size disk.old }
-    ensures cause { MatchResult result (λ _. D.faults disk.new ≡ D.faults disk.old)
-        (λ bad. CountsFault bad (D.faults disk.old) (D.faults disk.new)) }
+    ensures reads { OnlyReads D.Disk 2 disk.old disk.new }
+    ensures calls { OnOk result (MadeCalls D.Disk 2 disk.old disk.new) }
+    ensures cause { CountsFault is_fault result (D.faults disk.old) (D.faults disk.new) }
 {
     if !has_header(region.len, offset) {
         return Err(ReadBad::Damaged {
@@ -105,13 +101,9 @@ fn read_block<D: Disk>(
     ensures most { IfOk result (λ block. length block ≤ size_in header.now) }
     ensures header { (length header.now ≡ CLUMP_HEADER_LEN) × AreBytes header.now }
     ensures refused { IfErr result (λ bad. (bad ≡ ReadBad.Fault) ⊎ (bad ≡ ReadBad.NoMemory)) }
-    ensures calls { IsTrue D.tells → OnOk result (IsOneMore (D.calls disk.old) (D.calls disk.new)) }
-    ensures most_calls { IsTrue D.tells → D.calls disk.new ≤ D.calls disk.old + 1 }
-    ensures bytes { D.bytes disk.new ≡ D.bytes disk.old }
-    ensures images { AreAmong (D.images disk.new) (D.images disk.old) }
-    ensures size { D.size disk.new ≡ D.size disk.old }
-    ensures cause { MatchResult result (λ _. D.faults disk.new ≡ D.faults disk.old)
-        (λ bad. CountsFault bad (D.faults disk.old) (D.faults disk.new)) }
+    ensures reads { OnlyReads D.Disk 1 disk.old disk.new }
+    ensures calls { OnOk result (MadeCalls D.Disk 1 disk.old disk.new) }
+    ensures cause { CountsFault is_fault result (D.faults disk.old) (D.faults disk.new) }
 {
     let at = offset + CLUMP_HEADER_LEN as u64;
     let len = u64::from(block_len(header)).min(region.len - at);

@@ -9,7 +9,7 @@ use std::test::Fail;
 use vt_base::{Failed, FieldValue, Info, Key, Kind, Place, Score, Scorer, Sha1Scorer};
 use vt_clump::{Clump, pack};
 use vt_disk::{Disk, Region};
-use vt_memdisk::{Listed, MemDisk};
+use vt_memdisk::{CrashMode, Listed, MemDisk};
 use vt_twin::{Step, TwinErr};
 
 const LEN: u64 = 33_792;
@@ -217,23 +217,10 @@ impl Rig {
         Ok(None)
     }
 
-    /// The disk after a crash, with the arena mounted again. Of the pending bytes it leaves the
-    /// synced ones in mode 0, the written ones in mode 1, the written ones at even places in mode 2,
-    /// and a5 in mode 3.
-    fn crash(self, alloc: Global, mode: usize) -> Result<Rig, Fail> {
+    /// The disk after a crash in this mode, with the arena mounted again.
+    fn crash(self, alloc: Global, mode: CrashMode) -> Result<Rig, Fail> {
         let Rig { disk, arena: _ } = self;
-        let mut choice = Vec::new(alloc);
-        for at in 0..LEN {
-            if disk.pending(at) {
-                choice.push(match mode {
-                    0 => 256,
-                    1 => 257,
-                    2 => if at % 2 == 0 { 257 } else { 256 },
-                    _ => 0xa5,
-                })?;
-            }
-        }
-        let mut disk = disk.crash(&choice);
+        let mut disk = disk.crash_in(mode);
         let arena = mount(alloc, &mut disk, REGION, NUMBER)?;
         Ok(Rig { disk, arena })
     }
@@ -296,7 +283,7 @@ fn two_blocks_byte_for_byte(rt: HostRuntime) -> Result<(), Fail> {
 }
 
 /// Stops a commit of `abd` behind `abc` at a call. It gives the disk after a crash.
-fn stopped(alloc: Global, call: u64, fails: bool, mode: usize) -> Result<Rig, Fail> {
+fn stopped(alloc: Global, call: u64, fails: bool, mode: CrashMode) -> Result<Rig, Fail> {
     let failing = if fails {
         call.saturating_add(FIRST_CALL + 6)
     } else {
@@ -318,7 +305,7 @@ fn stopped(alloc: Global, call: u64, fails: bool, mode: usize) -> Result<Rig, Fa
 
 #[test]
 fn a_commit_is_stopped_anywhere(rt: HostRuntime) -> Result<(), Fail> {
-    // The call at which the commit ends, whether it fails, and in which mode a crash then leaves the
+    // The call at which the commit ends, whether it fails, and in which modes a crash then leaves the
     // new head. The new selector is 0, so that a5 names the old frame.
     for (call, fails, is_new) in [
         (0, true, [false, false, false, false]),
@@ -334,10 +321,10 @@ fn a_commit_is_stopped_anywhere(rt: HostRuntime) -> Result<(), Fail> {
         (5, true, [false, true, true, false]),
         (5, false, [true, true, true, true]),
     ] {
-        for (mode, is_new) in is_new.into_iter().enumerate() {
+        for (mode, is_new) in CrashMode::ALL.into_iter().zip(is_new) {
             let mut rig = stopped(rt.alloc(), call, fails, mode)?;
             let clumps = if is_new { 2 } else { 1 };
-            assert_eq!(rt; rig.arena.head().clumps, clumps, "call {call}, mode {mode}");
+            assert_eq!(rt; rig.arena.head().clumps, clumps, "call {call}, {mode:?}");
             assert!(rt; rig.reads(rt.alloc(), 24_576, b"abc"));
             assert!(rt; !is_new || rig.reads(rt.alloc(), 24_617, b"abd"));
         }

@@ -1,12 +1,13 @@
 -- Why a partition is refused.
-use Rattle.std.specs.Prelude.{◌≡◌, ◌≢◌, ◌==◌, ◌⊎◌, ℕ, ◌+◌, ◌<◌, ◌≤◌, nat_lt, not, if◌then◌else◌, Option, Some, None, List, codes, take, drop}
+use Rattle.std.specs.Prelude.{◌≡◌, ◌≢◌, ◌==◌, ◌⊎◌, ℕ, ◌+◌, ◌<◌, ◌≤◌, nat_lt, Bool, true, false, not, if◌then◌else◌, Option, Some, None, List, codes, take, drop}
 use Rattle.std.specs.Str.{bytes_eq}
 use Rattle.byteorder.specs.Endian.{big_number}
-use Rattle.vt_base.specs.Faults.{HasRisen}
+use Rattle.vt_disk.specs.declared.TheConstants.{BLOCK_LEN}
 use Rattle.vt_part.specs.declared.bad.Field.{Field}
 use Rattle.vt_part.specs.declared.bad.Field.TheVariants.{Version, ArenaSize, Count}
 use Rattle.vt_part.specs.declared.bad.PartBad.{PartBad}
 use Rattle.vt_part.specs.declared.bad.PartBad.TheVariants.{Fault, TooSmall, NotFormatted, Torn, DuplicateName, NoMemory}
+use Rattle.vt_part.specs.declared.TheConstants.{LEAST_ARENA}
 use Rattle.vt_part.specs.Table.{is_arena_size, IsArenaSize, start_by}
 
 -- What the fields say, by their places.
@@ -26,11 +27,11 @@ end_in head = start_by (arena_size_in head) (count_in head)
 -- the first test of a table's fields that fails, on a disk of this length
 abbrev pub first_bad : (len : ℕ) → (head : List ℕ) → Option PartBad
 first_bad len head =
-    if nat_lt len 8192 then Some (TooSmall len 8192)
+    if nat_lt len BLOCK_LEN then Some (TooSmall len BLOCK_LEN)
     else if not (bytes_eq (take 4 head) (codes "VPRT")) then Some NotFormatted
     else if not (version_in head == 1) then Some (Torn Version (version_in head) 1)
     else if not (is_arena_size (arena_size_in head))
-    then Some (Torn ArenaSize (arena_size_in head) 32768)
+    then Some (Torn ArenaSize (arena_size_in head) LEAST_ARENA)
     else if count_in head == 0 then Some (Torn Count 0 1)
     else if nat_lt len (end_in head) then Some (TooSmall len (end_in head))
     else None
@@ -38,18 +39,18 @@ first_bad len head =
 -- mounting is refused by the first test that fails or, where the disk has a block 0, since the read
 -- of it fails
 abbrev pub RefusesMount : (len : ℕ) → (head : List ℕ) → PartBad → Type 0
-RefusesMount len head bad = (first_bad len head ≡ Some bad) ⊎ ((8192 ≤ len) × (bad ≡ Fault))
+RefusesMount len head bad = (first_bad len head ≡ Some bad) ⊎ ((BLOCK_LEN ≤ len) × (bad ≡ Fault))
 
 -- formatting is refused where an arena has no room or, where it has, since a call of the disk fails
 abbrev pub RefusesFormat : (len arena_size : ℕ) → PartBad → Type 0
 RefusesFormat len arena_size bad =
-    ((len < 8192 + arena_size) × (bad ≡ TooSmall len (8192 + arena_size)))
-    ⊎ ((8192 + arena_size ≤ len) × (bad ≡ Fault))
+    ((len < BLOCK_LEN + arena_size) × (bad ≡ TooSmall len (BLOCK_LEN + arena_size)))
+    ⊎ ((BLOCK_LEN + arena_size ≤ len) × (bad ≡ Fault))
 
 -- a value that can't stand in a field, and the one that was wanted
 abbrev pub Differs : Field → (found want : ℕ) → Type 0
 Differs Version found want = (found ≢ 1) × (want ≡ 1)
-Differs ArenaSize found want = ¬ IsArenaSize found × (want ≡ 32768)
+Differs ArenaSize found want = ¬ IsArenaSize found × (want ≡ LEAST_ARENA)
 Differs Count found want = (found ≡ 0) × (want ≡ 1)
 
 -- arenas of a size that they may have end here
@@ -61,18 +62,18 @@ IsEnd place = (arena_size : ℕ) × (count : ℕ) × IsArenaSize arena_size × (
 -- holds: the values that the refusal names make it one.
 abbrev pub NamesItsCause : (size : ℕ) → PartBad → Type 0
 NamesItsCause size (TooSmall len need) =
-    (len ≡ size) × (size < need) × (size < 8192 → need ≡ 8192) × (8192 ≤ size → IsEnd need)
-NamesItsCause size Fault = 8192 ≤ size
-NamesItsCause size NotFormatted = 8192 ≤ size
-NamesItsCause size (Torn field found want) = (8192 ≤ size) × Differs field found want
+    (len ≡ size) × (size < need) × (size < BLOCK_LEN → need ≡ BLOCK_LEN) × (BLOCK_LEN ≤ size → IsEnd need)
+NamesItsCause size Fault = BLOCK_LEN ≤ size
+NamesItsCause size NotFormatted = BLOCK_LEN ≤ size
+NamesItsCause size (Torn field found want) = (BLOCK_LEN ≤ size) × Differs field found want
 NamesItsCause size (DuplicateName first second) = ⊥
 NamesItsCause size NoMemory = ⊥
 
--- a fault comes only where the count of faults rises, and it rises only then
-abbrev pub CountsFault : PartBad → (old new : ℕ) → Type 0
-CountsFault Fault old new = HasRisen old new
-CountsFault (TooSmall len need) old new = new ≡ old
-CountsFault NotFormatted old new = new ≡ old
-CountsFault (Torn field found want) old new = new ≡ old
-CountsFault (DuplicateName first second) old new = new ≡ old
-CountsFault NoMemory old new = new ≡ old
+-- the refusal tells of a fault of the disk in this call
+abbrev pub is_fault : PartBad → Bool
+is_fault Fault = true
+is_fault (TooSmall len need) = false
+is_fault NotFormatted = false
+is_fault (Torn field found want) = false
+is_fault (DuplicateName first second) = false
+is_fault NoMemory = false

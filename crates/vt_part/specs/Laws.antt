@@ -1,6 +1,7 @@
 -- What holds of all partitions.
 use Rattle.std.specs.Prelude.{◌≡◌, ◌⊎◌, ℕ, ◌+◌, ◌<◌, ◌≤◌, List, None, Some, All, AllPairs, Contains, length, sum_by, slice_get}
 use Rattle.vt_base.specs.Bytes.{AreBytes}
+use Rattle.vt_disk.specs.declared.TheConstants.{BLOCK_LEN}
 use Rattle.vt_disk.specs.Disk.{IsAligned, SameBut}
 use Rattle.vt_part.specs.declared.layout.ArenaRegion.{ArenaRegion}
 use Rattle.vt_part.specs.Faults.{first_bad}
@@ -23,7 +24,7 @@ PassesPartitionsOnly = (file : List ℕ) → AreBytes file
 
 -- what is done behind the block leaves a partition what it is
 abbrev pub PartitionsStay : Type 0
-PartitionsStay = (t : Table) (old new : List ℕ) → SameBut (λ i. 8192 ≤ i) old new
+PartitionsStay = (t : Table) (old new : List ℕ) → SameBut (λ i. BLOCK_LEN ≤ i) old new
     → IsPartition t old → IsPartition t new
 
 -- arenas stand behind the block, one after another, each at whole sectors
@@ -32,7 +33,7 @@ ArenasFollow = (t : Table) (i j : ℕ) → i < j → start_of t i + t.arena_size
 
 abbrev pub ArenasAreInside : Type 0
 ArenasAreInside = (t : Table) (i : ℕ) → i < t.count
-    → (8192 ≤ start_of t i) × (start_of t i + t.arena_size ≤ end_of t)
+    → (BLOCK_LEN ≤ start_of t i) × (start_of t i + t.arena_size ≤ end_of t)
 
 abbrev pub ArenasAreAligned : Type 0
 ArenasAreAligned = (t : Table) (i : ℕ) → IsTable t
@@ -45,7 +46,7 @@ IsArena tables arena = (t : Table) × (slice_get tables arena.part ≡ Some t)
 
 -- an arena of an earlier partition, or a region that ends before the other one begins
 abbrev pub IsBefore : (a b : ArenaRegion) → Type 0
-IsBefore a b = (a.part < b.part) ⊎ ((a.part ≡ b.part) × (a.at + a.len ≤ b.at))
+IsBefore a b = (a.part < b.part) ⊎ ((a.part ≡ b.part) × (a.region.start + a.region.len ≤ b.region.start))
 
 abbrev pub LayoutsHaveArenas : Type 0
 LayoutsHaveArenas = (tables : List Table) → All (IsArena tables) (layout_of tables)

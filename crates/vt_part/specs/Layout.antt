@@ -1,15 +1,19 @@
 -- The arenas of several partitions.
 use Rattle.std.specs.Prelude.{◌≡◌, ℕ, ◌<◌, ◌≤◌, List, [], map, flat_map, length, slice_index_or}
 use Rattle.std.specs.List.{range_with_len, enumerate_from}
+use Rattle.vt_disk.specs.declared.region.Region.{Region}
 use Rattle.vt_part.specs.declared.bad.PartBad.{PartBad}
 use Rattle.vt_part.specs.declared.bad.PartBad.TheVariants.{Fault, TooSmall, NotFormatted, Torn, DuplicateName, NoMemory}
 use Rattle.vt_part.specs.declared.layout.ArenaRegion.{ArenaRegion}
 use Rattle.vt_part.specs.Table.{Table, start_of}
 
+-- where an arena of a table stands, by its number
+abbrev pub region_of : Table → (number : ℕ) → Region
+region_of t number = record { start = start_of t number; len = t.arena_size }
+
 -- an arena of the partition with this number, by its own number
 abbrev pub arena_of : (part : ℕ) → Table → (number : ℕ) → ArenaRegion
-arena_of part t number =
-    record { part = part; number = number; at = start_of t number; len = t.arena_size }
+arena_of part t number = record { part = part; number = number; region = region_of t number }
 
 -- all of them, in order
 abbrev pub arenas_of : (part : ℕ) → Table → List ArenaRegion

@@ -1,4 +1,4 @@
--- A partition of arenas: a table in a block of 8,192 bytes, and behind it arenas of one size, one
+-- A partition of arenas: a table in a block, and behind it arenas of one size, one
 -- after another (venti(8) formats one by fmtarenas; the layout is this project's). The table is
 --   magic[4] version[2] name[64] arenasize[8] count[4]
 -- Numbers have their highest byte first, and zeros fill up the name. What lies behind the table in
@@ -6,6 +6,8 @@
 use Rattle.std.specs.Prelude.{◌≡◌, ◌≢◌, ◌==◌, ℕ, ◌+◌, ◌-◌, ◌*◌, ◌/◌, ◌%◌, ◌^◌, ◌<◌, ◌≤◌, min, Bool, ◌&&◌, ◌||◌, nat_le, IsTrue, List, ◌++◌, All, codes, length, take, replicate, slice_index}
 use Rattle.std.specs.Char.{is_ascii_alphanumeric}
 use Rattle.byteorder.specs.Endian.{big_bytes}
+use Rattle.vt_disk.specs.declared.TheConstants.{BLOCK_LEN}
+use Rattle.vt_part.specs.declared.TheConstants.{TABLE_LEN, NAME_MAX, LEAST_ARENA, MOST_ARENA}
 
 -- what the table says: the partition's name, the size of its arenas, and how many there are
 pub record Table : Type 0 where
@@ -20,12 +22,12 @@ is_name_byte b = is_ascii_alphanumeric b || b == 46 || b == 45 || b == 95
 -- the names that a partition is given
 pub record IsName (name : List ℕ) : Type 0 where
   pub some : 0 < length name
-  pub most : length name ≤ 64
+  pub most : length name ≤ NAME_MAX
   pub each : All (λ b. IsTrue (is_name_byte b)) name
 
--- a multiple of 8,192, from 32 KiB to 1 GiB
+-- whole blocks, from 32 KiB to 1 GiB
 abbrev pub is_arena_size : ℕ → Bool
-is_arena_size n = n % 8192 == 0 && nat_le 32768 n && nat_le n 1073741824
+is_arena_size n = n % BLOCK_LEN == 0 && nat_le LEAST_ARENA n && nat_le n MOST_ARENA
 
 abbrev pub IsArenaSize : ℕ → Type 0
 IsArenaSize n = IsTrue (is_arena_size n)
@@ -36,7 +38,7 @@ HasNoFill name = 0 < length name → slice_index name (length name - 1) ≢ 0
 
 -- what a table may say; its name may have any bytes
 pub record IsTable (t : Table) : Type 0 where
-  pub name_len : length t.name ≤ 64
+  pub name_len : length t.name ≤ NAME_MAX
   pub name_end : HasNoFill t.name
   pub arena_size : IsArenaSize t.arena_size
   pub some : 0 < t.count
@@ -48,20 +50,20 @@ filled len bytes = bytes ++ replicate (len - length bytes) 0
 
 -- the table's bytes
 abbrev pub spelled : Table → List ℕ
-spelled t = codes "VPRT" ++ (big_bytes 2 1 ++ (filled 64 t.name
+spelled t = codes "VPRT" ++ (big_bytes 2 1 ++ (filled NAME_MAX t.name
     ++ (big_bytes 8 t.arena_size ++ big_bytes 4 t.count)))
 
 -- the bytes of a disk that the table stands in
 abbrev pub head_of : (file : List ℕ) → List ℕ
-head_of file = take 82 file
+head_of file = take TABLE_LEN file
 
 -- the block as it is written
 abbrev pub block_of : Table → List ℕ
-block_of t = filled 8192 (spelled t)
+block_of t = filled BLOCK_LEN (spelled t)
 
 -- where an arena begins, by its number from 0 on, among arenas of this size
 abbrev pub start_by : (arena_size number : ℕ) → ℕ
-start_by arena_size number = 8192 + number * arena_size
+start_by arena_size number = BLOCK_LEN + number * arena_size
 
 -- where an arena of a table begins, and where the last one ends
 abbrev pub start_of : Table → (number : ℕ) → ℕ
@@ -79,4 +81,9 @@ pub record IsPartition (t : Table) (file : List ℕ) : Type 0 where
 -- How many arenas of this size a disk of this length has room for. The count's field has four
 -- bytes, so that the end of a disk of more than 128 TiB may be left unused.
 abbrev pub count_for : (len arena_size : ℕ) → ℕ
-count_for len arena_size = min ((len - 8192) / arena_size) (2 ^ 32 - 1)
+count_for len arena_size = min ((len - BLOCK_LEN) / arena_size) (2 ^ 32 - 1)
+
+-- the table that formatting writes on a disk of this length
+abbrev pub table_for : (name : List ℕ) → (len arena_size : ℕ) → Table
+table_for name len arena_size =
+    record { name = name; arena_size = arena_size; count = count_for len arena_size }

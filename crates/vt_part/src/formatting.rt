@@ -1,16 +1,17 @@
 //! Making a disk a partition.
 
-ghost use Rattle.std.specs.Prelude.{◌≡◌, ◌↔◌, ◌+◌, ◌-◌, ◌^◌, ◌<◌, ◌≤◌, ◌++◌, min, ℕ, List, codes, length, IsTrue, IfOk, IfErr, OnOk, MatchResult};
+ghost use Rattle.std.specs.Prelude.{◌≡◌, ◌↔◌, ◌⊎◌, ◌+◌, ◌-◌, ◌<◌, ◌≤◌, ◌++◌, ℕ, List, codes, length, IsTrue, IfOk, IfErr, OnOk, Err};
 ghost use Rattle.byteorder.specs.Endian.{big_bytes};
-ghost use Rattle.vt_disk.specs.Disk.{Touches, SameBut, with_bytes, ChangesAt, Only};
-ghost use Rattle.vt_part.specs.Faults.{RefusesFormat, CountsFault};
-ghost use Rattle.vt_part.specs.Table.{IsName, IsArenaSize, IsPartition, block_of, count_for, filled};
+ghost use Rattle.vt_base.specs.Faults.{CountsFault};
+ghost use Rattle.vt_disk.specs.Calls.{WritesAt, MadeCalls, IsSynced};
+ghost use Rattle.vt_disk.specs.Disk.{Touches, with_bytes};
+ghost use Rattle.vt_part.specs.Faults.{RefusesFormat, is_fault};
+ghost use Rattle.vt_part.specs.Table.{IsName, IsArenaSize, IsPartition, block_of, count_for, filled, table_for};
 
-use crate::BLOCK_LEN;
 use crate::bad::PartBad;
-use crate::head::{HEAD_LEN, NAME_MAX};
+use crate::{LEAST_ARENA, MOST_ARENA, NAME_MAX, TABLE_LEN};
 use vt_base::Text;
-use vt_disk::Disk;
+use vt_disk::{BLOCK_LEN, Disk};
 use vt_fields::{put, put_u16, put_u32, put_u64};
 
 /// Whether a partition may be given this name. It has 1 to 64 bytes, each a letter or a digit of
@@ -23,11 +24,11 @@ pub fn is_name(name: &[u8]) -> bool
         && name.iter().all(|b| b.is_ascii_alphanumeric() || *b == b'.' || *b == b'-' || *b == b'_')
 }
 
-/// Whether an arena may have this many bytes: a multiple of 8,192, from 32 KiB to 1 GiB.
+/// Whether an arena may have this many bytes: whole blocks, from 32 KiB to 1 GiB.
 pub fn is_arena_size(size: u64) -> bool
     ensures { IsTrue result ↔ IsArenaSize size }
 {
-    size % 8192 == 0 && 32_768 <= size && size <= 1_073_741_824
+    size % BLOCK_LEN as u64 == 0 && LEAST_ARENA <= size && size <= MOST_ARENA
 }
 
 /// Makes the disk a partition of as many arenas as it has room for: writes block 0 and syncs it.
@@ -37,29 +38,27 @@ pub fn format<D: Disk>(disk: &mut D, name: &Text, arena_size: u64) -> Result<u32
     requires arena_size { IsArenaSize arena_size }
 
     ensures count { IfOk result (λ n. n ≡ count_for (D.size disk.old) arena_size) }
-    ensures written { IfOk result (λ n. IsTrue D.tells → D.bytes disk.new ≡ with_bytes 0
-        (block_of (record { name = name.now; arena_size = arena_size; count = n }))
-        (D.bytes disk.old)) }
+    ensures written { OnOk result (IsTrue D.tells → D.bytes disk.new ≡ with_bytes 0
+        (block_of (table_for name.now (D.size disk.old) arena_size)) (D.bytes disk.old)) }
 
     // Whatever a crash leaves from then on, it leaves the partition.
-    ensures partition { IfOk result (λ n. IsTrue D.tells → (c : List ℕ) → D.images disk.new c
-        → IsPartition (record { name = name.now; arena_size = arena_size; count = n }) c) }
-    ensures settled { OnOk result (IsTrue D.tells → Only (D.bytes disk.new) (D.images disk.new)) }
+    ensures partition { OnOk result (IsTrue D.tells → (c : List ℕ) → D.images disk.new c
+        → IsPartition (table_for name.now (D.size disk.old) arena_size) c) }
+    ensures settled { OnOk result (IsSynced D.Disk disk.new) }
 
-    ensures room { OnOk result (8192 + arena_size ≤ D.size disk.old) }
+    ensures room { OnOk result (BLOCK_LEN + arena_size ≤ D.size disk.old) }
     ensures refused { IfErr result (RefusesFormat (D.size disk.old) arena_size) }
-    ensures untouched { D.size disk.old < 8192 + arena_size → disk.new ≡ disk.old }
+    ensures untouched { D.size disk.old < BLOCK_LEN + arena_size → disk.new ≡ disk.old }
 
-    // Nothing behind the block changes, whatever the answer.
-    ensures images { ChangesAt (Touches 0 8192) (D.images disk.old) (D.images disk.new) }
-    ensures bytes { IsTrue D.tells
-        → SameBut (Touches 0 8192) (D.bytes disk.old) (D.bytes disk.new) }
-    ensures size { D.size disk.new ≡ D.size disk.old }
-    ensures calls { IsTrue D.tells
-        → OnOk result (D.calls disk.new ≡ min (D.calls disk.old + 2) (2 ^ 64 - 1)) }
-    ensures most_calls { IsTrue D.tells → D.calls disk.new ≤ D.calls disk.old + 2 }
-    ensures cause { MatchResult result (λ _. D.faults disk.new ≡ D.faults disk.old)
-        (λ bad. CountsFault bad (D.faults disk.old) (D.faults disk.new)) }
+    // Nothing behind the block changes, and nothing is done behind a call that fails: that is the
+    // block's write or, with the block written, the sync.
+    ensures writes { WritesAt D.Disk (Touches 0 BLOCK_LEN) 2 disk.old disk.new }
+    ensures calls { OnOk result (MadeCalls D.Disk 2 disk.old disk.new) }
+    ensures failed { result ≡ Err PartBad.Fault → MadeCalls D.Disk 1 disk.old disk.new
+        ⊎ (MadeCalls D.Disk 2 disk.old disk.new
+        × (IsTrue D.tells → D.bytes disk.new ≡ with_bytes 0
+        (block_of (table_for name.now (D.size disk.old) arena_size)) (D.bytes disk.old))) }
+    ensures cause { CountsFault is_fault result (D.faults disk.old) (D.faults disk.new) }
 {
     let len = disk.len();
     let need = BLOCK_LEN as u64 + arena_size;
@@ -74,7 +73,7 @@ pub fn format<D: Disk>(disk: &mut D, name: &Text, arena_size: u64) -> Result<u32
 
 /// The bytes of block 0.
 fn encode(name: &[u8], arena_size: u64, count: u32) -> [u8; BLOCK_LEN]
-    requires { length name.now ≤ 64 }
+    requires { length name.now ≤ NAME_MAX }
     ensures { result
         ≡ block_of (record { name = name.now; arena_size = arena_size; count = count }) }
 {
@@ -83,12 +82,12 @@ fn encode(name: &[u8], arena_size: u64, count: u32) -> [u8; BLOCK_LEN]
 }
 
 /// The bytes of a table with this field of a name.
-fn encode_head(name: &[u8; NAME_MAX], arena_size: u64, count: u32) -> [u8; HEAD_LEN]
-    requires { length name.now ≡ 64 }
+fn encode_head(name: &[u8; NAME_MAX], arena_size: u64, count: u32) -> [u8; TABLE_LEN]
+    requires { length name.now ≡ NAME_MAX }
     ensures { result ≡ codes "VPRT" ++ (big_bytes 2 1
         ++ (name.now ++ (big_bytes 8 arena_size ++ big_bytes 4 count))) }
 {
-    let mut head = [0; HEAD_LEN];
+    let mut head = [0; TABLE_LEN];
     let at = put(&mut head, 0, b"VPRT");
     let at = put_u16(&mut head, at, 1);
     let at = put(&mut head, at, name);

@@ -1,19 +1,15 @@
 //! The table in block 0.
 
 ghost use Rattle.std.specs.Prelude.{◌≡◌, ◌<◌, ◌≤◌, None, Some, MatchResult, IfOk, IfErr, length, take};
+ghost use Rattle.vt_part.specs.declared.TheConstants.{NAME_MAX};
 ghost use Rattle.vt_part.specs.Table.{end_of, filled, spelled, HasNoFill, IsTable};
 ghost use Rattle.vt_part.specs.Faults.{first_bad, NamesItsCause};
 
-use crate::BLOCK_LEN;
 use crate::bad::{Field, PartBad};
 use crate::formatting::is_arena_size;
+use crate::{LEAST_ARENA, NAME_MAX, TABLE_LEN};
+use vt_disk::BLOCK_LEN;
 use vt_fields::{u16_at, u32_at, u64_at};
-
-/// How many bytes the table has.
-pub const HEAD_LEN: usize = 82;
-
-/// The most bytes of a name.
-pub const NAME_MAX: usize = 64;
 
 /// The table of a partition's arenas.
 #[derive(Drop)]
@@ -23,7 +19,7 @@ pub struct Head {
     pub name_len: usize,
     pub arena_size: u64,
     pub count: u32,
-    ghost within: { name_len ≤ 64 },
+    ghost within: { name_len ≤ NAME_MAX },
     ghost allowed: { IsTable (record {
       name = take name_len field;
       arena_size = arena_size;
@@ -35,8 +31,8 @@ impl Head {
     ghost use Rattle.vt_part.specs.Parts.{table_in};
 
     /// The table that these bytes spell, on a disk of this length.
-    pub fn decode(head: &[u8; HEAD_LEN], len: u64) -> Result<Head, PartBad>
-        requires { 8192 ≤ len }
+    pub fn decode(head: &[u8; TABLE_LEN], len: u64) -> Result<Head, PartBad>
+        requires { BLOCK_LEN ≤ len }
         ensures spelling { IfOk result (λ it. head.now ≡ spelled (table_in it)) }
         ensures table { IfOk result (λ it. IsTable (table_in it)) }
         ensures room { IfOk result (λ it. end_of (table_in it) ≤ len) }
@@ -53,7 +49,7 @@ impl Head {
         }
         let arena_size = u64_at(head, 70);
         if !is_arena_size(arena_size) {
-            return Err(torn(Field::ArenaSize, arena_size, 32_768));
+            return Err(torn(Field::ArenaSize, arena_size, LEAST_ARENA));
         }
         let count = u32_at(head, 78);
         if count == 0 {
@@ -82,8 +78,8 @@ fn torn(field: Field, found: u64, want: u64) -> PartBad
 
 /// How many bytes of a name stand before the zeros that fill it up.
 fn name_len(field: &[u8; NAME_MAX]) -> usize
-    ensures within { result ≤ 64 }
-    ensures filled { field.now ≡ filled 64 (take result field.now) }
+    ensures within { result ≤ NAME_MAX }
+    ensures filled { field.now ≡ filled NAME_MAX (take result field.now) }
     ensures end { HasNoFill (take result field.now) }
 {
     let mut len = NAME_MAX;

@@ -5,7 +5,7 @@ ghost use Rattle.vt_disk.specs.Disk.{ChangesAt};
 ghost use Rattle.vt_part.specs.Table.{Table, IsPartition};
 ghost use Rattle.vt_part.specs.Laws.{IsUnambiguous, PassesPartitions, PassesPartitionsOnly, PartitionsStay, ArenasFollow, ArenasAreInside, ArenasAreAligned, LayoutsHaveArenas, LayoutsListArenas, LayoutsHaveLengths, LayoutsAreInOrder};
 
-use vt_disk::Disk;
+use vt_disk::{BLOCK_LEN, Disk};
 
 /// Bytes are one partition at most, and are one exactly where no test fails. They stay so by
 /// whatever is done behind the block.
@@ -20,7 +20,7 @@ pub fn partitions_are_told_apart()
 /// block.
 pub fn partitions_stay_on_disks<D: Disk>()
     ensures { (t : Table) (before after : D)
-        → ChangesAt (λ i. 8192 ≤ i) (D.images before) (D.images after)
+        → ChangesAt (λ i. BLOCK_LEN ≤ i) (D.images before) (D.images after)
         → ((c : List ℕ) → D.images before c → IsPartition t c)
         → (c : List ℕ) → D.images after c → IsPartition t c }
 {}

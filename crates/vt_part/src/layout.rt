@@ -3,18 +3,17 @@
 ghost use Rattle.std.specs.Prelude.{◌≡◌};
 
 use std::marker::Model;
+use vt_disk::Region;
 
-/// Where an arena stands: its region on the disk of a partition.
+/// Where an arena stands: in which partition, and where on its disk.
 #[derive(Clone, Copy, Debug, PartialEq, Eq)]
 pub struct ArenaRegion {
     /// The partition's number in the list of partitions, from 0.
     pub part: u32,
     /// The arena's number in its partition, from 0.
     pub number: u32,
-    /// The disk's byte at which it begins.
-    pub at: u64,
-    /// How many bytes it has.
-    pub len: u64,
+    /// Where it stands on the partition's disk.
+    pub region: Region,
 }
 
 /// The regions of all arenas, in the order of the partitions and of the arenas in each.

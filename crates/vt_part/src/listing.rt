@@ -64,12 +64,10 @@ fn push_arenas<D>(arenas: &mut Vec<ArenaRegion>, number: u32, part: &Part<D>) ->
     ensures refused { IfErr result (λ bad. bad ≡ PartBad.NoMemory) }
 {
     for arena in 0..part.count() {
-        let region = part.region(arena);
         arenas.push(ArenaRegion {
             part: number,
             number: arena,
-            at: region.start,
-            len: region.len,
+            region: part.region(arena),
         })?;
     }
     Ok(())

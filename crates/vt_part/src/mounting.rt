@@ -1,16 +1,17 @@
 //! Finding the partition of a disk.
 
 ghost use Rattle.std.specs.Prelude.{◌≡◌, ◌<◌, ◌≤◌, None, IsTrue, IfOk, IfErr, OnOk, MatchResult};
-ghost use Rattle.vt_disk.specs.Disk.{AreAmong, IsOneMore};
-ghost use Rattle.vt_part.specs.Faults.{first_bad, RefusesMount, NamesItsCause, CountsFault};
+ghost use Rattle.vt_base.specs.Faults.{CountsFault};
+ghost use Rattle.vt_disk.specs.Calls.{OnlyReads, MadeCalls};
+ghost use Rattle.vt_part.specs.Faults.{first_bad, RefusesMount, NamesItsCause, is_fault};
 ghost use Rattle.vt_part.specs.Parts.{table_in, table_of, disk_of, disk_after};
 ghost use Rattle.vt_part.specs.Table.{Table, IsTable, IsPartition, head_of, spelled, end_of};
 
-use crate::BLOCK_LEN;
+use crate::TABLE_LEN;
 use crate::bad::PartBad;
-use crate::head::{HEAD_LEN, Head};
+use crate::head::Head;
 use crate::part::Part;
-use vt_disk::Disk;
+use vt_disk::{BLOCK_LEN, Disk};
 
 /// Reads the table of a disk's arenas. It takes any name. A refusal hands the disk back.
 ///
@@ -32,14 +33,11 @@ pub fn mount<D: Disk>(mut disk: D) -> Result<Part<D>, (PartBad, D)>
     ensures differs { IfErr result (λ refusal. NamesItsCause (D.size disk) refusal.0) }
 
     // It makes one read, or none where the disk has no block 0, and changes nothing.
-    ensures untouched { D.size disk < 8192 → disk_after result ≡ disk }
-    ensures calls { 8192 ≤ D.size disk → IsTrue D.tells
-        → IsOneMore (D.calls disk) (D.calls (disk_after result)) }
-    ensures bytes { D.bytes (disk_after result) ≡ D.bytes disk }
-    ensures images { AreAmong (D.images (disk_after result)) (D.images disk) }
-    ensures size { D.size (disk_after result) ≡ D.size disk }
-    ensures cause { MatchResult result (λ part. D.faults (disk_of part) ≡ D.faults disk)
-        (λ refusal. CountsFault refusal.0 (D.faults disk) (D.faults refusal.1)) }
+    ensures untouched { D.size disk < BLOCK_LEN → disk_after result ≡ disk }
+    ensures reads { OnlyReads D.Disk 1 disk (disk_after result) }
+    ensures calls { BLOCK_LEN ≤ D.size disk → MadeCalls D.Disk 1 disk (disk_after result) }
+    ensures cause { CountsFault (λ refusal. is_fault refusal.0) result
+        (D.faults disk) (D.faults (disk_after result)) }
 {
     match read_head(&mut disk) {
         Ok(head) => Ok(Part { disk, head }),
@@ -58,14 +56,10 @@ fn read_head<D: Disk>(disk: &mut D) -> Result<Head, PartBad>
     ensures refused { IfErr result (λ bad. IsTrue D.tells
         → RefusesMount (D.size disk.old) (head_of (D.bytes disk.old)) bad) }
     ensures differs { IfErr result (NamesItsCause (D.size disk.old)) }
-    ensures untouched { D.size disk.old < 8192 → disk.new ≡ disk.old }
-    ensures calls { 8192 ≤ D.size disk.old → IsTrue D.tells
-        → IsOneMore (D.calls disk.old) (D.calls disk.new) }
-    ensures bytes { D.bytes disk.new ≡ D.bytes disk.old }
-    ensures images { AreAmong (D.images disk.new) (D.images disk.old) }
-    ensures size { D.size disk.new ≡ D.size disk.old }
-    ensures cause { MatchResult result (λ _. D.faults disk.new ≡ D.faults disk.old)
-        (λ bad. CountsFault bad (D.faults disk.old) (D.faults disk.new)) }
+    ensures untouched { D.size disk.old < BLOCK_LEN → disk.new ≡ disk.old }
+    ensures reads { OnlyReads D.Disk 1 disk.old disk.new }
+    ensures calls { BLOCK_LEN ≤ D.size disk.old → MadeCalls D.Disk 1 disk.old disk.new }
+    ensures cause { CountsFault is_fault result (D.faults disk.old) (D.faults disk.new) }
 {
     let len = disk.len();
     if len < BLOCK_LEN as u64 {
@@ -74,7 +68,7 @@ fn read_head<D: Disk>(disk: &mut D) -> Result<Head, PartBad>
             need: BLOCK_LEN as u64,
         });
     }
-    let mut head = [0; HEAD_LEN];
+    let mut head = [0; TABLE_LEN];
     disk.read_at(0, &mut head)?;
     Head::decode(&head, len)
 }

@@ -1,12 +1,12 @@
 //! A partition of arenas.
 
 ghost use Rattle.std.specs.Prelude.{◌≡◌, ◌<◌};
+ghost use Rattle.vt_part.specs.Layout.{region_of};
 ghost use Rattle.vt_part.specs.Parts.{disk_of, table_of};
-ghost use Rattle.vt_part.specs.Table.{IsTable, start_of};
+ghost use Rattle.vt_part.specs.Table.{IsTable};
 
-use crate::BLOCK_LEN;
 use crate::head::Head;
-use vt_disk::Region;
+use vt_disk::{BLOCK_LEN, Region};
 
 /// A disk that is a partition of arenas, as its block 0 was when it was mounted.
 #[derive(Drop)]
@@ -41,8 +41,7 @@ impl<D> Part<D> {
     /// The region of an arena on the disk. Arenas are counted from 0.
     pub fn region(&self, number: u32) -> Region
         requires { number < (table_of self.now).count }
-        ensures start { result.start ≡ start_of (table_of self.now) number }
-        ensures len { result.len ≡ (table_of self.now).arena_size }
+        ensures region { result ≡ region_of (table_of self.now) number }
         ensures table { IsTable (table_of self.now) }
     {
         Region {

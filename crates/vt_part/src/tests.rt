@@ -7,7 +7,7 @@ ghost use Rattle.vt_part.specs.Table.{IsName};
 use super::*;
 use std::test::Fail;
 use vt_base::Text;
-use vt_disk::Disk;
+use vt_disk::{Disk, Region};
 use vt_memdisk::{Listed, MemDisk};
 
 /// A name that a partition may be given.
@@ -144,11 +144,10 @@ fn the_first_fault_is_told(rt: HostRuntime) -> Result<(), Fail> {
 fn arenas_are_listed(rt: HostRuntime) -> Result<(), Fail> {
     let parts = vec![in rt.alloc(); part(&rt, 73_728, b"a")?, part(&rt, 40_960, b"b")?]?;
     let layout = list(rt.alloc(), &parts).ok().ok_or("list")?;
-    let arena = |part, number, at| ArenaRegion {
+    let arena = |part, number, start| ArenaRegion {
         part,
         number,
-        at,
-        len: 32_768,
+        region: Region { start, len: 32_768 },
     };
     let wanted = [arena(0, 0, 8192), arena(0, 1, 40_960), arena(1, 0, 8192)];
     assert_eq!(rt; layout.as_slice(), wanted.as_slice());

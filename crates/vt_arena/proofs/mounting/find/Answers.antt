@@ -1,5 +1,6 @@
-use Rattle.std.proofs.Common.{◌≡◌, ℕ, ◌+◌, ◌*◌, List, length, Some, None, refl, sym, ◌∙◌, ap, arith, rules}
+use Rattle.std.proofs.Common.{◌≡◌, inl, inr, ℕ, ◌+◌, ◌*◌, List, length, Some, None, refl, sym, ◌∙◌, ap, arith, rules}
 use Rattle.vt_disk.specs.Disk.{part}
+use Rattle.vt_disk.proofs.Calls.{made_then}
 use Rattle.vt_arena.specs.declared.bad.ArenaBad.{ArenaBad}
 use Rattle.vt_arena.specs.declared.TheConstants.{FRAME_LEN, FIELDS_LEN}
 use Rattle.vt_arena.specs.Faults.{first_bad}
@@ -20,7 +21,7 @@ returns-in-Ok-decode-clause-answer g c = (
   c.read_at-2.new.buf,
   (λ told. (fields_read c.args.region (g.D.Disk.bytes c.args.disk.now) c.read_at-2.new.buf c.from.result
       (c.from.ensures ∙ selector_named c.args.region (g.D.Disk.bytes c.args.disk.now) c.read_at.new.buf (c.in-Ok.ensures.read told))
-      (c.in-Ok-read_at.ensures.read told ∙ ap (λ (l : List ℕ). part (c.args.region.start + FRAME_LEN * c.from.result) FIELDS_LEN l) c.read_at.ensures.bytes))),
+      (c.in-Ok-read_at.ensures.read told ∙ ap (λ (l : List ℕ). part (c.args.region.start + FRAME_LEN * c.from.result) FIELDS_LEN l) c.read_at.ensures.reads.bytes))),
   (c.in-Ok-decode.ensures.refused, c.in-Ok-decode.ensures.spelling),
 )
 
@@ -29,7 +30,7 @@ returns-in-Err-clause-answer g c = (
   c.read_at-2.new.buf,
   (λ told. (fields_read c.args.region (g.D.Disk.bytes c.args.disk.now) c.read_at-2.new.buf c.from.result
       (c.from.ensures ∙ selector_named c.args.region (g.D.Disk.bytes c.args.disk.now) c.read_at.new.buf (c.in-Ok.ensures.read told))
-      (c.in-Ok-read_at.ensures.read told ∙ ap (λ (l : List ℕ). part (c.args.region.start + FRAME_LEN * c.from.result) FIELDS_LEN l) c.read_at.ensures.bytes))),
+      (c.in-Ok-read_at.ensures.read told ∙ ap (λ (l : List ℕ). part (c.args.region.start + FRAME_LEN * c.from.result) FIELDS_LEN l) c.read_at.ensures.reads.bytes))),
   finds_bad c.args.number c.args.region.len c.read_at-2.new.buf c.in-Err.bad c.in-Err.ensures.refused c.in-Err.ensures.memory,
 )
 
@@ -39,14 +40,14 @@ returns-in-Ok-decode-clause-found g c score_of old told arena =
     head_reads score_of c.args.region.len c.args.number old c.in-Ok-decode.head c.read_at-2.new.buf c.requires.len.1 arena.content (omega (arith, len))
     ((fields_read c.args.region (g.D.Disk.bytes c.args.disk.now) c.read_at-2.new.buf c.from.result
     (c.from.ensures ∙ selector_named c.args.region (g.D.Disk.bytes c.args.disk.now) c.read_at.new.buf (c.in-Ok.ensures.read told))
-    (c.in-Ok-read_at.ensures.read told ∙ ap (λ (l : List ℕ). part (c.args.region.start + FRAME_LEN * c.from.result) FIELDS_LEN l) c.read_at.ensures.bytes)) ∙ arena.head)
+    (c.in-Ok-read_at.ensures.read told ∙ ap (λ (l : List ℕ). part (c.args.region.start + FRAME_LEN * c.from.result) FIELDS_LEN l) c.read_at.ensures.reads.bytes)) ∙ arena.head)
     c.in-Ok-decode.ensures.head c.in-Ok-decode.ensures.checked
 
 pub returns-in-Err-clause-found : goal.returns-in-Err-clause-found
 returns-in-Err-clause-found g c score_of old told arena =
     let fields : c.read_at-2.new.buf ≡ fields_of (head_of score_of c.args.number old) = (fields_read c.args.region (g.D.Disk.bytes c.args.disk.now) c.read_at-2.new.buf c.from.result
     (c.from.ensures ∙ selector_named c.args.region (g.D.Disk.bytes c.args.disk.now) c.read_at.new.buf (c.in-Ok.ensures.read told))
-    (c.in-Ok-read_at.ensures.read told ∙ ap (λ (l : List ℕ). part (c.args.region.start + FRAME_LEN * c.from.result) FIELDS_LEN l) c.read_at.ensures.bytes)) ∙ arena.head in
+    (c.in-Ok-read_at.ensures.read told ∙ ap (λ (l : List ℕ). part (c.args.region.start + FRAME_LEN * c.from.result) FIELDS_LEN l) c.read_at.ensures.reads.bytes)) ∙ arena.head in
     let none : first_bad c.args.number c.args.region.len c.read_at-2.new.buf ≡ None =
     ap (λ (l : List ℕ). first_bad c.args.number c.args.region.len l) fields
     ∙ arena_passes score_of c.args.region.len c.args.number old (omega (arith, c.ranges.number.fits)) c.requires.len.1 arena.content in
@@ -54,3 +55,15 @@ returns-in-Err-clause-found g c score_of old told arena =
   where
     none_some : {bad : ArenaBad} → None ≡ Some bad → ⊥
     none_some is = cc
+
+pub returns-in_default-clause-calls : goal.returns-in_default-clause-calls
+returns-in_default-clause-calls g c = inl (refl, c.read_at.ensures.calls)
+
+pub returns-in_default-read_at-clause-calls : goal.returns-in_default-read_at-clause-calls
+returns-in_default-read_at-clause-calls g c = inr (made_then g.D.Disk 1 1 _ _ _ c.read_at.ensures.calls c.read_at-2.ensures.calls)
+
+pub returns-in-Ok-decode-clause-calls : goal.returns-in-Ok-decode-clause-calls
+returns-in-Ok-decode-clause-calls g c = inr (made_then g.D.Disk 1 1 _ _ _ c.read_at.ensures.calls c.read_at-2.ensures.calls)
+
+pub returns-in-Err-clause-calls : goal.returns-in-Err-clause-calls
+returns-in-Err-clause-calls g c = inr (made_then g.D.Disk 1 1 _ _ _ c.read_at.ensures.calls c.read_at-2.ensures.calls)

@@ -33,7 +33,7 @@ returns-in-Ok-unpack_block-clause-committed g c old before behind s told content
     let begins : BeginsWith g.S.Scorer.score_of s bytes =
     begins_there g.S.Scorer.score_of c.args.region old before behind s
     (g.D.Disk.bytes c.args.disk.now) bytes c.args.offset content blocks split at
-    (read_there c.args.region c.args.offset _ _ _ _ c.in-Ok.ensures.bytes
+    (read_there c.args.region c.args.offset _ _ _ _ c.in-Ok.ensures.reads.bytes
     (c.in-Ok.ensures.read told) (c.in-Ok-read_block.ensures.read told)) in
     read_as (stored_in bytes) s c.in-Ok-unpack_block.clump
     (begins_stored g.S.Scorer.score_of s bytes begins) c.in-Ok-unpack_block.ensures.read
@@ -43,7 +43,7 @@ returns-in-Err-unpack_block-clause-answer g c header =
     let bytes : List ℕ = c.read_at.new.buf ++ c.in-Ok-read_block.block in (
       bytes,
       (λ told.
-          read_there c.args.region c.args.offset _ _ _ _ c.in-Ok.ensures.bytes
+          read_there c.args.region c.args.offset _ _ _ _ c.in-Ok.ensures.reads.bytes
           (c.in-Ok.ensures.read told) (c.in-Ok-read_block.ensures.read told)),
       reads_refusal g.S.Scorer.score_of bytes c.in-Err-unpack_block.bad c.refusal.result
           c.in-Err-unpack_block.ensures.refused c.refusal.ensures.damaged c.refusal.ensures.memory,
@@ -56,6 +56,6 @@ returns-in-Err-unpack_block-clause-committed g c old before behind s told conten
     let begins : BeginsWith g.S.Scorer.score_of s bytes =
     begins_there g.S.Scorer.score_of c.args.region old before behind s
     (g.D.Disk.bytes c.args.disk.now) bytes c.args.offset content blocks split at
-    (read_there c.args.region c.args.offset _ _ _ _ c.in-Ok.ensures.bytes
+    (read_there c.args.region c.args.offset _ _ _ _ c.in-Ok.ensures.reads.bytes
     (c.in-Ok.ensures.read told) (c.in-Ok-read_block.ensures.read told)) in
     absurd (cc (begins_good g.S.Scorer.score_of s bytes begins, c.in-Err-unpack_block.ensures.refused))

@@ -20,7 +20,6 @@ loop-arena-preserved g c =
     ++ (record {
       part = c.args.number;
       number = n;
-      at = c.region-region.ensures.start i;
-      len = c.region-region.ensures.len i;
+      region = c.region.ensures.region i;
     }) ∷ []) in
     rw one_more (pushed ∙ append_assoc start arenas (arena n ∷ []))

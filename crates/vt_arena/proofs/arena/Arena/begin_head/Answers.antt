@@ -2,9 +2,8 @@ use Rattle.std.proofs.Common.{◌≡◌, ℕ, List, ◌++◌, drop, take-append-
 use Rattle.std.specs.Prelude.{MatchOption}
 use Rattle.std.proofs.lemmas.List.{take_at}
 use Rattle.vt_arena.specs.declared.TheConstants.{FIELDS_LEN}
-use Rattle.vt_arena.specs.Whole.{IsBuffer}
+use Rattle.vt_arena.specs.Whole.{IsBuffer, state_of}
 use Rattle.vt_twin.specs.Twin.{TwinState, with_change}
-use Rattle.vt_arena.specs.Arena.{ArenaState}
 use Rattle.vt_arena.specs.Heads.{frame_of}
 use Rattle.vt_arena.proofs.arena.Arena.begin_head.Goals as goal
 
@@ -21,16 +20,6 @@ returns c =
     ∙ (λ i. c.encode.ensures.fields i ++ (c.encode.ensures.behind ∙ ap (λ (l : List ℕ). drop FIELDS_LEN l) old ∙ buffer.1) i) in
     record {
       begun = rw (← c.self.view_is)
-          (ap (λ (t : TwinState). let s : ArenaState = record {
-            number = c.self.inside.number;
-            len = c.self.inside.len;
-            twin = t;
-            head = c.self.inside.head;
-            next = c.self.inside.next;
-            staged = c.self.inside.staged.items;
-            written = c.self.inside.written;
-            calls = c.self.inside.calls;
-            stopped = c.self.inside.stopped;
-          } in s)
+          (ap (λ (t : TwinState). state_of (record c.self.inside { twin = t }))
           (c.begin.ensures ∙ ap (λ (f : List ℕ). with_change f c.self.inside.twin) frame_is));
     }

@@ -5,7 +5,7 @@ use Rattle.vt_clump.specs.declared.packed.Packed.{Packed}
 use Rattle.vt_clump.specs.Clumps.{IsPacked}
 use Rattle.vt_arena.specs.Places.{directory_room}
 use Rattle.vt_arena.proofs.Memory.{at_rest, entry_room}
-use Rattle.vt_arena.proofs.Writes.{entry_failed, entry_made, entry_is, within_region, changes_in_region}
+use Rattle.vt_arena.proofs.Writes.{entry_failed, entry_made, entry_is, writes_in_region}
 use Rattle.vt_arena.specs.Arena.{ArenaState}
 use Rattle.vt_arena.specs.Written.{Writes}
 use Rattle.vt_arena.proofs.Written.{writes_entry}
@@ -15,8 +15,8 @@ use Rattle.vt_arena.proofs.arena.Arena.write_entry.Goals as goal
 index_is : (staged : List Packed) (w n : ℕ) (p : Packed) → n ≡ length staged → p ≡ get_or staged (w - n) p → p ≡ get_or staged (w - length staged) p
 index_is staged w n p n_is is = is ∙ ap (λ (k : ℕ). get_or staged (w - k) p) n_is
 
-pub returns-in-Ok-clause-images : goal.returns-in-Ok-clause-images
-returns-in-Ok-clause-images g c =
+pub returns-in-Ok-clause-writes : goal.returns-in-Ok-clause-writes
+returns-in-Ok-clause-writes g c =
     let a = c.self.inside in
     let next = rw (← c.self.view_is) at c.requires.next in
     let clumps = rw (← c.self.view_is) at c.requires.clumps in
@@ -24,10 +24,10 @@ returns-in-Ok-clause-images g c =
     let n_is : length c.entry_bytes-entry.result ≡ 25 = ap (λ (l : List ℕ). length l) c.entry_bytes-entry.ensures.bytes ∙ omega (arith, c.entry_bytes-entry.ensures.score) in
     let room : c.directory_room.result ≡ directory_room (a.head.clumps + (a.written - length a.staged.items) + 1) = omega (arith, c.directory_room.ensures, c.from.ensures, c.len.ensures) in
     let fits = entry_room a c.self.invariant in
-    changes_in_region c.args.region _ _ (omega arith) (omega (arith, n_is, room, fits, same, next, clumps)) _ _ c.write_at-outcome.ensures.images
+    writes_in_region g.D.Disk c.args.region _ _ (omega arith) (omega (arith, n_is, room, fits, same, next, clumps)) _ _ c.write_at-outcome.ensures.writes
 
-pub returns-in-Ok-clause-bytes : goal.returns-in-Ok-clause-bytes
-returns-in-Ok-clause-bytes g c told =
+pub returns-in-Err-clause-writes : goal.returns-in-Err-clause-writes
+returns-in-Err-clause-writes g c =
     let a = c.self.inside in
     let next = rw (← c.self.view_is) at c.requires.next in
     let clumps = rw (← c.self.view_is) at c.requires.clumps in
@@ -35,29 +35,7 @@ returns-in-Ok-clause-bytes g c told =
     let n_is : length c.entry_bytes-entry.result ≡ 25 = ap (λ (l : List ℕ). length l) c.entry_bytes-entry.ensures.bytes ∙ omega (arith, c.entry_bytes-entry.ensures.score) in
     let room : c.directory_room.result ≡ directory_room (a.head.clumps + (a.written - length a.staged.items) + 1) = omega (arith, c.directory_room.ensures, c.from.ensures, c.len.ensures) in
     let fits = entry_room a c.self.invariant in
-    within_region c.args.region _ _ (omega arith) (omega (arith, n_is, room, fits, same, next, clumps)) _ _ (c.write_at-outcome.ensures.others told)
-
-pub returns-in-Err-clause-images : goal.returns-in-Err-clause-images
-returns-in-Err-clause-images g c =
-    let a = c.self.inside in
-    let next = rw (← c.self.view_is) at c.requires.next in
-    let clumps = rw (← c.self.view_is) at c.requires.clumps in
-    let same = rw (← c.self.view_is) at c.requires.same in
-    let n_is : length c.entry_bytes-entry.result ≡ 25 = ap (λ (l : List ℕ). length l) c.entry_bytes-entry.ensures.bytes ∙ omega (arith, c.entry_bytes-entry.ensures.score) in
-    let room : c.directory_room.result ≡ directory_room (a.head.clumps + (a.written - length a.staged.items) + 1) = omega (arith, c.directory_room.ensures, c.from.ensures, c.len.ensures) in
-    let fits = entry_room a c.self.invariant in
-    changes_in_region c.args.region _ _ (omega arith) (omega (arith, n_is, room, fits, same, next, clumps)) _ _ c.write_at-outcome.ensures.images
-
-pub returns-in-Err-clause-bytes : goal.returns-in-Err-clause-bytes
-returns-in-Err-clause-bytes g c told =
-    let a = c.self.inside in
-    let next = rw (← c.self.view_is) at c.requires.next in
-    let clumps = rw (← c.self.view_is) at c.requires.clumps in
-    let same = rw (← c.self.view_is) at c.requires.same in
-    let n_is : length c.entry_bytes-entry.result ≡ 25 = ap (λ (l : List ℕ). length l) c.entry_bytes-entry.ensures.bytes ∙ omega (arith, c.entry_bytes-entry.ensures.score) in
-    let room : c.directory_room.result ≡ directory_room (a.head.clumps + (a.written - length a.staged.items) + 1) = omega (arith, c.directory_room.ensures, c.from.ensures, c.len.ensures) in
-    let fits = entry_room a c.self.invariant in
-    within_region c.args.region _ _ (omega arith) (omega (arith, n_is, room, fits, same, next, clumps)) _ _ (c.write_at-outcome.ensures.others told)
+    writes_in_region g.D.Disk c.args.region _ _ (omega arith) (omega (arith, n_is, room, fits, same, next, clumps)) _ _ c.write_at-outcome.ensures.writes
 
 pub returns-in-Err-clause-sound : goal.returns-in-Err-clause-sound
 returns-in-Err-clause-sound g c score_of old told sound =
@@ -69,7 +47,7 @@ returns-in-Err-clause-sound g c score_of old told sound =
     let room : c.directory_room.result ≡ directory_room (a.head.clumps + (a.written - length a.staged.items) + 1) = omega (arith, c.directory_room.ensures, c.from.ensures, c.len.ensures) in
     let fits = entry_room a c.self.invariant in
     entry_failed score_of _ c.args.region _ old _ _ _ _ c.requires.region (at_rest a c.self.invariant next)
-    (c.args.region.start + (a.len - c.directory_room.result)) (length c.entry_bytes-entry.result) c.write_at-outcome.ensures.images (c.write_at-outcome.ensures.others told) (rw (← c.self.view_is) at sound)
+    (c.args.region.start + (a.len - c.directory_room.result)) (length c.entry_bytes-entry.result) c.write_at-outcome.ensures.writes.images (c.write_at-outcome.ensures.writes.bytes told) (rw (← c.self.view_is) at sound)
     (a.written - length a.staged.items) (omega (arith, clumps)) (omega (arith, clumps, next)) c.index.result.now (index_is a.staged.items a.written c.len.result c.index.result.now (omega (arith, c.len.ensures)) c.index.ensures) n_is (omega (arith, room, same))
     (omega (arith, fits, same)) _ _
 
@@ -92,7 +70,7 @@ returns-in-Ok-clause-sound g c score_of old told sound =
     ap (λ (l : List ℕ). part place (length c.entry_bytes-entry.result) l) (c.in-Ok.ensures.written told)
     ∙ part-with_bytes place c.entry_bytes-entry.result (g.D.Disk.bytes c.args.disk.now) (omega (arith, size, n_is, room, fits, same, next, clumps, c.requires.region.within)) in
     entry_made score_of _ c.args.region _ old _ _ _ _ c.requires.region (at_rest a c.self.invariant next)
-    place (length c.entry_bytes-entry.result) c.write_at-outcome.ensures.images (c.write_at-outcome.ensures.others told) held
+    place (length c.entry_bytes-entry.result) c.write_at-outcome.ensures.writes.images (c.write_at-outcome.ensures.writes.bytes told) held
     j (omega (arith, clumps)) (omega (arith, clumps, next)) p is n_is (omega (arith, room, same))
     (omega (arith, fits, same)) _ c.entry_bytes-entry.result
     (c.entry_bytes-entry.ensures.bytes ∙ entry_is score_of p (subst (λ (q : Packed). IsPacked score_of q) (sym is) (held.packed j p (omega (arith, clumps, next)))))
