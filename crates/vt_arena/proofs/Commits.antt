@@ -25,7 +25,7 @@ use Rattle.vt_arena.specs.Layout.{Content, IsContent, IsArena, HasBlocks, Stands
 use Rattle.vt_arena.specs.Places.{directory_room, arena_room}
 use Rattle.vt_arena.specs.Sound.{IsSound, HasPieces, GivesOldOrNext, HasBegunSelector, clumps_made, entries_made}
 use Rattle.vt_arena.proofs.Layouts.{stands-sum, stands_same, flat_map-append, directory-append, length-clumps, length-directory, content_fits, All-stored}
-use Rattle.vt_arena.proofs.Writes.{no_calls}
+use Rattle.vt_arena.proofs.Pieces.{no_calls}
 
 -- the fields of a frame
 pub length-fields : (h : ArenaHead) → length h.chain.0 ≡ 20 → length (fields_of h) ≡ FIELDS_LEN

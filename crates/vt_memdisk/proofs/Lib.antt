@@ -1,6 +1,6 @@
 pub mod Chosen
 pub mod Combinations
-pub mod Marking
+pub mod Marks
 pub mod Sectors
-pub mod Settling
+pub mod Settle
 pub mod Writes

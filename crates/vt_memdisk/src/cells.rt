@@ -82,7 +82,8 @@ impl Cells {
         ensures content { self.new.content ≡ self.old.content }
         ensures synced { self.new.synced ≡ self.old.synced }
     {
-        self.dirty.add_range(start / SECTOR_LEN, (start + n) / SECTOR_LEN);
+        self.dirty
+            .add_range(start / SECTOR_LEN, (start + n) / SECTOR_LEN);
         set_all(&mut self.pending, start, n, true);
     }
 

@@ -1,5 +1,5 @@
-pub mod Formatted
+pub mod Format
 pub mod Layouts
-pub mod Listed
 pub mod Names
+pub mod Namesakes
 pub mod Tables

@@ -20,7 +20,6 @@ pub use layout::{ArenaRegion, Layout};
 pub use listing::list;
 pub use mounting::mount;
 pub use part::Part;
-
 use vt_disk::BLOCK_LEN;
 
 /// How many bytes the table has: magic, version, name, size of an arena and count.

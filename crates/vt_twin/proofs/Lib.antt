@@ -1,4 +1,4 @@
-pub mod Elsewhere
-pub mod Formatting
+pub mod Format
 pub mod Places
+pub mod Sound
 pub mod Steps

@@ -1,5 +1,5 @@
 use Rattle.vt_arena.proofs.Commits.{arena_gives, rest_gives}
-use Rattle.vt_arena.proofs.Staging.{resting}
+use Rattle.vt_arena.proofs.Stage.{resting}
 use Rattle.vt_arena.proofs.laws.crash_gives_old_or_next.Goals as goal
 
 pub returns-clause-crash : goal.returns-clause-crash

@@ -1,5 +1,5 @@
-use Rattle.vt_arena.proofs.Elsewhere.{arena_elsewhere}
-use Rattle.vt_arena.proofs.Staging.{stage_sound}
+use Rattle.vt_arena.proofs.Sound.{arena_elsewhere}
+use Rattle.vt_arena.proofs.Stage.{stage_sound}
 use Rattle.vt_arena.proofs.laws.soundness_is_kept.Goals as goal
 
 pub returns-clause-stage : goal.returns-clause-stage

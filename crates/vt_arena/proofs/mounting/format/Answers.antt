@@ -2,7 +2,7 @@ use Rattle.std.proofs.Common.{◌≡◌, ℕ, List, length, sym, ◌∙◌, subs
 use Rattle.std.proofs.lemmas.Result.{on_err_weaker}
 use Rattle.vt_twin.specs.Formatting.{EndsFormat}
 use Rattle.vt_arena.specs.Layout.{IsArena, head_place, head_of, empty}
-use Rattle.vt_arena.proofs.Formatting.{on_ok, on_both, written_frame, frame_there, current_there, selector_there, empty_arena}
+use Rattle.vt_arena.proofs.Format.{on_ok, on_both, written_frame, frame_there, current_there, selector_there, empty_arena}
 use Rattle.vt_arena.proofs.mounting.format.Goals as goal
 
 pub returns-clause-empty : goal.returns-clause-empty
@@ -41,6 +41,9 @@ returns-clause-idle g c told =
 pub returns-clause-failed : goal.returns-clause-failed
 returns-clause-failed g c score_of =
     on_err_weaker c.format.result
-    (λ ends. (ends.0, subst (λ (frame : List ℕ). EndsFormat g.D.Disk (head_place c.args.region) frame ends.0 c.args.disk.now c.format.new.disk)
-    (written_frame (head_of score_of c.args.number empty) c.encode.new.frame c.encode.ensures.fields c.encode.ensures.behind) ends.1))
+    (λ ends. (
+      ends.0,
+      subst (λ (frame : List ℕ). EndsFormat g.D.Disk (head_place c.args.region) frame ends.0 c.args.disk.now c.format.new.disk)
+          (written_frame (head_of score_of c.args.number empty) c.encode.new.frame c.encode.ensures.fields c.encode.ensures.behind) ends.1,
+    ))
     c.format.ensures.failed

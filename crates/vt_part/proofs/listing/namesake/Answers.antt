@@ -4,7 +4,7 @@ use Rattle.std.proofs.lemmas.Bool.{cases_lt}
 use Rattle.std.proofs.lemmas.Slice.Eq.{bytes_eq-Decides}
 use Rattle.vt_part.specs.Layout.{AreNamesakes}
 use Rattle.vt_part.specs.Parts.{names_of}
-use Rattle.vt_part.proofs.Listed.{namesakes, one_name}
+use Rattle.vt_part.proofs.Namesakes.{namesakes, one_name}
 use Rattle.vt_part.proofs.listing.namesake.Goals as goal
 
 pub returns-then-eq-clause-found : goal.returns-then-eq-clause-found

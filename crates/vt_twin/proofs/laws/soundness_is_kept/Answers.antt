@@ -1,6 +1,6 @@
 use Rattle.vt_disk.specs.Disk.{Touches}
 use Rattle.vt_disk.specs.Region.{Inside}
-use Rattle.vt_twin.proofs.Elsewhere.{sound_elsewhere}
+use Rattle.vt_twin.proofs.Sound.{sound_elsewhere}
 use Rattle.vt_twin.proofs.laws.soundness_is_kept.Goals as goal
 
 pub returns-clause-write : goal.returns-clause-write

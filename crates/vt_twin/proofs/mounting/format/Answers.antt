@@ -5,7 +5,7 @@ use Rattle.vt_disk.specs.Disk.{with_bytes}
 use Rattle.vt_disk.proofs.Calls.{on_err, made_then}
 use Rattle.vt_twin.specs.Formatting.{EndsFormat}
 use Rattle.vt_twin.specs.Frames.{selector_start, selector_len, selector_bytes, frame_of, selector_of}
-use Rattle.vt_twin.proofs.Formatting.{frame_writes, both_write, all_write, first_writes_within, formatted, formatted_frame, formatted_selector, formatted_idle, formatted_current, frame_is_whole}
+use Rattle.vt_twin.proofs.Format.{frame_writes, both_write, all_write, first_writes_within, formatted, formatted_frame, formatted_selector, formatted_idle, formatted_current, frame_is_whole}
 use Rattle.vt_twin.proofs.mounting.format.Goals as goal
 
 -- the frame's write failed
@@ -16,13 +16,16 @@ returns-in_err-write_at-clause-writes g c =
     (frame_writes c.args.region (length c.args.frame.now) _ c.requires g.D.Disk _ _ c.write_at.ensures.writes 1 (omega arith))
 
 pub returns-in_err-write_at-clause-failed : goal.returns-in_err-write_at-clause-failed
-returns-in_err-write_at-clause-failed g c = on_err {P = (made : ℕ) × EndsFormat g.D.Disk c.args.region c.args.frame.now made c.args.disk.now c.write_at.new.disk} _ (0, record {
-  few = omega arith;
-  calls = c.write_at.ensures.calls;
-  writes = frame_writes c.args.region (length c.args.frame.now) _ c.requires g.D.Disk _ _ c.write_at.ensures.writes 1 (omega arith);
-  frame_is = λ some. absurd (omega (arith, some));
-  selector_is = λ some. absurd (omega (arith, some));
-})
+returns-in_err-write_at-clause-failed g c = on_err {P = (made : ℕ) × EndsFormat g.D.Disk c.args.region c.args.frame.now made c.args.disk.now c.write_at.new.disk} _ (
+  0,
+  record {
+    few = omega arith;
+    calls = c.write_at.ensures.calls;
+    writes = frame_writes c.args.region (length c.args.frame.now) _ c.requires g.D.Disk _ _ c.write_at.ensures.writes 1 (omega arith);
+    frame_is = λ some. absurd (omega (arith, some));
+    selector_is = λ some. absurd (omega (arith, some));
+  },
+)
 
 -- the selector's write failed
 
@@ -32,15 +35,18 @@ returns-in_err-write_selector-clause-writes g c =
     (both_write c.args.region (length c.args.frame.now) _ c.requires g.D.Disk _ _ c.write_at.ensures.writes _ c.write_selector.ensures.writes 2 (omega arith))
 
 pub returns-in_err-write_selector-clause-failed : goal.returns-in_err-write_selector-clause-failed
-returns-in_err-write_selector-clause-failed g c = on_err {P = (made : ℕ) × EndsFormat g.D.Disk c.args.region c.args.frame.now made c.args.disk.now c.write_selector.new.disk} _ (1, record {
-  few = omega arith;
-  calls = made_then g.D.Disk 1 1 _ _ _ c.write_at.ensures.calls c.write_selector.ensures.calls;
-  writes = both_write c.args.region (length c.args.frame.now) _ c.requires g.D.Disk _ _ c.write_at.ensures.writes _ c.write_selector.ensures.writes 2 (omega arith);
-  frame_is = λ some told. frame_is_whole c.args.region c.args.frame.now (g.D.Disk.bytes c.args.disk.now) _ c.requires
-      ((g.met.D.Disk.images_fit _ _ (g.met.D.Disk.read_is_image _ told)).0) _
-      (rw (c.in_ok-write_at.ensures.written told) at (c.write_selector.ensures.writes.bytes told));
-  selector_is = λ some. absurd (omega (arith, some));
-})
+returns-in_err-write_selector-clause-failed g c = on_err {P = (made : ℕ) × EndsFormat g.D.Disk c.args.region c.args.frame.now made c.args.disk.now c.write_selector.new.disk} _ (
+  1,
+  record {
+    few = omega arith;
+    calls = made_then g.D.Disk 1 1 _ _ _ c.write_at.ensures.calls c.write_selector.ensures.calls;
+    writes = both_write c.args.region (length c.args.frame.now) _ c.requires g.D.Disk _ _ c.write_at.ensures.writes _ c.write_selector.ensures.writes 2 (omega arith);
+    frame_is = λ some told. frame_is_whole c.args.region c.args.frame.now (g.D.Disk.bytes c.args.disk.now) _ c.requires
+        ((g.met.D.Disk.images_fit _ _ (g.met.D.Disk.read_is_image _ told)).0) _
+        (rw (c.in_ok-write_at.ensures.written told) at (c.write_selector.ensures.writes.bytes told));
+    selector_is = λ some. absurd (omega (arith, some));
+  },
+)
 
 -- the sync failed, or it didn't
 
@@ -95,10 +101,13 @@ returns-clause-current g c =
     c.sync.ensures.settled
 
 pub returns-clause-failed : goal.returns-clause-failed
-returns-clause-failed g c = on_err {P = (made : ℕ) × EndsFormat g.D.Disk c.args.region c.args.frame.now made c.args.disk.now c.sync.new.self} c.sync.result (2, record {
-  few = omega arith;
-  calls = made_then g.D.Disk 2 1 _ _ _ (made_then g.D.Disk 1 1 _ _ _ c.write_at.ensures.calls c.write_selector.ensures.calls) c.sync.ensures.calls;
-  writes = all_write c.args.region (length c.args.frame.now) _ c.requires g.D.Disk _ _ c.write_at.ensures.writes _ _ c.write_selector.ensures.writes (syncs g c);
-  frame_is = λ some told. frame_left g c told;
-  selector_is = λ some told. selector_left g c told;
-})
+returns-clause-failed g c = on_err {P = (made : ℕ) × EndsFormat g.D.Disk c.args.region c.args.frame.now made c.args.disk.now c.sync.new.self} c.sync.result (
+  2,
+  record {
+    few = omega arith;
+    calls = made_then g.D.Disk 2 1 _ _ _ (made_then g.D.Disk 1 1 _ _ _ c.write_at.ensures.calls c.write_selector.ensures.calls) c.sync.ensures.calls;
+    writes = all_write c.args.region (length c.args.frame.now) _ c.requires g.D.Disk _ _ c.write_at.ensures.writes _ _ c.write_selector.ensures.writes (syncs g c);
+    frame_is = λ some told. frame_left g c told;
+    selector_is = λ some told. selector_left g c told;
+  },
+)

@@ -14,8 +14,8 @@ use Rattle.vt_arena.specs.Arena.{ArenaState}
 use Rattle.vt_arena.proofs.Commits.{twin_moved, fault_only, sync_or_before, head_sound, done_sound}
 use Rattle.vt_arena.proofs.Memory.{more_whole}
 use Rattle.vt_arena.specs.Written.{Writes}
-use Rattle.vt_arena.proofs.Writes.{writes_in_head}
-use Rattle.vt_arena.proofs.Written.{writes_head}
+use Rattle.vt_arena.proofs.Pieces.{writes_in_head}
+use Rattle.vt_arena.proofs.Writes.{writes_head}
 use Rattle.vt_arena.proofs.arena.Arena.advance_head.Goals as goal
 
 pub invariant_of-self-in-Ok-More : goal.invariant_of-self-in-Ok-More

@@ -6,7 +6,7 @@ use Rattle.vt_arena.specs.Sound.{IsSound}
 use Rattle.vt_arena.proofs.Commits.{begin_sound, content_twin, content_piece, none_is}
 use Rattle.vt_arena.proofs.arena.Arena.make_call.Goals.{then-not-is_changing, else-not-is_changing}
 use Rattle.vt_arena.specs.Written.{Writes}
-use Rattle.vt_arena.proofs.Written.{writes_first}
+use Rattle.vt_arena.proofs.Writes.{writes_first}
 use Rattle.vt_arena.proofs.arena.Arena.make_call.Goals as goal
 
 pub returns-then-self-count-clause-sound : goal.returns-then-self-count-clause-sound

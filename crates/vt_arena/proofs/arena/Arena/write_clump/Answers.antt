@@ -2,10 +2,10 @@ use Rattle.std.proofs.Common.{◌≡◌, ℕ, ◌+◌, List, length, refl, ◌�
 use Rattle.vt_disk.specs.Disk.{part}
 use Rattle.vt_disk.proofs.Bytes.{part-with_bytes}
 use Rattle.vt_arena.proofs.Memory.{at_rest, clump_room}
-use Rattle.vt_arena.proofs.Writes.{clump_failed, clump_made, writes_in_region}
+use Rattle.vt_arena.proofs.Pieces.{clump_failed, clump_made, writes_in_region}
 use Rattle.vt_arena.specs.Arena.{ArenaState}
 use Rattle.vt_arena.specs.Written.{Writes}
-use Rattle.vt_arena.proofs.Written.{writes_clump}
+use Rattle.vt_arena.proofs.Writes.{writes_clump}
 use Rattle.vt_arena.proofs.arena.Arena.write_clump.Goals as goal
 
 pub returns-in-Ok-clause-writes : goal.returns-in-Ok-clause-writes

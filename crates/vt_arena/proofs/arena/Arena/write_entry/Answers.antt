@@ -5,10 +5,10 @@ use Rattle.vt_clump.specs.declared.packed.Packed.{Packed}
 use Rattle.vt_clump.specs.Clumps.{IsPacked}
 use Rattle.vt_arena.specs.Places.{directory_room}
 use Rattle.vt_arena.proofs.Memory.{at_rest, entry_room}
-use Rattle.vt_arena.proofs.Writes.{entry_failed, entry_made, entry_is, writes_in_region}
+use Rattle.vt_arena.proofs.Pieces.{entry_failed, entry_made, entry_is, writes_in_region}
 use Rattle.vt_arena.specs.Arena.{ArenaState}
 use Rattle.vt_arena.specs.Written.{Writes}
-use Rattle.vt_arena.proofs.Written.{writes_entry}
+use Rattle.vt_arena.proofs.Writes.{writes_entry}
 use Rattle.vt_arena.proofs.arena.Arena.write_entry.Goals as goal
 
 -- the entry that is read

@@ -1,6 +1,6 @@
 use Rattle.std.proofs.Common.{length, arith}
 use Rattle.vt_memdisk.proofs.Combinations.{free_before}
-use Rattle.vt_memdisk.proofs.Marking.{marks_set, still_clean}
+use Rattle.vt_memdisk.proofs.Marks.{marks_set, still_clean}
 use Rattle.vt_memdisk.proofs.cells.Cells.mark.Goals as goal
 
 pub returns-clause-marks : goal.returns-clause-marks

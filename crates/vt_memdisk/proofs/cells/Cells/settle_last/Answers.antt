@@ -1,6 +1,6 @@
 use Rattle.std.proofs.Common.{◌≤◌, ◌*◌, ◌/◌, ℕ, Bool, false, List, get_or, refl, arith, sym, ◌∙◌, ap, subst}
 use Rattle.vt_base.specs.Bytes.{AreBytes}
-use Rattle.vt_memdisk.proofs.Settling.{synced_fits, still_same, still_clean}
+use Rattle.vt_memdisk.proofs.Settle.{synced_fits, still_same, still_clean}
 use Rattle.vt_memdisk.proofs.cells.Cells.settle_last.Goals as goal
 
 pub invariant_of-self-clause-synced_fits : goal.invariant_of-self-clause-synced_fits

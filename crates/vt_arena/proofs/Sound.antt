@@ -11,7 +11,7 @@ use Rattle.vt_arena.specs.Layout.{Content, clumps_of, directory_of, clumps_place
 use Rattle.vt_arena.specs.Sound.{IsRegion, IsSound, HasPieces, clumps_made, entries_made}
 use Rattle.vt_arena.proofs.Layouts.{stands_inside, length-clumps, length-directory, used-append, content_fits, All-stored, all_take, used_take}
 use Rattle.vt_arena.proofs.Regions.{blocks_in_region}
-use Rattle.vt_arena.proofs.Writes.{twin_elsewhere}
+use Rattle.vt_arena.proofs.Pieces.{twin_elsewhere}
 
 module _ (score_of : List ℕ → List ℕ) (a : ArenaState) (region : Region) (size : ℕ) (old : Content) (is_region : IsRegion region size)
     (other : Region) (apart : (i : ℕ) → Inside other i → ¬ Inside region i)

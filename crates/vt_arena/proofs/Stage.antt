@@ -15,7 +15,7 @@ use Rattle.vt_arena.specs.Layout.{Content, StandsAt, entry_bytes, entry_of, clum
 use Rattle.vt_arena.specs.Places.{block_room, directory_room, arena_room, lengths_of}
 use Rattle.vt_arena.specs.Sound.{IsSound}
 use Rattle.vt_arena.proofs.Layouts.{fit_of, All-stored}
-use Rattle.vt_arena.proofs.Writes.{entry_is, no_calls}
+use Rattle.vt_arena.proofs.Pieces.{entry_is, no_calls}
 
 -- with no commit under way nothing was written, and the head doesn't change
 pub record IsResting (a : ArenaState) : Type 0 where

@@ -1,0 +1,261 @@
+-- A commit writes clumps behind the committed ones, and entries below the committed ones.
+use Rattle.std.proofs.Common.{◌≡◌, ℕ, ◌+◌, ◌-◌, ◌<◌, ◌≤◌, List, [], ◌∷◌, ◌++◌, length, take, map, Option, Some, None, refl, sym, ◌∙◌, ap, subst, arith, length-take, get_or}
+use Rattle.std.specs.Prelude.{All, IsSome}
+use Rattle.std.specs.Option.{option_map_or}
+use Rattle.std.proofs.lemmas.List.{take-map, map-append, take_more, take_all, length-take-le, length-map}
+use Rattle.vt_disk.specs.declared.region.Region.{Region}
+use Rattle.vt_disk.specs.Disk.{Touches, SameBut, ChangesAt, part}
+use Rattle.vt_disk.specs.Calls.{WritesAt, WritesWithin}
+use Rattle.vt_disk.specs.Members.{DiskOf}
+use Rattle.vt_disk.specs.Region.{Inside}
+use Rattle.vt_disk.proofs.Calls.{writes_wider}
+use Rattle.vt_twin.specs.Frames.{HasRoom}
+use Rattle.vt_twin.specs.Twin.{TwinState, Change, calls_made}
+use Rattle.vt_twin.specs.Sound.{IsSound as IsSoundTwin}
+use Rattle.vt_twin.proofs.Sound.{sound_elsewhere}
+use Rattle.vt_clump.specs.declared.packed.Packed.{Packed}
+use Rattle.vt_clump.specs.Spelling.{Stored, IsStored, spelled}
+use Rattle.vt_clump.specs.Clumps.{IsPacked, stored_of}
+use Rattle.vt_model.specs.declared.TheConstants.{HEAD_LEN}
+use Rattle.vt_arena.specs.declared.TheConstants.{FRAME_LEN}
+use Rattle.vt_arena.specs.Arena.{ArenaState, added_by}
+use Rattle.vt_arena.specs.Layout.{Content, HasBlocks, StandsAt, entry_bytes, entry_of, clumps_of, directory_of, clumps_place, directory_place, head_place, used_of}
+use Rattle.vt_arena.specs.Places.{directory_room}
+use Rattle.vt_arena.specs.Sound.{IsRegion, IsSound, HasPieces, clumps_made, entries_made}
+use Rattle.vt_arena.specs.Whole.{staged_room}
+use Rattle.vt_arena.proofs.Layouts.{touched_within, stands-sum, stands_same, length-clumps, used-packed, All-stored, all_take, clumps-push, directory-push}
+
+-- the head's twin has its place
+pub head_room : (region : Region) (size n : ℕ) → IsRegion region size → n ≡ FRAME_LEN → HasRoom (head_place region) n size
+head_room region size n is n_is = subst (λ (k : ℕ). HasRoom (head_place region) k size) (sym n_is) record {
+  within = omega (arith, is.within, is.len.0);
+  least = omega arith;
+  most = omega arith;
+  aligned_start = is.aligned;
+  aligned_len = refl;
+  aligned_frames = refl;
+}
+
+-- what is done behind the head leaves its twin sound
+pub twin_elsewhere : (t : TwinState) (region : Region) (size : ℕ) → IsRegion region size → t.frame_len ≡ FRAME_LEN
+    → (P : ℕ → Type 0) → ((i : ℕ) → P i → region.start ≤ i → i < region.start + HEAD_LEN → ⊥)
+    → (old read reads : List ℕ) (before after : List ℕ → Type 0) → SameBut P read reads → ChangesAt P before after
+    → IsSoundTwin t region old read before → IsSoundTwin t region old reads after
+twin_elsewhere t region size is frame_len P apart old read reads before after same changes sound =
+    let kept : IsSoundTwin t (head_place region) old reads after =
+    sound_elsewhere t (head_place region) size (head_room region size t.frame_len is frame_len) P
+    (λ i here inside. apart i here inside.0 inside.1) old read reads before after same changes
+    (record { number = sound.number; kept = sound.kept; named = sound.named; written = sound.written; synced = sound.synced; selected = sound.selected }) in
+    record { number = kept.number; kept = kept.kept; named = kept.named; written = kept.written; synced = kept.synced; selected = kept.selected }
+
+-- with no change under way no call of one was made
+pub no_calls : (t : TwinState) → t.change ≡ None → calls_made t ≡ 0
+no_calls t is = ap (λ (change : Option Change). option_map_or (λ it. it.made) change 0) is
+
+-- what is done at places that hold nothing of the arena
+module _ (score_of : List ℕ → List ℕ) (s : ArenaState) (region : Region) (size : ℕ) (old : Content) (read reads : List ℕ) (before after : List ℕ → Type 0)
+    (is_region : IsRegion region size) (rest : s.twin.change ≡ None) (place n : ℕ)
+    (changes : ChangesAt (Touches place n) before after) (same : SameBut (Touches place n) read reads)
+    (low : clumps_place region old.stored + length (clumps_of (clumps_made s)) ≤ place)
+    (high : place + n ≤ directory_place region (length old.stored + length (entries_made s)))
+    (sound : IsSound score_of s region old read before) where
+  twin_stays : IsSoundTwin s.twin region sound.frame reads after
+  twin_stays = twin_elsewhere s.twin region size is_region sound.frame_len (Touches place n)
+      (λ i touched above below. omega (arith, (touched_within place n i touched).0, low, below))
+      sound.frame read reads before after same changes sound.twin
+
+  blocks_stay : (c : List ℕ) → after c → HasBlocks region old.stored c
+  blocks_stay c left =
+      let from = changes c left in
+      let blocks = sound.kept from.0 from.1 in record {
+        clumps = stands_same (Touches place n) (region.start + HEAD_LEN) (clumps_of old.stored) from.0 c from.2
+            (λ i over under touched. omega (arith, under, (touched_within place n i touched).0, length-clumps score_of old.stored sound.content.stored, low)) blocks.clumps;
+        directory = stands_same (Touches place n) (directory_place region (length old.stored)) (directory_of old.stored) from.0 c from.2
+            (λ i over under touched. omega (arith, over, (touched_within place n i touched).1, high)) blocks.directory;
+      }
+
+  pub clumps_stay : StandsAt (clumps_place region old.stored) (clumps_of (clumps_made s)) reads
+  clumps_stay = stands_same (Touches place n) (clumps_place region old.stored) (clumps_of (clumps_made s)) read reads same
+      (λ i over under touched. omega (arith, under, (touched_within place n i touched).0, low)) sound.written.clumps
+
+  pub entries_stay : StandsAt (directory_place region (length old.stored + length (entries_made s))) (directory_of (entries_made s)) reads
+  entries_stay = stands_same (Touches place n) (directory_place region (length old.stored + length (entries_made s))) (directory_of (entries_made s)) read reads same
+      (λ i over under touched. omega (arith, over, (touched_within place n i touched).1, high)) sound.written.directory
+
+  -- a write that failed
+  pub write_failed : (k : ℕ) (o : Option ℕ) → IsSound score_of (record s { calls = k; stopped = o }) region old reads after
+  write_failed k o = record {
+    len = sound.len;
+    frame_len = sound.frame_len;
+    head = sound.head;
+    next = sound.next;
+    chain = sound.chain;
+    packed = sound.packed;
+    content = sound.content;
+    next_content_is = record { stored = sound.next_content_is.stored; fit = sound.next_content_is.fit };
+    begun = sound.begun;
+    frame = sound.frame;
+    twin = twin_stays;
+    fields = sound.fields;
+    kept = blocks_stay;
+    written = record { clumps = clumps_stay; directory = entries_stay };
+    synced = λ made. absurd (omega (arith, made, no_calls s.twin rest));
+  }
+
+  -- one that wrote the next piece
+  pub write_made : (w k : ℕ) → HasPieces (record s { written = w; calls = k }) region old reads → IsSound score_of (record s { written = w; calls = k }) region old reads after
+  write_made w k made = record {
+    len = sound.len;
+    frame_len = sound.frame_len;
+    head = sound.head;
+    next = sound.next;
+    chain = sound.chain;
+    packed = sound.packed;
+    content = sound.content;
+    next_content_is = record { stored = sound.next_content_is.stored; fit = sound.next_content_is.fit };
+    begun = λ some. absurd (none_some s.twin.change rest some);
+    frame = sound.frame;
+    twin = twin_stays;
+    fields = sound.fields;
+    kept = blocks_stay;
+    written = made;
+    synced = λ calls. absurd (omega (arith, calls, no_calls s.twin rest));
+  }
+    where
+      none_some : (change : Option Change) → change ≡ None → IsSome change → ⊥
+      none_some None is some = cc
+      none_some (Some it) is some = cc
+
+-- the staged blocks, one by one
+pub added_more : (staged : List Packed) (w : ℕ) (p : Packed) → w < length staged → p ≡ get_or staged w p → take (w + 1) (map stored_of staged) ≡ take w (map stored_of staged) ++ stored_of p ∷ []
+added_more staged w p below is =
+    take-map stored_of (w + 1) staged
+    ∙ ap (λ (l : List Packed). map stored_of l) (take_more staged w p below ∙ ap (λ (q : Packed). take w staged ++ q ∷ []) (sym is))
+    ∙ map-append stored_of (take w staged) (p ∷ [])
+    ∙ ap (λ (l : List Stored). l ++ stored_of p ∷ []) (sym (take-map stored_of w staged))
+
+-- how many bytes the clumps are that were written
+pub made_len : (score_of : List ℕ → List ℕ) (staged : List Packed) (w : ℕ) → All (IsPacked score_of) staged → length (clumps_of (take w (map stored_of staged))) ≡ staged_room (take w staged)
+made_len score_of staged w packed =
+    length-clumps score_of (take w (map stored_of staged)) (all_take (IsStored score_of) w (map stored_of staged) (All-stored score_of staged packed))
+    ∙ ap used_of (take-map stored_of w staged)
+    ∙ used-packed score_of (take w staged) (all_take (IsPacked score_of) w staged packed)
+
+-- the numbers of a sound arena's head
+pub head_used : (score_of : List ℕ → List ℕ) (s : ArenaState) (region : Region) (old : Content) (read : List ℕ) (images : List ℕ → Type 0) → IsSound score_of s region old read images
+    → (s.head.used ≡ used_of old.stored) × (s.head.clumps ≡ length old.stored)
+head_used score_of s region old read images sound = ((λ i. (sound.head i).used), (λ i. (sound.head i).clumps))
+
+-- the next clump
+module _ (score_of : List ℕ → List ℕ) (s : ArenaState) (region : Region) (size : ℕ) (old : Content) (read reads : List ℕ) (before after : List ℕ → Type 0)
+    (is_region : IsRegion region size) (rest : s.twin.change ≡ None) (place n : ℕ)
+    (changes : ChangesAt (Touches place n) before after) (same : SameBut (Touches place n) read reads)
+    (sound : IsSound score_of s region old read before)
+    (below : s.written < length s.staged) (p : Packed) (is : p ≡ get_or s.staged s.written p) (n_is : n ≡ length p.bytes)
+    (end room : ℕ) (end_is : end ≡ s.head.used + staged_room (take s.written s.staged))
+    (place_is : place ≡ region.start + (HEAD_LEN + end))
+    (fits : end + length p.bytes + directory_room s.head.clumps + HEAD_LEN ≤ region.len) where
+  few_entries : length (entries_made s) ≡ 0
+  few_entries = omega (arith, length-take (s.written - length s.staged) (added_by s), below)
+
+  clump_low : clumps_place region old.stored + length (clumps_of (clumps_made s)) ≤ place
+  clump_low = omega (arith, made_len score_of s.staged s.written sound.packed, (head_used score_of s region old read before sound).0, end_is, place_is)
+
+  clump_high : place + n ≤ directory_place region (length old.stored + length (entries_made s))
+  clump_high = omega (arith, few_entries, (head_used score_of s region old read before sound).1, place_is, n_is, fits)
+
+  pub clump_failed : (k : ℕ) (o : Option ℕ) → IsSound score_of (record s { calls = k; stopped = o }) region old reads after
+  clump_failed = write_failed score_of s region size old read reads before after is_region rest place n changes same clump_low clump_high sound
+
+  pub clump_made : (k : ℕ) → part place n reads ≡ p.bytes → IsSound score_of (record s { written = s.written + 1; calls = k }) region old reads after
+  clump_made k new =
+      let is_packed : IsPacked score_of p = subst (λ (q : Packed). IsPacked score_of q) (sym is) (sound.packed s.written p below) in
+      let low : length (clumps_of (clumps_made s)) ≡ staged_room (take s.written s.staged) = made_len score_of s.staged s.written sound.packed in
+      let used = (head_used score_of s region old read before sound).0 in
+      let piece : StandsAt place p.bytes reads = ap (λ (m : ℕ). part place m reads) (sym n_is) ∙ new in
+      let further : StandsAt (clumps_place region old.stored + length (clumps_of (clumps_made s))) (spelled (stored_of p)) reads =
+      subst (λ (at : ℕ). StandsAt at (spelled (stored_of p)) reads) (omega (arith, place_is, end_is, used, low))
+      (subst (λ (l : List ℕ). StandsAt place l reads) is_packed.bytes piece) in
+      let both : clumps_of (take (s.written + 1) (added_by s)) ≡ clumps_of (clumps_made s) ++ spelled (stored_of p) =
+      ap clumps_of (added_more s.staged s.written p below is) ∙ clumps-push (clumps_made s) (stored_of p) in
+      let stays = clumps_stay score_of s region size old read reads before after is_region rest place n changes same clump_low clump_high sound in
+      write_made score_of s region size old read reads before after is_region rest place n changes same clump_low clump_high sound (s.written + 1) k (record {
+        clumps = subst (λ (l : List ℕ). StandsAt (clumps_place region old.stored) l reads) (sym both)
+            (stands-sum (clumps_place region old.stored) (clumps_of (clumps_made s)) (spelled (stored_of p)) reads stays further);
+        directory = no_entries (s.written + 1 - length s.staged) (omega (arith, below));
+      })
+    where
+      no_entries : (j : ℕ) → j ≡ 0 → StandsAt (directory_place region (length old.stored + length (take j (added_by s)))) (directory_of (take j (added_by s))) reads
+      no_entries j zeroth = subst (λ (m : ℕ). StandsAt (directory_place region (length old.stored + length (take m (added_by s)))) (directory_of (take m (added_by s))) reads) (sym zeroth) refl
+
+-- the next entry
+module _ (score_of : List ℕ → List ℕ) (s : ArenaState) (region : Region) (size : ℕ) (old : Content) (read reads : List ℕ) (before after : List ℕ → Type 0)
+    (is_region : IsRegion region size) (rest : s.twin.change ≡ None) (place n : ℕ)
+    (changes : ChangesAt (Touches place n) before after) (same : SameBut (Touches place n) read reads)
+    (sound : IsSound score_of s region old read before)
+    (j : ℕ) (written : s.written ≡ length s.staged + j) (below : j < length s.staged) (p : Packed) (is : p ≡ get_or s.staged j p)
+    (n_is : n ≡ 25) (place_is : place ≡ region.start + (region.len - directory_room (s.head.clumps + j + 1)))
+    (fits : directory_room (s.head.clumps + length s.staged) + s.head.used + staged_room s.staged + HEAD_LEN ≤ region.len) where
+  count : length (added_by s) ≡ length s.staged
+  count = length-map s.staged stored_of
+
+  now : s.written - length s.staged ≡ j
+  now = omega (arith, written)
+
+  entries_len : (k : ℕ) → k ≤ length s.staged → length (take k (added_by s)) ≡ k
+  entries_len k short = length-take-le k (added_by s) (omega (arith, count, short))
+
+  entries_now : length (entries_made s) ≡ j
+  entries_now = ap (λ (k : ℕ). length (take k (added_by s))) now ∙ entries_len j (omega (arith, below))
+
+  entry_low : clumps_place region old.stored + length (clumps_of (clumps_made s)) ≤ place
+  entry_low =
+      let numbers = head_used score_of s region old read before sound in
+      let all : staged_room (take s.written s.staged) ≡ staged_room s.staged = ap staged_room (take_all s.written s.staged (omega (arith, written))) in
+      omega (arith, made_len score_of s.staged s.written sound.packed, all, numbers.0, numbers.1, place_is, fits, below)
+
+  entry_high : place + n ≤ directory_place region (length old.stored + length (entries_made s))
+  entry_high = omega (arith, entries_now, (head_used score_of s region old read before sound).1, place_is, n_is, fits, below)
+
+  pub entry_failed : (k : ℕ) (o : Option ℕ) → IsSound score_of (record s { calls = k; stopped = o }) region old reads after
+  entry_failed = write_failed score_of s region size old read reads before after is_region rest place n changes same entry_low entry_high sound
+
+  pub entry_made : (k : ℕ) (piece : List ℕ) → piece ≡ entry_of (stored_of p) → length piece ≡ 25 → part place n reads ≡ piece
+      → IsSound score_of (record s { written = s.written + 1; calls = k }) region old reads after
+  entry_made k piece piece_is piece_len new =
+      let numbers = head_used score_of s region old read before sound in
+      let whole : clumps_made s ≡ added_by s = take_all s.written (added_by s) (omega (arith, count, written)) in
+      let whole_next : take (s.written + 1) (added_by s) ≡ added_by s = take_all (s.written + 1) (added_by s) (omega (arith, count, written)) in
+      let next : s.written + 1 - length s.staged ≡ j + 1 = omega (arith, written) in
+      let there : StandsAt place piece reads = ap (λ (m : ℕ). part place m reads) (omega (arith, piece_len, n_is)) ∙ new in
+      let stay : StandsAt (directory_place region (length old.stored + length (entries_made s))) (directory_of (entries_made s)) reads =
+      entries_stay score_of s region size old read reads before after is_region rest place n changes same entry_low entry_high sound in
+      let behind : StandsAt (place + length piece) (directory_of (take j (added_by s))) reads =
+      subst (λ (at : ℕ). StandsAt at (directory_of (take j (added_by s))) reads)
+      (omega (arith, piece_len, place_is, entries_len j (omega (arith, below)), numbers.1, fits, below))
+      (subst (λ (m : ℕ). StandsAt (directory_place region (length old.stored + length (take m (added_by s)))) (directory_of (take m (added_by s))) reads) now stay) in
+      let both : directory_of (take (j + 1) (added_by s)) ≡ piece ++ directory_of (take j (added_by s)) =
+      ap directory_of (added_more s.staged j p below is) ∙ directory-push (take j (added_by s)) (stored_of p)
+      ∙ ap (λ (l : List ℕ). l ++ directory_of (take j (added_by s))) (sym piece_is) in
+      let at_place : place ≡ directory_place region (length old.stored + length (take (j + 1) (added_by s))) =
+      omega (arith, place_is, numbers.1, entries_len (j + 1) (omega (arith, below)), fits, below) in
+      write_made score_of s region size old read reads before after is_region rest place n changes same entry_low entry_high sound (s.written + 1) k (record {
+        clumps = subst (λ (l : List Stored). StandsAt (clumps_place region old.stored) (clumps_of l) reads) (whole ∙ sym whole_next)
+            (clumps_stay score_of s region size old read reads before after is_region rest place n changes same entry_low entry_high sound);
+        directory = subst (λ (m : ℕ). StandsAt (directory_place region (length old.stored + length (take m (added_by s)))) (directory_of (take m (added_by s))) reads) (sym next)
+            (subst (λ (at : ℕ). StandsAt at (directory_of (take (j + 1) (added_by s))) reads) at_place
+            (subst (λ (l : List ℕ). StandsAt place l reads) (sym both) (stands-sum place piece (directory_of (take j (added_by s))) reads there behind)));
+      })
+
+module _ {D : Type 0} (disk : DiskOf D) (region : Region) where
+  -- a write within the region
+  pub writes_in_region : (place n : ℕ) → region.start ≤ place → place + n ≤ region.start + region.len → (old new : D) → WritesAt disk (Touches place n) 1 old new → WritesWithin disk region 1 old new
+  writes_in_region place n above below =
+      writes_wider disk (Touches place n) (Inside region) (λ i touched. let here = touched_within place n i touched in (omega (arith, here.0, above), omega (arith, here.1, below))) 1 1 (omega arith)
+
+  -- a call of the head's change
+  pub writes_in_head : HEAD_LEN ≤ region.len → (old new : D) → WritesWithin disk (head_place region) 1 old new → WritesWithin disk region 1 old new
+  writes_in_head least = writes_wider disk (Inside (head_place region)) (Inside region) (λ i here. (here.0, omega (arith, here.1, least))) 1 1 (omega arith)
+
+pub entry_is : (score_of : List ℕ → List ℕ) (p : Packed) → IsPacked score_of p → entry_bytes p.kind p.len p.score.0 ≡ entry_of (stored_of p)
+entry_is score_of p is i = entry_bytes (is.kind i) (is.len i) (is.score i)
