@@ -2,8 +2,8 @@ pub mod Blocks
 pub mod Clumps
 pub mod Commits
 pub mod Crashes
-pub mod Find
-pub mod Format
+pub mod Empty
+pub mod Finds
 pub mod Fresh
 pub mod Heads
 pub mod Layouts

@@ -1,5 +1,5 @@
-pub mod Found
 pub mod Frames
 pub mod Marks
 pub mod Powers
+pub mod RefusesMount
 pub mod Saves

@@ -1,6 +1,5 @@
 -- Powers of two, and the regions that they give.
 use Rattle.std.proofs.Common.{◌≡◌, ⊎_elim, ℕ, ◌+◌, ◌-◌, ◌*◌, ◌%◌, ◌^◌, ◌<◌, ◌≤◌, refl, sym, ap, ◌∙◌, subst, arith}
-use Rattle.std.specs.Prelude.{min}
 use Rattle.std.proofs.lemmas.Bool.{cases_lt}
 use Rattle.std.proofs.lemmas.Nat.{pow-add, pow_below}
 use Rattle.vt_twin.specs.Frames.{HasRoom}
@@ -74,14 +73,12 @@ pub has_room : (m size : ℕ) → 16 ≤ m → m ≤ 23 → filter_len m ≤ siz
 has_room m size least most fits =
     let x : ℕ = 2 ^ (m - 3) in
     let aligned : x % 512 ≡ 0 = pow_aligned (m - 3) (omega arith) in
-    let is : min m 23 ≡ m = omega arith in
-    let same : 2 ^ (min m 23 - 3) ≡ x = ap (λ (k : ℕ). 2 ^ (k - 3)) is in
     record {
-      within = omega (arith, same);
-      least = omega (arith, same);
-      most = omega (arith, same);
+      within = omega arith;
+      least = omega arith;
+      most = omega arith;
       aligned_start = refl;
-      aligned_len = omega (arith, same);
+      aligned_len = omega arith;
       aligned_frames = omega arith;
     }
 

@@ -1,11 +1,11 @@
 -- Why a device is refused.
-use Rattle.std.specs.Prelude.{◌≡◌, ◌≢◌, ◌==◌, ◌||◌, ◌⊎◌, ℕ, ◌<◌, ◌≤◌, nat_lt, not, if◌then◌else◌, Option, Some, None, List, codes}
+use Rattle.std.specs.Prelude.{◌≡◌, ◌≢◌, ◌==◌, ◌||◌, ◌⊎◌, ℕ, ◌<◌, ◌≤◌, nat_lt, Bool, true, false, not, if◌then◌else◌, Option, Some, None, List, codes}
 use Rattle.std.specs.Str.{bytes_eq}
-use Rattle.vt_base.specs.Faults.{HasRisen}
 use Rattle.vt_bloom.specs.declared.bad.Field.{Field}
 use Rattle.vt_bloom.specs.declared.bad.Field.TheVariants.{Version, M, K}
 use Rattle.vt_bloom.specs.declared.bad.BloomBad.{BloomBad}
 use Rattle.vt_bloom.specs.declared.bad.BloomBad.TheVariants.{Fault, TooSmall, NotFormatted, Torn, NoMemory}
+use Rattle.vt_bloom.specs.declared.TheConstants.{LEAST_LEN}
 use Rattle.vt_bloom.specs.Frame.{magic_in, version_in, m_in, k_in, current_of}
 use Rattle.vt_bloom.specs.Size.{IsLargest, IsSize}
 
@@ -20,11 +20,11 @@ first_bad m frame =
 
 -- a device of less than two of the smallest frames and a block
 abbrev pub RefusesShort : (len : ℕ) → BloomBad → Type 0
-RefusesShort len bad = (len < 40960) × (bad ≡ TooSmall len 40960)
+RefusesShort len bad = (len < LEAST_LEN) × (bad ≡ TooSmall len LEAST_LEN)
 
 -- a device call failed, or memory ran out, for a device that isn't too small
 abbrev pub RefusesNow : (len : ℕ) → BloomBad → Type 0
-RefusesNow len bad = (40960 ≤ len) × ((bad ≡ Fault) ⊎ (bad ≡ NoMemory))
+RefusesNow len bad = (LEAST_LEN ≤ len) × ((bad ≡ Fault) ⊎ (bad ≡ NoMemory))
 
 -- mounting is refused by the first test of the current frame that fails
 abbrev pub RefusesMount : (file : List ℕ) → (len : ℕ) → BloomBad → Type 0
@@ -47,19 +47,19 @@ Differs K found want len = ((found ≡ 0) ⊎ (32 < found)) × (want ≡ 32)
 -- What is known of a refusal to mount a device of this size, even where it doesn't tell what it
 -- holds: the values that the refusal names make it one.
 abbrev pub NamesItsCause : (size : ℕ) → BloomBad → Type 0
-NamesItsCause size (TooSmall len need) = (len ≡ size) × (size < 40960) × (need ≡ 40960)
-NamesItsCause size Fault = 40960 ≤ size
-NamesItsCause size NotFormatted = 40960 ≤ size
-NamesItsCause size (Torn field found want) = (40960 ≤ size) × Differs field found want size
-NamesItsCause size NoMemory = 40960 ≤ size
+NamesItsCause size (TooSmall len need) = (len ≡ size) × (size < LEAST_LEN) × (need ≡ LEAST_LEN)
+NamesItsCause size Fault = LEAST_LEN ≤ size
+NamesItsCause size NotFormatted = LEAST_LEN ≤ size
+NamesItsCause size (Torn field found want) = (LEAST_LEN ≤ size) × Differs field found want size
+NamesItsCause size NoMemory = LEAST_LEN ≤ size
 
--- a fault comes only where the count of faults rises, and it rises only then
-abbrev pub CountsFault : BloomBad → (old new : ℕ) → Type 0
-CountsFault Fault old new = HasRisen old new
-CountsFault (TooSmall len need) old new = new ≡ old
-CountsFault NotFormatted old new = new ≡ old
-CountsFault (Torn field found want) old new = new ≡ old
-CountsFault NoMemory old new = new ≡ old
+-- the refusal tells of a fault of the device in this call
+abbrev pub is_fault : BloomBad → Bool
+is_fault Fault = true
+is_fault (TooSmall len need) = false
+is_fault NotFormatted = false
+is_fault (Torn field found want) = false
+is_fault NoMemory = false
 
 -- the refusal tells of the current frame, which was read
 abbrev pub TellsOfFrame : BloomBad → Type 0

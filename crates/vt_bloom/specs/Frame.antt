@@ -2,9 +2,10 @@
 --   magic[4] version[2] m[1] k[1] mark[8]
 -- and then the words, of 8 bytes each. Numbers have their highest byte first. What lies behind the
 -- mark in the block isn't read, and is written as zero.
-use Rattle.std.specs.Prelude.{◌≡◌, ℕ, ◌*◌, ◌<◌, ◌≤◌, List, ◌∷◌, ◌++◌, codes, length, take, drop, replicate, slice_get, slice_index, Some}
+use Rattle.std.specs.Prelude.{◌≡◌, ℕ, ◌-◌, ◌*◌, ◌<◌, ◌≤◌, List, ◌∷◌, ◌++◌, codes, length, take, drop, replicate, slice_get, slice_index, Some}
 use Rattle.std.specs.List.{flat_map}
 use Rattle.byteorder.specs.Endian.{big_number, big_bytes}
+use Rattle.vt_disk.specs.declared.TheConstants.{BLOCK_LEN}
 use Rattle.vt_twin.specs.Frames.{current_frame}
 use Rattle.vt_bloom.specs.Bits.{Filter, HasBitsOf, IsFilter, clear_of}
 use Rattle.vt_bloom.specs.Size.{frame_len, region_of, IsLargest}
@@ -50,7 +51,7 @@ pub record IsFrame (saved : Saved) (frame : List ℕ) : Type 0 where
   pub m : m_in frame ≡ saved.filter.m
   pub k : k_in frame ≡ saved.filter.k
   pub mark : mark_in frame ≡ saved.mark
-  pub words : HaveWords (drop 8192 frame) saved.filter.words
+  pub words : HaveWords (drop BLOCK_LEN frame) saved.filter.words
 
 -- the bytes of its fields
 abbrev pub head_bytes : (m k mark : ℕ) → List ℕ
@@ -59,7 +60,7 @@ head_bytes m k mark = codes "VBLM" ++ (big_bytes 2 1 ++ (m ∷ (k ∷ big_bytes 
 -- the frame as it is written
 abbrev pub spelled : Saved → List ℕ
 spelled saved =
-    (head_bytes saved.filter.m saved.filter.k saved.mark ++ replicate 8176 0)
+    (head_bytes saved.filter.m saved.filter.k saved.mark ++ replicate (BLOCK_LEN - 16) 0)
     ++ flat_map (big_bytes 8) saved.filter.words
 
 -- the current frame of a device with a filter of 2^m bits

@@ -4,3 +4,4 @@ pub mod Faults
 pub mod Frame
 pub mod Laws
 pub mod Size
+pub mod States

@@ -1,7 +1,6 @@
 -- How large a filter is, and where it stands on its device.
-use Rattle.std.specs.Prelude.{◌≡◌, ℕ, ◌+◌, ◌-◌, ◌*◌, ◌^◌, ◌<◌, ◌≤◌, min}
-use Rattle.std.proofs.Common.{arith}
-use Rattle.std.proofs.lemmas.Nat.{pow_below}
+use Rattle.std.specs.Prelude.{◌≡◌, ℕ, ◌+◌, ◌-◌, ◌*◌, ◌^◌, ◌≤◌}
+use Rattle.vt_disk.specs.declared.TheConstants.{BLOCK_LEN}
 use Rattle.vt_disk.specs.declared.region.Region.{Region}
 
 -- the bytes of a filter of 2^m bits
@@ -16,21 +15,15 @@ pub record IsSize (m size : ℕ) : Type 0 where
 
 -- a frame has a block and then the bits
 abbrev pub frame_len : (m : ℕ) → ℕ
-frame_len m = 8192 + size_of m
+frame_len m = BLOCK_LEN + size_of m
 
 -- two frames, and a block for the selector
 abbrev pub filter_len : (m : ℕ) → ℕ
-filter_len m = 2 * frame_len m + 8192
+filter_len m = 2 * frame_len m + BLOCK_LEN
 
-pub filter_len-fits : (m : ℕ) → 0 + filter_len (min m 23) < 2 ^ 64
-filter_len-fits m =
-    let bits : 2 ^ (min m 23 - 3) < 2 ^ 21 = pow_below (min m 23 - 3) 21 (omega arith) in
-    let x : ℕ = 2 ^ (min m 23 - 3) in
-    omega arith
-
--- They stand at the device's start. No m is above 23.
+-- they stand at the device's start
 abbrev pub region_of : (m : ℕ) → Region
-region_of m = record { start = 0; len = filter_len (min m 23); in_range = filter_len-fits m }
+region_of m = record { start = 0; len = filter_len m }
 
 -- A device of this length has room for a filter of 2^m bits and for no larger one. Its filter has
 -- that size and no other, so where the selector stands depends on the length alone.

@@ -53,9 +53,11 @@ impl Model for Bits {
 
     ghost Value = { Filter };
 
-    ghost view = { λ b. record { m = b.m; k = b.k; words = b.words.items } };
+    ghost use Rattle.vt_bloom.specs.States.{filter_of};
 
-    ghost invariant = { λ b. IsFilter (record { m = b.m; k = b.k; words = b.words.items }) };
+    ghost view = { filter_of };
+
+    ghost invariant = { λ b. IsFilter (filter_of b) };
 }
 
 impl Bits {
@@ -70,6 +72,32 @@ impl Bits {
     {
         let words = vec![in alloc; 0; 1usize << (m - 6)]?;
         Ok(Bits { m, k, words })
+    }
+
+    /// The bits that these words are, the lowest first in each. m is 16 to 23, k 1 to 32.
+    pub fn from_words(m: u8, k: u8, words: Vec<u64>) -> Bits
+        requires counts { AreCounts m k }
+        requires whole { 64 * length words.items ≡ 2 ^ m }
+        ensures { result ≡ record { m = m; k = k; words = words.items } }
+    {
+        Bits { m, k, words }
+    }
+
+    /// The words, in order.
+    pub fn words(&self) -> &[u64]
+        ensures words { result.now ≡ self.now.words }
+        ensures whole { 64 * length result.now ≡ 2 ^ self.now.m }
+    {
+        &self.words
+    }
+
+    /// The words, given back with their memory.
+    pub fn into_words(self) -> Vec<u64>
+        ensures words { result.items ≡ self.words }
+        ensures whole { 64 * length result.items ≡ 2 ^ self.m }
+    {
+        let Bits { m: _, k: _, words } = self;
+        words
     }
 
     /// How many bits there are, as a power of two.

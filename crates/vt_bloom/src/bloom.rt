@@ -55,13 +55,31 @@ impl<D: Disk> Model for Bloom<D> {
 }
 
 impl<D: Disk> Bloom<D> {
-    ghost use Rattle.vt_disk.specs.Disk.{SameBut, Only, WithinCall, IsOneMore};
-    ghost use Rattle.vt_disk.specs.Region.{Inside, ChangesWithin};
-    ghost use Rattle.vt_twin.specs.Calls.{bytes_after, IsSync};
-    ghost use Rattle.vt_twin.specs.Twin.{calls_made, next_frame, CountsFault};
+    ghost use Rattle.vt_base.specs.Faults.{CountsFault};
+    ghost use Rattle.vt_disk.specs.Calls.{WritesAt, WritesWithin, MadeCalls, IsSynced};
+    ghost use Rattle.vt_disk.specs.Disk.{WithinCall};
+    ghost use Rattle.vt_twin.specs.Calls.{bytes_after, IsSync, TouchedBy};
+    ghost use Rattle.vt_twin.specs.Twin.{calls_made, next_frame, is_fault};
+    ghost use Rattle.vt_bloom.specs.Bits.{AreCounts};
     ghost use Rattle.vt_bloom.specs.Bloom.{IsSound, HasOldOrNew, with_save, saved_after, Advances};
     ghost use Rattle.vt_bloom.specs.Frame.{Saved, Covers, HasSaved};
     ghost use Rattle.vt_bloom.specs.Size.{region_of};
+
+    /// How many bits the filter has, as a power of two.
+    pub fn m(&self) -> u8
+        ensures m { result ≡ self.now.m }
+        ensures counts { AreCounts self.now.m self.now.k }
+    {
+        self.m
+    }
+
+    /// How many of them each score has.
+    pub fn k(&self) -> u8
+        ensures k { result ≡ self.now.k }
+        ensures counts { AreCounts self.now.m self.now.k }
+    {
+        self.k
+    }
 
     /// The mark that is saved.
     pub fn mark(&self) -> u64
@@ -157,12 +175,15 @@ impl<D: Disk> Bloom<D> {
             → HasSaved coming c }
 
         // What it writes, and that it syncs.
+        ensures writes { WritesAt D.Disk (TouchedBy (calls_made self.old.twin)
+            (region_of self.old.m) self.old.twin.frame_len self.old.twin.current) 1
+            self.old.disk self.new.disk }
         ensures written { IsTrue D.tells → OnOk result (D.bytes self.new.disk
             ≡ bytes_after (calls_made self.old.twin) (region_of self.old.m)
             self.old.twin.frame_len self.old.twin.current
             (next_frame self.old.twin) (D.bytes self.old.disk)) }
-        ensures settled { IsTrue D.tells → IsSync (calls_made self.old.twin)
-            → OnOk result (Only (D.bytes self.new.disk) (D.images self.new.disk)) }
+        ensures settled { IsSync (calls_made self.old.twin)
+            → OnOk result (IsSynced D.Disk self.new.disk) }
 
         ensures steps { Advances result self.old self.new }
         ensures done { IfOk result
@@ -170,19 +191,17 @@ impl<D: Disk> Bloom<D> {
         ensures goes_on { (result ≡ Ok Step.Done) ⊎ IsSome self.new.twin.change }
         ensures stopped { (n : ℕ)
             → (result ≡ Err (TwinErr.Stopped n)) ↔ (self.old.twin.stopped ≡ Some n) }
-        ensures faults { CountsFault result (D.faults self.old.disk) (D.faults self.new.disk) }
+        ensures faults { CountsFault is_fault result
+            (D.faults self.old.disk) (D.faults self.new.disk) }
 
         // It makes one call or, where it is stopped, none.
-        ensures calls { IsTrue D.tells → self.old.twin.stopped ≡ None
-            → IsOneMore (D.calls self.old.disk) (D.calls self.new.disk) }
+        ensures calls { self.old.twin.stopped ≡ None
+            → MadeCalls D.Disk 1 self.old.disk self.new.disk }
         ensures untouched { IsSome self.old.twin.stopped → self.new.disk ≡ self.old.disk }
 
         // Nothing behind the filter changes.
-        ensures images { ChangesWithin (region_of self.old.m)
-            (D.images self.old.disk) (D.images self.new.disk) }
-        ensures bytes { IsTrue D.tells → SameBut (Inside (region_of self.old.m))
-            (D.bytes self.old.disk) (D.bytes self.new.disk) }
-        ensures size { D.size self.new.disk ≡ D.size self.old.disk }
+        ensures within { WritesWithin D.Disk (region_of self.old.m) 1
+            self.old.disk self.new.disk }
     {
         match self.twin.advance(&mut self.disk, region(self.m)) {
             Ok(Step::More) => Ok(Step::More),

@@ -1,19 +1,21 @@
 //! Formatting a device for a filter.
 
-ghost use Rattle.std.specs.Prelude.{◌≡◌, ◌≢◌, ◌+◌, ◌-◌, ◌^◌, ◌≤◌, ◌<◌, min, ℕ, List, IsTrue, IfErr, OnOk, MatchResult};
-ghost use Rattle.vt_disk.specs.Disk.{SameBut, Only};
-ghost use Rattle.vt_disk.specs.Region.{Inside, ChangesWithin};
+ghost use Rattle.std.specs.Prelude.{◌≡◌, ◌≢◌, ℕ, List, IsTrue, IfErr, OnOk, Err};
+ghost use Rattle.vt_base.specs.Faults.{CountsFault};
+ghost use Rattle.vt_disk.specs.Calls.{WritesWithin, MadeCalls, IsSynced};
+ghost use Rattle.vt_twin.specs.Formatting.{EndsFormat};
 ghost use Rattle.vt_twin.specs.Frames.{frame_of, selector_of, selector_len, selector_bytes};
 ghost use Rattle.vt_bloom.specs.declared.bad.BloomBad.{BloomBad};
 ghost use Rattle.vt_bloom.specs.Bits.{AreCounts};
-ghost use Rattle.vt_bloom.specs.Faults.{RefusesFormat, CountsFault};
+ghost use Rattle.vt_bloom.specs.Faults.{RefusesFormat, is_fault};
 ghost use Rattle.vt_bloom.specs.Frame.{HasSaved, empty_of, spelled};
 ghost use Rattle.vt_bloom.specs.Size.{IsSize, IsLargest, frame_len, region_of};
 
+use crate::LEAST_LEN;
 use crate::bad::{BloomBad, Field};
 use crate::bits::Bits;
 use crate::frame::encode;
-use crate::size::{LEAST_LEN, exponent, frame_len, largest, region};
+use crate::size::{exponent, frame_len, largest, region};
 use std::alloc::Global;
 use vt_base::Failed;
 use vt_disk::Disk;
@@ -26,7 +28,7 @@ pub fn format<D: Disk>(alloc: Global, disk: &mut D, size: u64, k: u8) -> Result<
     // Whatever a crash leaves from then on, it leaves this filter.
     ensures saved { OnOk result (IsTrue D.tells → (m : ℕ) → IsSize m size
         → (c : List ℕ) → D.images disk.new c → HasSaved (empty_of m k) c) }
-    ensures settled { OnOk result (IsTrue D.tells → Only (D.bytes disk.new) (D.images disk.new)) }
+    ensures settled { OnOk result (IsSynced D.Disk disk.new) }
 
     // What it writes, and that the other frame stays as it is.
     ensures frame { OnOk result (IsTrue D.tells → (m : ℕ) → IsSize m size
@@ -42,17 +44,13 @@ pub fn format<D: Disk>(alloc: Global, disk: &mut D, size: u64, k: u8) -> Result<
     ensures refused { IfErr result (RefusesFormat (D.size disk.old) size) }
     ensures untouched { IfErr result (λ bad. bad ≢ BloomBad.Fault → disk.new ≡ disk.old) }
 
-    // Nothing behind the filter changes, whatever the answer.
-    ensures images { (m : ℕ) → IsSize m size
-        → ChangesWithin (region_of m) (D.images disk.old) (D.images disk.new) }
-    ensures bytes { (m : ℕ) → IsSize m size → IsTrue D.tells
-        → SameBut (Inside (region_of m)) (D.bytes disk.old) (D.bytes disk.new) }
-    ensures size { D.size disk.new ≡ D.size disk.old }
-    ensures calls { IsTrue D.tells
-        → OnOk result (D.calls disk.new ≡ min (D.calls disk.old + 3) (2 ^ 64 - 1)) }
-    ensures most_calls { IsTrue D.tells → D.calls disk.new ≤ D.calls disk.old + 3 }
-    ensures cause { MatchResult result (λ _. D.faults disk.new ≡ D.faults disk.old)
-        (λ bad. CountsFault bad (D.faults disk.old) (D.faults disk.new)) }
+    // Nothing behind the filter changes, and nothing is written behind a call that fails.
+    ensures writes { (m : ℕ) → IsSize m size
+        → WritesWithin D.Disk (region_of m) 3 disk.old disk.new }
+    ensures calls { OnOk result (MadeCalls D.Disk 3 disk.old disk.new) }
+    ensures failed { result ≡ Err BloomBad.Fault → (m : ℕ) → IsSize m size → (made : ℕ)
+        × EndsFormat D.Disk (region_of m) (spelled (empty_of m k)) made disk.old disk.new }
+    ensures cause { CountsFault is_fault result (D.faults disk.old) (D.faults disk.new) }
 {
     let len = disk.len();
     if len < LEAST_LEN {

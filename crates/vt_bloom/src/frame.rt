@@ -1,6 +1,6 @@
 //! The frame of a saved filter.
 
-ghost use Rattle.std.specs.Prelude.{◌≡◌, ◌+◌, ◌≤◌, ◌^◌, ◌<◌, ◌*◌, ◌++◌, ◌∷◌, ℕ, codes, length, take, drop, replicate, slice_index, None, Some, IfOk, IfErr, OnOk, MatchResult};
+ghost use Rattle.std.specs.Prelude.{◌≡◌, ◌+◌, ◌-◌, ◌≤◌, ◌^◌, ◌<◌, ◌*◌, ◌++◌, ◌∷◌, ℕ, codes, length, take, drop, replicate, slice_index, None, Some, IfOk, IfErr, OnOk, MatchResult};
 ghost use Rattle.std.specs.List.{flat_map};
 ghost use Rattle.byteorder.specs.Endian.{big_bytes, big_number};
 ghost use Rattle.vt_bloom.specs.Bits.{AreCounts};
@@ -10,8 +10,8 @@ ghost use Rattle.vt_bloom.specs.Size.{frame_len};
 
 use crate::bad::{BloomBad, Field};
 use crate::bits::Bits;
-use crate::size::HEAD_LEN;
 use byteorder::{BigEndian, ByteOrder};
+use vt_disk::BLOCK_LEN;
 use vt_fields::{put, put_u8, put_u16, put_u64, u16_at, u64_at};
 
 /// Writes the frame of a filter with this mark.
@@ -20,15 +20,15 @@ pub fn encode(bits: &Bits, mark: u64, frame: &mut [u8])
     ensures written { frame.new ≡ spelled (record { filter = bits.now; mark = mark }) }
     ensures is { IsFrame (record { filter = bits.now; mark = mark }) frame.new }
 {
-    let (head, words) = frame.split_at_mut(HEAD_LEN);
+    let (head, words) = frame.split_at_mut(BLOCK_LEN);
     encode_head(bits.m, bits.k, mark, head);
     write_words(&bits.words, words);
 }
 
 /// Writes the block before the words.
 fn encode_head(m: u8, k: u8, mark: u64, head: &mut [u8])
-    requires { length head.old ≡ 8192 }
-    ensures { head.new ≡ head_bytes m k mark ++ replicate 8176 0 }
+    requires { length head.old ≡ BLOCK_LEN }
+    ensures { head.new ≡ head_bytes m k mark ++ replicate (BLOCK_LEN - 16) 0 }
 {
     let at = put(head, 0, b"VBLM");
     let at = put_u16(head, at, 1);
@@ -41,7 +41,7 @@ fn encode_head(m: u8, k: u8, mark: u64, head: &mut [u8])
 /// What the head of a frame says, on a device with room for 2^m bits: how many bits a score has,
 /// and the mark.
 pub fn decode_head(frame: &[u8], m: u8) -> Result<(u8, u64), BloomBad>
-    requires long { 8192 ≤ length frame.now }
+    requires long { BLOCK_LEN ≤ length frame.now }
     requires least { 16 ≤ m }
     requires most { m ≤ 23 }
     ensures magic { OnOk result (magic_in frame.now ≡ codes "VBLM") }

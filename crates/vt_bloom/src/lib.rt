@@ -20,6 +20,13 @@ pub use laws::{
 };
 pub use mounting::mount;
 pub use size::exponent;
+use vt_disk::BLOCK_LEN;
+
+/// The least device: two frames of the smallest filter, which has 8,192 bytes, and a block for the
+/// selector.
+pub const LEAST_LEN: u64 = 2 * (BLOCK_LEN as u64 + 8192) + BLOCK_LEN as u64;
+
+const _: () = prove!(LEAST_LEN == 40_960);
 
 #[cfg(test)]
 mod tests;

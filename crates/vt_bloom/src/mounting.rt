@@ -1,23 +1,25 @@
 //! Finding the filter that is saved on a device.
 
-ghost use Rattle.std.specs.Prelude.{◌≡◌, ◌⊎◌, ◌+◌, ◌-◌, ◌^◌, ◌≤◌, ◌<◌, min, None, IsTrue, IfOk, IfErr, MatchResult, length, ⊤};
-ghost use Rattle.vt_disk.specs.Disk.{AreAmong, Only};
+ghost use Rattle.std.specs.Prelude.{◌≡◌, ◌⊎◌, ◌<◌, None, IsTrue, IfOk, IfErr, MatchResult, length, ⊤};
+ghost use Rattle.vt_base.specs.Faults.{CountsFault};
+ghost use Rattle.vt_disk.specs.Calls.{OnlyReads, MadeCalls, IsSynced};
 ghost use Rattle.vt_twin.specs.Sound.{IsSound as IsTwinSound};
 ghost use Rattle.vt_twin.specs.Twin.{fresh};
 ghost use Rattle.vt_bloom.specs.Bits.{IsFilter};
 ghost use Rattle.vt_bloom.specs.Bloom.{IsSound, HasTested, disk_after};
-ghost use Rattle.vt_bloom.specs.Faults.{RefusesMount, NamesItsCause, CountsFault, TellsOfFrame};
+ghost use Rattle.vt_bloom.specs.Faults.{RefusesMount, NamesItsCause, TellsOfFrame, is_fault};
 ghost use Rattle.vt_bloom.specs.Frame.{Saved, HasSaved, current_of};
 ghost use Rattle.vt_bloom.specs.Size.{IsLargest, frame_len, region_of};
 ghost use Rattle.vt_bloom.specs.declared.bad.BloomBad.{BloomBad};
 
+use crate::LEAST_LEN;
 use crate::bad::BloomBad;
 use crate::bits::Bits;
 use crate::bloom::Bloom;
 use crate::frame::{decode_head, read_words};
-use crate::size::{HEAD_LEN, LEAST_LEN, frame_len, largest, region};
+use crate::size::{frame_len, largest, region};
 use std::alloc::Global;
-use vt_disk::Disk;
+use vt_disk::{BLOCK_LEN, Disk};
 use vt_twin::Twin;
 
 /// Syncs the device, and finds the filter that is saved there. Its bits come back beside it. A
@@ -46,19 +48,17 @@ pub fn mount<D: Disk>(alloc: Global, disk: D) -> Result<(Bloom<D>, Bits), (Bloom
     ensures differs { IfErr result (λ refusal. NamesItsCause (D.size disk) refusal.0) }
 
     // It syncs, reads the selector, reads the current frame and tests it, and changes nothing.
-    ensures settled { HasTested result → IsTrue D.tells
-        → Only (D.bytes (disk_after result)) (D.images (disk_after result)) }
-    ensures calls { HasTested result → IsTrue D.tells
-        → D.calls (disk_after result) ≡ min (D.calls disk + 3) (2 ^ 64 - 1) }
-    ensures untouched { D.size disk < 40960 → disk_after result ≡ disk }
+    // Nothing is read behind a sync that fails, so that what is told is told of a settled device.
+    ensures settled { HasTested result → IsSynced D.Disk (disk_after result) }
+    ensures calls { HasTested result → MadeCalls D.Disk 3 disk (disk_after result) }
+    ensures failed { IfErr result (λ refusal. refusal.0 ≡ BloomBad.Fault
+        → MadeCalls D.Disk 1 disk refusal.1 ⊎ IsSynced D.Disk refusal.1) }
+    ensures untouched { D.size disk < LEAST_LEN → disk_after result ≡ disk }
     ensures no_memory { IfErr result (λ refusal. refusal.0 ≡ BloomBad.NoMemory
         → refusal.1 ≡ disk) }
-    ensures most_calls { IsTrue D.tells → D.calls (disk_after result) ≤ D.calls disk + 3 }
-    ensures bytes { D.bytes (disk_after result) ≡ D.bytes disk }
-    ensures images { AreAmong (D.images (disk_after result)) (D.images disk) }
-    ensures size { D.size (disk_after result) ≡ D.size disk }
-    ensures cause { MatchResult result (λ it. D.faults it.0.disk ≡ D.faults disk)
-        (λ refusal. CountsFault refusal.0 (D.faults disk) (D.faults refusal.1)) }
+    ensures reads { OnlyReads D.Disk 3 disk (disk_after result) }
+    ensures cause { CountsFault (λ refusal. is_fault refusal.0) result
+        (D.faults disk) (D.faults (disk_after result)) }
 {
     let mut disk = disk;
     match find(alloc, &mut disk) {
@@ -100,8 +100,7 @@ fn find<D: Disk>(alloc: Global, disk: &mut D) -> Result<Found, BloomBad>
     ensures twin { IfOk result (λ it. IsTrue D.tells
         → IsTwinSound it.twin (region_of it.bits.m) (current_of it.bits.m (D.bytes disk.old))
         (D.bytes disk.new) (D.images disk.new)) }
-    ensures settled { MatchResult result (λ _. ⊤) TellsOfFrame → IsTrue D.tells
-        → Only (D.bytes disk.new) (D.images disk.new) }
+    ensures settled { MatchResult result (λ _. ⊤) TellsOfFrame → IsSynced D.Disk disk.new }
     ensures fresh { IfOk result (λ it. it.twin ≡ fresh (frame_len it.bits.m) it.twin.current) }
     ensures filter { IfOk result (λ it. IsFilter it.bits) }
     ensures buffer { IfOk result (λ it. length it.frame.items ≡ frame_len it.bits.m) }
@@ -109,16 +108,14 @@ fn find<D: Disk>(alloc: Global, disk: &mut D) -> Result<Found, BloomBad>
     ensures refused { IfErr result (λ bad. IsTrue D.tells
         → RefusesMount (D.bytes disk.old) (D.size disk.old) bad) }
     ensures differs { IfErr result (NamesItsCause (D.size disk.old)) }
-    ensures untouched { D.size disk.old < 40960 → disk.new ≡ disk.old }
+    ensures failed { IfErr result (λ bad. bad ≡ BloomBad.Fault
+        → MadeCalls D.Disk 1 disk.old disk.new ⊎ IsSynced D.Disk disk.new) }
+    ensures untouched { D.size disk.old < LEAST_LEN → disk.new ≡ disk.old }
     ensures no_memory { IfErr result (λ bad. bad ≡ BloomBad.NoMemory → disk.new ≡ disk.old) }
-    ensures calls { MatchResult result (λ _. ⊤) TellsOfFrame → IsTrue D.tells
-        → D.calls disk.new ≡ min (D.calls disk.old + 3) (2 ^ 64 - 1) }
-    ensures most_calls { IsTrue D.tells → D.calls disk.new ≤ D.calls disk.old + 3 }
-    ensures bytes { D.bytes disk.new ≡ D.bytes disk.old }
-    ensures images { AreAmong (D.images disk.new) (D.images disk.old) }
-    ensures size { D.size disk.new ≡ D.size disk.old }
-    ensures cause { MatchResult result (λ _. D.faults disk.new ≡ D.faults disk.old)
-        (λ bad. CountsFault bad (D.faults disk.old) (D.faults disk.new)) }
+    ensures calls { MatchResult result (λ _. ⊤) TellsOfFrame
+        → MadeCalls D.Disk 3 disk.old disk.new }
+    ensures reads { OnlyReads D.Disk 3 disk.old disk.new }
+    ensures cause { CountsFault is_fault result (D.faults disk.old) (D.faults disk.new) }
 {
     let len = disk.len();
     if len < LEAST_LEN {
@@ -135,7 +132,7 @@ fn find<D: Disk>(alloc: Global, disk: &mut D) -> Result<Found, BloomBad>
     let start = frame.len() as u64 * u64::from(twin.current());
     region.read_at(disk, start, &mut frame)?;
     let (k, mark) = decode_head(&frame, m)?;
-    read_words(&frame[HEAD_LEN..], &mut words);
+    read_words(&frame[BLOCK_LEN..], &mut words);
     let bits = Bits { m, k, words };
     Ok(Found {
         twin,

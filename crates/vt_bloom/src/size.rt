@@ -3,13 +3,8 @@
 ghost use Rattle.std.specs.Prelude.{◌≡◌, ◌≤◌, ℕ, IfSome, IfNone};
 ghost use Rattle.vt_bloom.specs.Size.{IsSize, IsLargest, frame_len, region_of};
 
-use vt_disk::Region;
-
-/// How many bytes of a frame stand before its words.
-pub const HEAD_LEN: usize = 8192;
-
-/// The least device: two frames of the smallest filter, and a block.
-pub const LEAST_LEN: u64 = 40_960;
+use crate::LEAST_LEN;
+use vt_disk::{BLOCK_LEN, Region};
 
 /// The m of a filter of this many bytes, which has 2^m bits, if a filter may have that size: the
 /// powers of two from 8,192 to 1,048,576.
@@ -27,7 +22,7 @@ pub fn exponent(size: u64) -> Option<u8>
 
 /// The m of the largest filter that a device of this length has room for.
 pub fn largest(len: u64) -> u8
-    requires { 40960 ≤ len }
+    requires { LEAST_LEN ≤ len }
     ensures { IsLargest len result }
 {
     let mut m = 16;
@@ -43,7 +38,7 @@ pub fn frame_len(m: u8) -> usize
     requires most { m ≤ 23 }
     ensures { result ≡ frame_len m }
 {
-    HEAD_LEN + (1 << (m - 3))
+    BLOCK_LEN + (1 << (m - 3))
 }
 
 /// The region of a filter of 2^m bits, from the device's start on.
@@ -54,6 +49,6 @@ pub fn region(m: u8) -> Region
 {
     Region {
         start: 0,
-        len: 2 * frame_len(m) as u64 + 8192,
+        len: (2 * frame_len(m) + BLOCK_LEN) as u64,
     }
 }

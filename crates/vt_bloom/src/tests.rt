@@ -4,12 +4,11 @@ ghost use Rattle.std.specs.Prelude.{◌≡◌, ◌≤◌, length, None, IfOk, If
 ghost use Rattle.vt_memdisk.specs.Memory.{memory_bytes};
 
 use super::*;
-use std::alloc::{AllocError, Global};
 use std::process::Abort;
 use std::test::Fail;
 use vt_base::Score;
 use vt_disk::Disk;
-use vt_memdisk::{Listed, MemDisk};
+use vt_memdisk::{CrashMode, Listed, MemDisk};
 use vt_twin::{Step, TwinErr};
 
 /// Two frames of 16,384 bytes and a selector of 8,192.
@@ -65,23 +64,6 @@ fn save_until(
     bloom.advance()
 }
 
-/// What a crash leaves of the pending bytes: the synced ones in mode 0, the written ones in mode 1,
-/// the written ones at even places in mode 2, and a5 in mode 3.
-fn choice(alloc: Global, disk: &MemDisk<Listed>, mode: usize) -> Result<Vec<u16>, AllocError> {
-    let mut choice = Vec::new(alloc);
-    for at in 0..disk.len() {
-        if disk.pending(at) {
-            choice.push(match mode {
-                0 => 256,
-                1 => 257,
-                2 => if at % 2 == 0 { 257 } else { 256 },
-                _ => 0xa5,
-            })?;
-        }
-    }
-    Ok(choice)
-}
-
 #[test]
 fn a_score_has_positions(rt: HostRuntime) -> Result<(), Fail> {
     assert_eq!(rt;
@@ -95,6 +77,12 @@ fn a_score_has_positions(rt: HostRuntime) -> Result<(), Fail> {
     let mut bits = Bits::new(rt.alloc(), 16, 3)?;
     assert!(rt; !bits.may_have(&A));
     bits.mark_bits(&A);
+    assert!(rt; bits.may_have(&A) && !bits.may_have(&B));
+    // Position 33130 is bit 42 of word 517.
+    assert_eq!(rt; bits.words().len(), 1024);
+    let words = bits.into_words();
+    assert_eq!(rt; words.get(517).copied(), Some(1 << 42));
+    let bits = Bits::from_words(16, 3, words);
     assert!(rt; bits.may_have(&A) && !bits.may_have(&B));
     Ok(())
 }
@@ -117,7 +105,7 @@ fn a_filter_has_one_size(rt: HostRuntime) {
 #[test]
 fn a_frame_is_spelled(rt: HostRuntime) -> Result<(), Fail> {
     let (mut bloom, mut bits) = mounted(&rt, &[])?;
-    assert_eq!(rt; bloom.mark(), 0);
+    assert!(rt; bloom.m() == 16 && bloom.k() == 3 && bloom.mark() == 0);
     bits.mark_bits(&A);
     assert_eq!(rt; save_until(&rt, &mut bloom, &bits, 3), Ok(Step::Done));
     assert!(rt; bloom.mark() == 1 && !bloom.saving() && bloom.stopped().is_none());
@@ -147,7 +135,7 @@ fn a_frame_is_spelled(rt: HostRuntime) -> Result<(), Fail> {
 
 #[test]
 fn a_save_is_stopped_anywhere(rt: HostRuntime) -> Result<(), Fail> {
-    // The call at which a save ends, whether it fails, and in which mode a crash then leaves the
+    // The call at which a save ends, whether it fails, and in which modes a crash then leaves the
     // new filter.
     for (call, fails, is_new) in [
         (0, true, [false, false, false, false]),
@@ -159,7 +147,7 @@ fn a_save_is_stopped_anywhere(rt: HostRuntime) -> Result<(), Fail> {
         (3, true, [false, true, true, true]),
         (3, false, [true, true, true, true]),
     ] {
-        for (mode, is_new) in is_new.into_iter().enumerate() {
+        for (mode, is_new) in CrashMode::ALL.into_iter().zip(is_new) {
             let failing = if fails { FIRST_CALL + call } else { u64::MAX };
             let (mut bloom, mut bits) = mounted(&rt, &[failing])?;
             bits.mark_bits(&A);
@@ -171,14 +159,13 @@ fn a_save_is_stopped_anywhere(rt: HostRuntime) -> Result<(), Fail> {
                 assert_eq!(rt; bloom.advance(), Err(TwinErr::Stopped(call)));
             }
             let disk = bloom.into_devices();
-            let choice = choice(rt.alloc(), &disk, mode)?;
-            let (bloom, bits) = mount(rt.alloc(), disk.crash(&choice)).ok().ok_or("mount")?;
+            let (bloom, bits) = mount(rt.alloc(), disk.crash_in(mode)).ok().ok_or("mount")?;
             assert_eq!(rt;
                 bloom.mark(),
                 if is_new { 1 } else { 0 },
-                "call {call}, mode {mode}"
+                "call {call}, {mode:?}"
             );
-            assert_eq!(rt; bits.may_have(&A), is_new, "call {call}, mode {mode}");
+            assert_eq!(rt; bits.may_have(&A), is_new, "call {call}, {mode:?}");
         }
     }
     Ok(())

@@ -1,5 +1,5 @@
-pub mod Format
 pub mod Layouts
 pub mod Names
 pub mod Namesakes
+pub mod TableFor
 pub mod Tables

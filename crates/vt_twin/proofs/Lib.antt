@@ -1,4 +1,4 @@
-pub mod Format
+pub mod EndsFormat
 pub mod Places
 pub mod Sound
 pub mod Steps

@@ -6,7 +6,7 @@ use Rattle.vt_arena.specs.declared.TheConstants.{FRAME_LEN, FIELDS_LEN}
 use Rattle.vt_arena.specs.Faults.{first_bad}
 use Rattle.vt_arena.specs.Heads.{fields_of}
 use Rattle.vt_arena.specs.Layout.{fields_at, head_of}
-use Rattle.vt_arena.proofs.Find.{selector_named, fields_read, arena_passes, finds_bad}
+use Rattle.vt_arena.proofs.Finds.{selector_named, fields_read, arena_passes, finds_bad}
 use Rattle.vt_arena.proofs.Unique.{head_reads}
 use Rattle.vt_arena.proofs.mounting.find.Goals as goal
 

@@ -2,7 +2,7 @@ use Rattle.std.proofs.Common.{◌≡◌, ℕ, List, length, sym, ◌∙◌, subs
 use Rattle.std.proofs.lemmas.Result.{on_err_weaker}
 use Rattle.vt_twin.specs.Formatting.{EndsFormat}
 use Rattle.vt_arena.specs.Layout.{IsArena, head_place, head_of, empty}
-use Rattle.vt_arena.proofs.Format.{on_ok, on_both, written_frame, frame_there, current_there, selector_there, empty_arena}
+use Rattle.vt_arena.proofs.Empty.{on_ok, on_both, written_frame, frame_there, current_there, selector_there, empty_arena}
 use Rattle.vt_arena.proofs.mounting.format.Goals as goal
 
 pub returns-clause-empty : goal.returns-clause-empty

@@ -9,7 +9,7 @@ use Rattle.vt_arena.specs.declared.bad.ArenaBad.{ArenaBad}
 use Rattle.vt_arena.specs.declared.bad.ArenaBad.TheVariants.{Fault}
 use Rattle.vt_arena.specs.Heads.{fields_of}
 use Rattle.vt_arena.specs.Layout.{IsArena, fields_at}
-use Rattle.vt_arena.proofs.Find.{mounts_bad}
+use Rattle.vt_arena.proofs.Finds.{mounts_bad}
 use Rattle.vt_arena.specs.Sound.{IsSound}
 use Rattle.vt_arena.proofs.Fresh.{fresh_sound}
 use Rattle.vt_arena.proofs.mounting.mount.Goals as goal

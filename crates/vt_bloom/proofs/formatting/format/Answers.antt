@@ -1,8 +1,9 @@
 use Rattle.std.proofs.Common.{◌≡◌, ◌∙◌, ◌≤◌, inl, inr, ℕ, List, length, drop, refl, ap, sym, subst, arith}
 use Rattle.std.proofs.lemmas.List.{take_at}
-use Rattle.vt_disk.specs.Region.{Inside, ChangesWithin}
-use Rattle.vt_disk.specs.Disk.{SameBut}
+use Rattle.vt_disk.specs.Calls.{WritesWithin}
+use Rattle.vt_twin.specs.Formatting.{EndsFormat}
 use Rattle.vt_twin.specs.Frames.{HasRoom, frame_of, selector_of, selector_len, selector_bytes}
+use Rattle.vt_bloom.specs.declared.TheConstants.{LEAST_LEN}
 use Rattle.vt_bloom.specs.Bits.{Filter}
 use Rattle.vt_bloom.specs.Frame.{IsFrame, HasSaved, spelled, empty_of, current_of}
 use Rattle.vt_bloom.specs.Size.{frame_len, filter_len, region_of, IsSize, IsLargest}
@@ -28,7 +29,7 @@ returns-clause-refused g c =
     let len : ℕ = g.D.Disk.size c.args.disk.now in
     let largest : IsLargest len c.largest-m.result =
     subst (λ (n : ℕ). IsLargest n c.largest-m.result) c.len-len.ensures c.largest-m.ensures in
-    let long : 40960 ≤ len = omega (arith, c.len-len.ensures) in
+    let long : LEAST_LEN ≤ len = omega (arith, c.len-len.ensures) in
     inr (inr (
       (long, inl refl),
       λ m is. subst (λ (n : ℕ). IsSize n c.args.size)
@@ -36,23 +37,32 @@ returns-clause-refused g c =
           c.in-Some.ensures.found,
     ))
 
-pub returns-clause-images : goal.returns-clause-images
-returns-clause-images g c m is =
+pub returns-clause-writes : goal.returns-clause-writes
+returns-clause-writes g c m is =
     let same : c.largest-m.result ≡ m =
     sym c.if-found-m.false ∙ exponent_unique c.in-Some.found m c.args.size
     c.in-Some.ensures.found is in
-    subst (λ r. ChangesWithin r (g.D.Disk.images c.args.disk.now) (g.D.Disk.images
-    c.format.new.disk))
-    (c.region.ensures ∙ ap region_of same) c.format.ensures.images
+    subst (λ r. WritesWithin g.D.Disk r 3 c.args.disk.now c.format.new.disk)
+    (c.region.ensures ∙ ap region_of same) c.format.ensures.writes
 
-pub returns-clause-bytes : goal.returns-clause-bytes
-returns-clause-bytes g c m is told =
+pub returns-clause-failed : goal.returns-clause-failed
+returns-clause-failed g c fault m is =
     let same : c.largest-m.result ≡ m =
     sym c.if-found-m.false ∙ exponent_unique c.in-Some.found m c.args.size
     c.in-Some.ensures.found is in
-    subst (λ r. SameBut (Inside r) (g.D.Disk.bytes c.args.disk.now) (g.D.Disk.bytes
-    c.format.new.disk))
-    (c.region.ensures ∙ ap region_of same) (c.format.ensures.bytes told)
+    let frame : c.deref.result.now ≡ spelled (empty_of c.largest-m.result c.args.k) =
+    c.deref.ensures.value
+    ∙ take_at c.encode.new.frame (drop (length c.encode.new.frame) c.in_ok-frame.frame.items)
+    c.in_ok-frame.frame.len (c.encode.auto.frame ∙ c.deref_mut.ensures.len)
+    ∙ c.encode.ensures.written
+    ∙ ap (λ (f : Filter). spelled (record { filter = f; mark = 0 })) c.in_ok-bits.ensures.bits in
+    let ends = c.in-Err.ensures.failed in (
+      ends.0,
+      subst (λ r. EndsFormat g.D.Disk r (spelled (empty_of m c.args.k)) ends.0 c.args.disk.now
+          c.format.new.disk) (c.region.ensures ∙ ap region_of same)
+          (subst (λ (l : List ℕ). EndsFormat g.D.Disk c.region.result l ends.0 c.args.disk.now
+          c.format.new.disk) (frame ∙ ap (λ (n : ℕ). spelled (empty_of n c.args.k)) same) ends.1),
+    )
 
 -- each call succeeded
 
@@ -108,7 +118,7 @@ returns-in-Ok-clause-saved g c told n is image left =
     let j : ℕ = c.largest-m.result in
     let at : image ≡ g.D.Disk.bytes c.format.new.disk = c.in-Ok.ensures.settled told image left in
     let size : length image ≡ g.D.Disk.size c.args.disk.now =
-    (g.met.D.Disk.images_fit _ image left).0 ∙ c.format.ensures.size in
+    (g.met.D.Disk.images_fit _ image left).0 ∙ c.format.ensures.writes.size in
     let current = rw (c.region.ensures, whole g c) at (c.in-Ok.ensures.current told) in
     subst (λ (e : ℕ). HasSaved (empty_of e c.args.k) image) (of_size g c n is)
     (record {
@@ -144,16 +154,8 @@ unfolding m
 returns-in-Ok-clause-largest g c n is = subst (IsLargest (g.D.Disk.size c.args.disk.now))
     (of_size g c n is) (largest g c)
 
-pub returns-in-Ok-clause-images : goal.returns-in-Ok-clause-images
+pub returns-in-Ok-clause-writes : goal.returns-in-Ok-clause-writes
 unfolding m
-returns-in-Ok-clause-images g c n is =
-    subst (λ r. ChangesWithin r (g.D.Disk.images c.args.disk.now) (g.D.Disk.images
-    c.format.new.disk))
-    (c.region.ensures ∙ ap region_of (of_size g c n is)) c.format.ensures.images
-
-pub returns-in-Ok-clause-bytes : goal.returns-in-Ok-clause-bytes
-unfolding m
-returns-in-Ok-clause-bytes g c n is told =
-    subst (λ r. SameBut (Inside r) (g.D.Disk.bytes c.args.disk.now) (g.D.Disk.bytes
-    c.format.new.disk))
-    (c.region.ensures ∙ ap region_of (of_size g c n is)) (c.format.ensures.bytes told)
+returns-in-Ok-clause-writes g c n is =
+    subst (λ r. WritesWithin g.D.Disk r 3 c.args.disk.now c.format.new.disk)
+    (c.region.ensures ∙ ap region_of (of_size g c n is)) c.format.ensures.writes

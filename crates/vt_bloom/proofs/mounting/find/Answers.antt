@@ -82,7 +82,7 @@ returns-clause-found g c told =
     let read = c.in_ok-read_at.ensures.read told in
     let current : c.deref.result.now ≡ current_of m file =
     frame_is g c ∙ read ∙ (λ i. part (start i + again i * number i) (count i)
-    (c.mount.ensures.bytes i)) in
+    (c.mount.ensures.reads.bytes i)) in
     let long : length c.deref-2.result.now ≡ frame_len m =
     c.deref-2.ensures.len ∙ c.in_ok-frame.ensures.len ∙ c.frame_len.ensures in
     let rest : take (length c.deref-2.result.now - 8192) (drop 8192 c.deref-2.result.now)
@@ -120,14 +120,10 @@ returns-clause-twin g c told =
     let whole : c.len.result ≡ frame_len m = c.len.ensures ∙ c.in_ok-frame.ensures.len ∙
     c.frame_len.ensures in
     let sound = rw (c.region-region.ensures, whole) at (c.in_ok-twin.ensures.sound told) in
-    sound_read c.in_ok-twin.twin (region_of m) _ _ _ _ _ c.read_at.ensures.bytes
-    c.read_at.ensures.images sound
+    sound_read c.in_ok-twin.twin (region_of m) _ _ _ _ _ c.read_at.ensures.reads.bytes
+    c.read_at.ensures.reads.images sound
 
 pub returns-clause-settled : goal.returns-clause-settled
 returns-clause-settled g c _ told file left =
-    c.in_ok-twin.ensures.settled told file (c.read_at.ensures.images file left) ∙ sym
-    c.read_at.ensures.bytes
-
-pub returns-clause-images : goal.returns-clause-images
-returns-clause-images g c file left = c.mount.ensures.images file
-    (c.read_at.ensures.images file left)
+    c.in_ok-twin.ensures.settled told file (c.read_at.ensures.reads.images file left) ∙ sym
+    c.read_at.ensures.reads.bytes

@@ -1,4 +1,4 @@
-use Rattle.vt_bloom.proofs.Found.{refused_saved}
+use Rattle.vt_bloom.proofs.RefusesMount.{refused_saved}
 use Rattle.vt_bloom.proofs.Frames.{saved_unique}
 use Rattle.vt_bloom.proofs.mounting.mount.Goals as goal
 

@@ -3,7 +3,7 @@ use Rattle.vt_disk.specs.declared.TheConstants.{BLOCK_LEN}
 use Rattle.vt_disk.specs.Disk.{with_bytes}
 use Rattle.vt_disk.proofs.Calls.{made_then}
 use Rattle.vt_part.specs.Table.{Table, IsPartition, IsTable, count_for, block_of, end_of, table_for}
-use Rattle.vt_part.proofs.Format.{counted_fit, is_table, formatted}
+use Rattle.vt_part.proofs.TableFor.{counted_fit, is_table, formatted}
 use Rattle.vt_part.proofs.formatting.format.Goals as goal
 
 -- what is written is the table's block

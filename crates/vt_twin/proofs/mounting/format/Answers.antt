@@ -5,7 +5,7 @@ use Rattle.vt_disk.specs.Disk.{with_bytes}
 use Rattle.vt_disk.proofs.Calls.{on_err, made_then}
 use Rattle.vt_twin.specs.Formatting.{EndsFormat}
 use Rattle.vt_twin.specs.Frames.{selector_start, selector_len, selector_bytes, frame_of, selector_of}
-use Rattle.vt_twin.proofs.Format.{frame_writes, both_write, all_write, first_writes_within, formatted, formatted_frame, formatted_selector, formatted_idle, formatted_current, frame_is_whole}
+use Rattle.vt_twin.proofs.EndsFormat.{frame_writes, both_write, all_write, first_writes_within, formatted, formatted_frame, formatted_selector, formatted_idle, formatted_current, frame_is_whole}
 use Rattle.vt_twin.proofs.mounting.format.Goals as goal
 
 -- the frame's write failed

@@ -24,7 +24,7 @@ invariant_of-self g c =
     let steps = rw c.in-Ok-More.field-0-is at c.in-Ok-More.ensures.steps in
     record {
       counts = c.self.invariant.counts;
-      room = subst (λ (n : ℕ). filter_len c.self.inside.m ≤ n) (sym c.advance.ensures.size)
+      room = subst (λ (n : ℕ). filter_len c.self.inside.m ≤ n) (sym c.advance.ensures.within.size)
           c.self.invariant.room;
       twin = c.advance.ensures.len ∙ c.self.invariant.twin;
       buffer = c.self.invariant.buffer;
@@ -40,7 +40,7 @@ invariant_of-self-in-Err g c =
     let change = refusal_change c.in-Err.bad _ _ c.in-Err.ensures.steps in
     record {
       counts = c.self.invariant.counts;
-      room = subst (λ (n : ℕ). filter_len c.self.inside.m ≤ n) (sym c.advance.ensures.size)
+      room = subst (λ (n : ℕ). filter_len c.self.inside.m ≤ n) (sym c.advance.ensures.within.size)
           c.self.invariant.room;
       twin = c.advance.ensures.len ∙ c.self.invariant.twin;
       buffer = c.self.invariant.buffer;
@@ -66,7 +66,7 @@ invariant_of-self-in-Ok-Done g c =
     c.self.inside.m) some c.self.invariant.coming in
     record {
       counts = c.self.invariant.counts;
-      room = subst (λ (n : ℕ). filter_len c.self.inside.m ≤ n) (sym c.advance.ensures.size)
+      room = subst (λ (n : ℕ). filter_len c.self.inside.m ≤ n) (sym c.advance.ensures.within.size)
           c.self.invariant.room;
       twin = ap (λ (t : TwinState). t.frame_len) idle ∙ c.advance.ensures.len ∙
           c.self.invariant.twin;
@@ -86,7 +86,7 @@ returns-in-Ok-More g c =
     let crashed = rw c.region.ensures at c.advance.ensures.crash in
     let large = λ (held : (file : List ℕ) → g.D.Disk.images c.self.inside.disk file → IsLargest
     (length file) c.self.inside.m).
-    largest_stays c.self.inside.m _ _ _ c.advance.ensures.images held in
+    largest_stays c.self.inside.m _ _ _ c.advance.ensures.within.images held in
     rw (← c.self.view_is) (record {
       sound = λ saved coming told held.
           step_sound _ saved coming _ _ held some c.advance.new.disk c.advance.new.self _ _
@@ -104,6 +104,7 @@ returns-in-Ok-More g c =
           (crashed held.old told held.twin file within));
       last = λ saved coming told held done. absurd (cc done);
       written = rw c.region.ensures at c.in-Ok-More.ensures.written;
+      writes = rw c.region.ensures at c.advance.ensures.writes;
       settled = c.in-Ok-More.ensures.settled;
       steps = λ i. record {
         disk = c.advance.new.disk;
@@ -119,9 +120,7 @@ returns-in-Ok-More g c =
       faults = c.in-Ok-More.ensures.faults;
       calls = c.advance.ensures.calls;
       untouched = c.advance.ensures.untouched;
-      images = rw c.region.ensures at c.advance.ensures.images;
-      bytes = rw c.region.ensures at c.advance.ensures.bytes;
-      size = c.advance.ensures.size;
+      within = rw c.region.ensures at c.advance.ensures.within;
     })
 
 pub returns-in-Some : goal.returns-in-Some
@@ -134,7 +133,7 @@ returns-in-Some g c =
     let ended = rw (c.in-Ok-Done.field-0-is, c.region.ensures) at c.in-Ok-Done.ensures.last in
     let large = λ (held : (file : List ℕ) → g.D.Disk.images c.self.inside.disk file → IsLargest
     (length file) c.self.inside.m).
-    largest_stays c.self.inside.m _ _ _ c.advance.ensures.images held in
+    largest_stays c.self.inside.m _ _ _ c.advance.ensures.within.images held in
     rw (← c.self.view_is) (record {
       sound = λ saved coming told held.
           rw c.in-Some.ensures.same
@@ -155,6 +154,7 @@ returns-in-Some g c =
           has_new _ saved coming _ _ held some file (large held.largest file left)
           (ended held.old told held.twin refl file left);
       written = rw c.region.ensures at c.in-Ok-Done.ensures.written;
+      writes = rw c.region.ensures at c.advance.ensures.writes;
       settled = c.in-Ok-Done.ensures.settled;
       steps = λ i. record {
         disk = c.advance.new.disk;
@@ -170,9 +170,7 @@ returns-in-Some g c =
       faults = c.in-Ok-Done.ensures.faults;
       calls = c.advance.ensures.calls;
       untouched = c.advance.ensures.untouched;
-      images = rw c.region.ensures at c.advance.ensures.images;
-      bytes = rw c.region.ensures at c.advance.ensures.bytes;
-      size = c.advance.ensures.size;
+      within = rw c.region.ensures at c.advance.ensures.within;
     })
 
 pub returns-in-Err : goal.returns-in-Err
@@ -183,7 +181,7 @@ returns-in-Err g c =
     let crashed = rw c.region.ensures at c.advance.ensures.crash in
     let large = λ (held : (file : List ℕ) → g.D.Disk.images c.self.inside.disk file → IsLargest
     (length file) c.self.inside.m).
-    largest_stays c.self.inside.m _ _ _ c.advance.ensures.images held in
+    largest_stays c.self.inside.m _ _ _ c.advance.ensures.within.images held in
     rw (← c.self.view_is) (record {
       sound = λ saved coming told held.
           step_sound _ saved coming _ _ held some c.advance.new.disk c.advance.new.self _ _
@@ -200,6 +198,7 @@ returns-in-Err g c =
           (crashed held.old told held.twin file within));
       last = λ saved coming told held done. absurd (cc done);
       written = c.in-Err.ensures.written;
+      writes = rw c.region.ensures at c.advance.ensures.writes;
       settled = c.in-Err.ensures.settled;
       steps = refusal_steps c.in-Err.bad _ c.advance.new.disk c.advance.new.self
           c.in-Err.ensures.steps c.in-Err.ensures.stopped c.advance.ensures.untouched;
@@ -210,7 +209,5 @@ returns-in-Err g c =
       faults = c.in-Err.ensures.faults;
       calls = c.advance.ensures.calls;
       untouched = c.advance.ensures.untouched;
-      images = rw c.region.ensures at c.advance.ensures.images;
-      bytes = rw c.region.ensures at c.advance.ensures.bytes;
-      size = c.advance.ensures.size;
+      within = rw c.region.ensures at c.advance.ensures.within;
     })
