@@ -6,9 +6,7 @@ use Rattle.std.proofs.lemmas.Bool.{cases_eq}
 use Rattle.std.proofs.lemmas.List.{length-drop}
 use Rattle.std.proofs.lemmas.Option.{slice_get_within, slice_get_cases}
 use Rattle.vt_base.specs.declared.place.Place.{Place}
-use Rattle.vt_log.specs.Members.{DiskOf}
-use Rattle.vt_disk.specs.declared.region.Region.{Region}
-use Rattle.vt_disk.specs.Disk.{IsOneMore}
+use Rattle.vt_disk.specs.Members.{DiskOf}
 use Rattle.vt_twin.specs.Twin.{one_more}
 use Rattle.vt_clump.specs.declared.packed.Packed.{Packed}
 use Rattle.vt_model.specs.History.{History}
@@ -19,14 +17,16 @@ use Rattle.vt_log.specs.declared.bad.Progress.{Progress}
 use Rattle.vt_log.specs.declared.bad.Progress.TheVariants.{Idle, Step, Durable}
 use Rattle.vt_log.specs.declared.bad.LogErr.{LogErr}
 use Rattle.vt_log.specs.declared.bad.LogErr.TheVariants.{Fault, Stopped}
-use Rattle.vt_log.specs.Answers.{Advances, MakesCall, EndsCommit}
+use Rattle.vt_log.specs.Answers.{Advances, MakesCall, EndsCommit, CallsArena}
 use Rattle.vt_log.specs.Committing.{TakesAll, Prepares, MakesOrEnds}
+use Rattle.vt_log.specs.Faults.{CountsFaults, is_fault_now}
 use Rattle.vt_log.specs.declared.filling.Filling.{Filling}
 use Rattle.vt_log.specs.declared.queue.Waiting.{Waiting}
-use Rattle.vt_log.specs.Log.{LogState, queued, front, disk_in_use, filled_as, fits_in, next_filling}
+use Rattle.vt_log.specs.Log.{LogState, queued, front, filled_as, fits_in, next_filling}
 use Rattle.vt_log.specs.Queue.{WaitsFor}
-use Rattle.vt_log.specs.Sound.{IsAt, AreWithinCall, StandForPrefix}
+use Rattle.vt_log.specs.Sound.{AreWithinCall, StandForPrefix}
 use Rattle.vt_log.specs.Whole.{IsOnDisk, IsWhole, Fill, turned_to}
+use Rattle.vt_log.proofs.Disks.{tells_set}
 use Rattle.vt_log.proofs.Fillings.{fits_within, turned_arena, fill_arena}
 use Rattle.vt_log.proofs.Memory.{at_slice}
 use Rattle.vt_log.proofs.Owed.{none_made}
@@ -74,18 +74,23 @@ batch_of_none disk l whole idle = at l.queue.waiting refl
 pub stand_as_prepared : {D : Type 0} (score_of : List ℕ → List ℕ) (old m : LogState D) (files : List (List ℕ)) (h : History) → Prepares old m → StandForPrefix score_of m files h → StandForPrefix score_of old files h
 stand_as_prepared {D = D} score_of old m files h prep it = subst (λ (k : LogState D). StandForPrefix score_of k files h) prep.same it
 
-pub at_as_prepared : {D : Type 0} (old m : LogState D) (r : ArenaRegion) (region : Region) (disk : D) → Prepares old m → IsAt old old.committing r region disk → IsAt m m.committing r region disk
-at_as_prepared {D = D} old m r region disk prep at = subst (λ (k : LogState D). IsAt k k.committing r region disk) (sym prep.same) (record { arena = at.arena; region_is = at.region_is; disk_is = at.disk_is })
-
 pub within_as_prepared : {D : Type 0} (disk : DiskOf D) (old m : LogState D) (ds : List D) (files : List (List ℕ)) → Prepares old m → AreWithinCall disk old.disks ds files → AreWithinCall disk m.disks ds files
 within_as_prepared {D = D} disk old m ds files prep left = subst (λ (k : LogState D). AreWithinCall disk k.disks ds files) (sym prep.same) left
 
-pub call_as_prepared : {D : Type 0} (disk : DiskOf D) (old m new : LogState D) → Prepares old m
-    → ((before after : D) → slice_get m.disks (disk_in_use m) ≡ Some before → slice_get new.disks (disk_in_use m) ≡ Some after → IsOneMore (disk.calls before) (disk.calls after))
-    → (before after : D) → slice_get old.disks (disk_in_use old) ≡ Some before → slice_get new.disks (disk_in_use old) ≡ Some after → IsOneMore (disk.calls before) (disk.calls after)
-call_as_prepared {D = D} disk old m new prep it =
-    subst (λ (k : LogState D). (before after : D) → slice_get k.disks (disk_in_use k) ≡ Some before → slice_get new.disks (disk_in_use k) ≡ Some after → IsOneMore (disk.calls before) (disk.calls after))
-    prep.same it
+pub calls_as_prepared : {D : Type 0} (disk : DiskOf D) (result : Result Progress LogErr) (old m new : LogState D) → Prepares old m → CallsArena disk result m new → CallsArena disk result old new
+calls_as_prepared {D = D} disk result old m new prep it =
+    let made : CallsArena disk result (record old { arena = m.arena; queue = m.queue }) new = subst (λ (k : LogState D). CallsArena disk result k new) prep.same it in
+    record {
+      r = made.r;
+      arena = made.arena;
+      before = made.before;
+      after = made.after;
+      was = made.was;
+      disks = made.disks;
+      writes = made.writes;
+      calls = made.calls;
+      cause = made.cause;
+    }
 
 -- where something is queued, an arena is committed in, and its disk is there
 pub committing_there : {D : Type 0} (disk : DiskOf D) (l : LogState D) → IsWhole disk l → 0 < queued l → l.committing < length l.layout
@@ -100,13 +105,9 @@ committing_there disk l whole some = ⊎_elim
         let there = fits_within l.layout (turned_to l.heads w.arena (filled_as l.committing l.arena.next)) w.packed.len fill.2 in
         omega (arith, past, fill.0, slice_get_within l.layout _ there.0 there.1, turned_arena l.heads w.arena (filled_as l.committing l.arena.next))
 
-pub in_use : {D : Type 0} (disk : DiskOf D) (l : LogState D) → IsWhole disk l → 0 < queued l → disk_in_use l < length l.disks
-in_use disk l whole some = ⊎_elim
-    (λ (it : (x : ArenaRegion) × (l.committing < length l.layout) × (slice_get l.layout l.committing ≡ Some x) × (get_or l.layout l.committing x ≡ x)).
-    let on = at_slice (IsOnDisk disk l.disks) l.layout l.committing it.0 whole.regions it.2 in
-    rw it.2 (slice_get_within l.disks it.0.part on.device on.has))
-    (λ (past : (length l.layout ≤ l.committing) × (slice_get l.layout l.committing ≡ None)). absurd (omega (arith, past.0, committing_there disk l whole some)))
-    (slice_get_cases l.layout l.committing).1
+-- what one disk's count tells is what the counts of all tell
+pub cause_as_called : {D : Type 0} (disk : DiskOf D) (result : Result Progress LogErr) (old new : LogState D) → CallsArena disk result old new → CountsFaults disk is_fault_now result old.disks new.disks
+cause_as_called disk result old new it = tells_set disk.faults is_fault_now old.disks new.disks it.r.part it.before it.after result it.was it.disks it.cause
 
 -- no block is lost, and none comes in: those that a commit ends with leave the queue
 pub front_kept : {D : Type 0} (disk : DiskOf D) (r : Result Progress LogErr) (old new : LogState D)

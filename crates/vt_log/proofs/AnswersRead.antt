@@ -6,8 +6,7 @@ use Rattle.std.proofs.lemmas.Option.{slice_get_within}
 use Rattle.vt_base.specs.declared.key.Key.{Key}
 use Rattle.vt_base.specs.declared.place.Place.{Place}
 use Rattle.vt_base.specs.declared.why.FieldValue.TheVariants.{Number}
-use Rattle.vt_log.specs.Members.{DiskOf}
-use Rattle.vt_disk.specs.declared.region.Region.{Region}
+use Rattle.vt_disk.specs.Members.{DiskOf}
 use Rattle.vt_clump.specs.declared.packed.Packed.{Packed}
 use Rattle.vt_clump.specs.declared.reading.Clump.{Clump}
 use Rattle.vt_clump.specs.Spelling.{stored_in}
@@ -83,15 +82,15 @@ nowhere_in {D = D} l m place same none =
 pub not_free : {D : Type 0} (l : LogState D) (place : Place) → IsNowhere l.queue.places place
     → place.arena < length l.layout
     → ((r : ArenaRegion) → slice_get l.layout place.arena ≡ Some r
-    → ¬ HasHeader r.len place.offset → ⊥)
+    → ¬ HasHeader r.region.len place.offset → ⊥)
     → ((i : ℕ) × IsFirstAt l.queue.places place i) ⊎ (length l.layout ≤ place.arena)
     ⊎ ((r : ArenaRegion) × (slice_get l.layout place.arena ≡ Some r)
-    × (¬ HasHeader r.len place.offset)) → ⊥
+    × (¬ HasHeader r.region.len place.offset)) → ⊥
 not_free l place none within has free = ⊎_elim
     (λ (it : (i : ℕ) × IsFirstAt l.queue.places place i). none it.0 it.1.at)
     (⊎_elim (λ (past : length l.layout ≤ place.arena). absurd (omega (arith, within, past)))
     (λ (it : (r : ArenaRegion) × (slice_get l.layout place.arena ≡ Some r)
-    × (¬ HasHeader r.len place.offset)). has it.0 it.1 it.2))
+    × (¬ HasHeader r.region.len place.offset)). has it.0 it.1 it.2))
     free
 
 -- what is answered for a queued place, for one in no arena, and for one in an arena
@@ -108,7 +107,7 @@ answers_queued score_of disk l place key result index p first at gives = record 
   );
   nowhere = λ none. absurd (none index first.at);
   outside = λ r none. absurd (none index first.at);
-  stored = λ r region device none. absurd (none index first.at);
+  stored = λ r device none. absurd (none index first.at);
 }
 
 pub answers_nowhere : {D : Type 0} (score_of : List ℕ → List ℕ) (disk : DiskOf D) (l : LogState D) (place : Place) (key : Key)
@@ -120,7 +119,7 @@ answers_nowhere score_of disk l place key result none past is = record {
   queued = λ i here. absurd (none i here.at);
   nowhere = λ _ _. is;
   outside = λ r _ at. absurd (omega (arith, past, slice_get_within l.layout place.arena r at));
-  stored = λ r region device _ at.
+  stored = λ r device _ at.
       absurd (omega (arith, past, slice_get_within l.layout place.arena r at.arena));
 }
 
@@ -128,16 +127,16 @@ pub answers_there : {D : Type 0} (score_of : List ℕ → List ℕ) (disk : Disk
     (l : LogState D) (place : Place) (key : Key) (result : Result (List ℕ) ReadBad)
     → IsNowhere l.queue.places place → place.arena < length l.layout
     → ((r : ArenaRegion) → slice_get l.layout place.arena ≡ Some r
-    → ¬ HasHeader r.len place.offset
+    → ¬ HasHeader r.region.len place.offset
     → result ≡ Err (Damaged (Number HEAD_LEN) (Number place.offset)))
-    → ((r : ArenaRegion) (region : Region) (device : D) → IsAt l place.arena r region device
-    → HasHeader r.len place.offset → (clump : List ℕ)
-    × (IsTrue disk.tells → clump ≡ clump_at region place.offset (disk.bytes device))
+    → ((r : ArenaRegion) (device : D) → IsAt l place.arena r device
+    → HasHeader r.region.len place.offset → (clump : List ℕ)
+    × (IsTrue disk.tells → clump ≡ clump_at r.region place.offset (disk.bytes device))
     × ReadsAs score_of key clump result)
     → AnswersRead score_of disk l place key result
 answers_there score_of disk l place key result none within outside stored = record {
   queued = λ i here. absurd (none i here.at);
   nowhere = λ _ past. absurd (omega (arith, within, past));
   outside = λ r _. outside r;
-  stored = λ r region device _. stored r region device;
+  stored = λ r device _. stored r device;
 }

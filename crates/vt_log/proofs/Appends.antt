@@ -8,7 +8,7 @@ use Rattle.std.proofs.lemmas.List.Elements.{All-push, All-head, All-tail, All-we
 use Rattle.std.proofs.lemmas.List.Sums.{sum_by-append}
 use Rattle.std.proofs.lemmas.Option.{slice_get_within, slice_get_cases, same_Some}
 use Rattle.vt_base.specs.declared.place.Place.{Place}
-use Rattle.vt_log.specs.Members.{DiskOf}
+use Rattle.vt_disk.specs.Members.{DiskOf}
 use Rattle.vt_clump.specs.declared.packed.Packed.{Packed}
 use Rattle.vt_clump.specs.Clumps.{IsPacked, stored_of}
 use Rattle.vt_model.specs.declared.TheConstants.{HEAD_LEN}
@@ -227,10 +227,10 @@ append_sound score_of disk l h packed place f well sound room is place_is = (
     contents = sound.contents;
     many = sound.many;
     split = sound.split;
-    current = λ r region device a at has. sound.current r region device a (record { arena = at.arena; region_is = at.region_is; disk_is = at.disk_is }) has;
-    others = λ i r region device a other at has. sound.others i r region device a other (record { arena = at.arena; region_is = at.region_is; disk_is = at.disk_is }) has;
+    current = λ r device a at has. sound.current r device a (record { arena = at.arena; disk_is = at.disk_is }) has;
+    others = λ i r device a other at has. sound.others i r device a other (record { arena = at.arena; disk_is = at.disk_is }) has;
     heads = sound.heads;
-    selectors = λ i r region device found behind at has. sound.selectors i r region device found behind (record { arena = at.arena; region_is = at.region_is; disk_is = at.disk_is }) has;
+    selectors = λ i r device found behind at has. sound.selectors i r device found behind (record { arena = at.arena; disk_is = at.disk_is }) has;
     committed = take-append-le l.durable h (e ∷ []) inside ∙ sound.committed;
     queued = drop-append-le l.durable h (e ∷ []) inside ∙ ap (λ (q : History). q ++ e ∷ []) sound.queued
         ∙ append_assoc (map (accepted l.committing) (added_by l.arena)) (map waiting_block l.queue.waiting) (e ∷ [])

@@ -1,39 +1,36 @@
 -- Partitions that are read, and what is found of their arenas.
 use Rattle.std.proofs.Common.{◌≡◌, ◌≢◌, ⊎_elim, inl, inr, ℕ, zero, suc, ◌+◌, ◌*◌, ◌%◌, ◌<◌, ◌≤◌, ◌==◌, ◌||◌, Bool, true, false, cond, List, [], ◌∷◌, ◌++◌, length, get_or, map, set, take, drop, refl, sym, ◌∙◌, ap, subst, arith, append_assoc, append-nil, take-append-drop, Some, None, Option, option_map, Ok, Err, Result, IsTrue}
-use Rattle.std.specs.Prelude.{All, slice_get, slice_index, sum_by, not, OnOk}
+use Rattle.std.specs.Prelude.{All, slice_get, slice_index, sum_by, not, OnOk, MatchBool}
 use Rattle.std.proofs.lemmas.Bool.{cases_eq}
 use Rattle.std.proofs.lemmas.List.{length-map, length_push, map-append, drop_more, drop_all, map_more, length-take-le}
 use Rattle.std.proofs.lemmas.Option.{slice_get_within, slice_get-get_or, slice_get-map, same_Some, get_or_from_slice_get}
-use Rattle.vt_base.specs.Faults.{HasRisen}
-use Rattle.vt_log.specs.Members.{DiskOf}
-use Rattle.vt_disk.specs.declared.region.Region.{Region}
-use Rattle.vt_disk.specs.Disk.{AreAmong, Only, part as part_of}
-use Rattle.vt_twin.specs.Frames.{named_number}
+use Rattle.vt_base.specs.Faults.{CountsFault}
+use Rattle.vt_disk.specs.Members.{DiskOf}
+use Rattle.vt_disk.specs.Calls.{OnlyReads, IsSynced}
+use Rattle.vt_disk.specs.Disk.{AreAmong, IsOneMore}
 use Rattle.vt_part.specs.declared.bad.PartBad.{PartBad}
 use Rattle.vt_part.specs.declared.layout.ArenaRegion.{ArenaRegion}
 use Rattle.vt_part.specs.declared.part.Part.{Part}
 use Rattle.vt_part.specs.Parts.{disk_of}
-use Rattle.vt_arena.specs.declared.TheConstants.{FRAME_LEN, FIELDS_LEN}
 use Rattle.vt_arena.specs.declared.bad.ArenaBad.{ArenaBad}
 use Rattle.vt_arena.specs.declared.bad.ArenaBad.TheVariants.{Fault as ArenaFault, NotFormatted, Torn, NoMemory as ArenaNoMemory}
 use Rattle.vt_arena.specs.declared.bad.Field.TheVariants.{Sealed}
 use Rattle.vt_arena.specs.declared.head.ArenaHead.{ArenaHead}
 use Rattle.vt_arena.specs.declared.head.Found.{Found}
 use Rattle.vt_arena.specs.Arena.{ArenaState, fresh_arena}
-use Rattle.vt_arena.specs.Faults.{first_bad as first_bad_in, Finds, CanStand, CountsFault as ArenaCountsFault}
+use Rattle.vt_arena.specs.Faults.{first_bad as first_bad_in, Finds, CanStand, is_fault as is_arena_fault}
 use Rattle.vt_arena.specs.Heads.{fields_of, flag_of, sealed_in, clumps_in}
 use Rattle.vt_arena.specs.Layout.{Content, IsArena, fields_at, head_of}
 use Rattle.vt_arena.specs.Places.{IsArenaLen}
+use Rattle.vt_arena.specs.Sound.{IsRegion}
 use Rattle.vt_log.specs.declared.bad.LogBad.{LogBad}
 use Rattle.vt_log.specs.declared.bad.LogBad.TheVariants.{Part as PartRefused, Arena, Order, Fault, NoMemory}
 use Rattle.vt_log.specs.Answers.{HoldTheSame}
-use Rattle.vt_log.specs.Faults.{AreFields, CountsFault, OneHasRisen, bad_arena, first_of_two, out_of_order, first_bad}
+use Rattle.vt_log.specs.Faults.{AreFields, CountsFaults, OneHasRisen, is_fault, bad_arena, first_of_two, out_of_order, first_bad}
 use Rattle.vt_log.specs.Log.{disks_of}
-use Rattle.vt_log.specs.Logs.{IsRegionOf}
 use Rattle.vt_log.specs.Mounting.{IsTold, IsEarly, AreSettled, StopsSyncing, AreRead, AreFieldsAt, FindsNext, refused_by, IsFound, AreFound, RefusesArenas, ArePassed, IsRoomFor}
 use Rattle.vt_log.specs.Whole.{IsOnDisk}
-use Rattle.vt_log.proofs.Calls.{same_region}
-use Rattle.vt_log.proofs.Disks.{map_same, parts_disks, parts_tables, calls_set, hold_set, risen_set}
+use Rattle.vt_log.proofs.Disks.{parts_disks, parts_tables, calls_set, hold_set, tells_as, tells_set}
 use Rattle.vt_log.proofs.Memory.{slice_get_other, at_slice, slice_get_left, slice_get_right, slice_get_set_same, slice_get_set_other}
 
 -- lists of one image have one length, and one image of the elements at a place
@@ -51,16 +48,16 @@ on_ok (Err e) p = tt
 -- ---- room
 
 pub room_there : (layout : List ArenaRegion) (heads : List Found) (arena : ℕ) (r : ArenaRegion) (found : Found) (a : ArenaState) → slice_get layout arena ≡ Some r → slice_get heads arena ≡ Some found
-    → a ≡ fresh_arena r.len (found.selector % 2) found.head → IsRoomFor layout heads arena a
+    → a ≡ fresh_arena r.region.len (found.selector % 2) found.head → IsRoomFor layout heads arena a
 room_there layout heads arena r found a at_r at_found fresh = record {
-  len = r.len;
+  len = r.region.len;
   current = found.selector % 2;
   head = found.head;
   fresh = fresh;
   there = λ q other at_q at_other.
       let r_is : r ≡ q = same_Some r q (sym at_r ∙ at_q) in
       let found_is : found ≡ other = same_Some found other (sym at_found ∙ at_other) in
-      (ap (λ (x : ArenaRegion). x.len) r_is, ap (λ (x : Found). x.selector % 2) found_is, ap (λ (x : Found). x.head) found_is);
+      (ap (λ (x : ArenaRegion). x.region.len) r_is, ap (λ (x : Found). x.selector % 2) found_is, ap (λ (x : Found). x.head) found_is);
   past = λ past. absurd (omega (arith, past, slice_get_within layout arena r at_r));
 }
 
@@ -111,16 +108,20 @@ module _ {D : Type 0} (disk : DiskOf D) where
   read_more m k ps qs most read = record { tables = read.tables; disks = read.disks; calls_most = λ told. omega (arith, most, read.calls_most told) }
 
   -- one disk is read or synced
-  pub read_set : (n i : ℕ) (ps : List (Part D)) (p : Part D) (d : D) → slice_get ps i ≡ Some p → disk.bytes d ≡ disk.bytes (disk_of p) → AreAmong (disk.images d) (disk.images (disk_of p)) → disk.size d ≡ disk.size (disk_of p)
-      → (IsTrue disk.tells → disk.calls d ≤ disk.calls (disk_of p) + n) → AreRead disk n ps (set ps i (record p { disk = d }))
-  read_set n i ps p d at same_bytes among same_size most =
+  pub read_set : (n i : ℕ) (ps : List (Part D)) (p : Part D) (d : D) → slice_get ps i ≡ Some p → OnlyReads disk n (disk_of p) d → AreRead disk n ps (set ps i (record p { disk = d }))
+  read_set n i ps p d at reads =
       let was : slice_get (disks_of ps) i ≡ Some (disk_of p) = slice_get-map (λ (part : Part D). disk_of part) ps i ∙ rw at in
       let is = parts_disks ps i p d in
       record {
         tables = parts_tables ps i p d at;
-        disks = subst (λ (ds : List D). HoldTheSame disk (disks_of ps) ds) (sym is) (hold_set disk (disks_of ps) i (disk_of p) d was same_bytes among same_size);
-        calls_most = λ told. subst (λ (ds : List D). sum_by disk.calls ds ≤ sum_by disk.calls (disks_of ps) + n) (sym is) (calls_set disk.calls (disks_of ps) i (disk_of p) d n was (most told));
+        disks = subst (λ (ds : List D). HoldTheSame disk (disks_of ps) ds) (sym is) (hold_set disk n (disks_of ps) i (disk_of p) d was reads);
+        calls_most = λ told. subst (λ (ds : List D). sum_by disk.calls ds ≤ sum_by disk.calls (disks_of ps) + n) (sym is) (calls_set disk.calls (disks_of ps) i (disk_of p) d n was (reads.calls told));
       }
+
+  -- a sync is a call that only reads
+  pub synced : (d e : D) → disk.bytes e ≡ disk.bytes d → AreAmong (disk.images e) (disk.images d) → disk.size e ≡ disk.size d
+      → (IsTrue disk.tells → IsOneMore (disk.calls d) (disk.calls e)) → OnlyReads disk 1 d e
+  synced d e bytes images size calls = record { bytes = bytes; images = images; size = size; calls = λ told. omega (arith, calls told) }
 
   -- a sync that fails is the last call
   pub sync_stops : (old ps : List (Part D)) (i : ℕ) (p : Part D) (d : D) → slice_get ps i ≡ Some p
@@ -141,29 +142,28 @@ module _ {D : Type 0} (disk : DiskOf D) where
       }
 
   -- what is settled stays settled
-  pub settled_held : (ds es : List D) → HoldTheSame disk ds es → All (λ device. Only (disk.bytes device) (disk.images device)) ds → All (λ device. Only (disk.bytes device) (disk.images device)) es
-  settled_held ds es hold settled i d within =
+  pub settled_held : (ds es : List D) → HoldTheSame disk ds es → All (IsSynced disk) ds → All (IsSynced disk) es
+  settled_held ds es hold settled i d within told =
       let e : D = get_or es i d in
       let at : slice_get es i ≡ Some e = slice_get-get_or es i d within in
       let was = slice_get_other ds es i e (map_long disk.size ds es hold.sizes_are) at in
-      λ c left. at_slice (λ device. Only (disk.bytes device) (disk.images device)) ds i was.0 settled was.1 c (hold.images_are i was.0 e was.1 at c left) ∙ sym (map_there disk.bytes ds es i was.0 e hold.bytes_are was.1 at)
+      λ c left. at_slice (IsSynced disk) ds i was.0 settled was.1 told c (hold.images_are i was.0 e was.1 at c left) ∙ sym (map_there disk.bytes ds es i was.0 e hold.bytes_are was.1 at)
 
   -- each disk that was synced is settled
-  pub settled_more : (ps : List (Part D)) (i : ℕ) (p : Part D) (d : D) → slice_get ps i ≡ Some p → Only (disk.bytes d) (disk.images d)
-      → ((k : ℕ) (e : D) → k < i → slice_get (disks_of ps) k ≡ Some e → Only (disk.bytes e) (disk.images e))
-      → (k : ℕ) (e : D) → k < i + 1 → slice_get (disks_of (set ps i (record p { disk = d }))) k ≡ Some e → Only (disk.bytes e) (disk.images e)
+  pub settled_more : (ps : List (Part D)) (i : ℕ) (p : Part D) (d : D) → slice_get ps i ≡ Some p → IsSynced disk d
+      → ((k : ℕ) (e : D) → k < i → slice_get (disks_of ps) k ≡ Some e → IsSynced disk e)
+      → (k : ℕ) (e : D) → k < i + 1 → slice_get (disks_of (set ps i (record p { disk = d }))) k ≡ Some e → IsSynced disk e
   settled_more ps i p d at settled before k e less is =
       let there : slice_get (set (disks_of ps) i d) k ≡ Some e = ap (λ (ds : List D). slice_get ds k) (sym (parts_disks ps i p d)) ∙ is in
       ⊎_elim
       (λ (here : k ≡ i).
       let within : i < length (disks_of ps) = omega (arith, slice_get_within ps i p at, length-map ps (λ (part : Part D). disk_of part)) in
       let same : d ≡ e = same_Some d e (sym (slice_get_set_same (disks_of ps) i d within) ∙ sym (ap (slice_get (set (disks_of ps) i d)) here) ∙ there) in
-      subst (λ (x : D). Only (disk.bytes x) (disk.images x)) same settled)
+      subst (IsSynced disk) same settled)
       (λ (other : k ≢ i). before k e (omega (arith, less, other)) (sym (slice_get_set_other (disks_of ps) i k d other) ∙ there))
       (cases_eq k i)
 
-  pub settled_all : (ds : List D) (n : ℕ) → length ds ≤ n → ((k : ℕ) (e : D) → k < n → slice_get ds k ≡ Some e → Only (disk.bytes e) (disk.images e))
-      → All (λ device. Only (disk.bytes device) (disk.images device)) ds
+  pub settled_all : (ds : List D) (n : ℕ) → length ds ≤ n → ((k : ℕ) (e : D) → k < n → slice_get ds k ≡ Some e → IsSynced disk e) → All (IsSynced disk) ds
   settled_all ds n many settled k d within = settled k (get_or ds k d) (omega (arith, many, within)) (slice_get-get_or ds k d within)
 
 -- ---- one arena
@@ -171,7 +171,7 @@ module _ {D : Type 0} (disk : DiskOf D) where
 -- the partition of a region is there, with its disk
 pub record IsPartOf {D : Type 0} (disk : DiskOf D) (ps : List (Part D)) (r : ArenaRegion) : Type 0 where
   pub below : r.part < length ps
-  pub part_is : (p : Part D) → slice_get ps r.part ≡ Some p → (r.at + r.len ≤ disk.size (disk_of p))
+  pub part_is : (p : Part D) → slice_get ps r.part ≡ Some p → IsRegion r.region (disk.size (disk_of p))
 
 disk_at : {D : Type 0} (ps : List (Part D)) (i : ℕ) (p : Part D) (d : D) → slice_get ps i ≡ Some p → slice_get (disks_of ps) i ≡ Some d → disk_of p ≡ d
 disk_at {D = D} ps i p d at is =
@@ -180,7 +180,7 @@ disk_at {D = D} ps i p d at is =
 pub part_of_region : {D : Type 0} (disk : DiskOf D) (ps : List (Part D)) (r : ArenaRegion) → IsOnDisk disk (disks_of ps) r → IsPartOf disk ps r
 part_of_region {D = D} disk ps r on = record {
   below = omega (arith, slice_get_within (disks_of ps) r.part on.device on.has, length-map ps (λ (part : Part D). disk_of part));
-  part_is = λ p at. omega (arith, on.within, ap disk.size (disk_at ps r.part p on.device at on.has));
+  part_is = λ p at. subst (IsRegion r.region) (sym (ap disk.size (disk_at ps r.part p on.device at on.has))) on.region;
 }
 
 -- the file of a partition
@@ -188,58 +188,52 @@ file_at : {D : Type 0} (disk : DiskOf D) (ps : List (Part D)) (i : ℕ) (p : Par
 file_at {D = D} disk ps i p file at is =
     same_Some (disk.bytes (disk_of p)) file (sym (slice_get-map disk.bytes (disks_of ps) i ∙ ap (option_map disk.bytes) (slice_get-map (λ (part : Part D). disk_of part) ps i ∙ ap (option_map (λ (part : Part D). disk_of part)) at)) ∙ is)
 
-pub fields_for : {D : Type 0} (disk : DiskOf D) (ps : List (Part D)) (r : ArenaRegion) (p : Part D) (region : Region) (fields : List ℕ) → slice_get ps r.part ≡ Some p
-    → fields ≡ fields_at region (disk.bytes (disk_of p)) → IsRegionOf r region → AreFieldsAt (map disk.bytes (disks_of ps)) r fields
-fields_for disk ps r p region fields at is place other file other_place file_is =
-    is
-    ∙ ap (fields_at region) (file_at disk ps r.part p file at file_is)
-    ∙ ap (λ (x : Region). fields_at x file) (same_region region other (place.start ∙ sym other_place.start) (place.len ∙ sym other_place.len))
+pub fields_for : {D : Type 0} (disk : DiskOf D) (ps : List (Part D)) (r : ArenaRegion) (p : Part D) (fields : List ℕ) → slice_get ps r.part ≡ Some p
+    → fields ≡ fields_at r.region (disk.bytes (disk_of p)) → AreFieldsAt (map disk.bytes (disks_of ps)) r fields
+fields_for disk ps r p fields at is file file_is = is ∙ ap (fields_at r.region) (file_at disk ps r.part p file at file_is)
 
 -- what finding it gives
-pub found_for : {D : Type 0} (disk : DiskOf D) (ps : List (Part D)) (r : ArenaRegion) (p : Part D) (region : Region) (found : Found) → slice_get ps r.part ≡ Some p
-    → CanStand r.number r.len found.head
-    → (IsTrue disk.tells → found.selector % 2 ≡ named_number region FRAME_LEN (disk.bytes (disk_of p)))
-    → ((score_of : List ℕ → List ℕ) (a : Content) → IsTrue disk.tells → IsArena score_of region r.number a (disk.bytes (disk_of p)) → found.head ≡ head_of score_of r.number a)
-    → IsRegionOf r region → (device : D) → slice_get (disks_of ps) r.part ≡ Some device → IsFound disk.tells r (disk.bytes device) found
-found_for {D = D} disk ps r p region found at stands selector head place device is =
-    subst (λ (d : D). IsFound disk.tells r (disk.bytes d) found) (disk_at ps r.part p device at is) (record {
-      stands = stands;
-      selector = λ other told other_place. selector told ∙ ap (λ (x : Region). named_number x FRAME_LEN (disk.bytes (disk_of p))) (same other other_place);
-      head = λ score_of other a told other_place arena.
-          head score_of a told (subst (λ (x : Region). IsArena score_of x r.number a (disk.bytes (disk_of p))) (sym (same other other_place)) arena);
-    })
-  where
-    same : (other : Region) → IsRegionOf r other → region ≡ other
-    same other other_place = same_region region other (place.start ∙ sym other_place.start) (place.len ∙ sym other_place.len)
+pub found_for : {D : Type 0} (disk : DiskOf D) (ps : List (Part D)) (r : ArenaRegion) (p : Part D) (found : Found) → slice_get ps r.part ≡ Some p
+    → IsFound disk.tells r (disk.bytes (disk_of p)) found → (device : D) → slice_get (disks_of ps) r.part ≡ Some device → IsFound disk.tells r (disk.bytes device) found
+found_for {D = D} disk ps r p found at finds device is =
+    subst (λ (d : D). IsFound disk.tells r (disk.bytes d) found) (disk_at ps r.part p device at is) finds
 
-pub finds_ok : (arena : ℕ) (r : ArenaRegion) (fields : List ℕ) (found : Found) → Finds r.number r.len fields (Ok found) → FindsNext false arena r fields (Ok found)
+pub finds_ok : (arena : ℕ) (r : ArenaRegion) (fields : List ℕ) (found : Found) → Finds r.number r.region.len fields (Ok found) → FindsNext false arena r fields (Ok found)
 finds_ok arena r fields found is = (ap (λ (o : Option ArenaBad). bad_arena false arena o fields) is.0, is.1)
 
-pub finds_err : (arena : ℕ) (r : ArenaRegion) (fields : List ℕ) (bad : ArenaBad) → Finds r.number r.len fields (Err bad) → FindsNext false arena r fields (Err (refused_by arena bad))
+pub finds_err : (arena : ℕ) (r : ArenaRegion) (fields : List ℕ) (bad : ArenaBad) → Finds r.number r.region.len fields (Err bad) → FindsNext false arena r fields (Err (refused_by arena bad))
 finds_err arena r fields ArenaFault is = tt
 finds_err arena r fields NotFormatted is = ap (λ (o : Option ArenaBad). bad_arena false arena o fields) is
 finds_err arena r fields (Torn field found want) is = ap (λ (o : Option ArenaBad). bad_arena false arena o fields) is
 finds_err arena r fields ArenaNoMemory is = absurd is
 
--- the counts of faults
-pub same_counts : {D : Type 0} (f : D → ℕ) (ps : List (Part D)) (i : ℕ) (p : Part D) (d : D) → slice_get ps i ≡ Some p → f d ≡ f (disk_of p)
-    → map f (disks_of (set ps i (record p { disk = d }))) ≡ map f (disks_of ps)
-same_counts {D = D} f ps i p d at same =
-    ap (map f) (parts_disks ps i p d)
-    ∙ map_same f (disks_of ps) i (disk_of p) d (slice_get-map (λ (part : Part D). disk_of part) ps i ∙ ap (option_map (λ (part : Part D). disk_of part)) at) same
+-- the counts of faults, where one partition's disk was called
+pub counts_set : {D T E : Type 0} (disk : DiskOf D) (is_fault : E → Bool) (ps : List (Part D)) (i : ℕ) (p : Part D) (d : D) (result : Result T E) → slice_get ps i ≡ Some p
+    → CountsFault is_fault result (disk.faults (disk_of p)) (disk.faults d) → CountsFaults disk is_fault result (disks_of ps) (disks_of (set ps i (record p { disk = d })))
+counts_set {D = D} disk is_fault ps i p d result at cause =
+    tells_set disk.faults is_fault (disks_of ps) (disks_of (set ps i (record p { disk = d }))) i (disk_of p) d result
+    (slice_get-map (λ (part : Part D). disk_of part) ps i ∙ ap (option_map (λ (part : Part D). disk_of part)) at) (parts_disks ps i p d) cause
 
-pub risen_counts : {D : Type 0} (f : D → ℕ) (ps : List (Part D)) (i : ℕ) (p : Part D) (d : D) → slice_get ps i ≡ Some p → HasRisen (f (disk_of p)) (f d)
-    → OneHasRisen (map f (disks_of ps)) (map f (disks_of (set ps i (record p { disk = d }))))
-risen_counts {D = D} f ps i p d at risen =
-    subst (λ (ds : List D). OneHasRisen (map f (disks_of ps)) (map f ds)) (sym (parts_disks ps i p d))
-    (risen_set f (disks_of ps) i (disk_of p) d (slice_get-map (λ (part : Part D). disk_of part) ps i ∙ ap (option_map (λ (part : Part D). disk_of part)) at) risen).0
+-- and where none of them had moved before
+pub counts_from : {D T E : Type 0} (disk : DiskOf D) (is_fault : E → Bool) (ds es fs : List D) (result : Result T E) → map disk.faults es ≡ map disk.faults ds
+    → CountsFaults disk is_fault result es fs → CountsFaults disk is_fault result ds fs
+counts_from disk is_fault ds es fs result same cause =
+    tells_as is_fault result (λ rose. subst (λ (ns : List ℕ). OneHasRisen ns (map disk.faults fs)) same rose) (λ stayed. stayed ∙ same) cause
 
-pub refused_counts : {D : Type 0} (f : D → ℕ) (ps : List (Part D)) (i arena : ℕ) (p : Part D) (d : D) (bad : ArenaBad) → slice_get ps i ≡ Some p → ArenaCountsFault bad (f (disk_of p)) (f d)
-    → CountsFault (refused_by arena bad) (map f (disks_of ps)) (map f (disks_of (set ps i (record p { disk = d }))))
-refused_counts f ps i arena p d ArenaFault at cause = risen_counts f ps i p d at cause
-refused_counts f ps i arena p d NotFormatted at cause = same_counts f ps i p d at cause
-refused_counts f ps i arena p d (Torn field found want) at cause = same_counts f ps i p d at cause
-refused_counts f ps i arena p d ArenaNoMemory at cause = same_counts f ps i p d at cause
+-- what is told of a log is a fault where what is told of its arena is
+refused_fault : (arena : ℕ) (bad : ArenaBad) → is_fault (refused_by arena bad) ≡ is_arena_fault bad
+refused_fault arena ArenaFault = refl
+refused_fault arena NotFormatted = refl
+refused_fault arena (Torn field found want) = refl
+refused_fault arena ArenaNoMemory = refl
+
+pub counts_refused : {D : Type 0} (disk : DiskOf D) (ps : List (Part D)) (i arena : ℕ) (p : Part D) (d : D) (bad : ArenaBad) → slice_get ps i ≡ Some p
+    → CountsFault {T = Found} is_arena_fault (Err bad) (disk.faults (disk_of p)) (disk.faults d)
+    → CountsFaults {T = Found} disk is_fault (Err (refused_by arena bad)) (disks_of ps) (disks_of (set ps i (record p { disk = d })))
+counts_refused {D = D} disk ps i arena p d bad at cause =
+    let new : List (Part D) = set ps i (record p { disk = d }) in
+    subst (λ (b : Bool). MatchBool b (OneHasRisen (map disk.faults (disks_of ps)) (map disk.faults (disks_of new))) (map disk.faults (disks_of new) ≡ map disk.faults (disks_of ps)))
+    (sym (refused_fault arena bad)) (counts_set {T = Found} disk is_arena_fault ps i p d (Err bad) at cause)
 
 -- ---- its place in the order
 
@@ -250,8 +244,8 @@ behind_same behind arena None fields bad is = absurd (cc)
 -- an arena that can't be mounted is told of before its place is looked at
 pub next_refused : (behind : Bool) (arena : ℕ) (r : ArenaRegion) (fields : List ℕ) (bad : LogBad) → FindsNext false arena r fields (Err bad) → FindsNext behind arena r fields (Err bad)
 next_refused behind arena r fields (PartRefused bad) is = is
-next_refused behind arena r fields (Arena i bad) is = behind_same behind arena (first_bad_in r.number r.len fields) fields (Arena i bad) is
-next_refused behind arena r fields (Order i clumps) is = behind_same behind arena (first_bad_in r.number r.len fields) fields (Order i clumps) is
+next_refused behind arena r fields (Arena i bad) is = behind_same behind arena (first_bad_in r.number r.region.len fields) fields (Arena i bad) is
+next_refused behind arena r fields (Order i clumps) is = behind_same behind arena (first_bad_in r.number r.region.len fields) fields (Order i clumps) is
 next_refused behind arena r fields Fault is = tt
 next_refused behind arena r fields NoMemory is = is
 
@@ -262,7 +256,7 @@ behind_open arena None fields is = refl
 pub order_passes : (arena : ℕ) (r : ArenaRegion) (fields : List ℕ) (found : Found) → FindsNext false arena r fields (Ok found) → out_of_order arena (fields_of found.head) ≡ None
     → FindsNext true arena r fields (Ok found)
 order_passes arena r fields found is none =
-    (behind_open arena (first_bad_in r.number r.len fields) fields is.0 ∙ ap (out_of_order arena) (sym is.1) ∙ none, is.1)
+    (behind_open arena (first_bad_in r.number r.region.len fields) fields is.0 ∙ ap (out_of_order arena) (sym is.1) ∙ none, is.1)
 
 never_part : (arena clumps : ℕ) (none unsealed : Bool) (it : ArenaBad) (bad : PartBad) → cond none (cond unsealed None (Some (Arena arena it))) (Some (Order arena clumps)) ≡ Some (PartRefused bad) → ⊥
 never_part arena clumps true true it bad is = cc
@@ -279,9 +273,9 @@ pub order_refused : (arena : ℕ) (r : ArenaRegion) (fields : List ℕ) (found :
 order_refused arena r fields found (PartRefused bad) is order =
     absurd (never_part arena (clumps_in (fields_of found.head)) (clumps_in (fields_of found.head) == 0) (sealed_in (fields_of found.head) == 0) (Torn Sealed 1 0) bad order)
 order_refused arena r fields found (Arena i bad) is order =
-    behind_open arena (first_bad_in r.number r.len fields) fields is.0 ∙ ap (out_of_order arena) (sym is.1) ∙ order
+    behind_open arena (first_bad_in r.number r.region.len fields) fields is.0 ∙ ap (out_of_order arena) (sym is.1) ∙ order
 order_refused arena r fields found (Order i clumps) is order =
-    behind_open arena (first_bad_in r.number r.len fields) fields is.0 ∙ ap (out_of_order arena) (sym is.1) ∙ order
+    behind_open arena (first_bad_in r.number r.region.len fields) fields is.0 ∙ ap (out_of_order arena) (sym is.1) ∙ order
 order_refused arena r fields found Fault is order = tt
 order_refused arena r fields found NoMemory is order =
     absurd (never_memory arena (clumps_in (fields_of found.head)) (clumps_in (fields_of found.head) == 0) (sealed_in (fields_of found.head) == 0) (Torn Sealed 1 0) order)
@@ -290,29 +284,23 @@ order_refused arena r fields found NoMemory is order =
 
 -- the fields of an arena's current head, where its partition's file is there
 abbrev pub fields_there : (files : List (List ℕ)) → ArenaRegion → List ℕ
-fields_there files r =
-    let file = get_or files r.part [] in
-    take FIELDS_LEN (part_of (r.at + FRAME_LEN * (slice_index file (r.at + 2 * FRAME_LEN) % 2)) FRAME_LEN file)
+fields_there files r = fields_at r.region (get_or files r.part [])
 
-there_is : (files : List (List ℕ)) (r : ArenaRegion) (region : Region) (file : List ℕ) → IsRegionOf r region → slice_get files r.part ≡ Some file → fields_there files r ≡ fields_at region file
-there_is files r region file place is =
-    ap (λ (file : List ℕ). take FIELDS_LEN (part_of (r.at + FRAME_LEN * (slice_index file (r.at + 2 * FRAME_LEN) % 2)) FRAME_LEN file)) (get_or_from_slice_get files r.part file [] is)
-    ∙ ap (λ (start : ℕ). take FIELDS_LEN (part_of (start + FRAME_LEN * (slice_index file (start + 2 * FRAME_LEN) % 2)) FRAME_LEN file)) (sym place.start)
+there_is : (files : List (List ℕ)) (r : ArenaRegion) (file : List ℕ) → slice_get files r.part ≡ Some file → fields_there files r ≡ fields_at r.region file
+there_is files r file is = ap (fields_at r.region) (get_or_from_slice_get files r.part file [] is)
 
 pub fields_are : (files : List (List ℕ)) (layout : List ArenaRegion) → AreFields layout files (map (fields_there files) layout)
 fields_are files layout = record {
   many = length-map layout (fields_there files);
-  each = λ i r region file at place is.
-      slice_get-map (fields_there files) layout i ∙ ap (option_map (fields_there files)) at ∙ ap (λ (l : List ℕ). Some l) (there_is files r region file place is);
+  each = λ i r file at is.
+      slice_get-map (fields_there files) layout i ∙ ap (option_map (fields_there files)) at ∙ ap (λ (l : List ℕ). Some l) (there_is files r file is);
 }
 
 pub fields_one : {D : Type 0} (disk : DiskOf D) (ds : List D) (r : ArenaRegion) (fields : List ℕ) → IsOnDisk disk ds r → AreFieldsAt (map disk.bytes ds) r fields
     → fields ≡ fields_there (map disk.bytes ds) r
 fields_one disk ds r fields on are =
-    let region : Region = record { start = r.at; len = r.len; in_range = on.small } in
-    let place : IsRegionOf r region = record { start = refl; len = refl } in
     let is : slice_get (map disk.bytes ds) r.part ≡ Some (disk.bytes on.device) = slice_get-map disk.bytes ds r.part ∙ ap (option_map disk.bytes) on.has in
-    are region (disk.bytes on.device) place is ∙ sym (there_is (map disk.bytes ds) r region (disk.bytes on.device) place is)
+    are (disk.bytes on.device) is ∙ sym (there_is (map disk.bytes ds) r (disk.bytes on.device) is)
 
 -- the fields of the heads that were found
 abbrev pub fields_of_all : List Found → List (List ℕ)
@@ -332,16 +320,16 @@ flag_is_none : (b : Bool) → (flag_of b == 0) ≡ not b
 flag_is_none true = refl
 flag_is_none false = refl
 
-at_step : (behind : Bool) (i : ℕ) (r : ArenaRegion) (rest : List ArenaRegion) (f : List ℕ) (fs : List (List ℕ)) → bad_arena behind i (first_bad_in r.number r.len f) f ≡ None
+at_step : (behind : Bool) (i : ℕ) (r : ArenaRegion) (rest : List ArenaRegion) (f : List ℕ) (fs : List (List ℕ)) → bad_arena behind i (first_bad_in r.number r.region.len f) f ≡ None
     → first_bad behind i (r ∷ rest) (f ∷ fs) ≡ first_bad (behind || sealed_in f == 0) (i + 1) rest fs
 at_step behind i r rest f fs none = ap (λ (o : Option LogBad). first_of_two o (first_bad (behind || sealed_in f == 0) (i + 1) rest fs)) none
 
-at_stop : (behind : Bool) (i : ℕ) (r : ArenaRegion) (rest : List ArenaRegion) (f : List ℕ) (fs : List (List ℕ)) (bad : LogBad) → bad_arena behind i (first_bad_in r.number r.len f) f ≡ Some bad
+at_stop : (behind : Bool) (i : ℕ) (r : ArenaRegion) (rest : List ArenaRegion) (f : List ℕ) (fs : List (List ℕ)) (bad : LogBad) → bad_arena behind i (first_bad_in r.number r.region.len f) f ≡ Some bad
     → first_bad behind i (r ∷ rest) (f ∷ fs) ≡ Some bad
 at_stop behind i r rest f fs bad is = ap (λ (o : Option LogBad). first_of_two o (first_bad (behind || sealed_in f == 0) (i + 1) rest fs)) is
 
 pub passes_more : (layout : List ArenaRegion) (heads : List Found) (behind next : Bool) (i : ℕ) (r : ArenaRegion) (found : Found) → Passes layout heads behind i → slice_get layout i ≡ Some r
-    → bad_arena behind i (first_bad_in r.number r.len (fields_of found.head)) (fields_of found.head) ≡ None
+    → bad_arena behind i (first_bad_in r.number r.region.len (fields_of found.head)) (fields_of found.head) ≡ None
     → next ≡ (behind || not found.head.sealed) → Passes layout (heads ++ found ∷ []) next (i + 1)
 passes_more layout heads behind next i r found passes at none next_is rest =
     let f : List ℕ = fields_of found.head in
@@ -354,7 +342,7 @@ passes_more layout heads behind next i r found passes at none next_is rest =
     ∙ ap (λ (b : Bool). first_bad b (i + 1) (drop (i + 1) layout) rest) (ap (λ (b : Bool). behind || b) (flag_is_none found.head.sealed) ∙ sym next_is)
 
 pub passes_stop : (layout : List ArenaRegion) (heads : List Found) (behind : Bool) (i : ℕ) (r : ArenaRegion) (f : List ℕ) (rest : List (List ℕ)) (bad : LogBad) → Passes layout heads behind i → slice_get layout i ≡ Some r
-    → bad_arena behind i (first_bad_in r.number r.len f) f ≡ Some bad → first_bad false 0 layout (fields_of_all heads ++ f ∷ rest) ≡ Some bad
+    → bad_arena behind i (first_bad_in r.number r.region.len f) f ≡ Some bad → first_bad false 0 layout (fields_of_all heads ++ f ∷ rest) ≡ Some bad
 passes_stop layout heads behind i r f rest bad passes at is =
     passes (f ∷ rest)
     ∙ ap (λ (rs : List ArenaRegion). first_bad behind i rs (f ∷ rest)) (drop_at layout i r at)
@@ -452,10 +440,7 @@ on_held disk ds es r hold on =
     let now = slice_get_other es ds r.part on.device (sym (map_long disk.size ds es hold.sizes_are)) on.has in record {
       device = now.0;
       has = now.1;
-      within = omega (arith, on.within, map_there disk.size ds es r.part on.device now.0 hold.sizes_are on.has now.1);
-      small = on.small;
-      aligned = on.aligned;
-      len = on.len;
+      region = subst (IsRegion r.region) (sym (map_there disk.size ds es r.part on.device now.0 hold.sizes_are on.has now.1)) on.region;
     }
 
 -- what is found is told by the file
@@ -478,10 +463,10 @@ fields_more disk ds layout heads i r found regions at are so_far =
 -- a head that was found can stand in its region
 pub found_stands : {D : Type 0} (disk : DiskOf D) (ds : List D) (rs : List ArenaRegion) (heads : List Found) (i : ℕ) (r : ArenaRegion) (found : Found)
     → All (IsOnDisk disk ds) rs → AreFound disk.tells rs (map disk.bytes ds) heads → slice_get rs i ≡ Some r → slice_get heads i ≡ Some found
-    → IsArenaLen r.len × CanStand r.number r.len found.head
+    → IsArenaLen r.region.len × CanStand r.number r.region.len found.head
 found_stands {D = D} disk ds rs heads i r found regions are at at_found =
     let on = at_slice (IsOnDisk disk ds) rs i r regions at in
-    (on.len, (are.each i r (disk.bytes on.device) found at (slice_get-map disk.bytes ds r.part ∙ ap (option_map disk.bytes) on.has) at_found).stands)
+    (on.region.len, (are.each i r (disk.bytes on.device) found at (slice_get-map disk.bytes ds r.part ∙ ap (option_map disk.bytes) on.has) at_found).stands)
 
 -- ---- what is told
 

@@ -1,14 +1,13 @@
 -- What a device call of a commit leaves of a log.
 use Rattle.std.proofs.Common.{◌≡◌, ◌≢◌, ◌⊎◌, ⊎_elim, ℕ, ◌+◌, ◌^◌, ◌<◌, ◌≤◌, Bool, true, false, cond, List, ◌++◌, get_or, map, set, refl, sym, ◌∙◌, ap, subst, arith, Some, None, Option, inl, inr}
 use Rattle.std.specs.Prelude.{AllPairs, slice_get, nat_lt}
-use Rattle.std.specs.Coded.{le_prop}
 use Rattle.std.proofs.Math.Dec.{leb}
 use Rattle.std.proofs.lemmas.Bool.{cases_eq}
 use Rattle.std.proofs.lemmas.Bool.Decides.{leb_tells}
 use Rattle.std.proofs.lemmas.List.{length-set}
 use Rattle.std.proofs.lemmas.List.Elements.{All-weaker}
 use Rattle.std.proofs.lemmas.Option.{slice_get_within, get_or_from_slice_get, same_Some}
-use Rattle.vt_log.specs.Members.{DiskOf}
+use Rattle.vt_disk.specs.Members.{DiskOf}
 use Rattle.vt_disk.specs.declared.region.Region.{Region}
 use Rattle.vt_disk.specs.Disk.{SameBut, WithinCall}
 use Rattle.vt_disk.specs.Region.{Inside, ChangesWithin, region_bytes}
@@ -24,7 +23,7 @@ use Rattle.vt_arena.specs.declared.TheConstants.{FRAME_LEN}
 use Rattle.vt_arena.specs.declared.head.ArenaHead.{ArenaHead}
 use Rattle.vt_arena.specs.Arena.{ArenaState, next_content, pieces, after_step, after_piece, after_head, after_fault, stopped_at_call, changing}
 use Rattle.vt_arena.specs.Layout.{Content, IsArena}
-use Rattle.vt_arena.specs.Sound.{IsSettled, IsSound as IsSoundArena, GivesOldOrNext}
+use Rattle.vt_arena.specs.Sound.{IsRegion, IsSettled, IsSound as IsSoundArena, GivesOldOrNext}
 use Rattle.vt_arena.proofs.Fresh.{settled_elsewhere}
 use Rattle.vt_arena.proofs.Regions.{arena_in_region, named_in_region}
 use Rattle.vt_log.specs.Committing.{IsReady}
@@ -35,21 +34,6 @@ use Rattle.vt_log.specs.Sound.{IsAt, IsSound, AreWithinCall, StandForPrefix}
 use Rattle.vt_log.specs.Whole.{IsOnDisk, IsWhole}
 use Rattle.vt_log.proofs.Images.{region_long, number_is, stand_for_prefix, moment_stands}
 use Rattle.vt_log.proofs.Memory.{slice_get_other, slice_get_set_same, slice_get_set_other}
-
--- two regions of the same bytes are one
-made : (s l : ℕ) → s + l < 2 ^ 64 → Region
-made s l h = record { start = s; len = l; in_range = h }
-
-made_once : (s l : ℕ) (g h : s + l < 2 ^ 64) → made s l g ≡ made s l h
-unfolding made
-made_once s l g h = ap (made s l) (le_prop g h)
-
-pub same_region : (p q : Region) → p.start ≡ q.start → p.len ≡ q.len → p ≡ q
-unfolding made
-same_region p q s l =
-    subst (λ (t : ℕ). (k : t + q.len < 2 ^ 64) → p ≡ made t q.len k) s
-    (subst (λ (m : ℕ). (k : p.start + m < 2 ^ 64) → p ≡ made p.start m k) l
-    (λ k. made_once p.start p.len p.in_range k)) q.in_range
 
 -- what the calls of a commit leave of an arena but the last
 pub record KeepsArena (a b : ArenaState) : Type 0 where
@@ -81,18 +65,12 @@ on_disk_set disk ds i d e r at same on = ⊎_elim
     record {
       device = e;
       has = ap (slice_get (set ds i e)) here ∙ slice_get_set_same ds i e (slice_get_within ds i d at);
-      within = omega (arith, on.within, same, ap disk.size device);
-      small = on.small;
-      aligned = on.aligned;
-      len = on.len;
+      region = subst (IsRegion r.region) (sym (ap disk.size device) ∙ sym same) on.region;
     })
     (λ (other : r.part ≢ i). record {
       device = on.device;
       has = slice_get_set_other ds i r.part e other ∙ on.has;
-      within = on.within;
-      small = on.small;
-      aligned = on.aligned;
-      len = on.len;
+      region = on.region;
     })
     (cases_eq r.part i)
 
@@ -126,15 +104,15 @@ call_whole disk l i d e b calls stopped whole ready keeps runs at same = record 
 
 -- two arenas' regions on one disk are apart
 pub apart_at : (layout : List ArenaRegion) (i j : ℕ) (r q : ArenaRegion) → AllPairs IsBefore layout → i ≢ j → slice_get layout i ≡ Some r → slice_get layout j ≡ Some q → r.part ≡ q.part
-    → (r.at + r.len ≤ q.at) ⊎ (q.at + q.len ≤ r.at)
+    → (r.region.start + r.region.len ≤ q.region.start) ⊎ (q.region.start + q.region.len ≤ r.region.start)
 apart_at layout i j r q pairs other at_i at_j part = ⊎_elim
     (λ (t : (leb i j ≡ true) × (i ≤ j)).
     let lt : i < j = omega (arith, t.1, other) in
     let before : IsBefore r q = pair i j r q lt at_i at_j in
-    ⊎_elim (λ (h : r.part < q.part). absurd (omega (arith, h, part))) (λ (h : (r.part ≡ q.part) × (r.at + r.len ≤ q.at)). inl h.1) before)
+    ⊎_elim (λ (h : r.part < q.part). absurd (omega (arith, h, part))) (λ (h : (r.part ≡ q.part) × (r.region.start + r.region.len ≤ q.region.start)). inl h.1) before)
     (λ (t : (leb i j ≡ false) × (j < i)).
     let before : IsBefore q r = pair j i q r t.1 at_j at_i in
-    ⊎_elim (λ (h : q.part < r.part). absurd (omega (arith, h, part))) (λ (h : (q.part ≡ r.part) × (q.at + q.len ≤ r.at)). inr h.1) before)
+    ⊎_elim (λ (h : q.part < r.part). absurd (omega (arith, h, part))) (λ (h : (q.part ≡ r.part) × (q.region.start + q.region.len ≤ r.region.start)). inr h.1) before)
     (leb_tells i j)
   where
     pair : (i j : ℕ) (r q : ArenaRegion) → i < j → slice_get layout i ≡ Some r → slice_get layout j ≡ Some q → IsBefore r q
@@ -154,67 +132,65 @@ pub record StaysAt {D : Type 0} (score_of : List ℕ → List ℕ) (disk : DiskO
   pub arena : (number : ℕ) (a : Content) → IsArena score_of region number a (disk.bytes before) → IsArena score_of region number a (disk.bytes after)
   pub selector : named_number region FRAME_LEN (disk.bytes after) ≡ named_number region FRAME_LEN (disk.bytes before)
 
-pub others_stay : {D : Type 0} (score_of : List ℕ → List ℕ) (disk : DiskOf D) (l : LogState D) (r : ArenaRegion) (region : Region) (d e : D)
-    → IsWhole disk l → IsAt l l.committing r region d → ChangesRegion disk region d e
-    → (i : ℕ) (q : ArenaRegion) (other : Region) (before after : D) → i ≢ l.committing → IsAt l i q other before → slice_get (set l.disks r.part e) q.part ≡ Some after
-    → StaysAt score_of disk other before after
-others_stay {D = D} score_of disk l r region d e whole at changes i q other before after not_this there_at now = ⊎_elim
+pub others_stay : {D : Type 0} (score_of : List ℕ → List ℕ) (disk : DiskOf D) (l : LogState D) (r : ArenaRegion) (d e : D)
+    → IsWhole disk l → IsAt l l.committing r d → ChangesRegion disk r.region d e
+    → (i : ℕ) (q : ArenaRegion) (before after : D) → i ≢ l.committing → IsAt l i q before → slice_get (set l.disks r.part e) q.part ≡ Some after
+    → StaysAt score_of disk q.region before after
+others_stay {D = D} score_of disk l r d e whole at changes i q before after not_this there_at now = ⊎_elim
     (λ (same : q.part ≡ r.part).
     let was : d ≡ before = same_Some d before (sym at.disk_is ∙ sym (ap (slice_get l.disks) same) ∙ there_at.disk_is) in
     let is : e ≡ after = same_Some e after (sym (slice_get_set_same l.disks r.part e (slice_get_within l.disks r.part d at.disk_is)) ∙ sym (ap (slice_get (set l.disks r.part e)) same) ∙ now) in
     let gap = apart_at l.layout i l.committing q r whole.apart not_this there_at.arena at.arena same in
-    let clear : (k : ℕ) → Inside region k → ¬ Inside other k = λ k inside there. ⊎_elim
-    (λ (h : q.at + q.len ≤ r.at). omega (arith, h, inside.0, there.1, at.region_is.start, there_at.region_is.start, there_at.region_is.len))
-    (λ (h : r.at + r.len ≤ q.at). omega (arith, h, inside.1, there.0, at.region_is.start, at.region_is.len, there_at.region_is.start)) gap in
-    let long : 24576 ≤ other.len = region_long disk l i q other before whole there_at in
-    let stay : region_bytes other (disk.bytes e) ≡ region_bytes other (disk.bytes d) =
-    part_same (Inside region) other.start other.len (disk.bytes d) (disk.bytes e) changes.bytes_are (λ k above below inside. clear k inside (above, below)) in
-    subst (λ (x : D). StaysAt score_of disk other x after) was (subst (λ (x : D). StaysAt score_of disk other d x) is (record {
-      settled = settled_elsewhere other region (disk.bytes d) (disk.bytes e) (disk.images d) (disk.images e) clear changes.bytes_are changes.images_are;
-      arena = λ number a. arena_in_region score_of other number a (disk.bytes d) (disk.bytes e) long stay;
-      selector = named_in_region other (disk.bytes d) (disk.bytes e) long stay;
+    let clear : (k : ℕ) → Inside r.region k → ¬ Inside q.region k = λ k inside there. ⊎_elim
+    (λ (h : q.region.start + q.region.len ≤ r.region.start). omega (arith, h, inside.0, there.1))
+    (λ (h : r.region.start + r.region.len ≤ q.region.start). omega (arith, h, inside.1, there.0)) gap in
+    let long : 24576 ≤ q.region.len = region_long disk l i q before whole there_at in
+    let stay : region_bytes q.region (disk.bytes e) ≡ region_bytes q.region (disk.bytes d) =
+    part_same (Inside r.region) q.region.start q.region.len (disk.bytes d) (disk.bytes e) changes.bytes_are (λ k above below inside. clear k inside (above, below)) in
+    subst (λ (x : D). StaysAt score_of disk q.region x after) was (subst (λ (x : D). StaysAt score_of disk q.region d x) is (record {
+      settled = settled_elsewhere q.region r.region (disk.bytes d) (disk.bytes e) (disk.images d) (disk.images e) clear changes.bytes_are changes.images_are;
+      arena = λ number a. arena_in_region score_of q.region number a (disk.bytes d) (disk.bytes e) long stay;
+      selector = named_in_region q.region (disk.bytes d) (disk.bytes e) long stay;
     })))
     (λ (different : q.part ≢ r.part).
     let same : before ≡ after = same_Some before after (sym there_at.disk_is ∙ sym (slice_get_set_other l.disks r.part q.part e different) ∙ now) in
-    subst (λ (x : D). StaysAt score_of disk other before x) same (record { settled = λ h. h; arena = λ number a h. h; selector = refl }))
+    subst (λ (x : D). StaysAt score_of disk q.region before x) same (record { settled = λ h. h; arena = λ number a h. h; selector = refl }))
     (cases_eq q.part r.part)
 
 -- the disk of an arena was one before
-pub at_before : {D : Type 0} (l k : LogState D) (i : ℕ) (q : ArenaRegion) (other : Region) (after : D) (part : ℕ) (e : D) → k.layout ≡ l.layout → k.disks ≡ set l.disks part e
-    → IsAt k i q other after → (before : D) × IsAt l i q other before × (slice_get (set l.disks part e) q.part ≡ Some after)
-at_before l k i q other after part e layout disks at =
+pub at_before : {D : Type 0} (l k : LogState D) (i : ℕ) (q : ArenaRegion) (after : D) (part : ℕ) (e : D) → k.layout ≡ l.layout → k.disks ≡ set l.disks part e
+    → IsAt k i q after → (before : D) × IsAt l i q before × (slice_get (set l.disks part e) q.part ≡ Some after)
+at_before l k i q after part e layout disks at =
     let now : slice_get (set l.disks part e) q.part ≡ Some after = sym (ap (λ ds. slice_get ds q.part) disks) ∙ at.disk_is in
     let was = slice_get_other l.disks (set l.disks part e) q.part after (length-set l.disks part e) now in
-    (was.0, record { arena = sym (ap (λ rs. slice_get rs i) layout) ∙ at.arena; region_is = at.region_is; disk_is = was.1 }, now)
+    (was.0, record { arena = sym (ap (λ rs. slice_get rs i) layout) ∙ at.arena; disk_is = was.1 }, now)
 
 -- a disk stays sound by a call that ends no commit
 pub call_sound : {D : Type 0} (score_of : List ℕ → List ℕ) (disk : DiskOf D) (l : LogState D) (h : History)
-    (r : ArenaRegion) (region : Region) (d e : D) (b : ArenaState) (calls : ℕ) (stopped : Option ℕ) → (sound : IsSound score_of disk l h) → IsReady l → KeepsArena l.arena b
-    → (stopped ≡ None → b.stopped ≡ None) → IsAt l l.committing r region d → ChangesRegion disk region d e
-    → ((a : Content) → slice_get sound.contents l.committing ≡ Some a → IsSoundArena score_of b region a (disk.bytes e) (disk.images e))
+    (r : ArenaRegion) (d e : D) (b : ArenaState) (calls : ℕ) (stopped : Option ℕ) → (sound : IsSound score_of disk l h) → IsReady l → KeepsArena l.arena b
+    → (stopped ≡ None → b.stopped ≡ None) → IsAt l l.committing r d → ChangesRegion disk r.region d e
+    → ((a : Content) → slice_get sound.contents l.committing ≡ Some a → IsSoundArena score_of b r.region a (disk.bytes e) (disk.images e))
     → IsSound score_of disk (record l { disks = set l.disks r.part e; arena = b; calls = calls; stopped = stopped }) h
-call_sound {D = D} score_of disk l h r region d e b calls stopped sound ready keeps runs at changes stays = record {
+call_sound {D = D} score_of disk l h r d e b calls stopped sound ready keeps runs at changes stays = record {
   whole = call_whole disk l r.part d e b calls stopped sound.whole ready keeps runs at.disk_is changes.size_is;
   contents = sound.contents;
   many = sound.many;
   split = sound.split;
-  current = λ q other device a there_at has.
+  current = λ q device a there_at has.
       let r_is : r ≡ q = same_Some r q (sym at.arena ∙ there_at.arena) in
       let part : q.part ≡ r.part = ap (λ (x : ArenaRegion). x.part) (sym r_is) in
       let disk_is : e ≡ device = same_Some e device (sym (slice_get_set_same l.disks r.part e (slice_get_within l.disks r.part d at.disk_is)) ∙ sym (ap (slice_get (set l.disks r.part e)) part) ∙ there_at.disk_is) in
-      let region_is : region ≡ other = same_region region other
-      (at.region_is.start ∙ ap (λ (x : ArenaRegion). x.at) r_is ∙ sym there_at.region_is.start) (at.region_is.len ∙ ap (λ (x : ArenaRegion). x.len) r_is ∙ sym there_at.region_is.len) in
-      subst (λ (x : Region). IsSoundArena score_of b x a (disk.bytes device) (disk.images device)) region_is (subst (λ (x : D). IsSoundArena score_of b region a (disk.bytes x) (disk.images x)) disk_is (stays a has));
-  others = λ i q other device a not_this there_at has.
-      let was = at_before l _ i q other device r.part e refl refl there_at in
-      let rest = sound.others i q other was.0 a not_this was.1 has in
-      let stay = others_stay score_of disk l r region d e sound.whole at changes i q other was.0 device not_this was.1 was.2 in
+      subst (λ (x : ArenaRegion). IsSoundArena score_of b x.region a (disk.bytes device) (disk.images device)) r_is (subst (λ (x : D). IsSoundArena score_of b r.region a (disk.bytes x) (disk.images x)) disk_is (stays a has));
+  others = λ i q device a not_this there_at has.
+      let was = at_before l _ i q device r.part e refl refl there_at in
+      let rest = sound.others i q was.0 a not_this was.1 has in
+      let stay = others_stay score_of disk l r d e sound.whole at changes i q was.0 device not_this was.1 was.2 in
       (stay.settled rest.0, stay.arena q.number a rest.1);
   heads = sound.heads;
-  selectors = λ i q other device found behind there_at has.
-      let was = at_before l _ i q other device r.part e refl refl there_at in
-      let stay = others_stay score_of disk l r region d e sound.whole at changes i q other was.0 device (λ same. omega (arith, behind, same)) was.1 was.2 in
-      sound.selectors i q other was.0 found behind was.1 has ∙ sym stay.selector;
+  selectors = λ i q device found behind there_at has.
+      let was = at_before l _ i q device r.part e refl refl there_at in
+      let stay = others_stay score_of disk l r d e sound.whole at changes i q was.0 device (λ same. omega (arith, behind, same)) was.1 was.2 in
+      sound.selectors i q was.0 found behind was.1 has ∙ sym stay.selector;
   committed = sound.committed;
   queued = sound.queued ∙ sym (ap (λ (ps : List Packed). map (accepted l.committing) (map stored_of ps) ++ map waiting_block l.queue.waiting) keeps.staged);
   front = sound.front;
@@ -227,35 +203,32 @@ call_sound {D = D} score_of disk l h r region d e b calls stopped sound ready ke
 
 -- A crash at any moment of a call leaves disks that stand for a prefix.
 pub call_stands : {D : Type 0} (score_of : List ℕ → List ℕ) (disk : DiskOf D) (l : LogState D) (h : History)
-    (r : ArenaRegion) (region : Region) (d e : D) (Began : Type 0) (files : List (List ℕ)) → (sound : IsSound score_of disk l h)
-    → IsAt l l.committing r region d → ChangesRegion disk region d e
+    (r : ArenaRegion) (d e : D) (Began : Type 0) (files : List (List ℕ)) → (sound : IsSound score_of disk l h)
+    → IsAt l l.committing r d → ChangesRegion disk r.region d e
     → ((a : Content) → slice_get sound.contents l.committing ≡ Some a → (c : List ℕ) → WithinCall (disk.images d) (disk.images e) c
-    → GivesOldOrNext Began score_of region l.arena.number a (next_content l.arena a) c)
+    → GivesOldOrNext Began score_of r.region l.arena.number a (next_content l.arena a) c)
     → AreWithinCall disk l.disks (set l.disks r.part e) files → StandForPrefix score_of l files h
-call_stands {D = D} score_of disk l h r region d e Began files sound at changes crashes left =
+call_stands {D = D} score_of disk l h r d e Began files sound at changes crashes left =
     stand_for_prefix score_of disk l h files sound left.many
-    (λ q other device a file there_at has of.
+    (λ q device a file there_at has of.
     let r_is : r ≡ q = same_Some r q (sym at.arena ∙ there_at.arena) in
-    let d_is : d ≡ device = same_Some d device (sym at.disk_is ∙ ap (λ (x : ArenaRegion). slice_get l.disks x.part) r_is ∙ there_at.disk_is) in
-    let region_is : region ≡ other = same_region region other
-    (at.region_is.start ∙ ap (λ (x : ArenaRegion). x.at) r_is ∙ sym there_at.region_is.start) (at.region_is.len ∙ ap (λ (x : ArenaRegion). x.len) r_is ∙ sym there_at.region_is.len) in
     let number : l.arena.number ≡ q.number = number_is disk l q sound.whole there_at.arena in
     let moment : WithinCall (disk.images d) (disk.images e) file = left.each r.part d e file at.disk_is (slice_get_set_same l.disks r.part e (slice_get_within l.disks r.part d at.disk_is))
     (ap (λ (x : ArenaRegion). slice_get files x.part) r_is ∙ of) in
     ⊎_elim
-    (λ (old : IsArena score_of region l.arena.number a file).
-    inl (subst (λ (x : Region). IsArena score_of x q.number a file) region_is (subst (λ (n : ℕ). IsArena score_of region n a file) number old)))
-    (λ (next : Began × IsArena score_of region l.arena.number (next_content l.arena a) file).
-    inr (subst (λ (x : Region). IsArena score_of x q.number (next_content l.arena a) file) region_is (subst (λ (n : ℕ). IsArena score_of region n (next_content l.arena a) file) number next.1)))
+    (λ (old : IsArena score_of r.region l.arena.number a file).
+    inl (subst (λ (x : ArenaRegion). IsArena score_of x.region q.number a file) r_is (subst (λ (n : ℕ). IsArena score_of r.region n a file) number old)))
+    (λ (next : Began × IsArena score_of r.region l.arena.number (next_content l.arena a) file).
+    inr (subst (λ (x : ArenaRegion). IsArena score_of x.region q.number (next_content l.arena a) file) r_is (subst (λ (n : ℕ). IsArena score_of r.region n (next_content l.arena a) file) number next.1)))
     (crashes a has file moment))
-    (λ i q other device a file not_this there_at has of.
+    (λ i q device a file not_this there_at has of.
     let after = slice_get_other (set l.disks r.part e) l.disks q.part device (sym (length-set l.disks r.part e)) there_at.disk_is in
-    let stay = others_stay score_of disk l r region d e sound.whole at changes i q other device after.0 not_this there_at after.1 in
-    let rest = sound.others i q other device a not_this there_at has in
-    let long : 24576 ≤ other.len = region_long disk l i q other device sound.whole there_at in
+    let stay = others_stay score_of disk l r d e sound.whole at changes i q device after.0 not_this there_at after.1 in
+    let rest = sound.others i q device a not_this there_at has in
+    let long : 24576 ≤ q.region.len = region_long disk l i q device sound.whole there_at in
     ⊎_elim
-    (λ (was : disk.images device file). arena_in_region score_of other q.number a (disk.bytes device) file long (rest.0 file was) rest.1)
-    (λ (is : disk.images after.0 file). arena_in_region score_of other q.number a (disk.bytes after.0) file long (stay.settled rest.0 file is) (stay.arena q.number a rest.1))
+    (λ (was : disk.images device file). arena_in_region score_of q.region q.number a (disk.bytes device) file long (rest.0 file was) rest.1)
+    (λ (is : disk.images after.0 file). arena_in_region score_of q.region q.number a (disk.bytes after.0) file long (stay.settled rest.0 file is) (stay.arena q.number a rest.1))
     (left.each q.part device after.0 file there_at.disk_is after.1 of))
 
 -- and where no call is made

@@ -13,17 +13,12 @@ use Rattle.vt_base.specs.declared.why.FieldValue.TheVariants.{Number, Score as S
 use Rattle.vt_base.specs.Damage.{Differ}
 use Rattle.vt_base.specs.Kind.{is_kind}
 use Rattle.vt_base.specs.declared.TheConstants.{MAX_BLOCK}
-use Rattle.vt_log.specs.Members.{DiskOf}
+use Rattle.vt_disk.specs.Members.{DiskOf}
 use Rattle.vt_clump.specs.declared.reading.ClumpBad.{ClumpBad}
 use Rattle.vt_clump.specs.Faults.{or_else, bad_encoding, bad_size, bad_header, other_score, first_bad}
 use Rattle.vt_clump.specs.Spelling.{size_in, uncsize_in, stored_in}
-use Rattle.vt_arena.specs.declared.bad.BackBad.{BackBad}
-use Rattle.vt_arena.specs.declared.bad.BackBad.TheVariants.{Damaged as EntryDamaged, Fault as EntryFault}
 use Rattle.vt_arena.specs.declared.bad.ReadBad.{ReadBad}
 use Rattle.vt_arena.specs.declared.bad.ReadBad.TheVariants.{Damaged}
-use Rattle.vt_arena.specs.declared.directory.At.{At}
-use Rattle.vt_arena.specs.Directory.{kind_in, size_in as size_in_entry, uncsize_in as uncsize_in_entry, is_out_of_sum, first_bad as first_bad_entry}
-use Rattle.vt_arena.specs.Places.{block_room}
 use Rattle.vt_arena.specs.Reading.{HasHeader, damage_of, IsDamaged}
 use Rattle.vt_log.specs.Log.{LogState}
 use Rattle.vt_log.specs.Queue.{IsNowhere}
@@ -152,50 +147,18 @@ pub answer_two : {D : Type 0} (score_of : List ℕ → List ℕ) (disk : DiskOf 
     → (want found : FieldValue) → result ≡ Err (Damaged want found) → Differ want found
 answer_two score_of disk l place key result whole none within answer want found bad =
     let at = slice_get_there l.layout place.arena within in
-    let len = (at_slice (IsOnDisk disk l.disks) l.layout _ at.0 whole.regions at.1).len in
+    let len = (at_slice (IsOnDisk disk l.disks) l.layout _ at.0 whole.regions at.1).region.len in
     let it = there disk l place.arena at.0 whole at.1 in
-    ⊎_elim (λ (has : HasHeader at.0.len place.offset).
-    let stored = answer.stored at.0 it.region it.disk none it.at has in
+    ⊎_elim (λ (has : HasHeader at.0.region.len place.offset).
+    let stored = answer.stored at.0 it.disk none it.at has in
     ⊎_elim (damaged_two score_of stored.0 want found)
     (λ (other : (_ ≡ None) × _). key_two key _ _ want found other.1)
     (subst (ReadsAs score_of key stored.0) bad stored.2))
-    (λ (no : ¬ HasHeader at.0.len place.offset).
+    (λ (no : ¬ HasHeader at.0.region.len place.offset).
     let told : Err (Damaged want found) ≡ Err (Damaged (Number 24576) (Number place.offset)) =
     sym bad ∙ answer.outside at.0 none at.1 no in
     let want_is : want ≡ Number 24576 = cc in
     let found_is : found ≡ Number place.offset = cc in
     as_two want found _ _ want_is found_is (numbers 24576 place.offset
     (λ offset. no (omega (arith, offset), omega (arith, offset, len)))))
-    (header_cases at.0.len place.offset)
-
--- ---- an entry of a directory
-
--- where the sum of the clumps doesn't come out, it isn't that of what is left
-out_of_sum : (at : At) (size : ℕ) → is_out_of_sum at size ≡ true → at.end ≢ block_room size
-out_of_sum at size out same = grind (arith, nat_tests)
-
--- this fault of an entry, if there is one, has two values
-abbrev EntryHasTwo : Option BackBad → Type 0
-EntryHasTwo (Some (EntryDamaged want found)) = Differ want found
-EntryHasTwo (Some EntryFault) = Unit
-EntryHasTwo None = Unit
-
-pub entry_two : (used : ℕ) (at : At) (entry : List ℕ) (want found : FieldValue) → at.end ≤ used
-    → first_bad_entry used at entry ≡ Some (EntryDamaged want found) → Differ want found
-entry_two used at entry want found within bad = subst EntryHasTwo bad
-    (choose EntryHasTwo (not (is_kind (kind_in entry))) _ _
-    (λ none. numbers 13 _ (kind_two _ none))
-    (λ _. choose EntryHasTwo (size == 0 || nat_lt MAX_BLOCK size) _ _
-    (λ none. numbers 1 size (λ same.
-    let of_one : (1 == 0 || nat_lt MAX_BLOCK 1) ≡ true =
-    ap (λ (n : ℕ). n == 0 || nat_lt MAX_BLOCK n) same ∙ none in
-    absurd (cc)))
-    (λ _. choose EntryHasTwo (not (uncsize_in_entry entry == size)) _ _
-    (λ other. numbers size (uncsize_in_entry entry) (λ same. grind (arith)))
-    (λ _. choose EntryHasTwo (is_out_of_sum at size) _ _
-    (λ out. numbers used (used - at.end + block_room size)
-    (λ same. out_of_sum at size out (omega (arith, same, within))))
-    (λ _. tt)))))
-  where
-    size : ℕ
-    size = size_in_entry entry
+    (header_cases at.0.region.len place.offset)

@@ -1,12 +1,13 @@
 -- Lists of disks of which one changes.
-use Rattle.std.proofs.Common.{◌≡◌, ◌≢◌, ⊎_elim, ℕ, zero, suc, ◌+◌, ◌≤◌, List, [], ◌∷◌, map, set, refl, sym, ◌∙◌, ap, subst, arith, Some, Ok, Err, Result}
-use Rattle.std.specs.Prelude.{slice_get, slice_index, sum_by, MatchResult}
+use Rattle.std.proofs.Common.{◌≡◌, ◌≢◌, ⊎_elim, ℕ, zero, suc, ◌+◌, ◌≤◌, Bool, true, false, List, [], ◌∷◌, map, set, refl, sym, ◌∙◌, ap, subst, arith, Some, Ok, Err, Result}
+use Rattle.std.specs.Prelude.{slice_get, slice_index, sum_by, MatchBool}
 use Rattle.std.proofs.lemmas.Bool.{cases_eq}
 use Rattle.std.proofs.lemmas.List.{map-set, length-set, length-map, get_or-map, get_or-set_same, get_or-set_other}
 use Rattle.std.proofs.lemmas.List.Sums.{sum_by-set}
 use Rattle.std.proofs.lemmas.Option.{slice_get_within, get_or_from_slice_get, same_Some}
-use Rattle.vt_base.specs.Faults.{HasRisen, HasCause}
-use Rattle.vt_log.specs.Members.{DiskOf}
+use Rattle.vt_base.specs.Faults.{HasRisen, TellsFault, CountsFault}
+use Rattle.vt_disk.specs.Members.{DiskOf}
+use Rattle.vt_disk.specs.Calls.{OnlyReads}
 use Rattle.vt_disk.specs.Disk.{AreAmong}
 use Rattle.vt_part.specs.declared.part.Part.{Part}
 use Rattle.vt_part.specs.Parts.{disk_of, table_of, tables_of}
@@ -51,24 +52,37 @@ risen_set f xs i x y at risen =
       refl,
     )
 
-pub hold_set : {D : Type 0} (disk : DiskOf D) (ds : List D) (i : ℕ) (d e : D) → slice_get ds i ≡ Some d
-    → disk.bytes e ≡ disk.bytes d → AreAmong (disk.images e) (disk.images d) → disk.size e ≡ disk.size d → HoldTheSame disk ds (set ds i e)
-hold_set {D = D} disk ds i d e at same_bytes among same_size = record {
-  bytes_are = map_same disk.bytes ds i d e at same_bytes;
-  sizes_are = map_same disk.size ds i d e at same_size;
+pub hold_set : {D : Type 0} (disk : DiskOf D) (most : ℕ) (ds : List D) (i : ℕ) (d e : D) → slice_get ds i ≡ Some d → OnlyReads disk most d e → HoldTheSame disk ds (set ds i e)
+hold_set {D = D} disk most ds i d e at reads = record {
+  bytes_are = map_same disk.bytes ds i d e at reads.bytes;
+  sizes_are = map_same disk.size ds i d e at reads.size;
   images_are = λ j before after was is. ⊎_elim
       (λ (here : j ≡ i).
       let b : d ≡ before = same_Some d before (sym at ∙ sym (ap (slice_get ds) here) ∙ was) in
       let a : e ≡ after = same_Some e after (sym (slice_get_set_same ds i e (slice_get_within ds i d at)) ∙ sym (ap (slice_get (set ds i e)) here) ∙ is) in
-      subst (λ (x : D). AreAmong (disk.images after) (disk.images x)) b (subst (λ (x : D). AreAmong (disk.images x) (disk.images d)) a among))
+      subst (λ (x : D). AreAmong (disk.images after) (disk.images x)) b (subst (λ (x : D). AreAmong (disk.images x) (disk.images d)) a reads.images))
       (λ (other : j ≢ i).
       let same : before ≡ after = same_Some before after (sym was ∙ sym (slice_get_set_other ds i j e other) ∙ is) in
       λ c left. subst (λ (x : D). disk.images x c) (sym same) left)
       (cases_eq j i);
 }
 
+-- what tells a fault tells what follows from it
+pub tells_as : {T E P Q R S : Type 0} (is_fault : E → Bool) (result : Result T E) → (P → R) → (Q → S) → TellsFault is_fault result P Q → TellsFault is_fault result R S
+tells_as is_fault (Ok t) rises stays cause = stays cause
+tells_as {P = P} {Q = Q} {R = R} {S = S} is_fault (Err e) rises stays cause = at (is_fault e) cause
+  where
+    at : (b : Bool) → MatchBool b P Q → MatchBool b R S
+    at true cause = rises cause
+    at false cause = stays cause
+
 -- the counts of faults after a call of one disk
-pub cause_set : {X T E : Type 0} (f : X → ℕ) (xs ys : List X) (i : ℕ) (x y : X) (result : Result T E) → slice_get xs i ≡ Some x → ys ≡ set xs i y → HasCause result (f x) (f y)
-    → MatchResult result (λ _. map f ys ≡ map f xs) (λ _. OneHasRisen (map f xs) (map f ys))
-cause_set {X = X} f xs ys i x y (Ok t) at is cause = ap (map f) is ∙ map_same f xs i x y at cause
-cause_set {X = X} f xs ys i x y (Err e) at is cause = subst (λ (zs : List X). OneHasRisen (map f xs) (map f zs)) (sym is) (risen_set f xs i x y at cause).0
+module _ {X T E : Type 0} (f : X → ℕ) (is_fault : E → Bool) (xs ys : List X) (i : ℕ) (x y : X) (result : Result T E) (at : slice_get xs i ≡ Some x) (is : ys ≡ set xs i y) where
+  stayed : f y ≡ f x → map f ys ≡ map f xs
+  stayed same = ap (map f) is ∙ map_same f xs i x y at same
+
+  rose : HasRisen (f x) (f y) → OneHasRisen (map f xs) (map f ys)
+  rose risen = subst (λ (zs : List X). OneHasRisen (map f xs) (map f zs)) (sym is) (risen_set f xs i x y at risen).0
+
+  pub tells_set : CountsFault is_fault result (f x) (f y) → TellsFault is_fault result (OneHasRisen (map f xs) (map f ys)) (map f ys ≡ map f xs)
+  tells_set cause = tells_as is_fault result rose stayed cause

@@ -9,7 +9,7 @@ use Rattle.std.proofs.lemmas.List.Elements.{All-weaker}
 use Rattle.std.proofs.lemmas.List.Sums.{sum_by-set}
 use Rattle.std.proofs.lemmas.Option.{slice_get_within, get_or_from_slice_get, same_Some}
 use Rattle.vt_base.specs.declared.place.Place.{Place}
-use Rattle.vt_log.specs.Members.{DiskOf}
+use Rattle.vt_disk.specs.Members.{DiskOf}
 use Rattle.vt_disk.specs.declared.region.Region.{Region}
 use Rattle.vt_clump.specs.declared.packed.Packed.{Packed}
 use Rattle.vt_clump.specs.Clumps.{stored_of}
@@ -34,7 +34,7 @@ use Rattle.vt_log.specs.Logs.{accepted, blocks_from, IsUntouched}
 use Rattle.vt_log.specs.Queue.{WaitsFor, waiting_block, spot_of}
 use Rattle.vt_log.specs.Sound.{IsAt, IsSound}
 use Rattle.vt_log.specs.Whole.{IsOnDisk, IsWhole, Fill, turned_to}
-use Rattle.vt_log.proofs.Calls.{ChangesRegion, on_disk_set, others_stay, at_before, same_region}
+use Rattle.vt_log.proofs.Calls.{ChangesRegion, on_disk_set, others_stay, at_before}
 use Rattle.vt_log.proofs.Contents.{blocks_set, split_set, split_sealed, longer_prefix}
 use Rattle.vt_log.proofs.Fillings.{fits_within, turned_arena}
 use Rattle.vt_log.proofs.Images.{number_is}
@@ -117,7 +117,7 @@ ended l part e found b calls = record l {
 
 pub ended_whole : {D : Type 0} (disk : DiskOf D) (l : LogState D) (r : ArenaRegion) (found : Found) (d e : D) (b : ArenaState) (calls : ℕ) → IsWhole disk l → EndsArena l.arena b
     → l.arena.next.sealed ≡ false → slice_get l.layout l.committing ≡ Some r → slice_get l.heads l.committing ≡ Some found
-    → b.head.used + directory_room b.head.clumps ≤ arena_room r.len → slice_get l.disks r.part ≡ Some d → disk.size e ≡ disk.size d
+    → b.head.used + directory_room b.head.clumps ≤ arena_room r.region.len → slice_get l.disks r.part ≡ Some d → disk.size e ≡ disk.size d
     → IsWhole disk (ended l r.part e found b calls)
 ended_whole disk l r found d e b calls whole ends unsealed here has fit at same = record {
   many_disks = length-set l.disks r.part e ∙ whole.many_disks;
@@ -133,7 +133,7 @@ ended_whole disk l r found d e b calls whole ends unsealed here has fit at same 
       let head : other.head ≡ b.head = ap (λ (f : Found). f.head) (sym other_is) in
       record {
         number = ap (λ (h : ArenaHead). h.number) (head ∙ ends.head) ∙ whole.number ∙ (whole.arena r found here has).number ∙ ap (λ (x : ArenaRegion). x.number) q_is;
-        fit = subst (λ (h : ArenaHead). h.used + directory_room h.clumps ≤ arena_room q.len) (sym head) (subst (λ (x : ArenaRegion). b.head.used + directory_room b.head.clumps ≤ arena_room x.len) q_is fit);
+        fit = subst (λ (h : ArenaHead). h.used + directory_room h.clumps ≤ arena_room q.region.len) (sym head) (subst (λ (x : ArenaRegion). b.head.used + directory_room b.head.clumps ≤ arena_room x.region.len) q_is fit);
       })
       (λ (not_this : i ≢ l.committing). whole.heads i q other q_at (sym (slice_get_set_other l.heads l.committing i (record found { head = b.head }) not_this) ∙ other_at))
       (cases_eq i l.committing);
@@ -149,7 +149,7 @@ ended_whole disk l r found d e b calls whole ends unsealed here has fit at same 
       let q_is : r ≡ q = same_Some r q (sym here ∙ q_at) in
       let other_is : record found { head = b.head } ≡ other = same_Some _ other (sym new_head ∙ other_at) in
       let old = whole.arena r found here has in
-      record { len = ends.len ∙ old.len ∙ ap (λ (x : ArenaRegion). x.len) q_is; number = ends.number ∙ old.number ∙ ap (λ (x : ArenaRegion). x.number) q_is; head = ap (λ (f : Found). f.head) other_is };
+      record { len = ends.len ∙ old.len ∙ ap (λ (x : ArenaRegion). x.region.len) q_is; number = ends.number ∙ old.number ∙ ap (λ (x : ArenaRegion). x.number) q_is; head = ap (λ (f : Found). f.head) other_is };
   none = λ past. absurd (omega (arith, past, slice_get_within l.layout l.committing r here));
   number = ap (λ (h : ArenaHead). h.number) ends.next ∙ whole.number ∙ sym ends.number;
   clumps = omega (arith, ap (λ (h : ArenaHead). h.clumps) ends.head, ap (λ (h : ArenaHead). h.clumps) ends.next, ap (λ (ps : List Packed). length ps) ends.staged);
@@ -183,12 +183,12 @@ pub record CommitsIn {D : Type 0} (score_of : List ℕ → List ℕ) (disk : Dis
 
 -- what is known where the last call was made
 pub record IsEnding {D : Type 0} (score_of : List ℕ → List ℕ) (disk : DiskOf D) (l : LogState D)
-    (r : ArenaRegion) (found : Found) (region : Region) (d e : D) (b : ArenaState) : Type 0 where
+    (r : ArenaRegion) (found : Found) (d e : D) (b : ArenaState) : Type 0 where
   pub ends : EndsArena l.arena b
   pub has : slice_get l.heads l.committing ≡ Some found
-  pub at : IsAt l l.committing r region d
-  pub changes : ChangesRegion disk region d e
-  pub fit : b.head.used + directory_room b.head.clumps ≤ arena_room r.len
+  pub at : IsAt l l.committing r d
+  pub changes : ChangesRegion disk r.region d e
+  pub fit : b.head.used + directory_room b.head.clumps ≤ arena_room r.region.len
 
 -- the blocks with those that were staged
 pub committed_next : {D : Type 0} (score_of : List ℕ → List ℕ) (disk : DiskOf D) (l : LogState D) (h : History) (a : Content)
@@ -216,23 +216,23 @@ committed_next score_of disk l h a sound is = (
 
 -- an arena that isn't committed in stays what it is
 pub kept_others : {D : Type 0} (score_of : List ℕ → List ℕ) (disk : DiskOf D) (l k : LogState D) (h : History)
-    (r : ArenaRegion) (found : Found) (region : Region) (d e : D) (b : ArenaState) (next : Content) → (sound : IsSound score_of disk l h)
-    → IsEnding score_of disk l r found region d e b → k.layout ≡ l.layout → k.disks ≡ set l.disks r.part e
-    → (i : ℕ) (q : ArenaRegion) (other : Region) (device : D) (c : Content) → i ≢ l.committing → IsAt k i q other device → slice_get (set sound.contents l.committing next) i ≡ Some c
-    → IsSettled other (disk.bytes device) (disk.images device) × IsArena score_of other q.number c (disk.bytes device)
-kept_others score_of disk l k h r found region d e b next sound ending layout disks i q other device c not_this there_at content =
-    let was = at_before l k i q other device r.part e layout disks there_at in
-    let rest = sound.others i q other was.0 c not_this was.1 (sym (slice_get_set_other sound.contents l.committing i next not_this) ∙ content) in
-    let stay = others_stay score_of disk l r region d e sound.whole ending.at ending.changes i q other was.0 device not_this was.1 was.2 in
+    (r : ArenaRegion) (found : Found) (d e : D) (b : ArenaState) (next : Content) → (sound : IsSound score_of disk l h)
+    → IsEnding score_of disk l r found d e b → k.layout ≡ l.layout → k.disks ≡ set l.disks r.part e
+    → (i : ℕ) (q : ArenaRegion) (device : D) (c : Content) → i ≢ l.committing → IsAt k i q device → slice_get (set sound.contents l.committing next) i ≡ Some c
+    → IsSettled q.region (disk.bytes device) (disk.images device) × IsArena score_of q.region q.number c (disk.bytes device)
+kept_others score_of disk l k h r found d e b next sound ending layout disks i q device c not_this there_at content =
+    let was = at_before l k i q device r.part e layout disks there_at in
+    let rest = sound.others i q was.0 c not_this was.1 (sym (slice_get_set_other sound.contents l.committing i next not_this) ∙ content) in
+    let stay = others_stay score_of disk l r d e sound.whole ending.at ending.changes i q was.0 device not_this was.1 was.2 in
     (stay.settled rest.0, stay.arena q.number c rest.1)
 
 -- the heads are those of what is committed
 pub kept_heads : {D : Type 0} (score_of : List ℕ → List ℕ) (disk : DiskOf D) (l : LogState D) (h : History)
-    (r : ArenaRegion) (found : Found) (region : Region) (d e : D) (b : ArenaState) (next : Content) → (sound : IsSound score_of disk l h)
-    → IsEnding score_of disk l r found region d e b → l.committing < length sound.contents → b.head ≡ head_of score_of b.number next
+    (r : ArenaRegion) (found : Found) (d e : D) (b : ArenaState) (next : Content) → (sound : IsSound score_of disk l h)
+    → IsEnding score_of disk l r found d e b → l.committing < length sound.contents → b.head ≡ head_of score_of b.number next
     → (i : ℕ) (q : ArenaRegion) (f : Found) (c : Content) → slice_get l.layout i ≡ Some q → slice_get (set l.heads l.committing (record found { head = b.head })) i ≡ Some f
     → slice_get (set sound.contents l.committing next) i ≡ Some c → f.head ≡ head_of score_of q.number c
-kept_heads score_of disk l h r found region d e b next sound ending within head i q f c q_at f_at c_at = ⊎_elim
+kept_heads score_of disk l h r found d e b next sound ending within head i q f c q_at f_at c_at = ⊎_elim
     (λ (is : i ≡ l.committing).
     let q_is : r ≡ q = same_Some r q (sym ending.at.arena ∙ sym (ap (slice_get l.layout) is) ∙ q_at) in
     let f_is : record found { head = b.head } ≡ f = same_Some _ f (sym (slice_get_set_same l.heads l.committing (record found { head = b.head }) (slice_get_within l.heads l.committing found ending.has))
@@ -245,15 +245,15 @@ kept_heads score_of disk l h r found region d e b next sound ending within head 
     (cases_eq i l.committing)
 
 pub kept_selectors : {D : Type 0} (score_of : List ℕ → List ℕ) (disk : DiskOf D) (l k : LogState D) (h : History)
-    (r : ArenaRegion) (found : Found) (region : Region) (d e : D) (b : ArenaState) → (sound : IsSound score_of disk l h)
-    → IsEnding score_of disk l r found region d e b → k.layout ≡ l.layout → k.disks ≡ set l.disks r.part e
-    → (i : ℕ) (q : ArenaRegion) (other : Region) (device : D) (f : Found) → l.committing < i → IsAt k i q other device → slice_get (set l.heads l.committing (record found { head = b.head })) i ≡ Some f
-    → f.selector % 2 ≡ named_number other FRAME_LEN (disk.bytes device)
-kept_selectors score_of disk l k h r found region d e b sound ending layout disks i q other device f behind there_at f_at =
+    (r : ArenaRegion) (found : Found) (d e : D) (b : ArenaState) → (sound : IsSound score_of disk l h)
+    → IsEnding score_of disk l r found d e b → k.layout ≡ l.layout → k.disks ≡ set l.disks r.part e
+    → (i : ℕ) (q : ArenaRegion) (device : D) (f : Found) → l.committing < i → IsAt k i q device → slice_get (set l.heads l.committing (record found { head = b.head })) i ≡ Some f
+    → f.selector % 2 ≡ named_number q.region FRAME_LEN (disk.bytes device)
+kept_selectors score_of disk l k h r found d e b sound ending layout disks i q device f behind there_at f_at =
     let not_this : i ≢ l.committing = λ same. omega (arith, behind, same) in
-    let was = at_before l k i q other device r.part e layout disks there_at in
-    let stay = others_stay score_of disk l r region d e sound.whole ending.at ending.changes i q other was.0 device not_this was.1 was.2 in
-    sound.selectors i q other was.0 f behind was.1 (sym (slice_get_set_other l.heads l.committing i (record found { head = b.head }) not_this) ∙ f_at) ∙ sym stay.selector
+    let was = at_before l k i q device r.part e layout disks there_at in
+    let stay = others_stay score_of disk l r d e sound.whole ending.at ending.changes i q was.0 device not_this was.1 was.2 in
+    sound.selectors i q was.0 f behind was.1 (sym (slice_get_set_other l.heads l.committing i (record found { head = b.head }) not_this) ∙ f_at) ∙ sym stay.selector
 
 kept_places : {D : Type 0} (score_of : List ℕ → List ℕ) (disk : DiskOf D) (l : LogState D) (h : History) → IsSound score_of disk l h
     → (i : ℕ) (place : Place) → slice_get (drop (length l.arena.staged) l.queue.places) i ≡ Some place → place_of (setup_of l) h (l.durable + length l.arena.staged + i) ≡ Some (spot_of place)
@@ -263,26 +263,24 @@ kept_places score_of disk l h sound i place is =
 
 -- the disks stay sound by the last call, where it doesn't seal
 pub ended_sound : {D : Type 0} (score_of : List ℕ → List ℕ) (disk : DiskOf D) (l : LogState D) (h : History)
-    (r : ArenaRegion) (found : Found) (region : Region) (d e : D) (b : ArenaState) (calls : ℕ) (a : Content) → (sound : IsSound score_of disk l h)
-    → IsEnding score_of disk l r found region d e b → l.arena.next.sealed ≡ false → slice_get sound.contents l.committing ≡ Some a
-    → IsSoundArena score_of b region (next_content l.arena a) (disk.bytes e) (disk.images e) → IsSound score_of disk (ended l r.part e found b calls) h
-ended_sound {D = D} score_of disk l h r found region d e b calls a sound ending unsealed content stays = record {
+    (r : ArenaRegion) (found : Found) (d e : D) (b : ArenaState) (calls : ℕ) (a : Content) → (sound : IsSound score_of disk l h)
+    → IsEnding score_of disk l r found d e b → l.arena.next.sealed ≡ false → slice_get sound.contents l.committing ≡ Some a
+    → IsSoundArena score_of b r.region (next_content l.arena a) (disk.bytes e) (disk.images e) → IsSound score_of disk (ended l r.part e found b calls) h
+ended_sound {D = D} score_of disk l h r found d e b calls a sound ending unsealed content stays = record {
   whole = ended_whole disk l r found d e b calls sound.whole ending.ends unsealed ending.at.arena ending.has ending.fit ending.at.disk_is ending.changes.size_is;
   contents = set sound.contents l.committing next;
   many = length-set sound.contents l.committing next ∙ sound.many;
   split = split_set l.committing sound.contents next within sound.split unsealed;
-  current = λ q other device c there_at c_at.
+  current = λ q device c there_at c_at.
       let r_is : r ≡ q = same_Some r q (sym ending.at.arena ∙ there_at.arena) in
       let part : q.part ≡ r.part = ap (λ (x : ArenaRegion). x.part) (sym r_is) in
       let disk_is : e ≡ device = same_Some e device (sym (slice_get_set_same l.disks r.part e (slice_get_within l.disks r.part d ending.at.disk_is)) ∙ sym (ap (slice_get (set l.disks r.part e)) part) ∙ there_at.disk_is) in
-      let region_is : region ≡ other = same_region region other
-      (ending.at.region_is.start ∙ ap (λ (x : ArenaRegion). x.at) r_is ∙ sym there_at.region_is.start) (ending.at.region_is.len ∙ ap (λ (x : ArenaRegion). x.len) r_is ∙ sym there_at.region_is.len) in
       let c_is : next ≡ c = same_Some next c (sym (slice_get_set_same sound.contents l.committing next within) ∙ c_at) in
-      subst (λ (x : Content). IsSoundArena score_of b other x (disk.bytes device) (disk.images device)) c_is
-      (subst (λ (x : Region). IsSoundArena score_of b x next (disk.bytes device) (disk.images device)) region_is (subst (λ (x : D). IsSoundArena score_of b region next (disk.bytes x) (disk.images x)) disk_is stays));
-  others = λ i q other device c not_this there_at c_at. kept_others score_of disk l _ h r found region d e b next sound ending refl refl i q other device c not_this there_at c_at;
-  heads = kept_heads score_of disk l h r found region d e b next sound ending within stays.head;
-  selectors = λ i q other device f behind there_at f_at. kept_selectors score_of disk l _ h r found region d e b sound ending refl refl i q other device f behind there_at f_at;
+      subst (λ (x : Content). IsSoundArena score_of b q.region x (disk.bytes device) (disk.images device)) c_is
+      (subst (λ (x : ArenaRegion). IsSoundArena score_of b x.region next (disk.bytes device) (disk.images device)) r_is (subst (λ (x : D). IsSoundArena score_of b r.region next (disk.bytes x) (disk.images x)) disk_is stays));
+  others = λ i q device c not_this there_at c_at. kept_others score_of disk l _ h r found d e b next sound ending refl refl i q device c not_this there_at c_at;
+  heads = kept_heads score_of disk l h r found d e b next sound ending within stays.head;
+  selectors = λ i q device f behind there_at f_at. kept_selectors score_of disk l _ h r found d e b sound ending refl refl i q device f behind there_at f_at;
   committed = blocks.0;
   queued = blocks.1 ∙ sym (ap (λ (ps : List Packed). map (accepted l.committing) (map stored_of ps) ++ map waiting_block l.queue.waiting) ending.ends.staged);
   front = omega (arith, sound.front, sound.whole.places, length-drop (length l.arena.staged) l.queue.places);
@@ -321,8 +319,8 @@ next_there disk l whole sealed = at l.queue.waiting (whole.way sealed) whole.que
 
 pub turned_whole : {D : Type 0} (disk : DiskOf D) (l : LogState D) (r q : ArenaRegion) (found next : Found) (d e : D) (b : ArenaState) (calls len : ℕ) → IsWhole disk l → EndsArena l.arena b
     → l.arena.next.sealed ≡ true → slice_get l.layout l.committing ≡ Some r → slice_get l.heads l.committing ≡ Some found
-    → b.head.used + directory_room b.head.clumps ≤ arena_room r.len → slice_get l.disks r.part ≡ Some d → disk.size e ≡ disk.size d
-    → slice_get l.layout (l.committing + 1) ≡ Some q → slice_get l.heads (l.committing + 1) ≡ Some next → len ≡ q.len
+    → b.head.used + directory_room b.head.clumps ≤ arena_room r.region.len → slice_get l.disks r.part ≡ Some d → disk.size e ≡ disk.size d
+    → slice_get l.layout (l.committing + 1) ≡ Some q → slice_get l.heads (l.committing + 1) ≡ Some next → len ≡ q.region.len
     → IsWhole disk (turned l r.part e found b calls len next)
 turned_whole disk l r q found next d e b calls len whole ends sealed here has fit at same next_here next_has len_is = record {
   many_disks = length-set l.disks r.part e ∙ whole.many_disks;
@@ -338,7 +336,7 @@ turned_whole disk l r q found next d e b calls len whole ends sealed here has fi
       let head : other.head ≡ b.head = ap (λ (f : Found). f.head) (sym other_is) in
       record {
         number = ap (λ (h : ArenaHead). h.number) (head ∙ ends.head) ∙ whole.number ∙ (whole.arena r found here has).number ∙ ap (λ (x : ArenaRegion). x.number) q_is;
-        fit = subst (λ (h : ArenaHead). h.used + directory_room h.clumps ≤ arena_room q.len) (sym head) (subst (λ (x : ArenaRegion). b.head.used + directory_room b.head.clumps ≤ arena_room x.len) q_is fit);
+        fit = subst (λ (h : ArenaHead). h.used + directory_room h.clumps ≤ arena_room q.region.len) (sym head) (subst (λ (x : ArenaRegion). b.head.used + directory_room b.head.clumps ≤ arena_room x.region.len) q_is fit);
       })
       (λ (not_this : i ≢ l.committing). whole.heads i q other q_at (sym (slice_get_set_other l.heads l.committing i (record found { head = b.head }) not_this) ∙ other_at))
       (cases_eq i l.committing);
@@ -350,7 +348,7 @@ turned_whole disk l r q found next d e b calls len whole ends sealed here has fi
       let s_is : q ≡ s = same_Some q s (sym next_here ∙ s_at) in
       let other_is : next ≡ other = same_Some next other (sym next_has ∙ sym (slice_get_set_other l.heads l.committing (l.committing + 1) (record found { head = b.head }) (λ same. omega (arith, same))) ∙ other_at) in
       record {
-        len = len_is ∙ ap (λ (x : ArenaRegion). x.len) s_is;
+        len = len_is ∙ ap (λ (x : ArenaRegion). x.region.len) s_is;
         number = (whole.heads (l.committing + 1) q next next_here next_has).number ∙ ap (λ (x : ArenaRegion). x.number) s_is;
         head = ap (λ (f : Found). f.head) other_is;
       };
@@ -383,56 +381,50 @@ turned_whole disk l r q found next d e b calls len whole ends sealed here has fi
 
 -- and the disks sound
 pub turned_sound : {D : Type 0} (score_of : List ℕ → List ℕ) (disk : DiskOf D) (l : LogState D) (h : History)
-    (r q : ArenaRegion) (found next_found : Found) (region : Region) (d e : D) (b : ArenaState) (calls len : ℕ) (a : Content) → (sound : IsSound score_of disk l h)
-    → IsEnding score_of disk l r found region d e b → l.arena.next.sealed ≡ true → slice_get sound.contents l.committing ≡ Some a
-    → slice_get l.layout (l.committing + 1) ≡ Some q → slice_get l.heads (l.committing + 1) ≡ Some next_found → len ≡ q.len
-    → CommitsIn score_of disk b region (next_content l.arena a) e → IsSound score_of disk (turned l r.part e found b calls len next_found) h
-turned_sound {D = D} score_of disk l h r q found next_found region d e b calls len a sound ending sealed content next_here next_has len_is commits = record {
+    (r q : ArenaRegion) (found next_found : Found) (d e : D) (b : ArenaState) (calls len : ℕ) (a : Content) → (sound : IsSound score_of disk l h)
+    → IsEnding score_of disk l r found d e b → l.arena.next.sealed ≡ true → slice_get sound.contents l.committing ≡ Some a
+    → slice_get l.layout (l.committing + 1) ≡ Some q → slice_get l.heads (l.committing + 1) ≡ Some next_found → len ≡ q.region.len
+    → CommitsIn score_of disk b r.region (next_content l.arena a) e → IsSound score_of disk (turned l r.part e found b calls len next_found) h
+turned_sound {D = D} score_of disk l h r q found next_found d e b calls len a sound ending sealed content next_here next_has len_is commits = record {
   whole = whole;
   contents = cs;
   many = length-set sound.contents l.committing next ∙ sound.many;
   split = split_sealed l.committing sound.contents next within sound.split sealed;
-  current = λ s other device c there_at c_at.
+  current = λ s device c there_at c_at.
       let s_is : q ≡ s = same_Some q s (sym next_here ∙ there_at.arena) in
       let not_this : l.committing + 1 ≢ l.committing = λ same. omega (arith, same) in
-      let rests = kept_others score_of disk l k h r found region d e b next sound ending refl refl (l.committing + 1) s other device c not_this (record { arena = there_at.arena; region_is = there_at.region_is; disk_is = there_at.disk_is }) c_at in
-      let selector = kept_selectors score_of disk l k h r found region d e b sound ending refl refl (l.committing + 1) s other device next_found (omega arith) (record { arena = there_at.arena; region_is = there_at.region_is; disk_is = there_at.disk_is }) later_next in
-      let head : next_found.head ≡ head_of score_of s.number c = kept_heads score_of disk l h r found region d e b next sound ending within commits.sound.head (l.committing + 1) s next_found c there_at.arena later_next c_at in
+      let rests = kept_others score_of disk l k h r found d e b next sound ending refl refl (l.committing + 1) s device c not_this (record { arena = there_at.arena; disk_is = there_at.disk_is }) c_at in
+      let selector = kept_selectors score_of disk l k h r found d e b sound ending refl refl (l.committing + 1) s device next_found (omega arith) (record { arena = there_at.arena; disk_is = there_at.disk_is }) later_next in
+      let head : next_found.head ≡ head_of score_of s.number c = kept_heads score_of disk l h r found d e b next sound ending within commits.sound.head (l.committing + 1) s next_found c there_at.arena later_next c_at in
       let untouched = at_drop IsUntouched (l.committing + 1) sound.contents (l.committing + 1) c sound.split.behind (omega arith) (sym (slice_get_set_other sound.contents l.committing (l.committing + 1) next not_this) ∙ c_at) in
       let empty_head : next_found.head ≡ head_of score_of s.number (record { sealed = c.sealed; stored = [] }) =
       head ∙ ap (λ (stored : List Stored). head_of score_of s.number (record { sealed = c.sealed; stored = stored })) untouched.1 in
       let on = at_slice (IsOnDisk disk (set l.disks r.part e)) l.layout (l.committing + 1) s whole.regions there_at.arena in
       let disk_is : on.device ≡ device = same_Some on.device device (sym on.has ∙ there_at.disk_is) in
-      let stand : CanStand s.number other.len next_found.head = record {
+      let stand : CanStand s.number s.region.len next_found.head = record {
         version = ap (λ (h : ArenaHead). h.version) empty_head;
         number_is = ap (λ (h : ArenaHead). h.number) empty_head;
         chain = ap (λ (h : ArenaHead). length h.chain.0) empty_head;
-        fit = omega (arith, (sound.whole.heads (l.committing + 1) q next_found next_here next_has).fit, ap (λ (x : ArenaRegion). x.len) s_is, there_at.region_is.len);
+        fit = omega (arith, (sound.whole.heads (l.committing + 1) q next_found next_here next_has).fit, ap (λ (x : ArenaRegion). x.region.len) s_is);
       } in
-      let is_region : IsRegion other (disk.size device) = record {
-        within = omega (arith, on.within, there_at.region_is.start, there_at.region_is.len, ap disk.size disk_is);
-        aligned = ap (λ (n : ℕ). n % 512) there_at.region_is.start ∙ on.aligned;
-        len = (omega (arith, on.len.0, there_at.region_is.len), omega (arith, on.len.1, there_at.region_is.len));
-      } in
-      subst (λ (n : ℕ). IsSoundArena score_of (fresh_arena n (next_found.selector % 2) next_found.head) other c (disk.bytes device) (disk.images device))
-      (there_at.region_is.len ∙ sym (ap (λ (x : ArenaRegion). x.len) s_is) ∙ sym len_is)
-      (fresh_sound score_of other (disk.size device) s.number (next_found.selector % 2) c next_found.head (disk.bytes device) (disk.images device) is_region rests.0 rests.1 selector head stand);
-  others = λ i s other device c not_next there_at c_at. ⊎_elim
+      subst (λ (n : ℕ). IsSoundArena score_of (fresh_arena n (next_found.selector % 2) next_found.head) s.region c (disk.bytes device) (disk.images device))
+      (sym (ap (λ (x : ArenaRegion). x.region.len) s_is) ∙ sym len_is)
+      (fresh_sound score_of s.region (disk.size device) s.number (next_found.selector % 2) c next_found.head (disk.bytes device) (disk.images device)
+      (subst (λ (x : D). IsRegion s.region (disk.size x)) disk_is on.region) rests.0 rests.1 selector head stand);
+  others = λ i s device c not_next there_at c_at. ⊎_elim
       (λ (is : i ≡ l.committing).
       let r_is : r ≡ s = same_Some r s (sym ending.at.arena ∙ sym (ap (slice_get l.layout) is) ∙ there_at.arena) in
       let part : s.part ≡ r.part = ap (λ (x : ArenaRegion). x.part) (sym r_is) in
       let disk_is : e ≡ device = same_Some e device (sym (slice_get_set_same l.disks r.part e (slice_get_within l.disks r.part d ending.at.disk_is)) ∙ sym (ap (slice_get (set l.disks r.part e)) part) ∙ there_at.disk_is) in
-      let region_is : region ≡ other = same_region region other
-      (ending.at.region_is.start ∙ ap (λ (x : ArenaRegion). x.at) r_is ∙ sym there_at.region_is.start) (ending.at.region_is.len ∙ ap (λ (x : ArenaRegion). x.len) r_is ∙ sym there_at.region_is.len) in
       let c_is : next ≡ c = same_Some next c (sym (slice_get_set_same sound.contents l.committing next within) ∙ sym (ap (slice_get cs) is) ∙ c_at) in
       let number : b.number ≡ s.number = ending.ends.number ∙ number_is disk l r sound.whole ending.at.arena ∙ ap (λ (x : ArenaRegion). x.number) r_is in
-      subst (λ (x : Region). IsSettled x (disk.bytes device) (disk.images device) × IsArena score_of x s.number c (disk.bytes device)) region_is
-      (subst (λ (x : D). IsSettled region (disk.bytes x) (disk.images x) × IsArena score_of region s.number c (disk.bytes x)) disk_is
-      (commits.settled, subst (λ (n : ℕ). IsArena score_of region n c (disk.bytes e)) number (subst (λ (x : Content). IsArena score_of region b.number x (disk.bytes e)) c_is commits.arena))))
-      (λ (not_this : i ≢ l.committing). kept_others score_of disk l k h r found region d e b next sound ending refl refl i s other device c not_this there_at c_at)
+      subst (λ (x : ArenaRegion). IsSettled x.region (disk.bytes device) (disk.images device) × IsArena score_of x.region s.number c (disk.bytes device)) r_is
+      (subst (λ (x : D). IsSettled r.region (disk.bytes x) (disk.images x) × IsArena score_of r.region s.number c (disk.bytes x)) disk_is
+      (commits.settled, subst (λ (n : ℕ). IsArena score_of r.region n c (disk.bytes e)) number (subst (λ (x : Content). IsArena score_of r.region b.number x (disk.bytes e)) c_is commits.arena))))
+      (λ (not_this : i ≢ l.committing). kept_others score_of disk l k h r found d e b next sound ending refl refl i s device c not_this there_at c_at)
       (cases_eq i l.committing);
-  heads = kept_heads score_of disk l h r found region d e b next sound ending within commits.sound.head;
-  selectors = λ i s other device f behind there_at f_at. kept_selectors score_of disk l k h r found region d e b sound ending refl refl i s other device f (omega (arith, behind)) there_at f_at;
+  heads = kept_heads score_of disk l h r found d e b next sound ending within commits.sound.head;
+  selectors = λ i s device f behind there_at f_at. kept_selectors score_of disk l k h r found d e b sound ending refl refl i s device f (omega (arith, behind)) there_at f_at;
   committed = blocks.0;
   queued = blocks.1;
   front = omega (arith, sound.front, sound.whole.places, length-drop (length l.arena.staged) l.queue.places);

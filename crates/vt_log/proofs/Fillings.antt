@@ -5,7 +5,7 @@ use borrow.Author.Tests.{leb-true}
 use Rattle.std.proofs.lemmas.Bool.Decides.{eqb_tells}
 use Rattle.std.proofs.lemmas.List.{get_or-map, get_or_past, length-map}
 use Rattle.std.proofs.lemmas.Option.{slice_get_within, slice_get_cases}
-use Rattle.vt_log.specs.Members.{DiskOf}
+use Rattle.vt_disk.specs.Members.{DiskOf}
 use Rattle.vt_part.specs.declared.layout.ArenaRegion.{ArenaRegion}
 use Rattle.vt_arena.specs.declared.head.Found.{Found}
 use Rattle.vt_log.specs.declared.filling.Filling.{Filling}
@@ -16,16 +16,16 @@ use Rattle.vt_log.proofs.Memory.{at_slice}
 
 -- a block fits an arena that is there, within its region
 pub fits_within : (layout : List ArenaRegion) (f : Filling) (n : ℕ) → IsTrue (fits_in layout f n)
-    → (r : ArenaRegion) × (slice_get layout f.arena ≡ Some r) × (f.used + 38 + n + 25 * (f.clumps + 1) ≤ r.len - 24576)
+    → (r : ArenaRegion) × (slice_get layout f.arena ≡ Some r) × (f.used + 38 + n + 25 * (f.clumps + 1) ≤ r.region.len - 24576)
 fits_within layout f n fit =
     ⊎_elim
     (λ (it : (x : ArenaRegion) × (f.arena < length layout) × (slice_get layout f.arena ≡ Some x) × (get_or layout f.arena x ≡ x)).
-    let len : slice_index (map (λ (r : ArenaRegion). r.len) layout) f.arena ≡ it.0.len =
-    get_or-map (λ (r : ArenaRegion). r.len) layout f.arena it.0 0 it.1 ∙ ap (λ (r : ArenaRegion). r.len) it.3 in
+    let len : slice_index (map (λ (r : ArenaRegion). r.region.len) layout) f.arena ≡ it.0.region.len =
+    get_or-map (λ (r : ArenaRegion). r.region.len) layout f.arena it.0 0 it.1 ∙ ap (λ (r : ArenaRegion). r.region.len) it.3 in
     (it.0, it.2, omega (arith, len, leb-true _ _ fit)))
     (λ (past : (length layout ≤ f.arena) × (slice_get layout f.arena ≡ None)).
-    let len : slice_index (map (λ (r : ArenaRegion). r.len) layout) f.arena ≡ 0 =
-    get_or_past (map (λ (r : ArenaRegion). r.len) layout) f.arena 0 (omega (arith, past.0, length-map layout (λ (r : ArenaRegion). r.len))) in
+    let len : slice_index (map (λ (r : ArenaRegion). r.region.len) layout) f.arena ≡ 0 =
+    get_or_past (map (λ (r : ArenaRegion). r.region.len) layout) f.arena 0 (omega (arith, past.0, length-map layout (λ (r : ArenaRegion). r.region.len))) in
     absurd (omega (arith, len, leb-true _ _ fit)))
     (slice_get_cases layout f.arena).1
 
@@ -71,7 +71,7 @@ pub fits_small : {D : Type 0} (disk : DiskOf D) (l : LogState D) (f : Filling) (
 fits_small disk l f n whole fit =
     let there = fits_within l.layout f n fit in
     let on = at_slice (IsOnDisk disk l.disks) l.layout f.arena there.0 whole.regions there.1 in
-    (omega (arith, there.2, on.len.1), omega (arith, there.2, on.len.1))
+    (omega (arith, there.2, on.region.len.1), omega (arith, there.2, on.region.len.1))
 
 -- no arena has room
 pub next_none : {D : Type 0} (l : LogState D) (f next : Filling) (n arena : ℕ) (found : Found) → l.filling ≡ f → f.arena + 1 ≡ arena

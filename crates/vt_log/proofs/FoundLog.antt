@@ -6,9 +6,9 @@ use Rattle.std.proofs.lemmas.List.{length-map, take_all, drop_all}
 use Rattle.std.proofs.lemmas.List.Elements.{All-weaker, All-nil, All-cons, All-head, All-tail, All-append, All-map}
 use Rattle.std.proofs.lemmas.List.Sums.{sum_by-cons}
 use Rattle.std.proofs.lemmas.Option.{slice_get-map, slice_get_cases, same_Some}
-use Rattle.vt_log.specs.Members.{DiskOf}
+use Rattle.vt_disk.specs.Members.{DiskOf}
 use Rattle.vt_disk.specs.declared.region.Region.{Region}
-use Rattle.vt_disk.specs.Disk.{Only, IsAligned}
+use Rattle.vt_disk.specs.Calls.{IsSynced}
 use Rattle.vt_disk.specs.Region.{region_bytes}
 use Rattle.vt_clump.specs.Clumps.{stored_of}
 use Rattle.vt_clump.specs.Spelling.{Stored}
@@ -19,9 +19,9 @@ use Rattle.vt_part.specs.declared.bad.PartBad.TheVariants.{Fault as PartFault, T
 use Rattle.vt_part.specs.declared.layout.ArenaRegion.{ArenaRegion}
 use Rattle.vt_part.specs.declared.part.Part.{Part}
 use Rattle.vt_part.specs.Laws.{IsArena as IsArenaOfTable, IsBefore}
-use Rattle.vt_part.specs.Layout.{AreDistinct, layout_of}
+use Rattle.vt_part.specs.Layout.{AreDistinct, layout_of, region_of}
 use Rattle.vt_part.specs.Parts.{disk_of, table_of, tables_of}
-use Rattle.vt_part.specs.Table.{Table, IsTable, start_of, end_of, is_arena_size}
+use Rattle.vt_part.specs.Table.{Table, IsTable, end_of, is_arena_size}
 use Rattle.vt_part.proofs.Layouts.{arenas_are_aligned, arenas_follow, layouts_have_arenas, layouts_have_lengths, layouts_are_in_order}
 use Rattle.vt_arena.specs.declared.bad.ArenaBad.{ArenaBad}
 use Rattle.vt_arena.specs.declared.bad.ArenaBad.TheVariants.{Torn}
@@ -33,8 +33,8 @@ use Rattle.vt_arena.specs.Faults.{first_bad as first_bad_in, CanStand}
 use Rattle.vt_arena.specs.Heads.{fields_of, flag_of, sealed_in, clumps_in}
 use Rattle.vt_arena.specs.Layout.{Content, IsContent, IsArena, head_of}
 use Rattle.vt_arena.specs.Places.{IsArenaLen, block_room, lengths_of}
-use Rattle.vt_arena.specs.Sound.{IsSettled, IsSound as IsSoundArena}
-use Rattle.vt_arena.proofs.Finding.{arena_passes}
+use Rattle.vt_arena.specs.Sound.{IsRegion, IsSettled, IsSound as IsSoundArena}
+use Rattle.vt_arena.proofs.Finds.{arena_passes}
 use Rattle.vt_arena.proofs.Fresh.{fresh_sound}
 use Rattle.vt_arena.proofs.Unique.{read_clumps}
 use Rattle.vt_log.specs.declared.bad.LogBad.{LogBad}
@@ -42,11 +42,10 @@ use Rattle.vt_log.specs.declared.bad.LogBad.TheVariants.{Part as PartRefused, Ar
 use Rattle.vt_log.specs.Answers.{HoldTheSame}
 use Rattle.vt_log.specs.Faults.{AreFields, RefusesMount, IsMountedBy, bad_arena, first_of_two, first_bad}
 use Rattle.vt_log.specs.Log.{LogState, IsMounted, disks_of, filled_as, found_filling}
-use Rattle.vt_log.specs.Logs.{accepted, blocks_from, IsSealed, IsUntouched, InOrder, IsRegionOf, IsLog, arena_count}
+use Rattle.vt_log.specs.Logs.{accepted, blocks_from, IsSealed, IsUntouched, InOrder, IsLog, arena_count}
 use Rattle.vt_log.specs.Mounting.{AreRead, AreFound, ArePassed, IsFound, IsFirstOpen, IsRoomFor, found_log}
 use Rattle.vt_log.specs.Sound.{IsAt, IsSplit, IsFilledBy, IsSound}
 use Rattle.vt_log.specs.Whole.{IsOnDisk, IsWhole}
-use Rattle.vt_log.proofs.Calls.{same_region}
 use Rattle.vt_log.proofs.Contents.{split_order, blocks_arenas, last_arena_le}
 use Rattle.vt_log.proofs.AreFound.{fields_of_all, on_held}
 use Rattle.vt_log.proofs.Memory.{slice_get_other, at_slice}
@@ -59,10 +58,18 @@ arena_len n is =
     let most : n ≤ 1073741824 = grind (arith, nat_tests) in
     (least, most)
 
+-- an arena may have the region that a table gives it
+pub region_fits : (size : ℕ) (t : Table) (number : ℕ) → IsTable t → number < t.count → end_of t ≤ size → IsRegion (region_of t number) size
+region_fits size t number table less room = record {
+  within = omega (arith, room, arenas_follow t number t.count less);
+  aligned = (arenas_are_aligned t number table).0;
+  len = arena_len t.arena_size table.arena_size;
+}
+
 -- each arena lies on its partition's disk, which has room for all of them
-pub regions_on : {D : Type 0} (disk : DiskOf D) → ((d : D) → disk.size d < 2 ^ 64) → (ps : List (Part D)) → All (λ part. end_of (table_of part) ≤ disk.size (disk_of part)) ps
+pub regions_on : {D : Type 0} (disk : DiskOf D) (ps : List (Part D)) → All (λ part. end_of (table_of part) ≤ disk.size (disk_of part)) ps
     → All (IsOnDisk disk (disks_of ps)) (layout_of (tables_of ps))
-regions_on {D = D} disk fits ps rooms =
+regions_on {D = D} disk ps rooms =
     All-weaker (IsArenaOfTable (tables_of ps)) (IsOnDisk disk (disks_of ps)) here (layout_of (tables_of ps)) (layouts_have_arenas (tables_of ps))
   where
     here : (r : ArenaRegion) → IsArenaOfTable (tables_of ps) r → IsOnDisk disk (disks_of ps) r
@@ -71,18 +78,11 @@ regions_on {D = D} disk fits ps rooms =
         let p = slice_get_other ps (tables_of ps) r.part t (length-map ps (λ (part : Part D). table_of part)) is.1 in
         let table_is : table_of p.0 ≡ t = same_Some (table_of p.0) t (sym (slice_get-map (λ (part : Part D). table_of part) ps r.part ∙ ap (option_map (λ (part : Part D). table_of part)) p.1) ∙ is.1) in
         let allowed : IsTable t = subst IsTable table_is p.0.head.allowed in
-        let at : r.at ≡ start_of t r.number = ap (λ (x : ArenaRegion). x.at) is.3 in
-        let len : r.len ≡ t.arena_size = ap (λ (x : ArenaRegion). x.len) is.3 in
-        let inside : start_of t r.number + t.arena_size ≤ end_of t = arenas_follow t r.number t.count is.2 in
         let room : end_of t ≤ disk.size (disk_of p.0) = subst (λ (u : Table). end_of u ≤ disk.size (disk_of p.0)) table_is (at_slice (λ (part : Part D). end_of (table_of part) ≤ disk.size (disk_of part)) ps r.part p.0 rooms p.1) in
-        let within : r.at + r.len ≤ disk.size (disk_of p.0) = omega (arith, at, len, inside, room) in
         record {
           device = disk_of p.0;
           has = slice_get-map (λ (part : Part D). disk_of part) ps r.part ∙ ap (option_map (λ (part : Part D). disk_of part)) p.1;
-          within = within;
-          small = omega (arith, within, fits (disk_of p.0));
-          aligned = subst IsAligned (sym at) (arenas_are_aligned t r.number allowed).0;
-          len = subst IsArenaLen (sym len) (arena_len t.arena_size allowed.arena_size);
+          region = subst (λ (x : ArenaRegion). IsRegion x.region (disk.size (disk_of p.0))) (sym is.3) (region_fits (disk.size (disk_of p.0)) t r.number allowed is.2 room);
         }
 
 -- an arena's number is small
@@ -127,12 +127,12 @@ open_behind : (behind : Bool) (i : ℕ) (layout : List ArenaRegion) (heads : Lis
 open_behind behind i layout [] is many none k found at = absurd (cc)
 open_behind behind i [] (h ∷ hs) is many none k found at = absurd (omega (arith, many))
 open_behind behind i (r ∷ rs) (h ∷ hs) is many none zero found at =
-    let both = two_none (bad_arena behind i (first_bad_in r.number r.len (fields_of h.head)) (fields_of h.head)) _ none in
+    let both = two_none (bad_arena behind i (first_bad_in r.number r.region.len (fields_of h.head)) (fields_of h.head)) _ none in
     let same : h ≡ found = same_Some h found at in
     subst (λ (x : Found). x.head.sealed ≡ false) same
-    (behind_none i (first_bad_in r.number r.len (fields_of h.head)) h.head (subst (λ (b : Bool). bad_arena b i (first_bad_in r.number r.len (fields_of h.head)) (fields_of h.head) ≡ None) is both.0))
+    (behind_none i (first_bad_in r.number r.region.len (fields_of h.head)) h.head (subst (λ (b : Bool). bad_arena b i (first_bad_in r.number r.region.len (fields_of h.head)) (fields_of h.head) ≡ None) is both.0))
 open_behind behind i (r ∷ rs) (h ∷ hs) is many none (suc k) found at =
-    let both = two_none (bad_arena behind i (first_bad_in r.number r.len (fields_of h.head)) (fields_of h.head)) _ none in
+    let both = two_none (bad_arena behind i (first_bad_in r.number r.region.len (fields_of h.head)) (fields_of h.head)) _ none in
     open_behind (behind || sealed_in (fields_of h.head) == 0) (i + 1) rs hs (ap (λ (b : Bool). b || sealed_in (fields_of h.head) == 0) is) (omega (arith, many)) both.1 k found at
 
 first_rest : (h : Found) (hs : List Found) (base : ℕ) → IsFirstOpen (h ∷ hs) (suc base) → IsFirstOpen hs base
@@ -153,11 +153,11 @@ unsealed_from behind i layout [] base many none first k found least at = absurd 
 unsealed_from behind i [] (h ∷ hs) base many none first k found least at = absurd (omega (arith, many))
 unsealed_from behind i (r ∷ rs) (h ∷ hs) zero many none first zero found least at = first.at found at
 unsealed_from behind i (r ∷ rs) (h ∷ hs) zero many none first (suc k) found least at =
-    let both = two_none (bad_arena behind i (first_bad_in r.number r.len (fields_of h.head)) (fields_of h.head)) _ none in
+    let both = two_none (bad_arena behind i (first_bad_in r.number r.region.len (fields_of h.head)) (fields_of h.head)) _ none in
     open_behind (behind || sealed_in (fields_of h.head) == 0) (i + 1) rs hs (or_true behind (sealed_in (fields_of h.head) == 0) (zero_flag h.head.sealed (first.at h refl))) (omega (arith, many)) both.1 k found at
 unsealed_from behind i (r ∷ rs) (h ∷ hs) (suc base) many none first zero found least at = absurd (omega (arith, least))
 unsealed_from behind i (r ∷ rs) (h ∷ hs) (suc base) many none first (suc k) found least at =
-    let both = two_none (bad_arena behind i (first_bad_in r.number r.len (fields_of h.head)) (fields_of h.head)) _ none in
+    let both = two_none (bad_arena behind i (first_bad_in r.number r.region.len (fields_of h.head)) (fields_of h.head)) _ none in
     unsealed_from (behind || sealed_in (fields_of h.head) == 0) (i + 1) rs hs base (omega (arith, many)) both.1 (first_rest h hs base first) k found (omega (arith, least)) at
 
 -- what is known of a log that was found
@@ -178,7 +178,7 @@ module _ {D : Type 0} (disk : DiskOf D) (disks : List D) (tables : List Table) (
   file_of : (r : ArenaRegion) → IsOnDisk disk disks r → (file : List ℕ) × (slice_get files r.part ≡ Some file)
   file_of r on = (disk.bytes on.device, ap (λ (fs : List (List ℕ)). slice_get fs r.part) (sym is.files_are) ∙ slice_get-map disk.bytes disks r.part ∙ ap (option_map disk.bytes) on.has)
 
-  it_stands : (i : ℕ) (r : ArenaRegion) (found : Found) → slice_get layout i ≡ Some r → slice_get heads i ≡ Some found → CanStand r.number r.len found.head
+  it_stands : (i : ℕ) (r : ArenaRegion) (found : Found) → slice_get layout i ≡ Some r → slice_get heads i ≡ Some found → CanStand r.number r.region.len found.head
   it_stands i r found at at_found =
       let file = file_of r (at_slice (IsOnDisk disk disks) layout i r is.regions at) in
       (is.found.each i r file.0 found at file.1 at_found).stands
@@ -332,20 +332,19 @@ pub record IsFoundSound {D : Type 0} (score_of : List ℕ → List ℕ) (disk : 
 
 module _ {D : Type 0} (disk : DiskOf D) (disks : List D) (tables : List Table) (layout : List ArenaRegion) (files : List (List ℕ)) (fields : List (List ℕ))
     (heads : List Found) (base : ℕ) (arena : ArenaState) (is : IsFoundLog disk disks tables layout files fields heads base arena) (score_of : List ℕ → List ℕ) (h : History) (first : ℕ)
-    (told : IsTrue disk.tells) (settled : All (λ device. Only (disk.bytes device) (disk.images device)) disks) (log : IsLog score_of layout files h first) where
+    (told : IsTrue disk.tells) (settled : All (IsSynced disk) disks) (log : IsLog score_of layout files h first) where
   abbrev l : LogState D
   l = found_log disks tables layout heads base arena
 
-  arena_at : (i : ℕ) (r : ArenaRegion) (region : Region) (device : D) (a : Content) → slice_get layout i ≡ Some r → IsRegionOf r region → slice_get disks r.part ≡ Some device → slice_get log.contents i ≡ Some a
-      → IsArena score_of region r.number a (disk.bytes device)
-  arena_at i r region device a at place disk_is has =
+  arena_at : (i : ℕ) (r : ArenaRegion) (device : D) (a : Content) → slice_get layout i ≡ Some r → slice_get disks r.part ≡ Some device → slice_get log.contents i ≡ Some a
+      → IsArena score_of r.region r.number a (disk.bytes device)
+  arena_at i r device a at disk_is has =
       let x = log.arenas.each i r a at has in
       let file : x.0 ≡ disk.bytes device = same_Some x.0 (disk.bytes device) (sym x.1 ∙ ap (λ (fs : List (List ℕ)). slice_get fs r.part) (sym is.files_are) ∙ slice_get-map disk.bytes disks r.part ∙ ap (option_map disk.bytes) disk_is) in
-      subst (λ (f : List ℕ). IsArena score_of region r.number a f) file
-      (subst (λ (z : Region). IsArena score_of z r.number a x.0) (same_region x.2.region region (x.2.place.start ∙ sym place.start) (x.2.place.len ∙ sym place.len)) x.2.arena)
+      subst (λ (f : List ℕ). IsArena score_of r.region r.number a f) file x.2
 
   settled_at : (i : ℕ) (device : D) (region : Region) → slice_get disks i ≡ Some device → IsSettled region (disk.bytes device) (disk.images device)
-  settled_at i device region at c left = ap (λ (f : List ℕ). region_bytes region f) (at_slice (λ (d : D). Only (disk.bytes d) (disk.images d)) disks i device settled at c left)
+  settled_at i device region at c left = ap (λ (f : List ℕ). region_bytes region f) (at_slice (IsSynced disk) disks i device settled at told c left)
 
   found_at : (i : ℕ) (r : ArenaRegion) (device : D) (found : Found) → slice_get layout i ≡ Some r → slice_get disks r.part ≡ Some device → slice_get heads i ≡ Some found → IsFound disk.tells r (disk.bytes device) found
   found_at i r device found at disk_is at_found =
@@ -354,9 +353,7 @@ module _ {D : Type 0} (disk : DiskOf D) (disks : List D) (tables : List Table) (
   head_at : (i : ℕ) (r : ArenaRegion) (found : Found) (a : Content) → slice_get layout i ≡ Some r → slice_get heads i ≡ Some found → slice_get log.contents i ≡ Some a → found.head ≡ head_of score_of r.number a
   head_at i r found a at at_found has =
       let on = at_slice (IsOnDisk disk disks) layout i r is.regions at in
-      let region : Region = record { start = r.at; len = r.len; in_range = on.small } in
-      let place : IsRegionOf r region = record { start = refl; len = refl } in
-      (found_at i r on.device found at on.has at_found).head score_of region a told place (arena_at i r region on.device a at place on.has has)
+      (found_at i r on.device found at on.has at_found).head score_of a told (arena_at i r on.device a at on.has has)
 
   many : length heads ≡ length log.contents
   many = is.found.many ∙ sym log.arenas.many
@@ -395,26 +392,20 @@ module _ {D : Type 0} (disk : DiskOf D) (disks : List D) (tables : List Table) (
       (All-weaker (λ (e : Accepted). e.arena ≤ 0 + base) (λ (e : Accepted). e.arena ≤ base) (λ e least. omega (arith, least)) (blocks_from 0 log.contents) (blocks_arenas 0 base log.contents split.behind))
 
   -- the room is that of the first unsealed arena
-  current_sound : (r : ArenaRegion) (region : Region) (device : D) (a : Content) → IsAt l base r region device → slice_get log.contents base ≡ Some a → IsSoundArena score_of arena region a (disk.bytes device) (disk.images device)
-  current_sound r region device a at has =
+  current_sound : (r : ArenaRegion) (device : D) (a : Content) → IsAt l base r device → slice_get log.contents base ≡ Some a → IsSoundArena score_of arena r.region a (disk.bytes device) (disk.images device)
+  current_sound r device a at has =
       let found = slice_get_other heads layout base r (sym is.found.many) at.arena in
       let it = is.room.there r found.0 at.arena found.1 in
       let own = found_at base r device found.0 at.arena at.disk_is found.1 in
       let on = at_slice (IsOnDisk disk disks) layout base r is.regions at.arena in
       let disk_is : on.device ≡ device = same_Some on.device device (sym on.has ∙ at.disk_is) in
-      let len_is : is.room.len ≡ region.len = it.0 ∙ sym at.region_is.len in
-      let stand : CanStand r.number region.len is.room.head =
-      subst (λ (h : ArenaHead). CanStand r.number region.len h) (sym it.2) (subst (λ (n : ℕ). CanStand r.number n found.0.head) (sym at.region_is.len) own.stands) in
-      subst (λ (x : ArenaState). IsSoundArena score_of x region a (disk.bytes device) (disk.images device)) (sym is.room.fresh)
-      (subst (λ (n : ℕ). IsSoundArena score_of (fresh_arena n is.room.current is.room.head) region a (disk.bytes device) (disk.images device)) (sym len_is)
-      (fresh_sound score_of region (disk.size device) r.number is.room.current a is.room.head (disk.bytes device) (disk.images device)
-      (record {
-        within = omega (arith, on.within, at.region_is.start, at.region_is.len, ap disk.size disk_is);
-        aligned = subst IsAligned (sym at.region_is.start) on.aligned;
-        len = subst IsArenaLen (sym at.region_is.len) on.len;
-      })
-      (settled_at r.part device region at.disk_is) (arena_at base r region device a at.arena at.region_is at.disk_is has)
-      (it.1 ∙ own.selector region told at.region_is) (it.2 ∙ head_at base r found.0 a at.arena found.1 has) stand))
+      let stand : CanStand r.number r.region.len is.room.head = subst (λ (h : ArenaHead). CanStand r.number r.region.len h) (sym it.2) own.stands in
+      subst (λ (x : ArenaState). IsSoundArena score_of x r.region a (disk.bytes device) (disk.images device)) (sym is.room.fresh)
+      (subst (λ (n : ℕ). IsSoundArena score_of (fresh_arena n is.room.current is.room.head) r.region a (disk.bytes device) (disk.images device)) (sym it.0)
+      (fresh_sound score_of r.region (disk.size device) r.number is.room.current a is.room.head (disk.bytes device) (disk.images device)
+      (subst (λ (d : D). IsRegion r.region (disk.size d)) disk_is on.region)
+      (settled_at r.part device r.region at.disk_is) (arena_at base r device a at.arena at.disk_is has)
+      (it.1 ∙ own.selector told) (it.2 ∙ head_at base r found.0 a at.arena found.1 has) stand))
 
   filled : IsFilledBy (lengths_in base h) (filled_as base arena.head)
   filled = subst (λ (x : ArenaState). IsFilledBy (lengths_in base h) (filled_as base x.head)) (sym is.room.fresh) (⊎_elim
@@ -444,9 +435,9 @@ module _ {D : Type 0} (disk : DiskOf D) (disks : List D) (tables : List Table) (
       many = log.arenas.many;
       split = split;
       current = current_sound;
-      others = λ i r region device a other at has. (settled_at r.part device region at.disk_is, arena_at i r region device a at.arena at.region_is at.disk_is has);
+      others = λ i r device a other at has. (settled_at r.part device r.region at.disk_is, arena_at i r device a at.arena at.disk_is has);
       heads = head_at;
-      selectors = λ i r region device found behind at at_found. (found_at i r device found at.arena at.disk_is at_found).selector region told at.region_is;
+      selectors = λ i r device found behind at at_found. (found_at i r device found at.arena at.disk_is at_found).selector told;
       committed = take_all (sum_by (λ found. found.head.clumps) heads) h (omega (arith, count)) ∙ log.history;
       queued = drop_all (sum_by (λ found. found.head.clumps) heads) h (omega (arith, count)) ∙ sym (ap (λ (x : ArenaState). map (accepted base) (map stored_of x.staged) ++ []) is.room.fresh);
       front = omega (arith, count);
@@ -464,7 +455,7 @@ module _ {D : Type 0} (disk : DiskOf D) (disks : List D) (tables : List Table) (
 
 -- what the fields of an arena tell, where it holds this
 record AreOf (r : ArenaRegion) (f : List ℕ) (a : Content) : Type 0 where
-  pub passes : first_bad_in r.number r.len f ≡ None
+  pub passes : first_bad_in r.number r.region.len f ≡ None
   pub sealed : sealed_in f ≡ flag_of a.sealed
   pub clumps : clumps_in f ≡ length a.stored
 
@@ -483,9 +474,9 @@ passes_behind behind k (r ∷ rs) (f ∷ fs) [] is many many_fields each untouch
 passes_behind behind k (r ∷ rs) (f ∷ fs) (a ∷ rest) is many many_fields each untouched =
     let of = each 0 r f a refl refl refl in
     let first = All-head IsUntouched a rest untouched in
-    let none : bad_arena behind k (first_bad_in r.number r.len f) f ≡ None =
-    ap (λ (b : Bool). bad_arena b k (first_bad_in r.number r.len f) f) is
-    ∙ no_order k (first_bad_in r.number r.len f) f of.passes (of.clumps ∙ ap (λ (ss : List Stored). length ss) first.1) (of.sealed ∙ ap flag_of first.0) in
+    let none : bad_arena behind k (first_bad_in r.number r.region.len f) f ≡ None =
+    ap (λ (b : Bool). bad_arena b k (first_bad_in r.number r.region.len f) f) is
+    ∙ no_order k (first_bad_in r.number r.region.len f) f of.passes (of.clumps ∙ ap (λ (ss : List Stored). length ss) first.1) (of.sealed ∙ ap flag_of first.0) in
     ap (λ (o : Option LogBad). first_of_two o (first_bad (behind || sealed_in f == 0) (k + 1) rs fs)) none
     ∙ passes_behind (behind || sealed_in f == 0) (k + 1) rs fs rest (ap (λ (b : Bool). b || sealed_in f == 0) is) (omega (arith, many)) (omega (arith, many_fields))
     (λ i q g b at at_f has. each (suc i) q g b at at_f has) (All-tail IsUntouched a rest untouched)
@@ -504,8 +495,8 @@ passes_order behind k (r ∷ rs) (f ∷ fs) (a ∷ rest) is many many_fields eac
     of : AreOf r f a
     of = each 0 r f a refl refl refl
 
-    none : bad_arena behind k (first_bad_in r.number r.len f) f ≡ None
-    none = ap (λ (b : Bool). bad_arena b k (first_bad_in r.number r.len f) f) is ∙ ap (λ (o : Option ArenaBad). bad_arena false k o f) of.passes
+    none : bad_arena behind k (first_bad_in r.number r.region.len f) f ≡ None
+    none = ap (λ (b : Bool). bad_arena b k (first_bad_in r.number r.region.len f) f) is ∙ ap (λ (o : Option ArenaBad). bad_arena false k o f) of.passes
 
     flag : (b : Bool) → a.sealed ≡ b → (behind || sealed_in f == 0) ≡ (flag_of b == 0)
     flag b sealed = ap (λ (x : Bool). x || sealed_in f == 0) is ∙ ap (λ (n : ℕ). n == 0) (of.sealed ∙ ap flag_of sealed)
@@ -526,12 +517,11 @@ log_passes {D = D} disk disks layout fields score_of h base regions numbers are 
         let on = at_slice (IsOnDisk disk disks) layout i r regions at in
         let number : r.number < 2 ^ 32 = at_slice (λ (r : ArenaRegion). r.number < 2 ^ 32) layout i r numbers at in
         let x = log.arenas.each i r a at has in
-        let fields_is : f ≡ fields_of (head_of score_of r.number a) = same_Some f (fields_of (head_of score_of r.number a)) (sym at_f ∙ are.each i r x.2.region x.0 at x.2.place x.1 ∙ ap (λ (l : List ℕ). Some l) x.2.arena.head) in
-        let content : IsContent score_of r.len a = subst (λ (n : ℕ). IsContent score_of n a) x.2.place.len x.2.arena.content in
+        let fields_is : f ≡ fields_of (head_of score_of r.number a) = same_Some f (fields_of (head_of score_of r.number a)) (sym at_f ∙ are.each i r x.0 at x.1 ∙ ap (λ (l : List ℕ). Some l) x.2.head) in
         record {
-          passes = ap (first_bad_in r.number r.len) fields_is ∙ arena_passes score_of r.len r.number a number on.len.1 content;
+          passes = ap (first_bad_in r.number r.region.len) fields_is ∙ arena_passes score_of r.region.len r.number a number on.region.len.1 x.2.content;
           sealed = ap sealed_in fields_is;
-          clumps = ap clumps_in fields_is ∙ read_clumps score_of r.len r.number on.len.1 a content;
+          clumps = ap clumps_in fields_is ∙ read_clumps score_of r.region.len r.number on.region.len.1 a x.2.content;
         }
 
 -- so that a log isn't refused but for a fault or want of memory
@@ -549,12 +539,12 @@ not_refused names layout fields Fault distinct passes refused = inl refl
 not_refused names layout fields NoMemory distinct passes refused = inr refl
 
 -- what mounting finds, as the partitions are afterwards
-pub found_of : {D : Type 0} (disk : DiskOf D) (fits : (d : D) → disk.size d < 2 ^ 64) (most : ℕ) (items old new : List (Part D))
+pub found_of : {D : Type 0} (disk : DiskOf D) (most : ℕ) (items old new : List (Part D))
     (fields : List (List ℕ)) (layout : List ArenaRegion) (heads : List Found) (base : ℕ) (arena : ArenaState) → old ≡ items → All (λ part. end_of (table_of part) ≤ disk.size (disk_of part)) items → arena_count (tables_of items) < 2 ^ 32
     → AreRead disk most old new → layout ≡ layout_of (tables_of old) → AreFound disk.tells (layout_of (tables_of old)) (map disk.bytes (disks_of old)) heads
     → ArePassed (layout_of (tables_of old)) fields heads → IsFirstOpen heads base → IsRoomFor (layout_of (tables_of old)) heads base arena
     → IsFoundLog disk (disks_of new) (tables_of new) layout (map disk.bytes (disks_of items)) fields heads base arena
-found_of {D = D} disk fits most items old new fields layout heads base arena same rooms few read layout_is found passed first room =
+found_of {D = D} disk most items old new fields layout heads base arena same rooms few read layout_is found passed first room =
     let tables : layout ≡ layout_of (tables_of new) = layout_is ∙ ap layout_of (sym read.tables) in
     let items_layout : layout_of (tables_of items) ≡ layout = ap (λ (ps : List (Part D)). layout_of (tables_of ps)) (sym same) ∙ sym layout_is in
     let hold : HoldTheSame disk (disks_of items) (disks_of new) = subst (λ (ps : List (Part D)). HoldTheSame disk (disks_of ps) (disks_of new)) same read.disks in
@@ -563,7 +553,7 @@ found_of {D = D} disk fits most items old new fields layout heads base arena sam
       layout_is = tables;
       regions = subst (All (IsOnDisk disk (disks_of new))) items_layout
           (All-weaker (IsOnDisk disk (disks_of items)) (IsOnDisk disk (disks_of new)) (λ r on. on_held disk (disks_of items) (disks_of new) r hold on)
-          (layout_of (tables_of items)) (regions_on disk fits items rooms));
+          (layout_of (tables_of items)) (regions_on disk items rooms));
       few = omega (arith, few, layouts_have_lengths (tables_of items), ap (λ (rs : List ArenaRegion). length rs) items_layout);
       files_are = hold.bytes_are;
       found = subst (λ (ps : List (Part D)). AreFound disk.tells layout (map disk.bytes (disks_of ps)) heads) same (subst (λ (rs : List ArenaRegion). AreFound disk.tells rs (map disk.bytes (disks_of old)) heads) (sym layout_is) found);
@@ -582,7 +572,7 @@ given_back {X = X} n new old many many_old =
 pub mount_sound : {D : Type 0} (disk : DiskOf D) (items : List (Part D)) (l : LogState D) (disks : List D) (tables : List Table)
     (fields : List (List ℕ)) (layout : List ArenaRegion) (heads : List Found) (base : ℕ) (arena : ArenaState) (score_of : List ℕ → List ℕ) (h : History) (first : ℕ)
     → IsFoundLog disk disks tables layout (map disk.bytes (disks_of items)) fields heads base arena → l ≡ found_log disks tables layout heads base arena
-    → layout ≡ layout_of (tables_of items) → IsTrue disk.tells → All (λ device. Only (disk.bytes device) (disk.images device)) disks → IsLog score_of (layout_of (tables_of items)) (map disk.bytes (disks_of items)) h first
+    → layout ≡ layout_of (tables_of items) → IsTrue disk.tells → All (IsSynced disk) disks → IsLog score_of (layout_of (tables_of items)) (map disk.bytes (disks_of items)) h first
     → IsSound score_of disk l h × (l.base ≡ first) × (l.durable ≡ length h)
 mount_sound {D = D} disk items l disks tables fields layout heads base arena score_of h first is l_is layout_is told settled log =
     let own : IsLog score_of layout (map disk.bytes (disks_of items)) h first = subst (λ (rs : List ArenaRegion). IsLog score_of rs (map disk.bytes (disks_of items)) h first) (sym layout_is) log in

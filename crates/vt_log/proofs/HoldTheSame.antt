@@ -4,8 +4,9 @@ use Rattle.std.specs.Prelude.{slice_get}
 use Rattle.std.proofs.lemmas.List.{length-map}
 use Rattle.std.proofs.lemmas.List.Elements.{All-weaker}
 use Rattle.std.proofs.lemmas.Option.{slice_get_within, slice_get-map, slice_get-get_or, same_Some}
-use Rattle.vt_log.specs.Members.{DiskOf}
+use Rattle.vt_disk.specs.Members.{DiskOf}
 use Rattle.vt_disk.specs.declared.region.Region.{Region}
+use Rattle.vt_disk.specs.Calls.{OnlyReads}
 use Rattle.vt_disk.specs.Disk.{AreAmong}
 use Rattle.vt_disk.specs.Region.{region_bytes}
 use Rattle.vt_twin.specs.Frames.{named_number}
@@ -14,7 +15,7 @@ use Rattle.vt_part.specs.declared.layout.ArenaRegion.{ArenaRegion}
 use Rattle.vt_arena.specs.declared.TheConstants.{FRAME_LEN}
 use Rattle.vt_arena.specs.Arena.{ArenaState}
 use Rattle.vt_arena.specs.Layout.{Content, IsArena}
-use Rattle.vt_arena.specs.Sound.{IsSound as IsSoundArena}
+use Rattle.vt_arena.specs.Sound.{IsRegion, IsSound as IsSoundArena}
 use Rattle.vt_log.specs.Answers.{HoldTheSame}
 use Rattle.vt_log.specs.Log.{LogState}
 use Rattle.vt_log.specs.Sound.{IsAt, IsSound}
@@ -71,10 +72,7 @@ hold_whole disk l ds whole hold = record {
       record {
         device = now.0;
         has = now.1;
-        within = omega (arith, on.within, map_at disk.size l.disks ds r.part on.device now.0 hold.sizes_are on.has now.1);
-        small = on.small;
-        aligned = on.aligned;
-        len = on.len;
+        region = subst (IsRegion r.region) (sym (map_at disk.size l.disks ds r.part on.device now.0 hold.sizes_are on.has now.1)) on.region;
       }) l.layout whole.regions;
   apart = whole.apart;
   few = whole.few;
@@ -96,11 +94,11 @@ hold_whole disk l ds whole hold = record {
   durable = whole.durable;
 }
 
-was_at : {D : Type 0} (l : LogState D) (ds : List D) (i : ℕ) (r : ArenaRegion) (region : Region) (disk : D) → length ds ≡ length l.disks → IsAt (record l { disks = ds }) i r region disk
-    → (before : D) × IsAt l i r region before
-was_at l ds i r region disk many at =
+was_at : {D : Type 0} (l : LogState D) (ds : List D) (i : ℕ) (r : ArenaRegion) (disk : D) → length ds ≡ length l.disks → IsAt (record l { disks = ds }) i r disk
+    → (before : D) × IsAt l i r before
+was_at l ds i r disk many at =
     let was = slice_get_other l.disks ds r.part disk many at.disk_is in
-    (was.0, record { arena = at.arena; region_is = at.region_is; disk_is = was.1 })
+    (was.0, record { arena = at.arena; disk_is = was.1 })
 
 pub hold_sound : {D : Type 0} (score_of : List ℕ → List ℕ) (disk : DiskOf D) (l : LogState D) (ds : List D) (h : History)
     → HoldTheSame disk l.disks ds → IsSound score_of disk l h → IsSound score_of disk (record l { disks = ds }) h
@@ -109,23 +107,23 @@ hold_sound {D = D} score_of disk l ds h hold sound = record {
   contents = sound.contents;
   many = sound.many;
   split = sound.split;
-  current = λ r region device a at has.
-      let was = was_at l ds l.committing r region device many at in
+  current = λ r device a at has.
+      let was = was_at l ds l.committing r device many at in
       let same : disk.bytes device ≡ disk.bytes was.0 = map_at disk.bytes l.disks ds r.part was.0 device hold.bytes_are was.1.disk_is at.disk_is in
-      subst (λ (b : List ℕ). IsSoundArena score_of l.arena region a b (disk.images device)) (sym same)
-      (among_arena score_of l.arena region a (disk.bytes was.0) (disk.images was.0) (disk.images device) (hold.images_are r.part was.0 device was.1.disk_is at.disk_is) (sound.current r region was.0 a was.1 has));
-  others = λ i r region device a other at has.
-      let was = was_at l ds i r region device many at in
+      subst (λ (b : List ℕ). IsSoundArena score_of l.arena r.region a b (disk.images device)) (sym same)
+      (among_arena score_of l.arena r.region a (disk.bytes was.0) (disk.images was.0) (disk.images device) (hold.images_are r.part was.0 device was.1.disk_is at.disk_is) (sound.current r was.0 a was.1 has));
+  others = λ i r device a other at has.
+      let was = was_at l ds i r device many at in
       let same : disk.bytes device ≡ disk.bytes was.0 = map_at disk.bytes l.disks ds r.part was.0 device hold.bytes_are was.1.disk_is at.disk_is in
-      let rests = sound.others i r region was.0 a other was.1 has in (
-        λ c left. rests.0 c (hold.images_are r.part was.0 device was.1.disk_is at.disk_is c left) ∙ sym (ap (region_bytes region) same),
-        subst (λ (b : List ℕ). IsArena score_of region r.number a b) (sym same) rests.1,
+      let rests = sound.others i r was.0 a other was.1 has in (
+        λ c left. rests.0 c (hold.images_are r.part was.0 device was.1.disk_is at.disk_is c left) ∙ sym (ap (region_bytes r.region) same),
+        subst (λ (b : List ℕ). IsArena score_of r.region r.number a b) (sym same) rests.1,
       );
   heads = sound.heads;
-  selectors = λ i r region device found behind at has.
-      let was = was_at l ds i r region device many at in
+  selectors = λ i r device found behind at has.
+      let was = was_at l ds i r device many at in
       let same : disk.bytes device ≡ disk.bytes was.0 = map_at disk.bytes l.disks ds r.part was.0 device hold.bytes_are was.1.disk_is at.disk_is in
-      sound.selectors i r region was.0 found behind was.1 has ∙ sym (ap (named_number region FRAME_LEN) same);
+      sound.selectors i r was.0 found behind was.1 has ∙ sym (ap (named_number r.region FRAME_LEN) same);
   committed = sound.committed;
   queued = sound.queued;
   front = sound.front;
@@ -155,11 +153,11 @@ pub record IsReadOnly {D : Type 0} (score_of : List ℕ → List ℕ) (disk : Di
   pub whole : IsWhole disk m → IsWhole disk k
   pub sound : (h : History) → IsSound score_of disk m h → IsSound score_of disk k h
 
-pub read_only : {D : Type 0} (score_of : List ℕ → List ℕ) (disk : DiskOf D) (ps : List (Part D)) (i : ℕ) (p : Part D) (d : D) (l m : LogState D)
+pub read_only : {D : Type 0} (score_of : List ℕ → List ℕ) (disk : DiskOf D) (most : ℕ) (ps : List (Part D)) (i : ℕ) (p : Part D) (d : D) (l m : LogState D)
     → l ≡ m → l.disks ≡ map (λ part. disk_of part) ps → l.tables ≡ tables_of ps → slice_get ps i ≡ Some p
-    → disk.bytes d ≡ disk.bytes (disk_of p) → AreAmong (disk.images d) (disk.images (disk_of p)) → disk.size d ≡ disk.size (disk_of p)
+    → OnlyReads disk most (disk_of p) d
     → IsReadOnly score_of disk i (disk_of p) d m (with_disk ps i p d l)
-read_only {D = D} score_of disk ps i p d l m view disks tables at same_bytes among same_size =
+read_only {D = D} score_of disk most ps i p d l m view disks tables at reads =
     record { same = same; disks_are = disks_are; was = was; hold = hold; whole = whole; sound = sound }
   where
     k : LogState D
@@ -181,7 +179,7 @@ read_only {D = D} score_of disk ps i p d l m view disks tables at same_bytes amo
     was = ap (λ (x : LogState D). slice_get x.disks i) (sym view) ∙ ap (λ (ds : List D). slice_get ds i) disks ∙ slice_get-map (λ (part : Part D). disk_of part) ps i ∙ ap (option_map (λ (part : Part D). disk_of part)) at
 
     hold : HoldTheSame disk m.disks (map (λ (part : Part D). disk_of part) (set ps i (record p { disk = d })))
-    hold = subst (λ (ds : List D). HoldTheSame disk m.disks ds) (sym disks_are) (hold_set disk m.disks i (disk_of p) d was same_bytes among same_size)
+    hold = subst (λ (ds : List D). HoldTheSame disk m.disks ds) (sym disks_are) (hold_set disk most m.disks i (disk_of p) d was reads)
 
     whole : IsWhole disk m → IsWhole disk (with_disk ps i p d l)
     whole is = subst (IsWhole disk) (sym same) (hold_whole disk m _ is hold)

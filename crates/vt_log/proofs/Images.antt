@@ -5,8 +5,7 @@ use Rattle.std.proofs.lemmas.Bool.{cases_eq}
 use Rattle.std.proofs.lemmas.List.{length-set, length-drop}
 use Rattle.std.proofs.lemmas.List.Elements.{All-weaker}
 use Rattle.std.proofs.lemmas.Option.{slice_get_within, slice_get_cases, same_Some}
-use Rattle.vt_log.specs.Members.{DiskOf}
-use Rattle.vt_disk.specs.declared.region.Region.{Region}
+use Rattle.vt_disk.specs.Members.{DiskOf}
 use Rattle.vt_model.specs.History.{Accepted, History}
 use Rattle.vt_model.specs.Places.{last_arena}
 use Rattle.vt_part.specs.declared.layout.ArenaRegion.{ArenaRegion}
@@ -19,7 +18,7 @@ use Rattle.vt_arena.proofs.Regions.{arena_in_region}
 use Rattle.vt_log.specs.declared.filling.Filling.{Filling}
 use Rattle.vt_log.specs.declared.queue.Waiting.{Waiting}
 use Rattle.vt_log.specs.Log.{LogState}
-use Rattle.vt_log.specs.Logs.{accepted, blocks_from, HasArena, AreArenas}
+use Rattle.vt_log.specs.Logs.{accepted, blocks_from, AreArenas}
 use Rattle.vt_log.specs.Queue.{WaitsFor, waiting_block}
 use Rattle.vt_log.specs.Sound.{IsAt, IsSplit, IsSound, AreImages, StandForPrefix}
 use Rattle.vt_log.specs.Whole.{IsOnDisk, IsWhole, Fill}
@@ -27,20 +26,15 @@ use Rattle.vt_log.proofs.Contents.{split_order, blocks_set, blocks_arenas, last_
 use Rattle.vt_log.proofs.Fillings.{fill_arena, turned_arena}
 use Rattle.vt_log.proofs.Memory.{slice_get_other, at_slice, slice_get_set_same, slice_get_set_other}
 
--- an arena that there is, its region and its disk
+-- an arena that there is, and its disk
 pub record IsThere {D : Type 0} (l : LogState D) (i : ℕ) (r : ArenaRegion) : Type 0 where
-  pub region : Region
   pub disk : D
-  pub at : IsAt l i r region disk
+  pub at : IsAt l i r disk
 
 pub there : {D : Type 0} (disk : DiskOf D) (l : LogState D) (i : ℕ) (r : ArenaRegion) → IsWhole disk l → slice_get l.layout i ≡ Some r → IsThere l i r
 there disk l i r whole is =
     let on = at_slice (IsOnDisk disk l.disks) l.layout i r whole.regions is in
-    record {
-      region = record { start = r.at; len = r.len; in_range = on.small };
-      disk = on.device;
-      at = record { arena = is; region_is = record { start = refl; len = refl }; disk_is = on.has };
-    }
+    record { disk = on.device; at = record { arena = is; disk_is = on.has } }
 
 -- a block that waits for an arena comes before what is filled
 pub waits_below : (layout : List ArenaRegion) (heads : List Found) (from to : Filling) (ws : List Waiting) (arena : ℕ) → Fill layout heads from ws to → WaitsFor arena ws → arena ≤ to.arena
@@ -53,10 +47,10 @@ waits_below layout heads from to (w ∷ ws) arena fill waits =
 -- staged, where the one that is committed in is what its commit makes of it.
 pub stand_for_prefix : {D : Type 0} (score_of : List ℕ → List ℕ) (disk : DiskOf D) (l : LogState D) (h : History)
     (files : List (List ℕ)) → (sound : IsSound score_of disk l h) → length files ≡ length l.disks
-    → ((r : ArenaRegion) (region : Region) (device : D) (a : Content) (file : List ℕ) → IsAt l l.committing r region device → slice_get sound.contents l.committing ≡ Some a
-    → slice_get files r.part ≡ Some file → IsArena score_of region r.number a file ⊎ IsArena score_of region r.number (next_content l.arena a) file)
-    → ((i : ℕ) (r : ArenaRegion) (region : Region) (device : D) (a : Content) (file : List ℕ) → i ≢ l.committing → IsAt l i r region device → slice_get sound.contents i ≡ Some a
-    → slice_get files r.part ≡ Some file → IsArena score_of region r.number a file)
+    → ((r : ArenaRegion) (device : D) (a : Content) (file : List ℕ) → IsAt l l.committing r device → slice_get sound.contents l.committing ≡ Some a
+    → slice_get files r.part ≡ Some file → IsArena score_of r.region r.number a file ⊎ IsArena score_of r.region r.number (next_content l.arena a) file)
+    → ((i : ℕ) (r : ArenaRegion) (device : D) (a : Content) (file : List ℕ) → i ≢ l.committing → IsAt l i r device → slice_get sound.contents i ≡ Some a
+    → slice_get files r.part ≡ Some file → IsArena score_of r.region r.number a file)
     → StandForPrefix score_of l files h
 stand_for_prefix {D = D} score_of disk l h files sound many gives rest =
     ⊎_elim
@@ -65,12 +59,12 @@ stand_for_prefix {D = D} score_of disk l h files sound many gives rest =
     let t = there disk l l.committing r.0 sound.whole r.1 in
     let file = slice_get_other files l.disks r.0.part t.disk (sym many) t.at.disk_is in
     ⊎_elim
-    (λ (old : IsArena score_of t.region r.0.number it.0 file.0).
-    before (has_at r.0 it.0 file.0 r.1 file.1 (record { region = t.region; place = t.at.region_is; arena = old }) sound.contents it.2))
-    (λ (new : IsArena score_of t.region r.0.number (next_content l.arena it.0) file.0).
-    after it.0 it.2 it.1 (has_at r.0 (next_content l.arena it.0) file.0 r.1 file.1 (record { region = t.region; place = t.at.region_is; arena = new })
+    (λ (old : IsArena score_of r.0.region r.0.number it.0 file.0).
+    before (has_at r.0 it.0 file.0 r.1 file.1 old sound.contents it.2))
+    (λ (new : IsArena score_of r.0.region r.0.number (next_content l.arena it.0) file.0).
+    after it.0 it.2 it.1 (has_at r.0 (next_content l.arena it.0) file.0 r.1 file.1 new
     (set sound.contents l.committing (next_content l.arena it.0)) (slice_get_set_same sound.contents l.committing (next_content l.arena it.0) it.1)))
-    (gives r.0 t.region t.disk it.0 file.0 t.at it.2 file.1))
+    (gives r.0 t.disk it.0 file.0 t.at it.2 file.1))
     (λ (past : (length sound.contents ≤ l.committing) × (slice_get sound.contents l.committing ≡ None)).
     before (λ r a at has. absurd (omega (arith, past.0, slice_get_within sound.contents l.committing a has))))
     (slice_get_cases sound.contents l.committing).1
@@ -78,21 +72,21 @@ stand_for_prefix {D = D} score_of disk l h files sound many gives rest =
     below : (l.committing ≤ l.filling.arena) × (l.committing ≤ length l.layout → l.filling.arena ≤ length l.layout)
     below = fill_arena l.layout l.heads _ l.filling l.queue.waiting sound.whole.queue
 
-    has_at : (r : ArenaRegion) (a : Content) (file : List ℕ) → slice_get l.layout l.committing ≡ Some r → slice_get files r.part ≡ Some file → HasArena score_of r a file
+    has_at : (r : ArenaRegion) (a : Content) (file : List ℕ) → slice_get l.layout l.committing ≡ Some r → slice_get files r.part ≡ Some file → IsArena score_of r.region r.number a file
         → (cs : List Content) → slice_get cs l.committing ≡ Some a
         → (q : ArenaRegion) (b : Content) → slice_get l.layout l.committing ≡ Some q → slice_get cs l.committing ≡ Some b
-        → (file : List ℕ) × (slice_get files q.part ≡ Some file) × HasArena score_of q b file
+        → (file : List ℕ) × (slice_get files q.part ≡ Some file) × IsArena score_of q.region q.number b file
     has_at r a file is of has cs content q b at at_content =
         let r_is : r ≡ q = same_Some r q (sym is ∙ at) in
         let a_is : a ≡ b = same_Some a b (sym content ∙ at_content) in (
           file,
           subst (λ (r : ArenaRegion). slice_get files r.part ≡ Some file) r_is of,
-          subst (λ (r : ArenaRegion). HasArena score_of r b file) r_is (subst (λ (a : Content). HasArena score_of r a file) a_is has),
+          subst (λ (r : ArenaRegion). IsArena score_of r.region r.number b file) r_is (subst (λ (a : Content). IsArena score_of r.region r.number a file) a_is has),
         )
 
     arenas : (cs : List Content) → length cs ≡ length sound.contents → ((i : ℕ) → i ≢ l.committing → slice_get cs i ≡ slice_get sound.contents i)
         → ((q : ArenaRegion) (b : Content) → slice_get l.layout l.committing ≡ Some q → slice_get cs l.committing ≡ Some b
-        → (file : List ℕ) × (slice_get files q.part ≡ Some file) × HasArena score_of q b file)
+        → (file : List ℕ) × (slice_get files q.part ≡ Some file) × IsArena score_of q.region q.number b file)
         → AreArenas score_of l.layout files cs
     arenas cs long others current = record {
       many = long ∙ sound.many;
@@ -101,7 +95,7 @@ stand_for_prefix {D = D} score_of disk l h files sound many gives rest =
           (λ (other : i ≢ l.committing).
           let t = there disk l i r sound.whole at in
           let file = slice_get_other files l.disks r.part t.disk (sym many) t.at.disk_is in
-          (file.0, file.1, record { region = t.region; place = t.at.region_is; arena = rest i r t.region t.disk a file.0 other t.at (sym (others i other) ∙ content) file.1 }))
+          (file.0, file.1, rest i r t.disk a file.0 other t.at (sym (others i other) ∙ content) file.1))
           (cases_eq i l.committing);
     }
 
@@ -127,13 +121,13 @@ stand_for_prefix {D = D} score_of disk l h files sound many gives rest =
     inside = omega (arith, sound.front)
 
     before : ((q : ArenaRegion) (b : Content) → slice_get l.layout l.committing ≡ Some q → slice_get sound.contents l.committing ≡ Some b
-        → (file : List ℕ) × (slice_get files q.part ≡ Some file) × HasArena score_of q b file) → StandForPrefix score_of l files h
+        → (file : List ℕ) × (slice_get files q.part ≡ Some file) × IsArena score_of q.region q.number b file) → StandForPrefix score_of l files h
     before current = conclude l.durable l.committing sound.contents (omega arith) inside sound.committed sound.split (omega (arith, sound.whole.committing, sound.many))
         sound.whole.base below.0 (arenas sound.contents refl (λ i other. refl) current)
 
     after : (a : Content) → slice_get sound.contents l.committing ≡ Some a → l.committing < length sound.contents
         → ((q : ArenaRegion) (b : Content) → slice_get l.layout l.committing ≡ Some q → slice_get (set sound.contents l.committing (next_content l.arena a)) l.committing ≡ Some b
-        → (file : List ℕ) × (slice_get files q.part ≡ Some file) × HasArena score_of q b file) → StandForPrefix score_of l files h
+        → (file : List ℕ) × (slice_get files q.part ≡ Some file) × IsArena score_of q.region q.number b file) → StandForPrefix score_of l files h
     after a is within current = sealing l.arena.next.sealed refl
       where
         next : Content
@@ -178,24 +172,24 @@ number_is disk l r whole at =
     (whole.arena r found.0 at found.1).number
 
 -- a region that an arena has
-pub region_long : {D : Type 0} (disk : DiskOf D) (l : LogState D) (i : ℕ) (r : ArenaRegion) (region : Region) (device : D) → IsWhole disk l → IsAt l i r region device → 24576 ≤ region.len
-region_long disk l i r region device whole at =
+pub region_long : {D : Type 0} (disk : DiskOf D) (l : LogState D) (i : ℕ) (r : ArenaRegion) (device : D) → IsWhole disk l → IsAt l i r device → 24576 ≤ r.region.len
+region_long disk l i r device whole at =
     let on = at_slice (IsOnDisk disk l.disks) l.layout i r whole.regions at.arena in
-    omega (arith, at.region_is.len, on.len.0)
+    omega (arith, on.region.len.0)
 
 -- between two calls
 pub moment_stands : {D : Type 0} (score_of : List ℕ → List ℕ) (disk : DiskOf D) (l : LogState D) (h : History)
     (files : List (List ℕ)) → IsSound score_of disk l h → AreImages disk l.disks files → StandForPrefix score_of l files h
 moment_stands score_of disk l h files sound left =
     stand_for_prefix score_of disk l h files sound left.many
-    (λ r region device a file at content of.
+    (λ r device a file at content of.
     let number = number_is disk l r sound.whole at.arena in
     ⊎_elim
-    (λ (old : IsArena score_of region l.arena.number a file). inl (subst (λ (n : ℕ). IsArena score_of region n a file) number old))
-    (λ (next : HasBegunSelector l.arena × IsArena score_of region l.arena.number (next_content l.arena a) file).
-    inr (subst (λ (n : ℕ). IsArena score_of region n (next_content l.arena a) file) number next.1))
-    (arena_gives score_of l.arena region a (disk.bytes device) (disk.images device) (sound.current r region device a at content) file (left.each r.part device file at.disk_is of)))
-    (λ i r region device a file other at content of.
-    let rests = sound.others i r region device a other at content in
-    arena_in_region score_of region r.number a (disk.bytes device) file (region_long disk l i r region device sound.whole at)
+    (λ (old : IsArena score_of r.region l.arena.number a file). inl (subst (λ (n : ℕ). IsArena score_of r.region n a file) number old))
+    (λ (next : HasBegunSelector l.arena × IsArena score_of r.region l.arena.number (next_content l.arena a) file).
+    inr (subst (λ (n : ℕ). IsArena score_of r.region n (next_content l.arena a) file) number next.1))
+    (arena_gives score_of l.arena r.region a (disk.bytes device) (disk.images device) (sound.current r device a at content) file (left.each r.part device file at.disk_is of)))
+    (λ i r device a file other at content of.
+    let rests = sound.others i r device a other at content in
+    arena_in_region score_of r.region r.number a (disk.bytes device) file (region_long disk l i r device sound.whole at)
     (rests.0 file (left.each r.part device file at.disk_is of)) rests.1)

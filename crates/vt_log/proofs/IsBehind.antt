@@ -2,7 +2,7 @@
 use Rattle.std.proofs.Common.{◌≡◌, ℕ, ◌+◌, ◌<◌, ◌≤◌, min, List, [], ◌∷◌, length, take, map, sym, ap, subst, arith}
 use Rattle.std.specs.Prelude.{All, sum_by}
 use Rattle.std.proofs.lemmas.List.Elements.{All-nil, All-append, All-map, All-weaker}
-use Rattle.vt_log.specs.Members.{DiskOf}
+use Rattle.vt_disk.specs.Members.{DiskOf}
 use Rattle.vt_model.specs.History.{Accepted, History}
 use Rattle.vt_model.specs.Places.{lengths_in}
 use Rattle.vt_arena.specs.Layout.{Content}

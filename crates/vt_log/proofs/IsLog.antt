@@ -3,16 +3,14 @@ use Rattle.std.proofs.Common.{◌≡◌, ℕ, ◌^◌, ◌≤◌, List, get_or, 
 use Rattle.std.specs.Prelude.{All, slice_get}
 use Rattle.std.proofs.lemmas.List.{same_lists}
 use Rattle.std.proofs.lemmas.Option.{slice_get-get_or, same_Some}
-use Rattle.vt_disk.specs.declared.region.Region.{Region}
 use Rattle.vt_model.specs.History.{History}
 use Rattle.vt_part.specs.declared.layout.ArenaRegion.{ArenaRegion}
 use Rattle.vt_arena.specs.Layout.{Content, IsArena}
 use Rattle.vt_arena.proofs.Unique.{one_content}
 use Rattle.vt_log.specs.Logs.{blocks_from, first_unsealed, AreArenas, IsLog}
-use Rattle.vt_log.proofs.Calls.{same_region}
 use Rattle.vt_log.proofs.Memory.{slice_get_other, at_slice}
 
-pub same_contents : (score_of : List ℕ → List ℕ) (layout : List ArenaRegion) (files : List (List ℕ)) (cs ds : List Content) → All (λ r. r.len ≤ 2 ^ 30) layout
+pub same_contents : (score_of : List ℕ → List ℕ) (layout : List ArenaRegion) (files : List (List ℕ)) (cs ds : List Content) → All (λ r. r.region.len ≤ 2 ^ 30) layout
     → AreArenas score_of layout files cs → AreArenas score_of layout files ds → cs ≡ ds
 same_contents score_of layout files cs ds short one two = same_lists cs ds (one.many ∙ sym two.many) (λ k d below.
     let a = get_or cs k d in
@@ -23,13 +21,10 @@ same_contents score_of layout files cs ds short one two = same_lists cs ds (one.
     let x = one.each k r.0 a r.1 at_a in
     let y = two.each k r.0 b r.1 at_b in
     let file : x.0 ≡ y.0 = same_Some x.0 y.0 (sym x.1 ∙ y.1) in
-    let region : x.2.region ≡ y.2.region = same_region x.2.region y.2.region (x.2.place.start ∙ sym y.2.place.start) (x.2.place.len ∙ sym y.2.place.len) in
-    let arena : IsArena score_of x.2.region r.0.number b x.0 =
-    subst (λ (z : Region). IsArena score_of z r.0.number b x.0) (sym region) (subst (λ (z : List ℕ). IsArena score_of y.2.region r.0.number b z) (sym file) y.2.arena) in
-    let few : r.0.len ≤ 2 ^ 30 = at_slice (λ (r : ArenaRegion). r.len ≤ 2 ^ 30) layout k r.0 short r.1 in
-    one_content score_of x.2.region r.0.number a b x.0 (omega (arith, few, x.2.place.len)) x.2.arena arena)
+    let few : r.0.region.len ≤ 2 ^ 30 = at_slice (λ (r : ArenaRegion). r.region.len ≤ 2 ^ 30) layout k r.0 short r.1 in
+    one_content score_of r.0.region r.0.number a b x.0 few x.2 (subst (λ (z : List ℕ). IsArena score_of r.0.region r.0.number b z) (sym file) y.2))
 
-pub one_log : (score_of : List ℕ → List ℕ) (layout : List ArenaRegion) (files : List (List ℕ)) (g h : History) (a b : ℕ) → All (λ r. r.len ≤ 2 ^ 30) layout
+pub one_log : (score_of : List ℕ → List ℕ) (layout : List ArenaRegion) (files : List (List ℕ)) (g h : History) (a b : ℕ) → All (λ r. r.region.len ≤ 2 ^ 30) layout
     → IsLog score_of layout files g a → IsLog score_of layout files h b → (g ≡ h) × (a ≡ b)
 one_log score_of layout files g h a b short one two =
     let same = same_contents score_of layout files one.contents two.contents short one.arenas two.arenas in

@@ -4,16 +4,17 @@ use Rattle.std.specs.Prelude.{slice_get, IsTrue}
 use Rattle.std.specs.Option.{option_map_or}
 use Rattle.std.proofs.lemmas.List.{drop_at, length-set}
 use Rattle.std.proofs.lemmas.Option.{slice_get_within, slice_get-map, slice_get-get_or, slice_get_read, same_Some}
-use Rattle.vt_base.specs.Faults.{HasRisen}
-use Rattle.vt_log.specs.Members.{DiskOf}
+use Rattle.vt_base.specs.Faults.{CountsFault}
+use Rattle.vt_disk.specs.Members.{DiskOf}
 use Rattle.vt_disk.specs.declared.region.Region.{Region}
-use Rattle.vt_disk.specs.Disk.{SameBut, WithinCall, Only, IsOneMore}
-use Rattle.vt_disk.specs.Region.{Inside, ChangesWithin, region_bytes}
+use Rattle.vt_disk.specs.Calls.{WritesWithin, MadeCalls, IsSynced}
+use Rattle.vt_disk.specs.Disk.{WithinCall}
+use Rattle.vt_disk.specs.Region.{region_bytes}
 use Rattle.vt_twin.specs.declared.step.Step.{Step}
 use Rattle.vt_twin.specs.declared.step.Step.TheVariants.{More, Done}
 use Rattle.vt_twin.specs.declared.step.TwinErr.{TwinErr}
 use Rattle.vt_twin.specs.declared.step.TwinErr.TheVariants.{Fault as TwinFault, Stopped as TwinStopped}
-use Rattle.vt_twin.specs.Twin.{CountsFault, one_more}
+use Rattle.vt_twin.specs.Twin.{is_fault, one_more}
 use Rattle.vt_clump.specs.declared.packed.Packed.{Packed}
 use Rattle.vt_model.specs.History.{History}
 use Rattle.vt_part.specs.declared.layout.ArenaRegion.{ArenaRegion}
@@ -30,17 +31,16 @@ use Rattle.vt_log.specs.declared.bad.Progress.TheVariants.{Step as StepMade, Dur
 use Rattle.vt_log.specs.declared.bad.LogErr.{LogErr}
 use Rattle.vt_log.specs.declared.bad.LogErr.TheVariants.{Fault, Stopped}
 use Rattle.vt_log.specs.declared.queue.Waiting.{Waiting}
-use Rattle.vt_log.specs.Answers.{MakesCall, EndsCommit, Spares}
+use Rattle.vt_log.specs.Answers.{MakesCall, EndsCommit, CallsArena}
 use Rattle.vt_log.specs.Committing.{IsReady, TakesAll, MakesOrEnds, MakesOneCall}
-use Rattle.vt_log.specs.Faults.{CountsFaultAt}
-use Rattle.vt_log.specs.Log.{LogState, queued, packed_of, disk_in_use}
-use Rattle.vt_log.specs.Logs.{IsRegionOf}
+use Rattle.vt_log.specs.Faults.{is_fault_now}
+use Rattle.vt_log.specs.Log.{LogState, queued, packed_of}
 use Rattle.vt_log.specs.Sound.{IsAt, IsSound, AreWithinCall, StandForPrefix}
 use Rattle.vt_log.specs.Queue.{QueueState}
 use Rattle.vt_log.specs.Whole.{IsOnDisk, IsWhole}
 use Rattle.vt_log.proofs.Advances.{committing_there}
-use Rattle.vt_log.proofs.Calls.{KeepsArena, ChangesRegion, step_keeps, fault_keeps, call_whole, call_sound, call_stands, same_region}
-use Rattle.vt_log.proofs.Disks.{map_same, spares_set, risen_set, parts_disks, parts_tables}
+use Rattle.vt_log.proofs.Calls.{KeepsArena, ChangesRegion, step_keeps, fault_keeps, call_whole, call_sound, call_stands}
+use Rattle.vt_log.proofs.Disks.{parts_disks, parts_tables}
 use Rattle.vt_log.proofs.EndsCommit.{EndsArena, last_ends, ended, ended_whole, ended_sound, turned, turned_whole, turned_sound, IsEnding, next_there}
 use Rattle.vt_log.proofs.HoldTheSame.{with_disk, part_there}
 use Rattle.vt_log.proofs.Memory.{slice_get_other, at_slice, slice_get_set_same, slice_get_set_other}
@@ -53,101 +53,56 @@ pub record IsAdvanced {D : Type 0} (score_of : List ℕ → List ℕ) (disk : Di
   pub crash : (old : Content) → IsTrue disk.tells → IsSoundArena score_of a region old (disk.bytes d) (disk.images d) → (c : List ℕ) → WithinCall (disk.images d) (disk.images e) c
       → GivesOldOrNext (commit_calls a ≤ calls_made a + 2) score_of region a.number old (next_content a old) c
   pub last : (old : Content) → IsTrue disk.tells → IsSoundArena score_of a region old (disk.bytes d) (disk.images d) → step ≡ Ok Done → (c : List ℕ) → disk.images e c → IsArena score_of region a.number (next_content a old) c
-  pub settled : IsTrue disk.tells → step ≡ Ok Done → Only (disk.bytes e) (disk.images e)
+  pub settled : step ≡ Ok Done → IsSynced disk e
   pub steps : Advances step a b
   pub left : calls_made a < commit_calls a
   pub done : step ≡ Ok Done → calls_made a + 1 ≡ commit_calls a
   pub stopped : (n : ℕ) → step ≡ Err (TwinStopped n) → a.stopped ≡ Some n
-  pub faults_are : CountsFault step (disk.faults d) (disk.faults e)
-  pub calls_are : IsTrue disk.tells → a.stopped ≡ None → IsOneMore (disk.calls d) (disk.calls e)
-  pub images_are : ChangesWithin region (disk.images d) (disk.images e)
-  pub bytes_are : IsTrue disk.tells → SameBut (Inside region) (disk.bytes d) (disk.bytes e)
-  pub size_is : disk.size e ≡ disk.size d
+  pub faults : CountsFault is_fault step (disk.faults d) (disk.faults e)
+  pub calls : a.stopped ≡ None → MadeCalls disk 1 d e
+  pub writes : WritesWithin disk region 1 d e
 
 -- what is known once the device call was made
 pub record IsCalled {D : Type 0} (score_of : List ℕ → List ℕ) (disk : DiskOf D)
-    (l : LogState D) (r : ArenaRegion) (region : Region) (d e : D) (b : ArenaState) (step : Result Step TwinErr) : Type 0 where
+    (l : LogState D) (r : ArenaRegion) (d e : D) (b : ArenaState) (step : Result Step TwinErr) : Type 0 where
   pub whole : IsWhole disk l
   pub runs : l.stopped ≡ None
   pub ready : IsReady l
-  pub at : IsAt l l.committing r region d
-  pub made : IsAdvanced score_of disk l.arena region d e b step
+  pub at : IsAt l l.committing r d
+  pub made : IsAdvanced score_of disk l.arena r.region d e b step
 
 -- ---- the disks
 
--- the count of one disk's faults
-abbrev CountsOne : Result Progress LogErr → (old new : ℕ) → Type 0
-CountsOne (Ok progress) old new = new ≡ old
-CountsOne (Err Fault) old new = HasRisen old new
-CountsOne (Err (Stopped n)) old new = new ≡ old
-
-cause_at : {D : Type 0} (f : D → ℕ) (ds : List D) (i : ℕ) (d e : D) (result : Result Progress LogErr) → slice_get ds i ≡ Some d → CountsOne result (f d) (f e)
-    → CountsFaultAt i result (map f ds) (map f (set ds i e))
-cause_at f ds i d e (Ok progress) at cause = map_same f ds i d e at cause
-cause_at f ds i d e (Err Fault) at cause = risen_set f ds i d e at cause
-cause_at f ds i d e (Err (Stopped n)) at cause = map_same f ds i d e at cause
-
-use_is : {D : Type 0} (l : LogState D) (r : ArenaRegion) → slice_get l.layout l.committing ≡ Some r → disk_in_use l ≡ r.part
-use_is l r at = ap (λ (o : Option ArenaRegion). option_map_or (λ (x : ArenaRegion). x.part) o 0) at
-
--- what a call of the disk of the arena's partition does to the disks
-record IsOneCall {D : Type 0} (disk : DiskOf D) (l : LogState D) (ds : List D) (result : Result Progress LogErr) : Type 0 where
-  spares : Spares (disk_in_use l) l.disks ds
-  in_use : disk_in_use l < length l.disks
-  within : (q : ArenaRegion) (other : Region) (before after : D) → IsAt l l.committing q other before → slice_get ds q.part ≡ Some after
-      → ChangesWithin other (disk.images before) (disk.images after) × (IsTrue disk.tells → SameBut (Inside other) (disk.bytes before) (disk.bytes after))
-  sizes : map disk.size ds ≡ map disk.size l.disks
-  one_call : IsTrue disk.tells → (before after : D) → slice_get l.disks (disk_in_use l) ≡ Some before → slice_get ds (disk_in_use l) ≡ Some after → IsOneMore (disk.calls before) (disk.calls after)
-  cause : CountsFaultAt (disk_in_use l) result (map disk.faults l.disks) (map disk.faults ds)
-
-one_call : {D : Type 0} (score_of : List ℕ → List ℕ) (disk : DiskOf D)
-    (l : LogState D) (r : ArenaRegion) (region : Region) (d e : D) (b : ArenaState) (step : Result Step TwinErr) (result : Result Progress LogErr)
-    → IsCalled score_of disk l r region d e b step → CountsOne result (disk.faults d) (disk.faults e)
-    → IsOneCall disk l (set l.disks r.part e) result
-one_call {D = D} score_of disk l r region d e b step result it cause = record {
-  spares = subst (λ (n : ℕ). Spares n l.disks (set l.disks r.part e)) (sym used) (spares_set l.disks r.part e);
-  in_use = omega (arith, used, there);
-  within = within;
-  sizes = map_same disk.size l.disks r.part d e it.at.disk_is it.made.size_is;
-  one_call = λ told before after was now.
-      let d_is : d ≡ before = same_Some d before (sym it.at.disk_is ∙ sym (ap (slice_get l.disks) used) ∙ was) in
-      let e_is : e ≡ after = same_Some e after (sym (slice_get_set_same l.disks r.part e there) ∙ sym (ap (slice_get (set l.disks r.part e)) used) ∙ now) in
-      subst (λ (x : D). IsOneMore (disk.calls before) (disk.calls x)) e_is
-      (subst (λ (x : D). IsOneMore (disk.calls x) (disk.calls e)) d_is (it.made.calls_are told (it.whole.runs it.runs)));
-  cause = subst (λ (n : ℕ). CountsFaultAt n result (map disk.faults l.disks) (map disk.faults (set l.disks r.part e))) (sym used) (cause_at disk.faults l.disks r.part d e result it.at.disk_is cause);
+calls_arena : {D : Type 0} (score_of : List ℕ → List ℕ) (disk : DiskOf D)
+    (l k : LogState D) (r : ArenaRegion) (d e : D) (b : ArenaState) (step : Result Step TwinErr) (result : Result Progress LogErr)
+    → IsCalled score_of disk l r d e b step → k.disks ≡ set l.disks r.part e
+    → CountsFault is_fault_now result (disk.faults d) (disk.faults e) → CallsArena disk result l k
+calls_arena score_of disk l k r d e b step result it disks cause = record {
+  r = r;
+  arena = it.at.arena;
+  before = d;
+  after = e;
+  was = it.at.disk_is;
+  disks = disks;
+  writes = it.made.writes;
+  calls = it.made.calls (it.whole.runs it.runs);
+  cause = cause;
 }
-  where
-    used : disk_in_use l ≡ r.part
-    used = use_is l r it.at.arena
-
-    there : r.part < length l.disks
-    there = slice_get_within l.disks r.part d it.at.disk_is
-
-    within : (q : ArenaRegion) (other : Region) (before after : D) → IsAt l l.committing q other before → slice_get (set l.disks r.part e) q.part ≡ Some after
-        → ChangesWithin other (disk.images before) (disk.images after) × (IsTrue disk.tells → SameBut (Inside other) (disk.bytes before) (disk.bytes after))
-    within q other before after there_at now =
-        let r_is : r ≡ q = same_Some r q (sym it.at.arena ∙ there_at.arena) in
-        let d_is : d ≡ before = same_Some d before (sym it.at.disk_is ∙ ap (λ (x : ArenaRegion). slice_get l.disks x.part) r_is ∙ there_at.disk_is) in
-        let e_is : e ≡ after = same_Some e after (sym (slice_get_set_same l.disks r.part e there) ∙ ap (λ (x : ArenaRegion). slice_get (set l.disks r.part e) x.part) r_is ∙ now) in
-        let region_is : region ≡ other = same_region region other
-        (it.at.region_is.start ∙ ap (λ (x : ArenaRegion). x.at) r_is ∙ sym there_at.region_is.start) (it.at.region_is.len ∙ ap (λ (x : ArenaRegion). x.len) r_is ∙ sym there_at.region_is.len) in
-        subst (λ (x : Region). ChangesWithin x (disk.images before) (disk.images after) × (IsTrue disk.tells → SameBut (Inside x) (disk.bytes before) (disk.bytes after))) region_is
-        (subst (λ (x : D). ChangesWithin region (disk.images before) (disk.images x) × (IsTrue disk.tells → SameBut (Inside region) (disk.bytes before) (disk.bytes x))) e_is
-        (subst (λ (x : D). ChangesWithin region (disk.images x) (disk.images e) × (IsTrue disk.tells → SameBut (Inside region) (disk.bytes x) (disk.bytes e))) d_is (it.made.images_are, it.made.bytes_are)))
 
 changes : {D : Type 0} (score_of : List ℕ → List ℕ) (disk : DiskOf D)
-    (l : LogState D) (r : ArenaRegion) (region : Region) (d e : D) (b : ArenaState) (step : Result Step TwinErr)
-    → IsCalled score_of disk l r region d e b step → IsTrue disk.tells → ChangesRegion disk region d e
-changes score_of disk l r region d e b step it told = record { size_is = it.made.size_is; images_are = it.made.images_are; bytes_are = it.made.bytes_are told }
+    (l : LogState D) (r : ArenaRegion) (d e : D) (b : ArenaState) (step : Result Step TwinErr)
+    → IsCalled score_of disk l r d e b step → IsTrue disk.tells → ChangesRegion disk r.region d e
+changes score_of disk l r d e b step it told =
+    record { size_is = it.made.writes.size; images_are = it.made.writes.images; bytes_are = it.made.writes.bytes told }
 
 -- a crash at any moment of the call
 stands : {D : Type 0} (score_of : List ℕ → List ℕ) (disk : DiskOf D)
-    (l : LogState D) (r : ArenaRegion) (region : Region) (d e : D) (b : ArenaState) (step : Result Step TwinErr)
-    → IsCalled score_of disk l r region d e b step
+    (l : LogState D) (r : ArenaRegion) (d e : D) (b : ArenaState) (step : Result Step TwinErr)
+    → IsCalled score_of disk l r d e b step
     → (h : History) → IsTrue disk.tells → IsSound score_of disk l h → (files : List (List ℕ)) → AreWithinCall disk l.disks (set l.disks r.part e) files → StandForPrefix score_of l files h
-stands score_of disk l r region d e b step it h told sound files left =
-    call_stands score_of disk l h r region d e (commit_calls l.arena ≤ calls_made l.arena + 2) files sound it.at (changes score_of disk l r region d e b step it told)
-    (λ a has c moment. it.made.crash a told (sound.current r region d a it.at has) c moment) left
+stands score_of disk l r d e b step it h told sound files left =
+    call_stands score_of disk l h r d e (commit_calls l.arena ≤ calls_made l.arena + 2) files sound it.at (changes score_of disk l r d e b step it told)
+    (λ a has c moment. it.made.crash a told (sound.current r d a it.at has) c moment) left
 
 -- ---- a call that ends no commit
 
@@ -172,29 +127,21 @@ takes_all l part e b calls stopped keeps all = record {
 
 -- its last call isn't made yet
 pub more_made : {D : Type 0} (score_of : List ℕ → List ℕ) (disk : DiskOf D)
-    (l : LogState D) (r : ArenaRegion) (region : Region) (d e : D) (b : ArenaState)
-    → IsCalled score_of disk l r region d e b (Ok More)
+    (l : LogState D) (r : ArenaRegion) (d e : D) (b : ArenaState)
+    → IsCalled score_of disk l r d e b (Ok More)
     → MakesOneCall score_of disk l (called l r.part e b (one_more l.calls) l.stopped) (Ok StepMade)
-more_made score_of disk l r region d e b it = record {
-  whole = call_whole disk l r.part d e b (one_more l.calls) l.stopped it.whole it.ready keeps runs it.at.disk_is it.made.size_is;
-  sound = λ h told sound. call_sound score_of disk l h r region d e b (one_more l.calls) l.stopped sound it.ready keeps runs it.at
-      (changes score_of disk l r region d e b (Ok More) it told) (λ a has. it.made.sound a told (sound.current r region d a it.at has));
-  crash = stands score_of disk l r region d e b (Ok More) it;
+more_made score_of disk l r d e b it = record {
+  whole = call_whole disk l r.part d e b (one_more l.calls) l.stopped it.whole it.ready keeps runs it.at.disk_is it.made.writes.size;
+  sound = λ h told sound. call_sound score_of disk l h r d e b (one_more l.calls) l.stopped sound it.ready keeps runs it.at
+      (changes score_of disk l r d e b (Ok More) it told) (λ a has. it.made.sound a told (sound.current r d a it.at has));
+  crash = stands score_of disk l r d e b (Ok More) it;
   makes = (makes_call l r.part e b l.stopped keeps, it.runs, call_owed l b (set l.disks r.part e) (one_more l.calls) l.stopped keeps.staged keeps.next it.ready made it.made.left);
   batch = λ all more. takes_all l r.part e b (one_more l.calls) l.stopped keeps all;
   last = λ n is. absurd (cc);
   kept = (refl, refl, refl, refl);
-  spares = one.spares;
-  in_use = one.in_use;
-  within = one.within;
-  sizes = one.sizes;
-  one_call = one.one_call;
-  cause = one.cause;
+  calls = calls_arena score_of disk l (called l r.part e b (one_more l.calls) l.stopped) r d e b (Ok More) (Ok StepMade) it refl it.made.faults;
 }
   where
-    one : IsOneCall disk l (set l.disks r.part e) (Ok StepMade)
-    one = one_call score_of disk l r region d e b (Ok More) (Ok StepMade) it it.made.faults_are
-
     keeps : KeepsArena l.arena b
     keeps = subst (λ (x : ArenaState). KeepsArena l.arena x) (sym it.made.steps) (step_keeps l.arena).0
 
@@ -206,30 +153,22 @@ more_made score_of disk l r region d e b it = record {
 
 -- it failed
 pub fault_made : {D : Type 0} (score_of : List ℕ → List ℕ) (disk : DiskOf D)
-    (l : LogState D) (r : ArenaRegion) (region : Region) (d e : D) (b : ArenaState) (err : TwinErr)
-    → IsCalled score_of disk l r region d e b (Err err)
+    (l : LogState D) (r : ArenaRegion) (d e : D) (b : ArenaState) (err : TwinErr)
+    → IsCalled score_of disk l r d e b (Err err)
     → MakesOneCall score_of disk l (called l r.part e b (one_more l.calls) (Some l.calls)) (Err Fault)
-fault_made score_of disk l r region d e b (TwinStopped n) it = absurd (let off = it.made.stopped n refl in let on = it.whole.runs it.runs in cc)
-fault_made score_of disk l r region d e b TwinFault it = record {
-  whole = call_whole disk l r.part d e b (one_more l.calls) (Some l.calls) it.whole it.ready keeps runs it.at.disk_is it.made.size_is;
-  sound = λ h told sound. call_sound score_of disk l h r region d e b (one_more l.calls) (Some l.calls) sound it.ready keeps runs it.at
-      (changes score_of disk l r region d e b (Err TwinFault) it told) (λ a has. it.made.sound a told (sound.current r region d a it.at has));
-  crash = stands score_of disk l r region d e b (Err TwinFault) it;
+fault_made score_of disk l r d e b (TwinStopped n) it = absurd (let off = it.made.stopped n refl in let on = it.whole.runs it.runs in cc)
+fault_made score_of disk l r d e b TwinFault it = record {
+  whole = call_whole disk l r.part d e b (one_more l.calls) (Some l.calls) it.whole it.ready keeps runs it.at.disk_is it.made.writes.size;
+  sound = λ h told sound. call_sound score_of disk l h r d e b (one_more l.calls) (Some l.calls) sound it.ready keeps runs it.at
+      (changes score_of disk l r d e b (Err TwinFault) it told) (λ a has. it.made.sound a told (sound.current r d a it.at has));
+  crash = stands score_of disk l r d e b (Err TwinFault) it;
   makes = (makes_call l r.part e b (Some l.calls) keeps, refl);
   batch = λ all more. takes_all l r.part e b (one_more l.calls) (Some l.calls) keeps all;
   last = λ n is. absurd (cc);
   kept = (refl, refl, refl, refl);
-  spares = one.spares;
-  in_use = one.in_use;
-  within = one.within;
-  sizes = one.sizes;
-  one_call = one.one_call;
-  cause = one.cause;
+  calls = calls_arena score_of disk l (called l r.part e b (one_more l.calls) (Some l.calls)) r d e b (Err TwinFault) (Err Fault) it refl it.made.faults;
 }
   where
-    one : IsOneCall disk l (set l.disks r.part e) (Err Fault)
-    one = one_call score_of disk l r region d e b (Err TwinFault) (Err Fault) it it.made.faults_are
-
     keeps : KeepsArena l.arena b
     keeps = subst (λ (x : ArenaState). KeepsArena l.arena x) (sym it.made.steps) (fault_keeps l.arena)
 
@@ -241,27 +180,27 @@ fault_made score_of disk l r region d e b TwinFault it = record {
 -- what else is known where the last call was made
 pub record IsLast {D : Type 0} (l : LogState D) (r : ArenaRegion) (found : Found) (b : ArenaState) : Type 0 where
   pub has : slice_get l.heads l.committing ≡ Some found
-  pub fit : b.head.used + directory_room b.head.clumps ≤ arena_room r.len
+  pub fit : b.head.used + directory_room b.head.clumps ≤ arena_room r.region.len
 
 content_there : {D : Type 0} (score_of : List ℕ → List ℕ) (disk : DiskOf D) (l : LogState D) (h : History) (r : ArenaRegion)
     → (sound : IsSound score_of disk l h) → slice_get l.layout l.committing ≡ Some r → (a : Content) × (slice_get sound.contents l.committing ≡ Some a)
 content_there score_of disk l h r sound at = slice_get_other sound.contents l.layout l.committing r (sym sound.many) at
 
 ends_arena : {D : Type 0} (score_of : List ℕ → List ℕ) (disk : DiskOf D)
-    (l : LogState D) (r : ArenaRegion) (region : Region) (d e : D) (b : ArenaState)
-    → IsCalled score_of disk l r region d e b (Ok Done) → EndsArena l.arena b
-ends_arena score_of disk l r region d e b it =
+    (l : LogState D) (r : ArenaRegion) (d e : D) (b : ArenaState)
+    → IsCalled score_of disk l r d e b (Ok Done) → EndsArena l.arena b
+ends_arena score_of disk l r d e b it =
     subst (λ (x : ArenaState). EndsArena l.arena x) (sym it.made.steps) (last_ends l.arena (it.whole.runs it.runs))
 
 is_ending : {D : Type 0} (score_of : List ℕ → List ℕ) (disk : DiskOf D)
-    (l : LogState D) (r : ArenaRegion) (found : Found) (region : Region) (d e : D) (b : ArenaState)
-    → IsCalled score_of disk l r region d e b (Ok Done) → IsLast l r found b → IsTrue disk.tells
-    → IsEnding score_of disk l r found region d e b
-is_ending score_of disk l r found region d e b it last told = record {
-  ends = ends_arena score_of disk l r region d e b it;
+    (l : LogState D) (r : ArenaRegion) (found : Found) (d e : D) (b : ArenaState)
+    → IsCalled score_of disk l r d e b (Ok Done) → IsLast l r found b → IsTrue disk.tells
+    → IsEnding score_of disk l r found d e b
+is_ending score_of disk l r found d e b it last told = record {
+  ends = ends_arena score_of disk l r d e b it;
   has = last.has;
   at = it.at;
-  changes = changes score_of disk l r region d e b (Ok Done) it told;
+  changes = changes score_of disk l r d e b (Ok Done) it told;
   fit = last.fit;
 }
 
@@ -289,17 +228,17 @@ ends_commit l found b m has head_is calls heads durable staged waiting places = 
 
 -- and the arena isn't sealed
 pub ended_made : {D : Type 0} (score_of : List ℕ → List ℕ) (disk : DiskOf D)
-    (l : LogState D) (r : ArenaRegion) (found : Found) (region : Region) (d e : D) (b : ArenaState)
-    → IsCalled score_of disk l r region d e b (Ok Done) → IsLast l r found b → b.next.sealed ≡ false
+    (l : LogState D) (r : ArenaRegion) (found : Found) (d e : D) (b : ArenaState)
+    → IsCalled score_of disk l r d e b (Ok Done) → IsLast l r found b → b.next.sealed ≡ false
     → MakesOneCall score_of disk l (ended l r.part e found b (one_more l.calls)) (Ok (Durable (l.durable + length l.arena.staged)))
-ended_made {D = D} score_of disk l r found region d e b it last no_seal = record {
-  whole = ended_whole disk l r found d e b (one_more l.calls) it.whole ends unsealed it.at.arena last.has last.fit it.at.disk_is it.made.size_is;
+ended_made {D = D} score_of disk l r found d e b it last no_seal = record {
+  whole = ended_whole disk l r found d e b (one_more l.calls) it.whole ends unsealed it.at.arena last.has last.fit it.at.disk_is it.made.writes.size;
   sound = λ h told sound.
       let content = content_there score_of disk l h r sound it.at.arena in
-      ended_sound score_of disk l h r found region d e b (one_more l.calls) content.0 sound
-      (is_ending score_of disk l r found region d e b it last told) unsealed content.1
-      (it.made.sound content.0 told (sound.current r region d content.0 it.at content.1));
-  crash = stands score_of disk l r region d e b (Ok Done) it;
+      ended_sound score_of disk l h r found d e b (one_more l.calls) content.0 sound
+      (is_ending score_of disk l r found d e b it last told) unsealed content.1
+      (it.made.sound content.0 told (sound.current r d content.0 it.at content.1));
+  crash = stands score_of disk l r d e b (Ok Done) it;
   makes = (
     ends_commit l found b m last.has ends.head refl refl refl ends.staged refl refl,
     refl,
@@ -309,45 +248,37 @@ ended_made {D = D} score_of disk l r found region d e b it last no_seal = record
   batch = λ all more. absurd (omega (arith, more, it.made.done refl));
   last = λ n is. it.made.done refl;
   kept = (refl, refl, refl, refl);
-  spares = one.spares;
-  in_use = one.in_use;
-  within = one.within;
-  sizes = one.sizes;
-  one_call = one.one_call;
-  cause = one.cause;
+  calls = calls_arena score_of disk l m r d e b (Ok Done) (Ok (Durable (l.durable + length l.arena.staged))) it refl it.made.faults;
 }
   where
     m : LogState D
     m = ended l r.part e found b (one_more l.calls)
 
-    one : IsOneCall disk l (set l.disks r.part e) (Ok (Durable (l.durable + length l.arena.staged)))
-    one = one_call score_of disk l r region d e b (Ok Done) (Ok (Durable (l.durable + length l.arena.staged))) it it.made.faults_are
-
     ends : EndsArena l.arena b
-    ends = ends_arena score_of disk l r region d e b it
+    ends = ends_arena score_of disk l r d e b it
 
     unsealed : l.arena.next.sealed ≡ false
     unsealed = sym (ap (λ (h : ArenaHead). h.sealed) ends.next) ∙ no_seal
 
 -- or it is, and the next one is turned to
 pub turned_made : {D : Type 0} (score_of : List ℕ → List ℕ) (disk : DiskOf D)
-    (l : LogState D) (r q : ArenaRegion) (found next : Found) (region : Region) (d e : D) (b : ArenaState) (len : ℕ)
-    → ((device : D) → IsTrue disk.tells → disk.images device (disk.bytes device)) → IsCalled score_of disk l r region d e b (Ok Done) → IsLast l r found b
-    → b.next.sealed ≡ true → slice_get l.layout (l.committing + 1) ≡ Some q → slice_get l.heads (l.committing + 1) ≡ Some next → len ≡ q.len
+    (l : LogState D) (r q : ArenaRegion) (found next : Found) (d e : D) (b : ArenaState) (len : ℕ)
+    → ((device : D) → IsTrue disk.tells → disk.images device (disk.bytes device)) → IsCalled score_of disk l r d e b (Ok Done) → IsLast l r found b
+    → b.next.sealed ≡ true → slice_get l.layout (l.committing + 1) ≡ Some q → slice_get l.heads (l.committing + 1) ≡ Some next → len ≡ q.region.len
     → MakesOneCall score_of disk l (turned l r.part e found b (one_more l.calls) len next) (Ok (Durable (l.durable + length l.arena.staged)))
-turned_made {D = D} score_of disk l r q found next region d e b len read it last seals next_here next_has len_is = record {
-  whole = turned_whole disk l r q found next d e b (one_more l.calls) len it.whole ends sealed it.at.arena last.has last.fit it.at.disk_is it.made.size_is next_here next_has len_is;
+turned_made {D = D} score_of disk l r q found next d e b len read it last seals next_here next_has len_is = record {
+  whole = turned_whole disk l r q found next d e b (one_more l.calls) len it.whole ends sealed it.at.arena last.has last.fit it.at.disk_is it.made.writes.size next_here next_has len_is;
   sound = λ h told sound.
       let content = content_there score_of disk l h r sound it.at.arena in
-      let was = sound.current r region d content.0 it.at content.1 in
-      turned_sound score_of disk l h r q found next region d e b (one_more l.calls) len content.0 sound
-      (is_ending score_of disk l r found region d e b it last told) sealed content.1 next_here next_has len_is
+      let was = sound.current r d content.0 it.at content.1 in
+      turned_sound score_of disk l h r q found next d e b (one_more l.calls) len content.0 sound
+      (is_ending score_of disk l r found d e b it last told) sealed content.1 next_here next_has len_is
       (record {
         sound = it.made.sound content.0 told was;
-        settled = λ c left. ap (region_bytes region) (it.made.settled told refl c left);
-        arena = subst (λ (n : ℕ). IsArena score_of region n (next_content l.arena content.0) (disk.bytes e)) (sym ends.number) (it.made.last content.0 told was refl (disk.bytes e) (read e told));
+        settled = λ c left. ap (region_bytes r.region) (it.made.settled refl told c left);
+        arena = subst (λ (n : ℕ). IsArena score_of r.region n (next_content l.arena content.0) (disk.bytes e)) (sym ends.number) (it.made.last content.0 told was refl (disk.bytes e) (read e told));
       });
-  crash = stands score_of disk l r region d e b (Ok Done) it;
+  crash = stands score_of disk l r d e b (Ok Done) it;
   makes = (
     ends_commit l found b m last.has ends.head refl refl refl refl refl refl,
     refl,
@@ -357,22 +288,14 @@ turned_made {D = D} score_of disk l r q found next region d e b len read it last
   batch = λ all more. absurd (omega (arith, more, it.made.done refl));
   last = λ n is. it.made.done refl;
   kept = (refl, refl, refl, refl);
-  spares = one.spares;
-  in_use = one.in_use;
-  within = one.within;
-  sizes = one.sizes;
-  one_call = one.one_call;
-  cause = one.cause;
+  calls = calls_arena score_of disk l m r d e b (Ok Done) (Ok (Durable (l.durable + length l.arena.staged))) it refl it.made.faults;
 }
   where
     m : LogState D
     m = turned l r.part e found b (one_more l.calls) len next
 
-    one : IsOneCall disk l (set l.disks r.part e) (Ok (Durable (l.durable + length l.arena.staged)))
-    one = one_call score_of disk l r region d e b (Ok Done) (Ok (Durable (l.durable + length l.arena.staged))) it it.made.faults_are
-
     ends : EndsArena l.arena b
-    ends = ends_arena score_of disk l r region d e b it
+    ends = ends_arena score_of disk l r d e b it
 
     sealed : l.arena.next.sealed ≡ true
     sealed = sym (ap (λ (h : ArenaHead). h.sealed) ends.next) ∙ seals
@@ -389,7 +312,7 @@ parts_state {D = D} ps i p e v disks tables at =
 
 -- the region of an arena, as an index reads it
 abbrev pub region_at : List ArenaRegion → ℕ → ArenaRegion
-region_at rs i = get_or rs i (record { part = 0; number = 0; at = 0; len = 0 })
+region_at rs i = get_or rs i (record { part = 0; number = 0; region = record { start = 0; len = 0 } })
 
 -- the partitions' disks, and the one of an arena's partition
 pub record AreParts {D : Type 0} (ps : List (Part D)) (i : ℕ) (p : Part D) (v : LogState D) : Type 0 where
@@ -398,23 +321,23 @@ pub record AreParts {D : Type 0} (ps : List (Part D)) (i : ℕ) (p : Part D) (v 
   pub at : slice_get ps i ≡ Some p
 
 -- the arena that is committed in, and its place on the disk of a partition, as the log has them in memory
-pub record IsThere {D : Type 0} (disk : DiskOf D) (ps : List (Part D)) (p : Part D) (v m : LogState D) (r : ArenaRegion) (region : Region) : Type 0 where
+pub record IsThere {D : Type 0} (disk : DiskOf D) (ps : List (Part D)) (p : Part D) (v m : LogState D) (r : ArenaRegion) : Type 0 where
   pub view : v ≡ m
   pub whole : IsWhole disk v
   pub runs : v.stopped ≡ None
   pub ready : IsReady v
-  pub at : IsAt v v.committing r region (disk_of p)
+  pub at : IsAt v v.committing r (disk_of p)
   pub parts : AreParts ps r.part p v
 
-pub arena_there : {D : Type 0} (disk : DiskOf D) (ps : List (Part D)) (p : Part D) (v m : LogState D) (rs : List ArenaRegion) (r : ArenaRegion) (region : Region)
+pub arena_there : {D : Type 0} (disk : DiskOf D) (ps : List (Part D)) (p : Part D) (v m : LogState D) (rs : List ArenaRegion) (r : ArenaRegion)
     → v ≡ m → IsWhole disk v → v.disks ≡ map (λ part. disk_of part) ps → v.tables ≡ tables_of ps → m.stopped ≡ None → 0 < queued m → IsReady m
-    → rs ≡ v.layout → r ≡ region_at rs v.committing → IsRegionOf r region → p ≡ get_or ps r.part p → IsThere disk ps p v m r region
-arena_there {D = D} disk ps p v m rs r region view whole disks tables runs some ready layout r_is region_is p_is = record {
+    → rs ≡ v.layout → r ≡ region_at rs v.committing → p ≡ get_or ps r.part p → IsThere disk ps p v m r
+arena_there {D = D} disk ps p v m rs r view whole disks tables runs some ready layout r_is p_is = record {
   view = view;
   whole = whole;
   runs = ap (λ (x : LogState D). x.stopped) view ∙ runs;
   ready = subst (λ (x : LogState D). IsReady x) (sym view) ready;
-  at = record { arena = here; region_is = region_is; disk_is = device };
+  at = record { arena = here; disk_is = device };
   parts = record { disks = disks; tables = tables; at = at };
 }
   where
@@ -435,7 +358,7 @@ arena_there {D = D} disk ps p v m rs r region view whole disks tables runs some 
 
 -- its region is as long as the arena in memory
 pub same_len : {D : Type 0} (disk : DiskOf D) (v m : LogState D) (rs : List ArenaRegion) (r : ArenaRegion) → v ≡ m → IsWhole disk v → 0 < queued m → rs ≡ v.layout → r ≡ region_at rs v.committing
-    → r.len ≡ v.arena.len
+    → r.region.len ≡ v.arena.len
 same_len {D = D} disk v m rs r view whole some layout r_is =
     let within : v.committing < length v.layout = committing_there disk v whole (subst (λ (x : LogState D). 0 < queued x) (sym view) some) in
     let here : slice_get v.layout v.committing ≡ Some r =
@@ -444,13 +367,13 @@ same_len {D = D} disk v m rs r view whole some layout r_is =
     sym (whole.arena r found.0 here found.1).len
 
 -- and its head is the one that the log has
-pub last_call : {D : Type 0} {disk : DiskOf D} {ps : List (Part D)} {p : Part D} {v m : LogState D} {r : ArenaRegion} {region : Region} {found : Found} {head : ArenaHead} {b : ArenaState}
-    → IsThere disk ps p v m r region → found ≡ get_or v.heads v.committing found → head ≡ b.head → b.len ≡ v.arena.len
+pub last_call : {D : Type 0} {disk : DiskOf D} {ps : List (Part D)} {p : Part D} {v m : LogState D} {r : ArenaRegion} {found : Found} {head : ArenaHead} {b : ArenaState}
+    → IsThere disk ps p v m r → found ≡ get_or v.heads v.committing found → head ≡ b.head → b.len ≡ v.arena.len
     → head.used + directory_room head.clumps ≤ arena_room b.len → IsLast v r found b
 last_call {v = v} {r = r} {found = found} {head = head} {b = b} it found_is head_is len fit =
     let other = slice_get_other v.heads v.layout v.committing r (sym it.whole.many) it.at.arena in
     let within : v.committing < length v.heads = slice_get_within v.heads v.committing other.0 other.1 in
-    let long : b.len ≡ r.len = len ∙ (it.whole.arena r other.0 it.at.arena other.1).len in
+    let long : b.len ≡ r.region.len = len ∙ (it.whole.arena r other.0 it.at.arena other.1).len in
     record {
       has = slice_get_read v.heads (length v.heads) v.committing found refl within found_is;
       fit = subst (λ (n : ℕ). b.head.used + directory_room b.head.clumps ≤ arena_room n) long
@@ -461,8 +384,8 @@ last_call {v = v} {r = r} {found = found} {head = head} {b = b} it found_is head
 pub record IsNextArena {D : Type 0} (v : LogState D) (q : ArenaRegion) (next : Found) : Type 0 where
   pub here : slice_get v.layout (v.committing + 1) ≡ Some q
   pub has : slice_get v.heads (v.committing + 1) ≡ Some next
-  pub len : IsArenaLen q.len
-  pub fit : next.head.used + directory_room next.head.clumps ≤ arena_room q.len
+  pub len : IsArenaLen q.region.len
+  pub fit : next.head.used + directory_room next.head.clumps ≤ arena_room q.region.len
 
 pub seals_too : (a b : ArenaState) (step : Step) → Advances (Ok step) a b → step ≡ Done → b.next.sealed ≡ true → a.next.sealed ≡ true
 seals_too a b step it done seals =
@@ -474,7 +397,7 @@ pub next_arena_there : {D : Type 0} (disk : DiskOf D) (v : LogState D) (rs : Lis
 next_arena_there {D = D} disk v rs q x next whole seals layout q_is next_is = record {
   here = here;
   has = has;
-  len = (at_slice (IsOnDisk disk v.disks) v.layout (v.committing + 1) q whole.regions here).len;
+  len = (at_slice (IsOnDisk disk v.disks) v.layout (v.committing + 1) q whole.regions here).region.len;
   fit = (whole.heads (v.committing + 1) q next here has).fit;
 }
   where
@@ -494,13 +417,12 @@ next_arena_there {D = D} disk v rs q x next whole seals layout q_is next_is = re
 -- and what is known once its call was made
 pub record IsCalledIn {D : Type 0} (score_of : List ℕ → List ℕ) (disk : DiskOf D)
     (ps : List (Part D)) (p : Part D) (v m : LogState D) (r : ArenaRegion) (e : D) (b : ArenaState) (step : Result Step TwinErr) : Type 0 where
-  pub region : Region
-  pub made : IsAdvanced score_of disk v.arena region (disk_of p) e b step
-  pub there : IsThere disk ps p v m r region
+  pub made : IsAdvanced score_of disk v.arena r.region (disk_of p) e b step
+  pub there : IsThere disk ps p v m r
 
 called_in : {D : Type 0} (score_of : List ℕ → List ℕ) (disk : DiskOf D)
     (ps : List (Part D)) (p : Part D) (v m : LogState D) (r : ArenaRegion) (e : D) (b : ArenaState) (step : Result Step TwinErr)
-    → (it : IsCalledIn score_of disk ps p v m r e b step) → IsCalled score_of disk v r it.region (disk_of p) e b step
+    → (it : IsCalledIn score_of disk ps p v m r e b step) → IsCalled score_of disk v r (disk_of p) e b step
 called_in score_of disk ps p v m r e b step it =
     record { whole = it.there.whole; runs = it.there.runs; ready = it.there.ready; at = it.there.at; made = it.made }
 
@@ -512,7 +434,7 @@ more_in_parts {D = D} {score_of = score_of} {disk = disk}
     {ps = ps} {p = p} {v = v} {m = m} {r = r} {e = e} {b = b} {step = step} {calls = calls} it more is =
     subst (λ (x : LogState D). MakesOneCall score_of disk x (with_disk ps r.part p e (record v { arena = b; calls = calls })) (Ok StepMade)) made.there.view
     (subst (λ (x : LogState D). MakesOneCall score_of disk v x (Ok StepMade)) (sym state)
-    (more_made score_of disk v r made.region (disk_of p) e b (called_in score_of disk ps p v m r e b (Ok More) made)))
+    (more_made score_of disk v r (disk_of p) e b (called_in score_of disk ps p v m r e b (Ok More) made)))
   where
     made : IsCalledIn score_of disk ps p v m r e b (Ok More)
     made = subst (λ (s : Step). IsCalledIn score_of disk ps p v m r e b (Ok s)) more it
@@ -534,7 +456,7 @@ fault_in_parts {D = D} {score_of = score_of} {disk = disk}
     {ps = ps} {p = p} {v = v} {m = m} {r = r} {e = e} {b = b} {err = err} {calls = calls} made is =
     subst (λ (x : LogState D). MakesOneCall score_of disk x (with_disk ps r.part p e (record v { arena = b; calls = calls; stopped = Some v.calls })) (Err Fault)) made.there.view
     (subst (λ (x : LogState D). MakesOneCall score_of disk v x (Err Fault)) (sym state)
-    (fault_made score_of disk v r made.region (disk_of p) e b err (called_in score_of disk ps p v m r e b (Err err) made)))
+    (fault_made score_of disk v r (disk_of p) e b err (called_in score_of disk ps p v m r e b (Err err) made)))
   where
     are : AreParts ps r.part p v
     are = made.there.parts
@@ -562,7 +484,7 @@ ended_in_parts {D = D} {score_of = score_of} {disk = disk}
     subst (λ (x : LogState D). MakesOneCall score_of disk x k (Ok (Durable durable))) made.there.view
     (subst (λ (x : LogState D). MakesOneCall score_of disk v x (Ok (Durable durable))) (sym state)
     (subst (λ (n : ℕ). MakesOneCall score_of disk v (ended v r.part e found b (one_more v.calls)) (Ok (Durable n))) (sym settles.durable_is)
-    (ended_made score_of disk v r found made.region (disk_of p) e b (called_in score_of disk ps p v m r e b (Ok Done) made) last no_seal)))
+    (ended_made score_of disk v r found (disk_of p) e b (called_in score_of disk ps p v m r e b (Ok Done) made) last no_seal)))
   where
     made : IsCalledIn score_of disk ps p v m r e b (Ok Done)
     made = subst (λ (s : Step). IsCalledIn score_of disk ps p v m r e b (Ok s)) done it
@@ -589,7 +511,7 @@ ended_in_parts {D = D} {score_of = score_of} {disk = disk}
 pub turned_in_parts : {D : Type 0} {score_of : List ℕ → List ℕ} {disk : DiskOf D}
     {ps : List (Part D)} {p : Part D} {v m : LogState D} {r q : ArenaRegion} {found next : Found} {e : D} {b turn : ArenaState} {step : Step} {heads : List Found} {queue : QueueState} {durable calls : ℕ}
     → ((device : D) → IsTrue disk.tells → disk.images device (disk.bytes device)) → IsCalledIn score_of disk ps p v m r e b (Ok step) → step ≡ Done → IsLast v r found b
-    → Settles v found b heads queue durable calls → b.next.sealed ≡ true → IsNextArena v q next → turn ≡ fresh_arena q.len (next.selector % 2) next.head
+    → Settles v found b heads queue durable calls → b.next.sealed ≡ true → IsNextArena v q next → turn ≡ fresh_arena q.region.len (next.selector % 2) next.head
     → MakesOneCall score_of disk m
     (with_disk ps r.part p e (record v { heads = heads; committing = v.committing + 1; arena = turn; queue = queue; durable = durable; calls = calls })) (Ok (Durable durable))
 turned_in_parts {D = D} {score_of = score_of} {disk = disk}
@@ -597,8 +519,8 @@ turned_in_parts {D = D} {score_of = score_of} {disk = disk}
     read it done last settles seals is_next turn_is =
     subst (λ (x : LogState D). MakesOneCall score_of disk x k (Ok (Durable durable))) made.there.view
     (subst (λ (x : LogState D). MakesOneCall score_of disk v x (Ok (Durable durable))) (sym state)
-    (subst (λ (n : ℕ). MakesOneCall score_of disk v (turned v r.part e found b (one_more v.calls) q.len next) (Ok (Durable n))) (sym settles.durable_is)
-    (turned_made score_of disk v r q found next made.region (disk_of p) e b q.len read (called_in score_of disk ps p v m r e b (Ok Done) made) last seals is_next.here is_next.has refl)))
+    (subst (λ (n : ℕ). MakesOneCall score_of disk v (turned v r.part e found b (one_more v.calls) q.region.len next) (Ok (Durable n))) (sym settles.durable_is)
+    (turned_made score_of disk v r q found next (disk_of p) e b q.region.len read (called_in score_of disk ps p v m r e b (Ok Done) made) last seals is_next.here is_next.has refl)))
   where
     made : IsCalledIn score_of disk ps p v m r e b (Ok Done)
     made = subst (λ (s : Step). IsCalledIn score_of disk ps p v m r e b (Ok s)) done it
@@ -609,10 +531,10 @@ turned_in_parts {D = D} {score_of = score_of} {disk = disk}
     k : LogState D
     k = with_disk ps r.part p e (record v { heads = heads; committing = v.committing + 1; arena = turn; queue = queue; durable = durable; calls = calls })
 
-    state : with_disk ps r.part p e (record v { heads = heads; committing = v.committing + 1; arena = turn; queue = queue; durable = durable; calls = calls }) ≡ turned v r.part e found b (one_more v.calls) q.len next
+    state : with_disk ps r.part p e (record v { heads = heads; committing = v.committing + 1; arena = turn; queue = queue; durable = durable; calls = calls }) ≡ turned v r.part e found b (one_more v.calls) q.region.len next
     state =
         let same : record v { disks = set v.disks r.part e; heads = heads; committing = v.committing + 1; arena = turn; queue = queue; durable = durable; calls = calls }
-        ≡ turned v r.part e found b (one_more v.calls) q.len next =
+        ≡ turned v r.part e found b (one_more v.calls) q.region.len next =
         λ j. record v {
           disks = set v.disks r.part e;
           heads = settles.heads_are j;

@@ -5,7 +5,7 @@ use Rattle.std.proofs.lemmas.Option.{slice_get_within, slice_get-get_or, get_or_
 use Rattle.std.proofs.lemmas.List.Elements.{All-get_or}
 use Rattle.std.proofs.lemmas.List.{get_or-drop, get_or-take, length-take, length-drop}
 use Rattle.std.proofs.lemmas.List.Sums.{sum_by-le}
-use Rattle.vt_log.specs.Members.{DiskOf}
+use Rattle.vt_disk.specs.Members.{DiskOf}
 use Rattle.vt_arena.specs.declared.head.Found.{Found}
 use Rattle.vt_log.specs.Log.{LogState}
 use Rattle.vt_log.specs.Whole.{IsOnDisk, IsWhole}
@@ -30,7 +30,7 @@ head_small disk l i found whole at =
     let r = slice_get_other l.layout l.heads i found whole.many at in
     let on = at_slice (IsOnDisk disk l.disks) l.layout i r.0 whole.regions r.1 in
     let fit = (whole.heads i r.0 found r.1 at).fit in
-    (omega (arith, fit, on.len.1), omega (arith, fit, on.len.1))
+    (omega (arith, fit, on.region.len.1), omega (arith, fit, on.region.len.1))
 
 -- so that all of them have few
 pub durable_small : {D : Type 0} (disk : DiskOf D) (l : LogState D) → IsWhole disk l → l.durable ≤ 184467440000000000

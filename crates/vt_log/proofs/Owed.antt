@@ -8,7 +8,7 @@ use Rattle.vt_clump.specs.declared.packed.Packed.{Packed}
 use Rattle.vt_arena.specs.declared.head.ArenaHead.{ArenaHead}
 use Rattle.vt_arena.specs.Arena.{ArenaState, calls_made, commit_calls, is_committing, with_seal, pieces, changing, after_step, after_piece, after_head}
 use Rattle.vt_arena.specs.Heads.{frame_of}
-use Rattle.vt_arena.proofs.Staging.{resting}
+use Rattle.vt_arena.proofs.Stage.{resting}
 use Rattle.vt_log.specs.declared.queue.Waiting.{Waiting}
 use Rattle.vt_log.specs.Committing.{Stages, IsReady}
 use Rattle.vt_log.specs.Log.{LogState, packed_of}

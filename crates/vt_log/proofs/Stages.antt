@@ -7,7 +7,7 @@ use Rattle.std.proofs.lemmas.List.Elements.{All-head, All-tail}
 use Rattle.std.proofs.lemmas.Option.{slice_get_within, get_or_from_slice_get}
 use Rattle.vt_disk.specs.declared.region.Region.{Region}
 use Rattle.vt_base.specs.declared.place.Place.{Place}
-use Rattle.vt_log.specs.Members.{DiskOf}
+use Rattle.vt_disk.specs.Members.{DiskOf}
 use Rattle.vt_clump.specs.declared.packed.Packed.{Packed}
 use Rattle.vt_clump.specs.Clumps.{IsPacked, stored_of}
 use Rattle.vt_clump.specs.Spelling.{Stored}
@@ -18,7 +18,7 @@ use Rattle.vt_arena.specs.declared.head.Found.{Found}
 use Rattle.vt_arena.specs.Arena.{ArenaState, added_by, fits, is_committing, with_staged, with_seal}
 use Rattle.vt_arena.specs.Layout.{Content}
 use Rattle.vt_arena.specs.Sound.{IsSound as IsSoundArena}
-use Rattle.vt_arena.proofs.Staging.{stage_sound, resting}
+use Rattle.vt_arena.proofs.Stage.{stage_sound, resting}
 use Rattle.vt_log.specs.declared.filling.Filling.{Filling}
 use Rattle.vt_log.specs.declared.queue.Waiting.{Waiting}
 use Rattle.vt_log.specs.Log.{LogState, filled_as, found_filling, fits_in, with_room_taken}
@@ -51,9 +51,9 @@ waiting_fits disk l w ws whole is arena =
     let fit : IsTrue (fits_in l.layout (filled_as l.committing l.arena.next) w.packed.len) = subst (λ (f : Filling). IsTrue (fits_in l.layout f w.packed.len)) same fill.2 in
     let there = fits_within l.layout (filled_as l.committing l.arena.next) w.packed.len fit in
     let found = slice_get_other l.heads l.layout l.committing there.0 (sym whole.many) there.1 in
-    let len : slice_index (map (λ (r : ArenaRegion). r.len) l.layout) l.committing ≡ l.arena.len =
-    get_or-map (λ (r : ArenaRegion). r.len) l.layout l.committing there.0 0 (slice_get_within l.layout l.committing there.0 there.1)
-    ∙ ap (λ (r : ArenaRegion). r.len) (get_or_from_slice_get l.layout l.committing there.0 there.0 there.1)
+    let len : slice_index (map (λ (r : ArenaRegion). r.region.len) l.layout) l.committing ≡ l.arena.len =
+    get_or-map (λ (r : ArenaRegion). r.region.len) l.layout l.committing there.0 0 (slice_get_within l.layout l.committing there.0 there.1)
+    ∙ ap (λ (r : ArenaRegion). r.region.len) (get_or_from_slice_get l.layout l.committing there.0 there.0 there.1)
     ∙ sym (whole.arena there.0 found.0 there.1 found.1).len in
     rw (← len) fit
 
@@ -104,11 +104,11 @@ stage_log_sound score_of disk l h w ws scores sound rest is arena = record {
   contents = sound.contents;
   many = sound.many;
   split = sound.split;
-  current = λ r region device a at has. stage_sound score_of l.arena w.packed region a (disk.bytes device) (disk.images device) scores (waiting_fits disk l w ws sound.whole is arena) rest well
-      (sound.current r region device a (record { arena = at.arena; region_is = at.region_is; disk_is = at.disk_is }) has);
-  others = λ i r region device a other at has. sound.others i r region device a other (record { arena = at.arena; region_is = at.region_is; disk_is = at.disk_is }) has;
+  current = λ r device a at has. stage_sound score_of l.arena w.packed r.region a (disk.bytes device) (disk.images device) scores (waiting_fits disk l w ws sound.whole is arena) rest well
+      (sound.current r device a (record { arena = at.arena; disk_is = at.disk_is }) has);
+  others = λ i r device a other at has. sound.others i r device a other (record { arena = at.arena; disk_is = at.disk_is }) has;
   heads = sound.heads;
-  selectors = λ i r region device found behind at has. sound.selectors i r region device found behind (record { arena = at.arena; region_is = at.region_is; disk_is = at.disk_is }) has;
+  selectors = λ i r device found behind at has. sound.selectors i r device found behind (record { arena = at.arena; disk_is = at.disk_is }) has;
   committed = sound.committed;
   queued = sound.queued ∙ ap (λ (q : List Waiting). map (accepted l.committing) (added_by l.arena) ++ map waiting_block q) is ∙ sym moved;
   front = sound.front;
@@ -235,11 +235,11 @@ seal_sound {D = D} score_of disk l m h view of_view rest some other = record {
   contents = sound.contents;
   many = sound.many;
   split = sound.split;
-  current = λ r region device a at has. seal_arena score_of l.arena region a (disk.bytes device) (disk.images device) (subst (λ (k : LogState D). IsFalse (is_committing k.arena)) (sym view) rest)
-      (sound.current r region device a (record { arena = at.arena; region_is = at.region_is; disk_is = at.disk_is }) has);
-  others = λ i r region device a other at has. sound.others i r region device a other (record { arena = at.arena; region_is = at.region_is; disk_is = at.disk_is }) has;
+  current = λ r device a at has. seal_arena score_of l.arena r.region a (disk.bytes device) (disk.images device) (subst (λ (k : LogState D). IsFalse (is_committing k.arena)) (sym view) rest)
+      (sound.current r device a (record { arena = at.arena; disk_is = at.disk_is }) has);
+  others = λ i r device a other at has. sound.others i r device a other (record { arena = at.arena; disk_is = at.disk_is }) has;
   heads = sound.heads;
-  selectors = λ i r region device found behind at has. sound.selectors i r region device found behind (record { arena = at.arena; region_is = at.region_is; disk_is = at.disk_is }) has;
+  selectors = λ i r device found behind at has. sound.selectors i r device found behind (record { arena = at.arena; disk_is = at.disk_is }) has;
   committed = sound.committed;
   queued = sound.queued;
   front = sound.front;

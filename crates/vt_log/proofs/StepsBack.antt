@@ -20,7 +20,7 @@ use Rattle.vt_arena.specs.declared.bad.BackBad.{BackBad}
 use Rattle.vt_arena.specs.declared.bad.BackBad.TheVariants.{Fault, Damaged}
 use Rattle.vt_arena.specs.Directory.{Walks, IsInfo as IsInfoIn, IsAt as IsAtBlock}
 use Rattle.vt_base.specs.declared.key.Key.{Key}
-use Rattle.vt_log.specs.Members.{DiskOf}
+use Rattle.vt_disk.specs.Members.{DiskOf}
 use Rattle.vt_arena.specs.Layout.{Content, head_of, used_of}
 use Rattle.vt_arena.specs.Places.{block_room, lengths_of, offset_of}
 use Rattle.vt_arena.proofs.Layouts.{used-append, used-cons}

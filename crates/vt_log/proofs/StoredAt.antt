@@ -7,8 +7,7 @@ use Rattle.std.proofs.lemmas.List.{length-take-le, length-drop, take_all, take-a
 use Rattle.std.proofs.lemmas.List.Elements.{All-nil, All-head, All-tail}
 use Rattle.std.proofs.lemmas.Option.{slice_get_within, slice_get_cases, same_Some}
 use Rattle.vt_base.specs.declared.place.Place.{Place}
-use Rattle.vt_log.specs.Members.{DiskOf}
-use Rattle.vt_disk.specs.declared.region.Region.{Region}
+use Rattle.vt_disk.specs.Members.{DiskOf}
 use Rattle.vt_clump.specs.declared.packed.Packed.{Packed}
 use Rattle.vt_clump.specs.Clumps.{IsPacked, stored_of}
 use Rattle.vt_clump.specs.Spelling.{Stored, IsStored, size_in}
@@ -61,7 +60,7 @@ staged_packed score_of disk l h sound = ⊎_elim
     let r = slice_get_there l.layout l.committing some in
     let it = there disk l l.committing r.0 sound.whole r.1 in
     let a = slice_get_other sound.contents l.layout l.committing r.0 (sym sound.many) r.1 in
-    (sound.current r.0 it.region it.disk a.0 it.at a.1).packed)
+    (sound.current r.0 it.disk a.0 it.at a.1).packed)
     (λ (past : length l.layout ≤ l.committing).
     let none = sound.whole.none (omega (arith, past, sound.whole.committing)) in
     subst (All (IsPacked score_of)) (sym none.0) (All-nil (IsPacked score_of)))
@@ -175,11 +174,10 @@ committed score_of disk l h i e sound at below =
 -- an arena's blocks stand in its region, as it is read
 pub record HasContent {D : Type 0} (score_of : List ℕ → List ℕ) (disk : DiskOf D) (l : LogState D) (arena : ℕ) (a : Content) : Type 0 where
   pub r : ArenaRegion
-  pub region : Region
   pub device : D
-  pub at : IsAt l arena r region device
-  pub content : IsContent score_of region.len a
-  pub stand : HasBlocks region a.stored (disk.bytes device)
+  pub at : IsAt l arena r device
+  pub content : IsContent score_of r.region.len a
+  pub stand : HasBlocks r.region a.stored (disk.bytes device)
   pub head : (found : Found) → slice_get l.heads arena ≡ Some found → found.head ≡ head_of score_of r.number a
 
 pub has_content : {D : Type 0} (score_of : List ℕ → List ℕ) (disk : DiskOf D) (l : LogState D) (h : History) (arena : ℕ) (a : Content)
@@ -187,18 +185,17 @@ pub has_content : {D : Type 0} (score_of : List ℕ → List ℕ) (disk : DiskOf
 has_content score_of disk l h arena a sound at reads =
     let r = slice_get_other l.layout sound.contents arena a sound.many at in
     let it = there disk l arena r.0 sound.whole r.1 in
-    let both : IsContent score_of it.region.len a × HasBlocks it.region a.stored (disk.bytes it.disk) = ⊎_elim
+    let both : IsContent score_of r.0.region.len a × HasBlocks r.0.region a.stored (disk.bytes it.disk) = ⊎_elim
     (λ (same : arena ≡ l.committing).
-    let arena_at : IsAt l l.committing r.0 it.region it.disk = subst (λ (n : ℕ). IsAt l n r.0 it.region it.disk) same it.at in
-    let current = sound.current r.0 it.region it.disk a arena_at (subst (λ (n : ℕ). slice_get sound.contents n ≡ Some a) same at) in
+    let arena_at : IsAt l l.committing r.0 it.disk = subst (λ (n : ℕ). IsAt l n r.0 it.disk) same it.at in
+    let current = sound.current r.0 it.disk a arena_at (subst (λ (n : ℕ). slice_get sound.contents n ≡ Some a) same at) in
     (current.content, current.kept (disk.bytes it.disk) (reads it.disk)))
     (λ (other : arena ≢ l.committing).
-    let rest = sound.others arena r.0 it.region it.disk a other it.at at in
+    let rest = sound.others arena r.0 it.disk a other it.at at in
     (rest.1.content, rest.1.blocks))
     (cases_eq arena l.committing) in
     record {
       r = r.0;
-      region = it.region;
       device = it.disk;
       at = it.at;
       content = both.0;

@@ -1,14 +1,17 @@
 -- What the calls of a log answer.
-use Rattle.std.specs.Prelude.{◌≡◌, ◌≢◌, ℕ, ◌+◌, ◌<◌, ◌≤◌, Bool, IsTrue, Some, None, Result, Ok, Err, List, [], ◌∷◌, ◌++◌, length, map, drop, sum_by, slice_get}
+use Rattle.std.specs.Prelude.{◌≡◌, ◌≢◌, ℕ, ◌+◌, ◌<◌, ◌≤◌, Bool, IsTrue, Some, None, Result, Ok, Err, List, [], ◌∷◌, ◌++◌, length, map, drop, sum_by, slice_get, slice_set}
 use Rattle.vt_base.specs.declared.place.Place.{Place}
-use Rattle.vt_log.specs.Members.{DiskOf}
+use Rattle.vt_base.specs.Faults.{CountsFault}
+use Rattle.vt_disk.specs.Members.{DiskOf}
 use Rattle.vt_clump.specs.declared.packed.Packed.{Packed}
 use Rattle.vt_clump.specs.Clumps.{stored_of}
+use Rattle.vt_disk.specs.Calls.{WritesWithin, MadeCalls}
 use Rattle.vt_disk.specs.Disk.{AreAmong}
 use Rattle.vt_twin.specs.Twin.{one_more}
 use Rattle.vt_model.specs.declared.TheConstants.{HEAD_LEN}
 use Rattle.vt_model.specs.History.{History}
 use Rattle.vt_model.specs.Places.{next_arena, place_of}
+use Rattle.vt_part.specs.declared.layout.ArenaRegion.{ArenaRegion}
 use Rattle.vt_arena.specs.declared.head.Found.{Found}
 use Rattle.vt_arena.specs.Arena.{is_committing}
 use Rattle.vt_log.specs.declared.bad.Full.{Full}
@@ -17,6 +20,7 @@ use Rattle.vt_log.specs.declared.bad.Progress.TheVariants.{Idle, Step, Durable}
 use Rattle.vt_log.specs.declared.bad.LogErr.{LogErr}
 use Rattle.vt_log.specs.declared.bad.LogErr.TheVariants.{Fault, Stopped}
 use Rattle.vt_log.specs.declared.filling.Filling.{Filling}
+use Rattle.vt_log.specs.Faults.{is_fault_now}
 use Rattle.vt_log.specs.Log.{LogState, setup_of, queued, packed_of, next_filling, with_room_taken}
 use Rattle.vt_log.specs.Logs.{accepted}
 use Rattle.vt_log.specs.Owed.{owed}
@@ -85,6 +89,21 @@ Advances (Ok (Durable n)) old new =
     × (owed new < owed old)
 Advances (Err Fault) old new = MakesCall old new × (new.stopped ≡ Some old.calls)
 Advances (Err (Stopped n)) old new = (old.stopped ≡ Some n) × (new ≡ old)
+
+-- One device call was made, of the disk on which the arena stands that is committed in. It changed
+-- nothing but in the arena's region, and a fault is told exactly where it failed. The other disks
+-- are as they were.
+pub record CallsArena {D : Type 0} (disk : DiskOf D) (result : Result Progress LogErr)
+    (old new : LogState D) : Type 0 where
+  pub r : ArenaRegion
+  pub arena : slice_get old.layout old.committing ≡ Some r
+  pub before : D
+  pub after : D
+  pub was : slice_get old.disks r.part ≡ Some before
+  pub disks : new.disks ≡ slice_set old.disks r.part after
+  pub writes : WritesWithin disk r.region 1 before after
+  pub calls : MadeCalls disk 1 before after
+  pub cause : CountsFault is_fault_now result (disk.faults before) (disk.faults after)
 
 -- every disk but that of this partition is the same
 pub record Spares {D : Type 0} (part : ℕ) (old new : List D) : Type 0 where

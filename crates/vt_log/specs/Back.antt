@@ -11,7 +11,6 @@ use Rattle.vt_arena.specs.declared.head.Found.{Found}
 use Rattle.vt_arena.specs.Directory.{first_bad, IsInfoOf}
 use Rattle.vt_arena.specs.Places.{block_room}
 use Rattle.vt_arena.specs.declared.directory.At.{At}
-use Rattle.vt_log.specs.Faults.{OneHasRisen}
 use Rattle.vt_log.specs.Log.{LogState, setup_of, queued}
 use Rattle.vt_log.specs.Queue.{spot_of}
 
@@ -100,8 +99,3 @@ pub record IsQueued (p : Packed) (place : Place) (left : ℕ) (info : Info) : Ty
   pub size : info.size ≡ p.len
   pub place_is : info.place ≡ place
   pub number : info.number + 1 ≡ left
-
--- a fault comes only where a disk's count of faults rises, and one rises only then
-abbrev pub CountsFault : BackBad → (old new : List ℕ) → Type 0
-CountsFault Fault old new = OneHasRisen old new
-CountsFault (Damaged want found) old new = new ≡ old

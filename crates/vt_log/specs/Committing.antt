@@ -1,23 +1,17 @@
 -- The steps of a commit, between its calls.
 use Rattle.std.specs.Prelude.{◌≡◌, ◌↔◌, ◌⊎◌, ℕ, ◌+◌, ◌<◌, ◌≤◌, Bool, IsTrue, IsFalse, List, [], Some, None, Result, Ok, Err, length, map, slice_get}
-use Rattle.vt_base.specs.Faults.{IsOneMore}
-use Rattle.vt_disk.specs.declared.region.Region.{Region}
-use Rattle.vt_disk.specs.Disk.{SameBut}
-use Rattle.vt_disk.specs.Region.{Inside, ChangesWithin}
 use Rattle.vt_model.specs.History.{History}
-use Rattle.vt_part.specs.declared.layout.ArenaRegion.{ArenaRegion}
 use Rattle.vt_arena.specs.Arena.{is_committing, calls_made, commit_calls}
 use Rattle.vt_log.specs.declared.bad.Progress.{Progress}
 use Rattle.vt_log.specs.declared.bad.Progress.TheVariants.{Idle, Step, Durable}
 use Rattle.vt_log.specs.declared.bad.LogErr.{LogErr}
 use Rattle.vt_log.specs.declared.bad.LogErr.TheVariants.{Fault, Stopped}
-use Rattle.vt_log.specs.Answers.{MakesCall, EndsCommit, Spares}
-use Rattle.vt_log.specs.Faults.{CountsFaultAt}
-use Rattle.vt_log.specs.Log.{LogState, packed_of, disk_in_use}
-use Rattle.vt_log.specs.Members.{DiskOf}
+use Rattle.vt_log.specs.Answers.{MakesCall, EndsCommit, CallsArena}
+use Rattle.vt_log.specs.Log.{LogState, packed_of}
+use Rattle.vt_disk.specs.Members.{DiskOf}
 use Rattle.vt_log.specs.Owed.{owed}
 use Rattle.vt_log.specs.Queue.{WaitsFor}
-use Rattle.vt_log.specs.Sound.{IsSound, IsAt, AreWithinCall, StandForPrefix}
+use Rattle.vt_log.specs.Sound.{IsSound, AreWithinCall, StandForPrefix}
 use Rattle.vt_log.specs.Whole.{IsWhole}
 
 -- some of the blocks that wait are staged, and nothing else changes; between two commits
@@ -79,17 +73,4 @@ pub record MakesOneCall {D : Type 0} (score_of : List ℕ → List ℕ) (disk : 
       → calls_made old.arena + 1 ≡ commit_calls old.arena
   pub kept : (new.layout ≡ old.layout) × (new.tables ≡ old.tables) × (new.base ≡ old.base)
       × (new.filling ≡ old.filling)
-  -- one disk alone was called, and nothing changed outside the region of the arena
-  pub spares : Spares (disk_in_use old) old.disks new.disks
-  pub in_use : disk_in_use old < length old.disks
-  pub within : (r : ArenaRegion) (region : Region) (before after : D)
-      → IsAt old old.committing r region before → slice_get new.disks r.part ≡ Some after
-      → ChangesWithin region (disk.images before) (disk.images after)
-      × (IsTrue disk.tells → SameBut (Inside region) (disk.bytes before) (disk.bytes after))
-  pub sizes : map disk.size new.disks ≡ map disk.size old.disks
-  pub one_call : IsTrue disk.tells → (before after : D)
-      → slice_get old.disks (disk_in_use old) ≡ Some before
-      → slice_get new.disks (disk_in_use old) ≡ Some after
-      → IsOneMore (disk.calls before) (disk.calls after)
-  pub cause : CountsFaultAt (disk_in_use old) result (map disk.faults old.disks)
-      (map disk.faults new.disks)
+  pub calls : CallsArena disk result old new

@@ -1,7 +1,7 @@
 -- Why a log can't be mounted, and counts of failed calls of several disks.
-use Rattle.std.specs.Prelude.{◌≡◌, ◌≢◌, ◌==◌, ◌||◌, ℕ, ◌+◌, ◌<◌, ◌≤◌, All, Bool, if◌then◌else◌, Option, Some, None, List, [], ◌∷◌, length, slice_get, map, take, slice_index, Result, Ok, Err}
-use Rattle.vt_base.specs.Faults.{HasRisen}
-use Rattle.vt_disk.specs.declared.region.Region.{Region}
+use Rattle.std.specs.Prelude.{◌≡◌, ◌≢◌, ◌==◌, ◌||◌, ℕ, ◌+◌, ◌<◌, ◌≤◌, All, Bool, true, false, if◌then◌else◌, Option, Some, None, List, [], ◌∷◌, length, slice_get, map, take, slice_index, Result}
+use Rattle.vt_base.specs.Faults.{HasRisen, TellsFault}
+use Rattle.vt_disk.specs.Members.{DiskOf}
 use Rattle.vt_part.specs.declared.layout.ArenaRegion.{ArenaRegion}
 use Rattle.vt_part.specs.declared.bad.PartBad.TheVariants.{Fault as PartFault, TooSmall, NotFormatted as PartNotFormatted, Torn as PartTorn, DuplicateName, NoMemory as PartNoMemory}
 use Rattle.vt_part.specs.Layout.{AreFirstNamesakes, AreDistinct}
@@ -14,19 +14,16 @@ use Rattle.vt_arena.specs.Heads.{fields_of, sealed_in, clumps_in}
 use Rattle.vt_arena.specs.Layout.{fields_at}
 use Rattle.vt_log.specs.declared.bad.LogBad.{LogBad}
 use Rattle.vt_log.specs.declared.bad.LogBad.TheVariants.{Part, Arena, Order, Fault, NoMemory}
-use Rattle.vt_log.specs.declared.bad.Progress.{Progress}
 use Rattle.vt_log.specs.declared.bad.LogErr.{LogErr}
 use Rattle.vt_log.specs.declared.bad.LogErr.TheVariants.{Fault as LogFault, Stopped}
 use Rattle.vt_log.specs.Log.{LogState}
-use Rattle.vt_log.specs.Logs.{IsRegionOf}
 
 -- the fields of each arena's current head, as the files have them
 pub record AreFields (layout : List ArenaRegion) (files : List (List ℕ)) (fields : List (List ℕ))
     : Type 0 where
   pub many : length fields ≡ length layout
-  pub each : (i : ℕ) (r : ArenaRegion) (region : Region) (file : List ℕ)
-      → slice_get layout i ≡ Some r → IsRegionOf r region → slice_get files r.part ≡ Some file
-      → slice_get fields i ≡ Some (fields_at region file)
+  pub each : (i : ℕ) (r : ArenaRegion) (file : List ℕ) → slice_get layout i ≡ Some r
+      → slice_get files r.part ≡ Some file → slice_get fields i ≡ Some (fields_at r.region file)
 
 -- why arena i, with these fields, can't stand behind an unsealed one
 abbrev pub out_of_order : (i : ℕ) → (fields : List ℕ) → Option LogBad
@@ -52,7 +49,7 @@ abbrev pub first_bad : (behind : Bool) (i : ℕ) → List ArenaRegion → (field
 first_bad behind i [] fields = None
 first_bad behind i (r ∷ rest) [] = None
 first_bad behind i (r ∷ rest) (f ∷ fields) =
-    first_of_two (bad_arena behind i (first_bad_in r.number r.len f) f)
+    first_of_two (bad_arena behind i (first_bad_in r.number r.region.len f) f)
     (first_bad (behind || sealed_in f == 0) (i + 1) rest fields)
 
 -- Mounting is refused for two partitions of one name or, where there are none, by the first arena
@@ -81,20 +78,25 @@ pub record OneHasRisen (old new : List ℕ) : Type 0 where
   pub rose : HasRisen (slice_index old which) (slice_index new which)
   pub others : (i : ℕ) → i ≢ which → slice_index new i ≡ slice_index old i
 
--- a fault comes only where a disk's count of faults rises, and one rises only then
-abbrev pub CountsFault : LogBad → (old new : List ℕ) → Type 0
-CountsFault (Part bad) old new = new ≡ old
-CountsFault (Arena i bad) old new = new ≡ old
-CountsFault (Order i clumps) old new = new ≡ old
-CountsFault Fault old new = OneHasRisen old new
-CountsFault NoMemory old new = new ≡ old
+-- a fault is told exactly where one of these disks' counts rose
+abbrev pub CountsFaults : {D T E : Type 0} → DiskOf D → (is_fault : E → Bool) → Result T E
+    → (old new : List D) → Type 0
+CountsFaults disk is_fault result old new =
+    TellsFault is_fault result (OneHasRisen (map disk.faults old) (map disk.faults new))
+    (map disk.faults new ≡ map disk.faults old)
 
--- a call that fails lets the count of this disk alone rise, and the others none
-abbrev pub CountsFaultAt : (disk : ℕ) → Result Progress LogErr → (old new : List ℕ) → Type 0
-CountsFaultAt disk (Ok progress) old new = new ≡ old
-CountsFaultAt disk (Err LogFault) old new =
-    (it : OneHasRisen old new) × (it.which ≡ disk)
-CountsFaultAt disk (Err (Stopped n)) old new = new ≡ old
+-- the refusal tells of a fault of a disk in this call
+abbrev pub is_fault : LogBad → Bool
+is_fault Fault = true
+is_fault (Part bad) = false
+is_fault (Arena i bad) = false
+is_fault (Order i clumps) = false
+is_fault NoMemory = false
+
+-- so does what `advance` answers; a call that stopped the log before isn't told anew
+abbrev pub is_fault_now : LogErr → Bool
+is_fault_now LogFault = true
+is_fault_now (Stopped n) = false
 
 -- a log that these fields give: no test of theirs fails, its heads are those that they spell, and
 -- its base is the first unsealed arena, or their count

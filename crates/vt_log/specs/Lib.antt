@@ -11,5 +11,4 @@ pub mod Sound
 pub mod Whole
 pub mod Formatting
 pub mod Mounting
-pub mod Members
 pub mod View

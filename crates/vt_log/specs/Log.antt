@@ -45,7 +45,11 @@ front l = l.durable + queued l
 
 -- the setup of the model; a log knows no buckets
 abbrev pub setup_of : {D : Type 0} → LogState D → Setup
-setup_of l = record { arenas = map (λ r. r.len) l.layout; base = l.base; sections = [] }
+setup_of l = record {
+  arenas = map (λ r. r.region.len) l.layout;
+  base = l.base;
+  sections = [];
+}
 
 -- the queued blocks: those that are staged for the commit under way, and those that wait
 abbrev pub queue_of : {D : Type 0} → LogState D → History
@@ -55,10 +59,6 @@ queue_of l =
 -- and their clumps
 abbrev pub packed_of : {D : Type 0} → LogState D → List Packed
 packed_of l = l.arena.staged ++ map (λ w. w.packed) l.queue.waiting
-
--- the partition whose disk the next device call of `advance` goes to
-abbrev pub disk_in_use : {D : Type 0} → LogState D → ℕ
-disk_in_use l = option_map_or (λ r. r.part) (slice_get l.layout l.committing) 0
 
 -- ---- where blocks go
 
@@ -74,7 +74,8 @@ found_filling heads arena =
 
 -- a block of n bytes fits behind what fills an arena so far; where there is no arena none does
 abbrev pub fits_in : List ArenaRegion → Filling → (n : ℕ) → Bool
-fits_in layout f n = has_room (slice_index (map (λ r. r.len) layout) f.arena) f.used f.clumps n
+fits_in layout f n =
+    has_room (slice_index (map (λ r. r.region.len) layout) f.arena) f.used f.clumps n
 
 -- the arena with that block
 abbrev pub with_room_taken : (n : ℕ) → Filling → Filling

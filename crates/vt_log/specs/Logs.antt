@@ -1,7 +1,6 @@
 -- What the arenas of all partitions stand for, in order: the blocks of the arenas up to and with
 -- the first that isn't sealed (Quinlan and Dorward 2002, the data log; venti(8)).
 use Rattle.std.specs.Prelude.{◌≡◌, ⊤, ℕ, ◌+◌, ◌≤◌, Bool, if◌then◌else◌, MatchBool, Some, List, [], ◌∷◌, ◌++◌, All, length, map, sum_by, take, slice_get}
-use Rattle.vt_disk.specs.declared.region.Region.{Region}
 use Rattle.vt_clump.specs.Spelling.{Stored}
 use Rattle.vt_model.specs.History.{Accepted, History}
 use Rattle.vt_model.specs.Places.{Setup, current_arena}
@@ -34,25 +33,14 @@ abbrev pub InOrder : List Content → Type 0
 InOrder [] = ⊤
 InOrder (a ∷ rest) = MatchBool a.sealed (InOrder rest) (All IsUntouched rest)
 
--- an arena's region, as two numbers
-pub record IsRegionOf (r : ArenaRegion) (region : Region) : Type 0 where
-  pub start : region.start ≡ r.at
-  pub len : region.len ≡ r.len
-
--- a partition's file holds this in the region of one of its arenas
-pub record HasArena (score_of : List ℕ → List ℕ) (r : ArenaRegion) (a : Content) (file : List ℕ)
-    : Type 0 where
-  pub region : Region
-  pub place : IsRegionOf r region
-  pub arena : IsArena score_of region r.number a file
-
 -- the arenas of all partitions hold these contents; `files` has each partition's bytes
 pub record AreArenas (score_of : List ℕ → List ℕ) (layout : List ArenaRegion)
     (files : List (List ℕ)) (contents : List Content) : Type 0 where
   pub many : length contents ≡ length layout
   pub each : (i : ℕ) (r : ArenaRegion) (a : Content)
       → slice_get layout i ≡ Some r → slice_get contents i ≡ Some a
-      → (file : List ℕ) × (slice_get files r.part ≡ Some file) × HasArena score_of r a file
+      → (file : List ℕ) × (slice_get files r.part ≡ Some file)
+      × IsArena score_of r.region r.number a file
 
 -- The files are a log of this history, and `base` is the first unsealed arena or, where all are
 -- sealed, the count of arenas.

@@ -1,8 +1,7 @@
 -- How a log is found.
 use Rattle.std.specs.Prelude.{◌≡◌, ◌⊎◌, ⊤, ℕ, ◌+◌, ◌%◌, ◌<◌, ◌≤◌, All, Bool, IsTrue, None, Some, List, length, map, sum_by, take, slice_get, Result, Ok, Err}
-use Rattle.vt_log.specs.Members.{DiskOf}
-use Rattle.vt_disk.specs.declared.region.Region.{Region}
-use Rattle.vt_disk.specs.Disk.{Only}
+use Rattle.vt_disk.specs.Members.{DiskOf}
+use Rattle.vt_disk.specs.Calls.{IsSynced}
 use Rattle.vt_twin.specs.Frames.{named_number}
 use Rattle.vt_part.specs.declared.layout.ArenaRegion.{ArenaRegion}
 use Rattle.vt_part.specs.declared.part.Part.{Part}
@@ -22,7 +21,6 @@ use Rattle.vt_log.specs.declared.bad.LogBad.TheVariants.{Part as PartRefused, Ar
 use Rattle.vt_log.specs.Answers.{HoldTheSame}
 use Rattle.vt_log.specs.Faults.{bad_arena, first_bad}
 use Rattle.vt_log.specs.Log.{LogState, disks_of, filled_as}
-use Rattle.vt_log.specs.Logs.{IsRegionOf}
 use Rattle.vt_log.specs.Queue.{no_queue}
 
 -- so many calls at most were made of partitions' disks, and they wrote nothing
@@ -35,8 +33,7 @@ pub record AreRead {D : Type 0} (disk : DiskOf D) (most : ℕ) (old new : List (
 
 -- a crash leaves of these partitions' disks just what a read gives
 abbrev pub AreSettled : {D : Type 0} → DiskOf D → List (Part D) → Type 0
-AreSettled disk parts =
-    IsTrue disk.tells → All (λ part. Only (disk.bytes part) (disk.images part)) (disks_of parts)
+AreSettled disk parts = All (IsSynced disk) (disks_of parts)
 
 -- Syncing them stopped at this one's disk: one call was made of it and of each before it, and the
 -- partitions behind it are as they were.
@@ -67,21 +64,20 @@ IsEarly NoMemory = ⊤
 -- these are the fields of an arena's current head, as the files have it
 abbrev pub AreFieldsAt : (files : List (List ℕ)) → ArenaRegion → (fields : List ℕ) → Type 0
 AreFieldsAt files r fields =
-    (region : Region) (file : List ℕ) → IsRegionOf r region → slice_get files r.part ≡ Some file
-    → fields ≡ fields_at region file
+    (file : List ℕ) → slice_get files r.part ≡ Some file → fields ≡ fields_at r.region file
 
 -- what finding arena i answers where these are its fields; `behind` is whether an unsealed one
 -- stands before it
 abbrev pub FindsNext : (behind : Bool) (i : ℕ) → ArenaRegion → (fields : List ℕ)
     → Result Found LogBad → Type 0
 FindsNext behind i r fields (Ok found) =
-    (bad_arena behind i (first_bad_in r.number r.len fields) fields ≡ None)
+    (bad_arena behind i (first_bad_in r.number r.region.len fields) fields ≡ None)
     × (fields_of found.head ≡ fields)
 FindsNext behind i r fields (Err (PartRefused bad)) = ⊥
 FindsNext behind i r fields (Err (Arena j bad)) =
-    bad_arena behind i (first_bad_in r.number r.len fields) fields ≡ Some (Arena j bad)
+    bad_arena behind i (first_bad_in r.number r.region.len fields) fields ≡ Some (Arena j bad)
 FindsNext behind i r fields (Err (Order j clumps)) =
-    bad_arena behind i (first_bad_in r.number r.len fields) fields ≡ Some (Order j clumps)
+    bad_arena behind i (first_bad_in r.number r.region.len fields) fields ≡ Some (Order j clumps)
 FindsNext behind i r fields (Err Fault) = ⊤
 FindsNext behind i r fields (Err NoMemory) = ⊥
 
@@ -95,12 +91,10 @@ refused_by i ArenaNoMemory = Arena i ArenaNoMemory
 -- what is found of an arena whose disk reads as this file
 pub record IsFound (tells : Bool) (r : ArenaRegion) (file : List ℕ) (found : Found)
     : Type 0 where
-  pub stands : CanStand r.number r.len found.head
-  pub selector : (region : Region) → IsTrue tells → IsRegionOf r region
-      → found.selector % 2 ≡ named_number region FRAME_LEN file
-  pub head : (score_of : List ℕ → List ℕ) (region : Region) (a : Content) → IsTrue tells
-      → IsRegionOf r region → IsArena score_of region r.number a file
-      → found.head ≡ head_of score_of r.number a
+  pub stands : CanStand r.number r.region.len found.head
+  pub selector : IsTrue tells → found.selector % 2 ≡ named_number r.region FRAME_LEN file
+  pub head : (score_of : List ℕ → List ℕ) (a : Content) → IsTrue tells
+      → IsArena score_of r.region r.number a file → found.head ≡ head_of score_of r.number a
 
 -- what is found of these arenas
 pub record AreFound (tells : Bool) (layout : List ArenaRegion) (files : List (List ℕ))
@@ -143,7 +137,7 @@ pub record IsRoomFor (layout : List ArenaRegion) (heads : List Found) (arena : �
   pub fresh : a ≡ fresh_arena len current head
   pub there : (r : ArenaRegion) (found : Found) → slice_get layout arena ≡ Some r
       → slice_get heads arena ≡ Some found
-      → (len ≡ r.len) × (current ≡ found.selector % 2) × (head ≡ found.head)
+      → (len ≡ r.region.len) × (current ≡ found.selector % 2) × (head ≡ found.head)
   pub past : length layout ≤ arena
       → (head.sealed ≡ Bool.false) × (head.used ≡ 0) × (head.clumps ≡ 0)
 

@@ -4,8 +4,7 @@ use Rattle.vt_base.specs.declared.key.Key.{Key}
 use Rattle.vt_base.specs.declared.why.FieldValue.{FieldValue}
 use Rattle.vt_base.specs.declared.why.FieldValue.TheVariants.{Number, Score as ScoreValue}
 use Rattle.vt_base.specs.declared.place.Place.{Place}
-use Rattle.vt_log.specs.Members.{DiskOf}
-use Rattle.vt_disk.specs.declared.region.Region.{Region}
+use Rattle.vt_disk.specs.Members.{DiskOf}
 use Rattle.vt_clump.specs.declared.packed.Packed.{Packed}
 use Rattle.vt_clump.specs.Faults.{first_bad}
 use Rattle.vt_clump.specs.Spelling.{Stored, stored_in}
@@ -14,7 +13,6 @@ use Rattle.vt_part.specs.declared.layout.ArenaRegion.{ArenaRegion}
 use Rattle.vt_arena.specs.declared.bad.ReadBad.{ReadBad}
 use Rattle.vt_arena.specs.declared.bad.ReadBad.TheVariants.{Fault, Damaged, NoMemory}
 use Rattle.vt_arena.specs.Reading.{HasHeader, clump_at, IsDamaged}
-use Rattle.vt_log.specs.Faults.{OneHasRisen}
 use Rattle.vt_log.specs.Log.{LogState, packed_of}
 use Rattle.vt_log.specs.Queue.{IsFirstAt, IsNowhere}
 use Rattle.vt_log.specs.Sound.{IsAt}
@@ -69,15 +67,9 @@ pub record AnswersRead {D : Type 0} (score_of : List ℕ → List ℕ) (disk : D
   pub nowhere : IsNowhere l.queue.places place → length l.layout ≤ place.arena
       → result ≡ Err (Damaged (Number (length l.layout - 1)) (Number place.arena))
   pub outside : (r : ArenaRegion) → IsNowhere l.queue.places place
-      → slice_get l.layout place.arena ≡ Some r → ¬ HasHeader r.len place.offset
+      → slice_get l.layout place.arena ≡ Some r → ¬ HasHeader r.region.len place.offset
       → result ≡ Err (Damaged (Number HEAD_LEN) (Number place.offset))
-  pub stored : (r : ArenaRegion) (region : Region) (device : D) → IsNowhere l.queue.places place
-      → IsAt l place.arena r region device → HasHeader r.len place.offset → (clump : List ℕ)
-      × (IsTrue disk.tells → clump ≡ clump_at region place.offset (disk.bytes device))
+  pub stored : (r : ArenaRegion) (device : D) → IsNowhere l.queue.places place
+      → IsAt l place.arena r device → HasHeader r.region.len place.offset → (clump : List ℕ)
+      × (IsTrue disk.tells → clump ≡ clump_at r.region place.offset (disk.bytes device))
       × ReadsAs score_of key clump result
-
--- a fault comes only where a disk's count of faults rises, and one rises only then
-abbrev pub CountsFault : ReadBad → (old new : List ℕ) → Type 0
-CountsFault Fault old new = OneHasRisen old new
-CountsFault (Damaged want found) old new = new ≡ old
-CountsFault NoMemory old new = new ≡ old

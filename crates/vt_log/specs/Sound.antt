@@ -1,8 +1,7 @@
 -- What the disks of a log hold, and what a crash leaves of them.
 use Rattle.std.specs.Prelude.{◌≡◌, ◌≢◌, ◌%◌, ℕ, ◌+◌, ◌<◌, ◌≤◌, Bool, Some, List, All, length, take, drop, sum_by, slice_get}
 use Rattle.vt_base.specs.declared.place.Place.{Place}
-use Rattle.vt_log.specs.Members.{DiskOf}
-use Rattle.vt_disk.specs.declared.region.Region.{Region}
+use Rattle.vt_disk.specs.Members.{DiskOf}
 use Rattle.vt_disk.specs.Disk.{WithinCall}
 use Rattle.vt_twin.specs.Frames.{named_number}
 use Rattle.vt_clump.specs.Clumps.{IsPacked}
@@ -16,15 +15,13 @@ use Rattle.vt_arena.specs.Places.{block_room}
 use Rattle.vt_arena.specs.Sound.{IsSettled, IsSound as IsSoundArena}
 use Rattle.vt_log.specs.declared.filling.Filling.{Filling}
 use Rattle.vt_log.specs.Log.{LogState, setup_of, front, queue_of}
-use Rattle.vt_log.specs.Logs.{blocks_from, IsRegionOf, IsSealed, IsUntouched, StandsFor}
+use Rattle.vt_log.specs.Logs.{blocks_from, IsSealed, IsUntouched, StandsFor}
 use Rattle.vt_log.specs.Queue.{spot_of}
 use Rattle.vt_log.specs.Whole.{IsWhole}
 
--- arena i has this region, on this disk
-pub record IsAt {D : Type 0} (l : LogState D) (i : ℕ) (r : ArenaRegion) (region : Region) (disk : D)
-    : Type 0 where
+-- arena i stands here, on this disk
+pub record IsAt {D : Type 0} (l : LogState D) (i : ℕ) (r : ArenaRegion) (disk : D) : Type 0 where
   pub arena : slice_get l.layout i ≡ Some r
-  pub region_is : IsRegionOf r region
   pub disk_is : slice_get l.disks r.part ≡ Some disk
 
 -- the arenas before the one that is committed in are sealed, it isn't, and those behind it are
@@ -49,21 +46,21 @@ pub record IsSound {D : Type 0} (score_of : List ℕ → List ℕ) (disk : DiskO
   pub many : length contents ≡ length l.layout
   pub split : IsSplit l.committing contents
   -- the arena that is committed in is sound; of any other a crash leaves just what is read of it
-  pub current : (r : ArenaRegion) (region : Region) (device : D) (a : Content)
-      → IsAt l l.committing r region device → slice_get contents l.committing ≡ Some a
-      → IsSoundArena score_of l.arena region a (disk.bytes device) (disk.images device)
-  pub others : (i : ℕ) (r : ArenaRegion) (region : Region) (device : D) (a : Content)
-      → i ≢ l.committing → IsAt l i r region device → slice_get contents i ≡ Some a
-      → IsSettled region (disk.bytes device) (disk.images device)
-      × IsArena score_of region r.number a (disk.bytes device)
+  pub current : (r : ArenaRegion) (device : D) (a : Content) → IsAt l l.committing r device
+      → slice_get contents l.committing ≡ Some a
+      → IsSoundArena score_of l.arena r.region a (disk.bytes device) (disk.images device)
+  pub others : (i : ℕ) (r : ArenaRegion) (device : D) (a : Content) → i ≢ l.committing
+      → IsAt l i r device → slice_get contents i ≡ Some a
+      → IsSettled r.region (disk.bytes device) (disk.images device)
+      × IsArena score_of r.region r.number a (disk.bytes device)
   -- the heads are those of what is committed, and behind that arena the selectors are as they are
   -- read
   pub heads : (i : ℕ) (r : ArenaRegion) (found : Found) (a : Content)
       → slice_get l.layout i ≡ Some r → slice_get l.heads i ≡ Some found
       → slice_get contents i ≡ Some a → found.head ≡ head_of score_of r.number a
-  pub selectors : (i : ℕ) (r : ArenaRegion) (region : Region) (device : D) (found : Found)
-      → l.committing < i → IsAt l i r region device → slice_get l.heads i ≡ Some found
-      → found.selector % 2 ≡ named_number region FRAME_LEN (disk.bytes device)
+  pub selectors : (i : ℕ) (r : ArenaRegion) (device : D) (found : Found) → l.committing < i
+      → IsAt l i r device → slice_get l.heads i ≡ Some found
+      → found.selector % 2 ≡ named_number r.region FRAME_LEN (disk.bytes device)
   -- the history is what the arenas hold and, behind it, the queue
   pub committed : take l.durable h ≡ blocks_from 0 contents
   pub queued : drop l.durable h ≡ queue_of l

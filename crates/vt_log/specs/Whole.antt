@@ -1,28 +1,25 @@
 -- What a log in memory keeps, whatever its disks hold.
 use Rattle.std.specs.Prelude.{◌≡◌, ◌==◌, ◌^◌, ℕ, ◌+◌, ◌<◌, ◌≤◌, Bool, IsTrue, if◌then◌else◌, Some, None, List, [], ◌∷◌, All, AllPairs, length, sum_by, slice_get}
-use Rattle.vt_log.specs.Members.{DiskOf}
-use Rattle.vt_disk.specs.Disk.{IsAligned}
+use Rattle.vt_disk.specs.Members.{DiskOf}
 use Rattle.vt_part.specs.declared.layout.ArenaRegion.{ArenaRegion}
 use Rattle.vt_part.specs.Laws.{IsBefore}
 use Rattle.vt_part.specs.Layout.{layout_of}
 use Rattle.vt_arena.specs.declared.head.ArenaHead.{ArenaHead}
 use Rattle.vt_arena.specs.declared.head.Found.{Found}
 use Rattle.vt_arena.specs.Arena.{ArenaState, is_committing}
-use Rattle.vt_arena.specs.Places.{IsArenaLen, directory_room, arena_room}
+use Rattle.vt_arena.specs.Places.{directory_room, arena_room}
+use Rattle.vt_arena.specs.Sound.{IsRegion}
 use Rattle.vt_log.specs.declared.TheConstants.{QUEUE_MAX}
 use Rattle.vt_log.specs.declared.filling.Filling.{Filling}
 use Rattle.vt_log.specs.declared.queue.Waiting.{Waiting}
 use Rattle.vt_log.specs.Queue.{WaitsFor}
 use Rattle.vt_log.specs.Log.{LogState, filled_as, found_filling, fits_in, with_room_taken}
 
--- the region lies on the disk of its partition, and an arena may have it
+-- the disk of its partition has the region, and an arena may have it
 pub record IsOnDisk {D : Type 0} (disk : DiskOf D) (disks : List D) (r : ArenaRegion) : Type 0 where
   pub device : D
   pub has : slice_get disks r.part ≡ Some device
-  pub within : r.at + r.len ≤ disk.size device
-  pub small : r.at + r.len < 2 ^ 64
-  pub aligned : IsAligned r.at
-  pub len : IsArenaLen r.len
+  pub region : IsRegion r.region (disk.size device)
 
 -- the arena that a waiting block goes to, as it is before the block: the one that is being filled
 -- or, where the block goes to the next one, that as it was found
@@ -43,11 +40,11 @@ Fill layout heads from (w ∷ rest) to =
 -- the head has the number of this region's arena, and the region has room for what it counts
 pub record IsHeadFor (r : ArenaRegion) (head : ArenaHead) : Type 0 where
   pub number : head.number ≡ r.number
-  pub fit : head.used + directory_room head.clumps ≤ arena_room r.len
+  pub fit : head.used + directory_room head.clumps ≤ arena_room r.region.len
 
 -- the arena in memory is the one of this region and this head
 pub record IsArenaOf (r : ArenaRegion) (found : Found) (a : ArenaState) : Type 0 where
-  pub len : a.len ≡ r.len
+  pub len : a.len ≡ r.region.len
   pub number : a.number ≡ r.number
   pub head : a.head ≡ found.head
 

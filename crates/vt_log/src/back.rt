@@ -1,18 +1,15 @@
 //! Walking a log from its last block to the first.
 
-ghost use Rattle.std.specs.Prelude.{◌≡◌, ◌≢◌, ◌↔◌, ◌⊎◌, ◌∷◌, ◌++◌, ◌+◌, ◌-◌, ◌<◌, ◌≤◌, ℕ, List, Some, None, Ok, Err, IsTrue, IfOk, IfErr, MatchOption, MatchResult, length, map, slice_get};
-ghost use Rattle.vt_base.specs.Damage.{Differ};
-ghost use Rattle.vt_base.specs.declared.why.FieldValue.{FieldValue};
+ghost use Rattle.std.specs.Prelude.{◌≡◌, ◌≢◌, ◌↔◌, ◌⊎◌, ◌∷◌, ◌++◌, ◌+◌, ◌-◌, ◌<◌, ◌≤◌, ℕ, List, Some, None, Ok, Err, IsTrue, IfOk, IfErr, MatchOption, MatchResult, length, slice_get};
 ghost use Rattle.vt_base.specs.declared.place.Info.{Info};
 ghost use Rattle.vt_base.specs.declared.place.Place.{Place};
-ghost use Rattle.vt_disk.specs.declared.region.Region.{Region};
 ghost use Rattle.vt_clump.specs.declared.packed.Packed.{Packed};
 ghost use Rattle.vt_model.specs.History.{History};
 ghost use Rattle.vt_part.specs.declared.layout.ArenaRegion.{ArenaRegion};
 ghost use Rattle.vt_arena.specs.declared.directory.At.{At};
 ghost use Rattle.vt_arena.specs.declared.head.Found.{Found};
 ghost use Rattle.vt_clump.specs.Spelling.{Stored};
-ghost use Rattle.vt_arena.specs.Directory.{last_entry, Walks, IsInfo, IsAt as IsAtBlock};
+ghost use Rattle.vt_arena.specs.Directory.{last_entry, Walks, IsInfo, NamesDamage, is_fault, IsAt as IsAtBlock};
 ghost use Rattle.vt_arena.specs.Layout.{Content, IsContent, HasBlocks, head_of};
 ghost use Rattle.vt_arena.specs.Places.{block_room};
 
@@ -21,7 +18,7 @@ use std::marker::Model;
 use std::sync::ledger::Ledger;
 use vt_arena::{At, BackBad, info};
 use vt_base::{Info, Key, Place, Scorer};
-use vt_disk::{Disk, Region};
+use vt_disk::Disk;
 use vt_steps::Steps;
 
 /// Where a walk of a log stands, from its last block to the first.
@@ -59,7 +56,8 @@ impl Tail {
 
 impl<D: Disk, S: Scorer> Log<D, S> {
     ghost use Rattle.vt_log.specs.Answers.{OnlyReads, Spares};
-    ghost use Rattle.vt_log.specs.Back.{IsTailOf, IsBehind, StepsBack, IsNext, GivesEntry, Moves, IsQueued, CountsFault};
+    ghost use Rattle.vt_log.specs.Back.{IsTailOf, IsBehind, StepsBack, IsNext, GivesEntry, Moves, IsQueued};
+    ghost use Rattle.vt_log.specs.Faults.{CountsFaults};
     ghost use Rattle.vt_log.specs.Log.{front, packed_of};
     ghost use Rattle.vt_log.specs.Sound.{IsSound, IsAt};
 
@@ -107,18 +105,17 @@ impl<D: Disk, S: Scorer> Log<D, S> {
               left = tail.old.left - 1;
               queued = tail.old.queued - 1;
             }) }
-        ensures entry { (arena : ℕ) (at : At) (found : Found) (r : ArenaRegion) (region : Region)
-            (disk : D) → tail.old.queued ≡ 0 → IsNext self.old.heads tail.old arena at
-            → slice_get self.old.heads arena ≡ Some found → IsAt self.old arena r region disk
+        ensures entry { (arena : ℕ) (at : At) (found : Found) (r : ArenaRegion) (disk : D)
+            → tail.old.queued ≡ 0 → IsNext self.old.heads tail.old arena at
+            → slice_get self.old.heads arena ≡ Some found → IsAt self.old arena r disk
             → (entry : List ℕ) × (IsTrue D.tells
-            → entry ≡ last_entry region at.index (D.bytes disk))
+            → entry ≡ last_entry r.region at.index (D.bytes disk))
             × GivesEntry arena tail.old.left found.head.used at entry result
             × Moves arena at tail.new result }
         ensures none { (result ≡ Ok None) ↔ (tail.old.left ≡ 0) }
 
         // The two values of a damage are of one form, and differ.
-        ensures differ { (want found : FieldValue) → result ≡ Err (BackBad.Damaged want found)
-            → Differ want found }
+        ensures differs { IfErr result NamesDamage }
 
         ensures tail { IsTailOf self.new tail.new }
         ensures left { MatchResult result (λ it. MatchOption it (tail.new.left ≡ tail.old.left)
@@ -133,10 +130,7 @@ impl<D: Disk, S: Scorer> Log<D, S> {
             → IsNext self.old.heads tail.old arena at → slice_get self.old.heads arena ≡ Some found
             → slice_get self.old.layout arena ≡ Some r
             → Spares r.part self.old.disks self.new.disks }
-        ensures cause { MatchResult result
-            (λ _. map D.faults self.new.disks ≡ map D.faults self.old.disks)
-            (λ bad. CountsFault bad (map D.faults self.old.disks)
-            (map D.faults self.new.disks)) }
+        ensures cause { CountsFaults D.Disk is_fault result self.old.disks self.new.disks }
     {
         if tail.queued > 0 {
             return Ok(Some(self.back_in_queue(tail)));
@@ -207,13 +201,12 @@ impl<D: Disk, S: Scorer> Log<D, S> {
             → IsSound S.score_of D.Disk self.old h → IsBehind self.old h n tail.old
             → MatchResult result (StepsBack S.score_of self.old h n tail.new)
             (λ bad. (bad ≡ BackBad.Fault) × IsBehind self.old h n tail.new) }
-        ensures entry { (found : Found) (r : ArenaRegion) (region : Region) (disk : D)
+        ensures entry { (found : Found) (r : ArenaRegion) (disk : D)
             → slice_get self.old.heads tail.old.arena ≡ Some found
-            → IsAt self.old tail.old.arena r region disk → (entry : List ℕ)
-            × (IsTrue D.tells → entry ≡ last_entry region tail.old.at.index (D.bytes disk))
+            → IsAt self.old tail.old.arena r disk → (entry : List ℕ)
+            × (IsTrue D.tells → entry ≡ last_entry r.region tail.old.at.index (D.bytes disk))
             × GivesEntry tail.old.arena tail.old.left found.head.used tail.old.at entry result }
-        ensures differ { (want found : FieldValue) → result ≡ Err (BackBad.Damaged want found)
-            → Differ want found }
+        ensures differs { IfErr result NamesDamage }
         ensures moved { Moves tail.old.arena tail.old.at tail.new result }
         ensures some { result ≢ Ok None }
         ensures tail { IsTailOf self.new tail.new }
@@ -222,10 +215,7 @@ impl<D: Disk, S: Scorer> Log<D, S> {
         ensures reads { OnlyReads S.score_of D.Disk 1 self.old self.new }
         ensures spares { (r : ArenaRegion) → slice_get self.old.layout tail.old.arena ≡ Some r
             → Spares r.part self.old.disks self.new.disks }
-        ensures cause { MatchResult result
-            (λ _. map D.faults self.new.disks ≡ map D.faults self.old.disks)
-            (λ bad. CountsFault bad (map D.faults self.old.disks)
-            (map D.faults self.new.disks)) }
+        ensures cause { CountsFaults D.Disk is_fault result self.old.disks self.new.disks }
     {
         let arena = tail.arena;
         let info = self.read_entry(arena, &mut tail.at)?;
@@ -247,37 +237,29 @@ impl<D: Disk, S: Scorer> Log<D, S> {
         requires some { 0 < at.old.index }
         requires head { (found : Found) → slice_get self.old.heads arena ≡ Some found
             → (at.old.index ≤ found.head.clumps) × (at.old.end ≤ found.head.used) }
-        ensures entry { (found : Found) (r : ArenaRegion) (region : Region) (disk : D)
+        ensures entry { (found : Found) (r : ArenaRegion) (disk : D)
             → slice_get self.old.heads arena ≡ Some found
-            → IsAt self.old arena r region disk → (entry : List ℕ)
-            × (IsTrue D.tells → entry ≡ last_entry region at.old.index (D.bytes disk))
+            → IsAt self.old arena r disk → (entry : List ℕ)
+            × (IsTrue D.tells → entry ≡ last_entry r.region at.old.index (D.bytes disk))
             × Walks found.head.number found.head.used at.old entry result }
-        ensures differ { (want found : FieldValue) → result ≡ Err (BackBad.Damaged want found)
-            → Differ want found }
+        ensures differs { IfErr result NamesDamage }
         ensures moved { IfOk result (λ info. (at.new.index + 1 ≡ at.old.index)
             × (at.new.end + block_room info.size ≡ at.old.end)) }
         ensures stays { IfErr result (λ _. at.new ≡ at.old) }
-        ensures committed { (found : Found) (r : ArenaRegion) (region : Region) (disk : D)
-            (number : ℕ) (a : Content) (before behind : List Stored) (s : Stored) → IsTrue D.tells
-            → slice_get self.old.heads arena ≡ Some found → IsAt self.old arena r region disk
-            → IsContent S.score_of region.len a → HasBlocks region a.stored (D.bytes disk)
+        ensures committed { (found : Found) (r : ArenaRegion) (disk : D) (number : ℕ)
+            (a : Content) (before behind : List Stored) (s : Stored) → IsTrue D.tells
+            → slice_get self.old.heads arena ≡ Some found → IsAt self.old arena r disk
+            → IsContent S.score_of r.region.len a → HasBlocks r.region a.stored (D.bytes disk)
             → a.stored ≡ before ++ s ∷ behind → found.head ≡ head_of S.score_of number a
             → IsAtBlock before s at.old
             → MatchResult result (IsInfo number before s) (λ bad. bad ≡ BackBad.Fault) }
         ensures reads { OnlyReads S.score_of D.Disk 1 self.old self.new }
         ensures spares { (r : ArenaRegion) → slice_get self.old.layout arena ≡ Some r
             → Spares r.part self.old.disks self.new.disks }
-        ensures cause { MatchResult result
-            (λ _. map D.faults self.new.disks ≡ map D.faults self.old.disks)
-            (λ bad. CountsFault bad (map D.faults self.old.disks)
-            (map D.faults self.new.disks)) }
+        ensures cause { CountsFaults D.Disk is_fault result self.old.disks self.new.disks }
     {
         let r = self.layout.as_slice()[arena as usize];
-        let region = Region {
-            start: r.at,
-            len: r.len,
-        };
         let head = self.heads[arena as usize].head;
-        info(&mut self.parts[r.part as usize].disk, region, &head, at)
+        info(&mut self.parts[r.part as usize].disk, r.region, &head, at)
     }
 }

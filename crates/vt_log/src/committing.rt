@@ -1,11 +1,7 @@
 //! Committing what is queued, one device call at a time.
 
-ghost use Rattle.std.specs.Prelude.{◌≡◌, ◌↔◌, ◌⊎◌, ◌+◌, ◌*◌, ◌<◌, ◌≤◌, ℕ, List, Some, None, Ok, Err, IsTrue, IsFalse, IsSome, IfOk, length, map, slice_get, if◌then◌else◌};
-ghost use Rattle.vt_disk.specs.declared.region.Region.{Region};
-ghost use Rattle.vt_disk.specs.Disk.{SameBut, IsOneMore};
-ghost use Rattle.vt_disk.specs.Region.{Inside, ChangesWithin};
+ghost use Rattle.std.specs.Prelude.{◌≡◌, ◌↔◌, ◌⊎◌, ◌+◌, ◌*◌, ◌<◌, ◌≤◌, ℕ, List, Some, None, Ok, Err, IsTrue, IsFalse, length, if◌then◌else◌};
 ghost use Rattle.vt_model.specs.History.{History};
-ghost use Rattle.vt_part.specs.declared.layout.ArenaRegion.{ArenaRegion};
 ghost use Rattle.vt_arena.specs.Arena.{calls_made, commit_calls, is_committing};
 
 use crate::bad::{LogErr, Progress};
@@ -13,17 +9,17 @@ use crate::log::Log;
 use crate::queue::Queue;
 use vt_arena::Arena;
 use vt_base::Scorer;
-use vt_disk::{Disk, Region};
+use vt_disk::Disk;
 use vt_twin::{Step, TwinErr};
 
 impl<D: Disk, S: Scorer> Log<D, S> {
-    ghost use Rattle.vt_log.specs.Answers.{Advances, Spares};
+    ghost use Rattle.vt_log.specs.Answers.{Advances, CallsArena};
     ghost use Rattle.vt_log.specs.Committing.{Stages, IsReady, TakesAll, Prepares, MakesOneCall};
-    ghost use Rattle.vt_log.specs.Faults.{CountsFaultAt};
-    ghost use Rattle.vt_log.specs.Log.{LogState, queued, front, packed_of, next_filling, disk_in_use};
+    ghost use Rattle.vt_log.specs.Faults.{CountsFaults, is_fault_now};
+    ghost use Rattle.vt_log.specs.Log.{LogState, queued, front, packed_of, next_filling};
     ghost use Rattle.vt_log.specs.Queue.{WaitsFor};
     ghost use Rattle.vt_log.specs.Owed.{owed, seal_calls};
-    ghost use Rattle.vt_log.specs.Sound.{IsSound, IsAt, AreWithinCall, StandForPrefix};
+    ghost use Rattle.vt_log.specs.Sound.{IsSound, AreWithinCall, StandForPrefix};
 
     /// How many calls of `advance` are left at most until nothing is queued: at most six for each
     /// queued block, and six. Each that makes a device call lowers it.
@@ -87,24 +83,10 @@ impl<D: Disk, S: Scorer> Log<D, S> {
         ensures batch { self.old.stopped ≡ None → IsFalse (is_committing self.old.arena)
             → TakesAll self.new }
 
-        // It makes one call, of the disk in use, or none where it is idle or stopped. Nothing
-        // outside the arena's region changes.
-        ensures one_call { IsTrue D.tells → self.old.stopped ≡ None → 0 < queued self.old
-            → (before after : D) → slice_get self.old.disks (disk_in_use self.old) ≡ Some before
-            → slice_get self.new.disks (disk_in_use self.old) ≡ Some after
-            → IsOneMore (D.calls before) (D.calls after) }
-        ensures spares { Spares (disk_in_use self.old) self.old.disks self.new.disks }
-        ensures in_use { 0 < queued self.old → disk_in_use self.old < length self.old.disks }
-        ensures within { (r : ArenaRegion) (region : Region) (before after : D)
-            → IsAt self.old self.old.committing r region before
-            → slice_get self.new.disks r.part ≡ Some after
-            → ChangesWithin region (D.images before) (D.images after)
-            × (IsTrue D.tells → SameBut (Inside region) (D.bytes before) (D.bytes after)) }
-        ensures sizes { map D.size self.new.disks ≡ map D.size self.old.disks }
-        ensures untouched { IsSome self.old.stopped ⊎ (queued self.old ≡ 0)
-            → self.new.disks ≡ self.old.disks }
-        ensures cause { CountsFaultAt (disk_in_use self.old) result
-            (map D.faults self.old.disks) (map D.faults self.new.disks) }
+        // It makes one call, or none where it is idle or stopped.
+        ensures one_call { self.old.stopped ≡ None → 0 < queued self.old
+            → CallsArena D.Disk result self.old self.new }
+        ensures cause { CountsFaults D.Disk is_fault_now result self.old.disks self.new.disks }
     {
         if let Some(call) = self.stopped {
             return Err(LogErr::Stopped(call));
@@ -182,12 +164,8 @@ impl<D: Disk, S: Scorer> Log<D, S> {
         let blocks = self.arena.staged().len();
         let at = self.committing as usize;
         let r = self.layout.as_slice()[at];
-        let region = Region {
-            start: r.at,
-            len: r.len,
-        };
         let disk = &mut self.parts[r.part as usize].disk;
-        match self.arena.advance(disk, region) {
+        match self.arena.advance(disk, r.region) {
             Ok(Step::More) => Ok(Progress::Step),
             Ok(Step::Done) => {
                 self.queue.drop_committed(blocks);
@@ -198,7 +176,7 @@ impl<D: Disk, S: Scorer> Log<D, S> {
                     return Ok(Progress::Durable(self.durable));
                 }
                 self.committing += 1;
-                let len = self.layout.as_slice()[at + 1].len;
+                let len = self.layout.as_slice()[at + 1].region.len;
                 self.arena.move_to(len, self.heads[at + 1]);
                 Ok(Progress::Durable(self.durable))
             }

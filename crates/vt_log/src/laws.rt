@@ -21,7 +21,7 @@ pub fn crash_gives_a_prefix<D: Disk>()
 /// Files are one log at most.
 pub fn logs_are_told_apart()
     ensures { (score_of : List ℕ → List ℕ) (layout : List ArenaRegion) (files : List (List ℕ))
-        (g h : History) (a b : ℕ) → All (λ r. r.len ≤ 2 ^ 30) layout
+        (g h : History) (a b : ℕ) → All (λ r. r.region.len ≤ 2 ^ 30) layout
         → IsLog score_of layout files g a → IsLog score_of layout files h b
         → (g ≡ h) × (a ≡ b) }
 {}

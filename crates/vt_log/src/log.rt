@@ -1,6 +1,6 @@
 //! A log in memory: which arena it commits in, what is queued, and how full the arenas are.
 
-ghost use Rattle.std.specs.Prelude.{◌≡◌, ◌↔◌, ◌+◌, ◌<◌, ◌≤◌, ◌^◌, Some, Err, Result, IsTrue, IsFalse, OnOk, IfSome, MatchResult, is_some, length, map, slice_get};
+ghost use Rattle.std.specs.Prelude.{Bool, ◌≡◌, ◌↔◌, ◌+◌, ◌<◌, ◌≤◌, ◌^◌, Some, Err, Result, IsTrue, IsFalse, OnOk, IfSome, is_some, length, map, slice_get};
 ghost use Rattle.vt_disk.specs.Disk.{part as part_of};
 ghost use Rattle.vt_clump.specs.Clumps.{IsPacked};
 ghost use Rattle.vt_model.specs.declared.TheConstants.{CLUMP_HEADER_LEN};
@@ -20,7 +20,7 @@ use std::marker::Model;
 use vt_arena::{Arena, ArenaHead, Found, has_room};
 use vt_base::{Failed, Place, Scorer};
 use vt_clump::Packed;
-use vt_disk::{Disk, Region};
+use vt_disk::Disk;
 use vt_model::HEAD_LEN;
 use vt_part::{ArenaRegion, Layout, Part};
 
@@ -65,7 +65,7 @@ impl<D: Disk, S: Scorer> Model for Log<D, S> {
 
 impl<D: Disk, S: Scorer> Log<D, S> {
     ghost use Rattle.vt_log.specs.Answers.{Appends, OnlyReads, TakesOrRefuses, Spares};
-    ghost use Rattle.vt_log.specs.Faults.{OneHasRisen};
+    ghost use Rattle.vt_log.specs.Faults.{CountsFaults};
     ghost use Rattle.vt_log.specs.Log.{LogState, front, queued, setup_of, has_next, next_filling, fits_in};
     ghost use Rattle.vt_log.specs.Sound.{IsSound};
 
@@ -80,10 +80,10 @@ impl<D: Disk, S: Scorer> Log<D, S> {
     pub fn arena_len(&self, arena: u32) -> u64
         requires { arena < length self.now.layout }
         ensures len { (r : ArenaRegion) × (slice_get self.now.layout arena ≡ Some r)
-            × (result ≡ r.len) }
+            × (result ≡ r.region.len) }
         ensures bounds { IsArenaLen result }
     {
-        self.layout.as_slice()[arena as usize].len
+        self.layout.as_slice()[arena as usize].region.len
     }
 
     /// The head of an arena, as mounted or last committed.
@@ -92,7 +92,7 @@ impl<D: Disk, S: Scorer> Log<D, S> {
         ensures head { (found : Found) × (slice_get self.now.heads arena ≡ Some found)
             × (result ≡ found.head) }
         ensures fit { (r : ArenaRegion) → slice_get self.now.layout arena ≡ Some r
-            → result.used + directory_room result.clumps ≤ arena_room r.len }
+            → result.used + directory_room result.clumps ≤ arena_room r.region.len }
     {
         self.heads[arena as usize].head
     }
@@ -102,26 +102,21 @@ impl<D: Disk, S: Scorer> Log<D, S> {
     pub fn bytes(&mut self, arena: u32, at: u64, buf: &mut [u8]) -> Result<(), Failed>
         requires arena { arena < length self.old.layout }
         requires within { (r : ArenaRegion) → slice_get self.old.layout arena ≡ Some r
-            → at + length buf.old ≤ r.len }
+            → at + length buf.old ≤ r.region.len }
         ensures read { OnOk result (IsTrue D.tells → (r : ArenaRegion) × (disk : D)
             × (slice_get self.old.layout arena ≡ Some r)
             × (slice_get self.old.disks r.part ≡ Some disk)
-            × (buf.new ≡ part_of (r.at + at) (length buf.old) (D.bytes disk))) }
+            × (buf.new ≡ part_of (r.region.start + at) (length buf.old) (D.bytes disk))) }
 
         // It makes one read of the arena's disk, and changes nothing.
         ensures reads { OnlyReads S.score_of D.Disk 1 self.old self.new }
         ensures spares { (r : ArenaRegion) → slice_get self.old.layout arena ≡ Some r
             → Spares r.part self.old.disks self.new.disks }
-        ensures cause { MatchResult result
-            (λ _. map D.faults self.new.disks ≡ map D.faults self.old.disks)
-            (λ _. OneHasRisen (map D.faults self.old.disks) (map D.faults self.new.disks)) }
+        ensures cause { CountsFaults D.Disk (λ _. Bool.true) result self.old.disks self.new.disks }
     {
         let r = self.layout.as_slice()[arena as usize];
-        let region = Region {
-            start: r.at,
-            len: r.len,
-        };
-        region.read_at(&mut self.parts[r.part as usize].disk, at, buf)
+        r.region
+            .read_at(&mut self.parts[r.part as usize].disk, at, buf)
     }
 
     /// How many blocks were accepted.
@@ -221,7 +216,7 @@ impl<D: Disk, S: Scorer> Log<D, S> {
         ensures { result ≡ fits_in self.now.layout filling n }
     {
         match self.layout.as_slice().get(filling.arena as usize) {
-            Some(r) => has_room(r.len, filling.used, filling.clumps, n),
+            Some(r) => has_room(r.region.len, filling.used, filling.clumps, n),
             None => false,
         }
     }

@@ -1,8 +1,8 @@
 //! Making partitions a log, and finding the log of partitions.
 
-ghost use Rattle.std.specs.Prelude.{◌≡◌, ◌⊎◌, ◌+◌, ◌*◌, ◌^◌, ◌<◌, ◌≤◌, [], ℕ, Bool, List, All, Some, IsTrue, IfOk, IfErr, OnOk, OnErr, MatchResult, None, length, map, sum_by, slice_get};
+ghost use Rattle.std.specs.Prelude.{◌≡◌, ◌⊎◌, ◌+◌, ◌*◌, ◌^◌, ◌<◌, ◌≤◌, [], ℕ, Bool, List, All, Some, IsTrue, IsFalse, IfOk, IfErr, OnOk, OnErr, MatchResult, None, length, map, sum_by, slice_get};
 ghost use Rattle.vt_base.specs.Faults.{HasCause};
-ghost use Rattle.vt_disk.specs.Disk.{Only};
+ghost use Rattle.vt_disk.specs.Calls.{IsSynced};
 ghost use Rattle.vt_model.specs.History.{History};
 ghost use Rattle.vt_part.specs.Layout.{layout_of, AreDistinct};
 ghost use Rattle.vt_part.specs.Parts.{disk_of, table_of, tables_of, names_of};
@@ -14,8 +14,8 @@ ghost use Rattle.vt_arena.specs.Faults.{CanStand};
 ghost use Rattle.vt_arena.specs.Heads.{fields_of};
 ghost use Rattle.vt_arena.specs.Places.{IsArenaLen};
 ghost use Rattle.vt_log.specs.Answers.{HoldTheSame};
-ghost use Rattle.vt_log.specs.Faults.{AreFields, RefusesMount, CountsFault, OneHasRisen, IsMountedBy, out_of_order};
-ghost use Rattle.vt_log.specs.Formatting.{IsEmpty, ChangesInHeads, StopsAt, StopsIn};
+ghost use Rattle.vt_log.specs.Faults.{AreFields, RefusesMount, CountsFaults, IsMountedBy, out_of_order, is_fault};
+ghost use Rattle.vt_log.specs.Formatting.{IsEmpty, WritesInHeads, StopsAt, StopsIn};
 ghost use Rattle.vt_log.specs.Log.{IsMounted, disks_of, disks_after};
 ghost use Rattle.vt_log.specs.Logs.{IsLog, arena_count};
 ghost use Rattle.vt_log.specs.Mounting.{IsTold, IsEarly, StopsSyncing, AreRead, AreFieldsAt, FindsNext, refused_by, IsFound, AreFound, RefusesArenas, ArePassed, IsFirstOpen, IsRoomFor};
@@ -30,11 +30,8 @@ use crate::queue::Queue;
 use std::alloc::Global;
 use vt_arena::{Arena, ArenaBad, ArenaHead, Field, Found, find};
 use vt_base::{Failed, NoMemory, Score, Scorer};
-use vt_disk::{Disk, Region};
-use vt_part::{ArenaRegion, Layout, Part, PartBad};
-
-/// The shortest length that an arena may have.
-const SHORTEST_ARENA: u64 = 32_768;
+use vt_disk::Disk;
+use vt_part::{ArenaRegion, LEAST_ARENA, Layout, Part, PartBad};
 
 /// Makes each arena of these partitions one without blocks. Its head is written and synced; other
 /// bytes stay. Failed says that a device call failed.
@@ -45,24 +42,19 @@ pub fn format<D: Disk>(parts: &mut [Part<D>]) -> Result<(), Failed>
     ensures empty { (score_of : List ℕ → List ℕ) (files : List (List ℕ)) → IsTrue D.tells
         → AreImages D.Disk (disks_of parts.new) files → OnOk result
         (IsLog score_of (layout_of (tables_of parts.old)) files [] 0) }
-    ensures settled { IsTrue D.tells
-        → OnOk result (All (λ disk. Only (D.bytes disk) (D.images disk)) (disks_of parts.new)) }
+    ensures settled { OnOk result (All (IsSynced D.Disk) (disks_of parts.new)) }
 
     // The tables stay in memory, and on the disks all bytes that are in no head of an arena.
     ensures tables { tables_of parts.new ≡ tables_of parts.old }
-    ensures stays { (i : ℕ) (before after : Part D) → slice_get parts.old i ≡ Some before
+    ensures writes { (i : ℕ) (before after : Part D) → slice_get parts.old i ≡ Some before
         → slice_get parts.new i ≡ Some after
-        → ChangesInHeads D.Disk (table_of before) (disk_of before) (disk_of after) }
+        → WritesInHeads D.Disk (table_of before) (disk_of before) (disk_of after) }
     ensures size { map D.size (disks_of parts.new) ≡ map D.size (disks_of parts.old) }
-    ensures most_calls { IsTrue D.tells → sum_by D.calls (disks_of parts.new)
-        ≤ sum_by D.calls (disks_of parts.old) + 3 * arena_count (tables_of parts.old) }
 
     // Nothing further is written behind a failed call.
     ensures stops { OnErr result (StopsIn D.Disk parts.old parts.new) }
-    ensures cause { MatchResult result
-        (λ _. map D.faults (disks_of parts.new) ≡ map D.faults (disks_of parts.old))
-        (λ _. OneHasRisen (map D.faults (disks_of parts.old))
-        (map D.faults (disks_of parts.new))) }
+    ensures cause { CountsFaults D.Disk (λ _. Bool.true) result (disks_of parts.old)
+        (disks_of parts.new) }
 {
     for part in parts.iter_mut() {
         format_part(part)?;
@@ -73,13 +65,10 @@ pub fn format<D: Disk>(parts: &mut [Part<D>]) -> Result<(), Failed>
 /// Makes each arena of a partition one without blocks.
 fn format_part<D: Disk>(part: &mut Part<D>) -> Result<(), Failed>
     requires { end_of (table_of part.old) ≤ D.size (disk_of part.old) }
-    ensures empty { IsTrue D.tells → OnOk result (IsEmpty D.Disk part.new) }
+    ensures empty { OnOk result (IsEmpty D.Disk part.new) }
     ensures table { table_of part.new ≡ table_of part.old }
-    ensures stays { ChangesInHeads D.Disk (table_of part.old) (disk_of part.old)
+    ensures writes { WritesInHeads D.Disk (table_of part.old) (disk_of part.old)
         (disk_of part.new) }
-    ensures size { D.size (disk_of part.new) ≡ D.size (disk_of part.old) }
-    ensures most_calls { IsTrue D.tells → D.calls (disk_of part.new)
-        ≤ D.calls (disk_of part.old) + 3 * (table_of part.old).count }
     ensures stops { OnErr result (StopsAt D.Disk part.old part.new) }
     ensures cause { HasCause result (D.faults (disk_of part.old)) (D.faults (disk_of part.new)) }
 {
@@ -130,16 +119,13 @@ pub fn mount<D: Disk, S: Scorer + Drop>(
     // It writes nothing, and syncs each disk and reads each head once.
     ensures handed_back { IfErr result (λ refusal. tables_of refusal.1.items
         ≡ tables_of parts.items) }
-    ensures settled { IfOk result (λ log. IsTrue D.tells
-        → All (λ disk. Only (D.bytes disk) (D.images disk)) log.disks) }
+    ensures settled { IfOk result (λ log. All (IsSynced D.Disk) log.disks) }
     ensures disks { HoldTheSame D.Disk (disks_of parts.items) (disks_after result) }
     ensures most_calls { IsTrue D.tells → sum_by D.calls (disks_after result)
         ≤ sum_by D.calls (disks_of parts.items) + length parts.items
         + 2 * arena_count (tables_of parts.items) }
-    ensures cause { MatchResult result
-        (λ log. map D.faults log.disks ≡ map D.faults (disks_of parts.items))
-        (λ refusal. CountsFault refusal.0 (map D.faults (disks_of parts.items))
-        (map D.faults (disks_of refusal.1.items))) }
+    ensures cause { CountsFaults D.Disk (λ refusal. is_fault refusal.0) result
+        (disks_of parts.items) (disks_after result) }
 {
     match find_log(alloc, &mut parts) {
         Ok(opened) => Ok(opened.into_log(parts, scorer)),
@@ -225,15 +211,12 @@ fn find_log<D: Disk>(alloc: Global, parts: &mut [Part<D>]) -> Result<Opened, Log
     ensures arena { IfOk result
         (λ it. IsRoomFor (layout_of (tables_of parts.old)) it.heads.items it.base it.arena) }
     ensures queue { IfOk result (λ it. it.queue ≡ no_queue) }
-    ensures settled { OnOk result (IsTrue D.tells
-        → All (λ disk. Only (D.bytes disk) (D.images disk)) (disks_of parts.new)) }
+    ensures settled { OnOk result (All (IsSynced D.Disk) (disks_of parts.new)) }
     ensures told { IfErr result (IsTold D.Disk parts.old parts.new) }
     ensures read { AreRead D.Disk
         (length parts.old + 2 * arena_count (tables_of parts.old)) parts.old parts.new }
-    ensures cause { MatchResult result
-        (λ _. map D.faults (disks_of parts.new) ≡ map D.faults (disks_of parts.old))
-        (λ bad. CountsFault bad (map D.faults (disks_of parts.old))
-        (map D.faults (disks_of parts.new))) }
+    ensures cause { CountsFaults D.Disk is_fault result (disks_of parts.old)
+        (disks_of parts.new) }
 {
     let layout = list(alloc, parts)?;
     sync_all(parts)?;
@@ -249,7 +232,7 @@ fn list<D>(alloc: Global, parts: &[Part<D>]) -> Result<Layout, LogBad>
     ensures refused { (layout : List ArenaRegion) (fields : List (List ℕ))
         → IfErr result (RefusesMount (names_of parts.now) layout fields) }
     ensures early { IfErr result IsEarly }
-    ensures cause { (counts : List ℕ) → IfErr result (λ bad. CountsFault bad counts counts) }
+    ensures no_fault { IfErr result (λ bad. IsFalse (is_fault bad)) }
 {
     match vt_part::list(alloc, parts) {
         Ok(layout) => Ok(layout),
@@ -260,15 +243,12 @@ fn list<D>(alloc: Global, parts: &[Part<D>]) -> Result<Layout, LogBad>
 
 /// Syncs each disk.
 fn sync_all<D: Disk>(parts: &mut [Part<D>]) -> Result<(), LogBad>
-    ensures settled { OnOk result (IsTrue D.tells
-        → All (λ disk. Only (D.bytes disk) (D.images disk)) (disks_of parts.new)) }
+    ensures settled { OnOk result (All (IsSynced D.Disk) (disks_of parts.new)) }
     ensures fault { IfErr result (λ bad. bad ≡ LogBad.Fault) }
     ensures stops { OnErr result (StopsSyncing D.Disk parts.old parts.new) }
     ensures read { AreRead D.Disk (length parts.old) parts.old parts.new }
-    ensures cause { MatchResult result
-        (λ _. map D.faults (disks_of parts.new) ≡ map D.faults (disks_of parts.old))
-        (λ bad. CountsFault bad (map D.faults (disks_of parts.old))
-        (map D.faults (disks_of parts.new))) }
+    ensures cause { CountsFaults D.Disk is_fault result (disks_of parts.old)
+        (disks_of parts.new) }
 {
     for part in parts.iter_mut() {
         part.disk.sync()?;
@@ -291,10 +271,8 @@ fn find_all<D: Disk>(
     ensures found { IfOk result (λ heads. AreFound D.tells layout.now
         (map D.bytes (disks_of parts.old)) heads.items) }
     ensures read { AreRead D.Disk (2 * length layout.now) parts.old parts.new }
-    ensures cause { MatchResult result
-        (λ _. map D.faults (disks_of parts.new) ≡ map D.faults (disks_of parts.old))
-        (λ bad. CountsFault bad (map D.faults (disks_of parts.old))
-        (map D.faults (disks_of parts.new))) }
+    ensures cause { CountsFaults D.Disk is_fault result (disks_of parts.old)
+        (disks_of parts.new) }
 {
     let regions = layout.as_slice();
     let Ok(mut heads) = Vec::with_capacity(alloc, regions.len()) else {
@@ -325,10 +303,8 @@ fn find_next<D: Disk>(
     ensures found { IfOk result (λ found. (disk : D) → slice_get (disks_of parts.old) r.part
         ≡ Some disk → IsFound D.tells r (D.bytes disk) found) }
     ensures read { AreRead D.Disk 2 parts.old parts.new }
-    ensures cause { MatchResult result
-        (λ _. map D.faults (disks_of parts.new) ≡ map D.faults (disks_of parts.old))
-        (λ bad. CountsFault bad (map D.faults (disks_of parts.old))
-        (map D.faults (disks_of parts.new))) }
+    ensures cause { CountsFaults D.Disk is_fault result (disks_of parts.old)
+        (disks_of parts.new) }
 {
     let found = find_arena(parts, r, arena)?;
     if behind {
@@ -346,16 +322,10 @@ fn find_arena<D: Disk>(parts: &mut [Part<D>], r: ArenaRegion, arena: u32) -> Res
     ensures found { IfOk result (λ found. (disk : D) → slice_get (disks_of parts.old) r.part
         ≡ Some disk → IsFound D.tells r (D.bytes disk) found) }
     ensures read { AreRead D.Disk 2 parts.old parts.new }
-    ensures cause { MatchResult result
-        (λ _. map D.faults (disks_of parts.new) ≡ map D.faults (disks_of parts.old))
-        (λ bad. CountsFault bad (map D.faults (disks_of parts.old))
-        (map D.faults (disks_of parts.new))) }
+    ensures cause { CountsFaults D.Disk is_fault result (disks_of parts.old)
+        (disks_of parts.new) }
 {
-    let region = Region {
-        start: r.at,
-        len: r.len,
-    };
-    match find(&mut parts[r.part as usize].disk, region, r.number) {
+    match find(&mut parts[r.part as usize].disk, r.region, r.number) {
         Ok(found) => Ok(found),
         Err(bad) => Err(refused(arena, bad)),
     }
@@ -375,7 +345,7 @@ fn refused(arena: u32, bad: ArenaBad) -> LogBad
 fn check_order(arena: u32, head: &ArenaHead) -> Result<(), LogBad>
     ensures order { MatchResult result (λ _. out_of_order arena (fields_of head.now) ≡ None)
         (λ bad. out_of_order arena (fields_of head.now) ≡ Some bad) }
-    ensures cause { (counts : List ℕ) → IfErr result (λ bad. CountsFault bad counts counts) }
+    ensures no_fault { IfErr result (λ bad. IsFalse (is_fault bad)) }
 {
     if head.clumps > 0 {
         return Err(LogBad::Order {
@@ -402,7 +372,7 @@ fn make_room(alloc: Global, layout: Layout, heads: Vec<Found>) -> Result<Opened,
     requires many { length heads.items ≡ length layout }
     requires heads { (i : ℕ) (r : ArenaRegion) (found : Found) → slice_get layout i ≡ Some r
         → slice_get heads.items i ≡ Some found
-        → IsArenaLen r.len × CanStand r.number r.len found.head }
+        → IsArenaLen r.region.len × CanStand r.number r.region.len found.head }
     ensures layout { IfOk result (λ it. it.layout ≡ layout) }
     ensures heads { IfOk result (λ it. it.heads.items ≡ heads.items) }
     ensures base { IfOk result (λ it. IsFirstOpen heads.items it.base) }
@@ -448,13 +418,13 @@ fn room_for(
     requires many { length heads.now ≡ length layout.now }
     requires heads { (r : ArenaRegion) (found : Found) → slice_get layout.now arena ≡ Some r
         → slice_get heads.now arena ≡ Some found
-        → IsArenaLen r.len × CanStand r.number r.len found.head }
+        → IsArenaLen r.region.len × CanStand r.number r.region.len found.head }
     ensures { IfOk result (λ a. IsRoomFor layout.now heads.now arena a) }
 {
     if arena >= heads.len() {
-        return Arena::resume(alloc, SHORTEST_ARENA, no_arena());
+        return Arena::resume(alloc, LEAST_ARENA, no_arena());
     }
-    Arena::resume(alloc, layout.as_slice()[arena].len, heads[arena])
+    Arena::resume(alloc, layout.as_slice()[arena].region.len, heads[arena])
 }
 
 /// An arena without blocks.

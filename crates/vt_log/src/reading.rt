@@ -1,10 +1,9 @@
 //! Reading a block.
 
-ghost use Rattle.std.specs.Prelude.{◌≡◌, ◌≢◌, ◌⊎◌, ◌∷◌, ◌++◌, ◌+◌, ◌<◌, ◌≤◌, ℕ, List, Some, Err, IsTrue, IfOk, IfErr, OnOk, MatchResult, length, map, drop, slice_get};
+ghost use Rattle.std.specs.Prelude.{◌≡◌, ◌≢◌, ◌⊎◌, ◌∷◌, ◌++◌, ◌+◌, ◌<◌, ◌≤◌, ℕ, List, Some, Err, IsTrue, IfOk, IfErr, OnOk, MatchResult, length, drop, slice_get};
 ghost use Rattle.vt_base.specs.Damage.{Differ};
 ghost use Rattle.vt_base.specs.declared.TheConstants.{MAX_BLOCK};
 ghost use Rattle.vt_base.specs.declared.why.FieldValue.{FieldValue};
-ghost use Rattle.vt_disk.specs.declared.region.Region.{Region};
 ghost use Rattle.vt_clump.specs.declared.packed.Packed.{Packed};
 ghost use Rattle.vt_clump.specs.Spelling.{Stored};
 ghost use Rattle.vt_clump.specs.Clumps.{IsRead};
@@ -14,7 +13,7 @@ ghost use Rattle.vt_model.specs.Places.{place_of};
 ghost use Rattle.vt_part.specs.declared.layout.ArenaRegion.{ArenaRegion};
 ghost use Rattle.vt_arena.specs.Layout.{Content, IsContent, HasBlocks};
 ghost use Rattle.vt_arena.specs.Places.{offset_of};
-ghost use Rattle.vt_arena.specs.Reading.{HasHeader, clump_at, ReadsAs as ReadsClump};
+ghost use Rattle.vt_arena.specs.Reading.{HasHeader, clump_at, is_fault, ReadsAs as ReadsClump};
 ghost use Rattle.vt_log.specs.Reading.{IsDamagedBy};
 
 use crate::log::Log;
@@ -23,14 +22,15 @@ use std::sync::ledger::Ledger;
 use vt_arena::{ReadBad, has_header};
 use vt_base::{Bytes, FieldValue, Key, Kind, Place, Score, Scorer};
 use vt_clump::{Clump, HEADER_LEN, Packed};
-use vt_disk::{Disk, Region};
+use vt_disk::Disk;
 use vt_steps::Steps;
 
 impl<D: Disk, S: Scorer> Log<D, S> {
     ghost use Rattle.vt_log.specs.Answers.{OnlyReads, Spares};
+    ghost use Rattle.vt_log.specs.Faults.{CountsFaults};
     ghost use Rattle.vt_log.specs.Log.{setup_of, packed_of};
     ghost use Rattle.vt_log.specs.Queue.{IsFirstAt, IsNowhere, spot_of};
-    ghost use Rattle.vt_log.specs.Reading.{AnswersRead, CountsFault};
+    ghost use Rattle.vt_log.specs.Reading.{AnswersRead};
     ghost use Rattle.vt_log.specs.Sound.{IsSound, IsAt};
 
     /// Reads the block with this key that stands at this place. A queued block is given from the
@@ -65,20 +65,17 @@ impl<D: Disk, S: Scorer> Log<D, S> {
         // One step is counted where a clump is read, and none else. It makes two reads at most, and
         // changes nothing.
         ensures cost { (r : ArenaRegion) → IsNowhere self.old.queue.places place
-            → slice_get self.old.layout place.arena ≡ Some r → HasHeader r.len place.offset
+            → slice_get self.old.layout place.arena ≡ Some r → HasHeader r.region.len place.offset
             → steps.new ≡ steps.old + 1 }
         ensures free { ((i : ℕ) × IsFirstAt self.old.queue.places place i)
             ⊎ (length self.old.layout ≤ place.arena)
             ⊎ ((r : ArenaRegion) × (slice_get self.old.layout place.arena ≡ Some r)
-            × ¬ HasHeader r.len place.offset)
+            × ¬ HasHeader r.region.len place.offset)
             → (steps.new ≡ steps.old) × (self.new ≡ self.old) }
         ensures reads { OnlyReads S.score_of D.Disk 2 self.old self.new }
         ensures spares { (r : ArenaRegion) → slice_get self.old.layout place.arena ≡ Some r
             → Spares r.part self.old.disks self.new.disks }
-        ensures cause { MatchResult result
-            (λ _. map D.faults self.new.disks ≡ map D.faults self.old.disks)
-            (λ bad. CountsFault bad (map D.faults self.old.disks)
-            (map D.faults self.new.disks)) }
+        ensures cause { CountsFaults D.Disk is_fault result self.old.disks self.new.disks }
     {
         if let Some(index) = self.queue.find(place) {
             return copy_queued(alloc, self.packed(index), key);
@@ -104,42 +101,34 @@ impl<D: Disk, S: Scorer> Log<D, S> {
     ) -> Result<Clump, ReadBad>
         requires { place.arena < length self.old.layout }
         ensures outside { (r : ArenaRegion) → slice_get self.old.layout place.arena ≡ Some r
-            → ¬ HasHeader r.len place.offset → (result ≡ Err (ReadBad.Damaged
+            → ¬ HasHeader r.region.len place.offset → (result ≡ Err (ReadBad.Damaged
             (FieldValue.Number HEAD_LEN) (FieldValue.Number place.offset)))
             × (self.new ≡ self.old) × (steps.new ≡ steps.old) }
-        ensures stored { (r : ArenaRegion) (region : Region) (disk : D)
-            → IsAt self.old place.arena r region disk → HasHeader r.len place.offset
-            → (bytes : List ℕ)
-            × (IsTrue D.tells → bytes ≡ clump_at region place.offset (D.bytes disk))
+        ensures stored { (r : ArenaRegion) (disk : D) → IsAt self.old place.arena r disk
+            → HasHeader r.region.len place.offset → (bytes : List ℕ)
+            × (IsTrue D.tells → bytes ≡ clump_at r.region place.offset (D.bytes disk))
             × ReadsClump S.score_of bytes result }
-        ensures committed { (r : ArenaRegion) (region : Region) (disk : D) (a : Content)
+        ensures committed { (r : ArenaRegion) (disk : D) (a : Content)
             (before behind : List Stored) (s : Stored) → IsTrue D.tells
-            → IsAt self.old place.arena r region disk → IsContent S.score_of region.len a
-            → HasBlocks region a.stored (D.bytes disk) → a.stored ≡ before ++ s ∷ behind
+            → IsAt self.old place.arena r disk → IsContent S.score_of r.region.len a
+            → HasBlocks r.region a.stored (D.bytes disk) → a.stored ≡ before ++ s ∷ behind
             → place.offset ≡ offset_of before → MatchResult result (IsRead s)
             (λ bad. (bad ≡ ReadBad.Fault) ⊎ (bad ≡ ReadBad.NoMemory)) }
         ensures whole { IfOk result (λ clump. length clump.bytes ≤ MAX_BLOCK) }
         ensures cost { (r : ArenaRegion) → slice_get self.old.layout place.arena ≡ Some r
-            → HasHeader r.len place.offset → steps.new ≡ steps.old + 1 }
+            → HasHeader r.region.len place.offset → steps.new ≡ steps.old + 1 }
         ensures reads { OnlyReads S.score_of D.Disk 2 self.old self.new }
         ensures spares { (r : ArenaRegion) → slice_get self.old.layout place.arena ≡ Some r
             → Spares r.part self.old.disks self.new.disks }
-        ensures cause { MatchResult result
-            (λ _. map D.faults self.new.disks ≡ map D.faults self.old.disks)
-            (λ bad. CountsFault bad (map D.faults self.old.disks)
-            (map D.faults self.new.disks)) }
+        ensures cause { CountsFaults D.Disk is_fault result self.old.disks self.new.disks }
     {
         let r = self.layout.as_slice()[place.arena as usize];
-        let region = Region {
-            start: r.at,
-            len: r.len,
-        };
         let offset = u64::from(place.offset);
-        if has_header(r.len, offset) {
+        if has_header(r.region.len, offset) {
             steps.tick();
         }
         let disk = &mut self.parts[r.part as usize].disk;
-        vt_arena::read(alloc, disk, region, offset, &self.scorer)
+        vt_arena::read(alloc, disk, r.region, offset, &self.scorer)
     }
 
     /// A queued clump, counted from the first one.

@@ -17,7 +17,7 @@ use Rattle.vt_log.proofs.mounting.find_all.Goals as goal
 use Rattle.vt_log.proofs.mounting.find_all.Goals.{then-behind, else-behind}
 
 abbrev no_region : ArenaRegion
-no_region = record { part = 0; number = 0; at = 0; len = 0 }
+no_region = record { part = 0; number = 0; region = record { start = 0; len = 0 } }
 
 there : (regions layout : List ArenaRegion) (i : ℕ) → regions ≡ layout → i < length layout → slice_get layout i ≡ Some (get_or regions i no_region)
 there regions layout i same within = slice_get-get_or layout i no_region within ∙ ap (λ (rs : List ArenaRegion). Some (get_or rs i no_region)) (sym same)
@@ -75,7 +75,7 @@ loop-i-preserved g c =
     record {
       passes = subst (λ (hs : List Found). Passes c.args.layout.now hs c.if-behind.behind (c.loop-i.i + 1)) (sym pushed)
           (passes_more c.args.layout.now c.loop-i.heads.items c.loop-i.behind c.if-behind.behind c.loop-i.i r found c.loop-i.invariant.passes at
-          (subst (λ (f : List ℕ). bad_arena c.loop-i.behind c.loop-i.i (first_bad_in r.number r.len f) f ≡ None) (sym answer.2.1) answer.2.0) next);
+          (subst (λ (f : List ℕ). bad_arena c.loop-i.behind c.loop-i.i (first_bad_in r.number r.region.len f) f ≡ None) (sym answer.2.1) answer.2.0) next);
       found = subst (AreFound _ _ _) (sym pushed)
           (found_more g.D.Disk.tells c.args.layout.now (map g.D.Disk.bytes (disks_of c.args.parts.now)) c.loop-i.heads.items c.loop-i.i r found c.loop-i.invariant.found at
           (found_file g.D.Disk (disks_of c.loop-i.parts) (map g.D.Disk.bytes (disks_of c.args.parts.now)) r found c.loop-i.invariant.read.disks.bytes_are c.in_ok-found.ensures.found));

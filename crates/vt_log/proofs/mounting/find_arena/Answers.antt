@@ -1,11 +1,13 @@
 -- One disk is read.
-use Rattle.std.proofs.Common.{◌<◌, length, get_or, map, set, refl, sym, subst, rules, Err, false}
+use Rattle.std.proofs.Common.{◌<◌, length, get_or, map, set, sym, subst, rules, Ok, Err, false}
 use Rattle.std.proofs.lemmas.Option.{slice_get-get_or}
+use Rattle.vt_arena.specs.declared.head.Found.{Found}
+use Rattle.vt_arena.specs.Faults.{is_fault as is_arena_fault}
 use Rattle.vt_log.specs.declared.bad.LogBad.{LogBad}
-use Rattle.vt_log.specs.Faults.{CountsFault}
+use Rattle.vt_log.specs.Faults.{CountsFaults, is_fault}
 use Rattle.vt_log.specs.Log.{disks_of}
 use Rattle.vt_log.specs.Mounting.{FindsNext}
-use Rattle.vt_log.proofs.AreFound.{read_set, same_counts, part_of_region, fields_for, found_for, finds_ok, finds_err, refused_counts}
+use Rattle.vt_log.proofs.AreFound.{read_set, counts_set, part_of_region, fields_for, found_for, finds_ok, finds_err, counts_refused}
 use Rattle.vt_log.proofs.mounting.find_arena.Goals as goal
 
 pub offset_bounds-parts-r : goal.offset_bounds-parts-r
@@ -20,11 +22,7 @@ pub find-requires : goal.find-requires
 find-requires g c =
     let p = get_or c.args.parts.now c.args.r.part c.index-parts-r.result in
     let it = part_of_region g.D.Disk c.args.parts.now c.args.r c.requires in
-    record {
-      within = it.part_is p (slice_get-get_or c.args.parts.now c.args.r.part c.index-parts-r.result it.below);
-      aligned = c.requires.aligned;
-      len = c.requires.len;
-    }
+    it.part_is p (slice_get-get_or c.args.parts.now c.args.r.part c.index-parts-r.result it.below)
 
 pub returns-in-Ok-clause-answer : goal.returns-in-Ok-clause-answer
 returns-in-Ok-clause-answer g c =
@@ -33,7 +31,7 @@ returns-in-Ok-clause-answer g c =
     let at = slice_get-get_or c.args.parts.now c.args.r.part c.index-parts-r.result it.below in
     let answer = c.in-Ok.ensures.answer in (
       answer.0,
-      λ told. fields_for g.D.Disk c.args.parts.now c.args.r p (record { start = c.args.r.at; len = c.args.r.len; in_range = c.requires.small }) answer.0 at (answer.1 told) (record { start = refl; len = refl }),
+      λ told. fields_for g.D.Disk c.args.parts.now c.args.r p answer.0 at (answer.1 told),
       finds_ok c.args.arena c.args.r answer.0 c.in-Ok.found answer.2,
     )
 
@@ -42,23 +40,25 @@ returns-in-Ok-clause-found g c =
     let p = get_or c.args.parts.now c.args.r.part c.index-parts-r.result in
     let it = part_of_region g.D.Disk c.args.parts.now c.args.r c.requires in
     let at = slice_get-get_or c.args.parts.now c.args.r.part c.index-parts-r.result it.below in
-    found_for g.D.Disk c.args.parts.now c.args.r p _ c.in-Ok.found at
-    c.in-Ok.ensures.checked c.in-Ok.ensures.selector c.in-Ok.ensures.found (record { start = refl; len = refl })
+    found_for g.D.Disk c.args.parts.now c.args.r p c.in-Ok.found at (record {
+      stands = c.in-Ok.ensures.checked;
+      selector = c.in-Ok.ensures.selector;
+      head = c.in-Ok.ensures.found;
+    })
 
 pub returns-in-Ok-clause-read : goal.returns-in-Ok-clause-read
 returns-in-Ok-clause-read g c =
     let p = get_or c.args.parts.now c.args.r.part c.index-parts-r.result in
     let it = part_of_region g.D.Disk c.args.parts.now c.args.r c.requires in
     let at = slice_get-get_or c.args.parts.now c.args.r.part c.index-parts-r.result it.below in
-    read_set g.D.Disk 2 c.args.r.part c.args.parts.now p c.find.new.disk at
-    c.find.ensures.bytes c.find.ensures.images c.find.ensures.size c.find.ensures.most_calls
+    read_set g.D.Disk 2 c.args.r.part c.args.parts.now p c.find.new.disk at c.find.ensures.reads
 
 pub returns-in-Ok-clause-cause : goal.returns-in-Ok-clause-cause
 returns-in-Ok-clause-cause g c =
     let p = get_or c.args.parts.now c.args.r.part c.index-parts-r.result in
     let it = part_of_region g.D.Disk c.args.parts.now c.args.r c.requires in
     let at = slice_get-get_or c.args.parts.now c.args.r.part c.index-parts-r.result it.below in
-    same_counts g.D.Disk.faults c.args.parts.now c.args.r.part p c.find.new.disk at c.in-Ok.ensures.cause
+    counts_set {T = Found} g.D.Disk is_arena_fault c.args.parts.now c.args.r.part p c.find.new.disk (Ok c.in-Ok.found) at c.in-Ok.ensures.cause
 
 pub returns-in-Err-clause-answer : goal.returns-in-Err-clause-answer
 returns-in-Err-clause-answer g c =
@@ -67,7 +67,7 @@ returns-in-Err-clause-answer g c =
     let at = slice_get-get_or c.args.parts.now c.args.r.part c.index-parts-r.result it.below in
     let answer = c.in-Err.ensures.answer in (
       answer.0,
-      λ told. fields_for g.D.Disk c.args.parts.now c.args.r p (record { start = c.args.r.at; len = c.args.r.len; in_range = c.requires.small }) answer.0 at (answer.1 told) (record { start = refl; len = refl }),
+      λ told. fields_for g.D.Disk c.args.parts.now c.args.r p answer.0 at (answer.1 told),
       subst (λ (bad : LogBad). FindsNext false c.args.arena c.args.r answer.0 (Err bad)) (sym c.refused.ensures) (finds_err c.args.arena c.args.r answer.0 c.in-Err.bad answer.2),
     )
 
@@ -76,13 +76,12 @@ returns-in-Err-clause-read g c =
     let p = get_or c.args.parts.now c.args.r.part c.index-parts-r.result in
     let it = part_of_region g.D.Disk c.args.parts.now c.args.r c.requires in
     let at = slice_get-get_or c.args.parts.now c.args.r.part c.index-parts-r.result it.below in
-    read_set g.D.Disk 2 c.args.r.part c.args.parts.now p c.find.new.disk at
-    c.find.ensures.bytes c.find.ensures.images c.find.ensures.size c.find.ensures.most_calls
+    read_set g.D.Disk 2 c.args.r.part c.args.parts.now p c.find.new.disk at c.find.ensures.reads
 
 pub returns-in-Err-clause-cause : goal.returns-in-Err-clause-cause
 returns-in-Err-clause-cause g c =
     let p = get_or c.args.parts.now c.args.r.part c.index-parts-r.result in
     let it = part_of_region g.D.Disk c.args.parts.now c.args.r c.requires in
     let at = slice_get-get_or c.args.parts.now c.args.r.part c.index-parts-r.result it.below in
-    subst (λ (bad : LogBad). CountsFault bad (map g.D.Disk.faults (disks_of c.args.parts.now)) (map g.D.Disk.faults (disks_of (set c.args.parts.now c.args.r.part (record p { disk = c.find.new.disk }))))) (sym c.refused.ensures)
-    (refused_counts g.D.Disk.faults c.args.parts.now c.args.r.part c.args.arena p c.find.new.disk c.in-Err.bad at c.in-Err.ensures.cause)
+    subst (λ (bad : LogBad). CountsFaults {T = Found} g.D.Disk is_fault (Err bad) (disks_of c.args.parts.now) (disks_of (set c.args.parts.now c.args.r.part (record p { disk = c.find.new.disk }))))
+    (sym c.refused.ensures) (counts_refused g.D.Disk c.args.parts.now c.args.r.part c.args.arena p c.find.new.disk c.in-Err.bad at c.in-Err.ensures.cause)

@@ -40,7 +40,7 @@ find_all-requires-clause-regions g c =
     subst (All (IsOnDisk g.D.Disk (disks_of c.sync_all.new.parts))) (sym c.in_ok-layout.ensures.listed)
     (All-weaker (IsOnDisk g.D.Disk (disks_of c.args.parts.now)) (IsOnDisk g.D.Disk (disks_of c.sync_all.new.parts))
     (λ r on. on_held g.D.Disk (disks_of c.args.parts.now) (disks_of c.sync_all.new.parts) r c.sync_all.ensures.read.disks on)
-    (layout_of (tables_of c.args.parts.now)) (regions_on g.D.Disk g.met.D.Disk.size_fits c.args.parts.now c.requires.rooms))
+    (layout_of (tables_of c.args.parts.now)) (regions_on g.D.Disk c.args.parts.now c.requires.rooms))
 
 pub returns-in_err-heads-clause-read : goal.returns-in_err-heads-clause-read
 returns-in_err-heads-clause-read g c =
@@ -58,14 +58,13 @@ make_room-requires-clause-heads g c i r found at at_found =
     (subst (All (IsOnDisk g.D.Disk (disks_of c.sync_all.new.parts))) (sym c.in_ok-layout.ensures.listed)
     (All-weaker (IsOnDisk g.D.Disk (disks_of c.args.parts.now)) (IsOnDisk g.D.Disk (disks_of c.sync_all.new.parts))
     (λ r on. on_held g.D.Disk (disks_of c.args.parts.now) (disks_of c.sync_all.new.parts) r c.sync_all.ensures.read.disks on)
-    (layout_of (tables_of c.args.parts.now)) (regions_on g.D.Disk g.met.D.Disk.size_fits c.args.parts.now c.requires.rooms)))
+    (layout_of (tables_of c.args.parts.now)) (regions_on g.D.Disk c.args.parts.now c.requires.rooms)))
     c.in_ok-heads.ensures.found at at_found
 
 pub returns-clause-settled : goal.returns-clause-settled
 returns-clause-settled g c =
-    on_ok c.make_room.result (λ told.
-    settled_held g.D.Disk (disks_of c.sync_all.new.parts) (disks_of c.find_all.new.parts) c.find_all.ensures.read.disks
-    (c.in_ok-sync_all.ensures.settled told))
+    on_ok c.make_room.result (settled_held g.D.Disk (disks_of c.sync_all.new.parts) (disks_of c.find_all.new.parts)
+    c.find_all.ensures.read.disks c.in_ok-sync_all.ensures.settled)
 
 pub returns-clause-read : goal.returns-clause-read
 returns-clause-read g c =
@@ -90,14 +89,14 @@ returns-in_err-heads-clause-told g c =
     let e = err_from_is_err_and c.from_residual-in_err-heads.result c.from_residual-in_err-heads.ensures.1 in
     let answer = c.in_err-heads.ensures.answer in
     rw (e.1, e.2) (told_behind g.D.Disk c.args.parts.now c.find_all.new.parts _ answer.0 _ answer.2
-    (λ told. settled_held g.D.Disk (disks_of c.sync_all.new.parts) (disks_of c.find_all.new.parts) c.find_all.ensures.read.disks
-    (c.in_ok-sync_all.ensures.settled told)))
+    (settled_held g.D.Disk (disks_of c.sync_all.new.parts) (disks_of c.find_all.new.parts) c.find_all.ensures.read.disks
+    c.in_ok-sync_all.ensures.settled))
 
 pub returns-clause-told : goal.returns-clause-told
 returns-clause-told g c =
-    on_error (IsTold g.D.Disk c.args.parts.now c.find_all.new.parts) c.make_room.result c.make_room.ensures.memory (inr (λ told.
-    settled_held g.D.Disk (disks_of c.sync_all.new.parts) (disks_of c.find_all.new.parts) c.find_all.ensures.read.disks
-    (c.in_ok-sync_all.ensures.settled told)))
+    on_error (IsTold g.D.Disk c.args.parts.now c.find_all.new.parts) c.make_room.result c.make_room.ensures.memory (inr
+    (settled_held g.D.Disk (disks_of c.sync_all.new.parts) (disks_of c.find_all.new.parts) c.find_all.ensures.read.disks
+    c.in_ok-sync_all.ensures.settled))
   where
     on_error : {T : Type 0} (P : LogBad → Type 0) (result : Result T LogBad) → IfErr result (λ bad. bad ≡ NoMemory) → P NoMemory → IfErr result P
     on_error P (Ok it) memory holds = tt

@@ -1,7 +1,7 @@
 -- The log that is there is found.
 use Rattle.std.proofs.Common.{◌≡◌, ◌++◌, ◌+◌, ◌*◌, ◌≤◌, List, length, take, drop, map, sym, ◌∙◌, ap, subst, arith}
 use Rattle.std.specs.Prelude.{All, sum_by}
-use Rattle.vt_disk.specs.Disk.{Only}
+use Rattle.vt_disk.specs.Calls.{IsSynced}
 use Rattle.vt_part.specs.declared.part.Part.{Part}
 use Rattle.vt_part.specs.Layout.{AreDistinct, layout_of}
 use Rattle.vt_part.specs.Parts.{tables_of, names_of}
@@ -21,7 +21,7 @@ into_log-requires-clause-whole g c =
     let o = c.in-Ok.opened in
     let back : take c.args.parts.len (new ++ drop (length new) items) ≡ new = given_back c.args.parts.len new items (omega arith) (omega arith) in
     let answer = c.in-Ok.ensures.answer in
-    let it = found_of g.D.Disk g.met.D.Disk.size_fits _ items c.deref_mut.result.now new answer.0 o.layout o.heads.items o.base o.arena
+    let it = found_of g.D.Disk _ items c.deref_mut.result.now new answer.0 o.layout o.heads.items o.base o.arena
     c.deref_mut.ensures.value c.requires.rooms c.requires.few c.find_log.ensures.read c.in-Ok.ensures.layout c.in-Ok.ensures.found answer.2 c.in-Ok.ensures.base c.in-Ok.ensures.arena in
     subst (λ (ps : List (Part _)). IsWhole g.D.Disk (found_log (disks_of ps) (tables_of ps) o.layout o.heads.items o.base o.arena)) (sym back)
     (found_whole g.D.Disk (disks_of new) (tables_of new) o.layout (map g.D.Disk.bytes (disks_of items)) answer.0 o.heads.items o.base o.arena it)
@@ -35,10 +35,10 @@ returns-in-Ok-clause-found g c h base told distinct log =
     let l_is : c.into_log.result ≡ found_log (disks_of new) (tables_of new) o.layout o.heads.items o.base o.arena =
     c.into_log.ensures ∙ ap (λ (ps : List (Part _)). found_log (disks_of ps) (tables_of ps) o.layout o.heads.items o.base o.arena) back in
     let answer = c.in-Ok.ensures.answer in
-    let it = found_of g.D.Disk g.met.D.Disk.size_fits _ items c.deref_mut.result.now new answer.0 o.layout o.heads.items o.base o.arena
+    let it = found_of g.D.Disk _ items c.deref_mut.result.now new answer.0 o.layout o.heads.items o.base o.arena
     c.deref_mut.ensures.value c.requires.rooms c.requires.few c.find_log.ensures.read c.in-Ok.ensures.layout c.in-Ok.ensures.found answer.2 c.in-Ok.ensures.base c.in-Ok.ensures.arena in
     mount_sound g.D.Disk items c.into_log.result (disks_of new) (tables_of new) answer.0 o.layout o.heads.items o.base o.arena g.S.Scorer.score_of h base it l_is
-    (c.in-Ok.ensures.layout ∙ ap (λ (ps : List (Part _)). layout_of (tables_of ps)) c.deref_mut.ensures.value) told (c.in-Ok.ensures.settled told) log
+    (c.in-Ok.ensures.layout ∙ ap (λ (ps : List (Part _)). layout_of (tables_of ps)) c.deref_mut.ensures.value) told c.in-Ok.ensures.settled log
 
 pub returns-in-Ok-clause-mounted : goal.returns-in-Ok-clause-mounted
 returns-in-Ok-clause-mounted g c =
@@ -49,7 +49,7 @@ returns-in-Ok-clause-mounted g c =
     let l_is : c.into_log.result ≡ found_log (disks_of new) (tables_of new) o.layout o.heads.items o.base o.arena =
     c.into_log.ensures ∙ ap (λ (ps : List (Part _)). found_log (disks_of ps) (tables_of ps) o.layout o.heads.items o.base o.arena) back in
     let answer = c.in-Ok.ensures.answer in
-    let it = found_of g.D.Disk g.met.D.Disk.size_fits _ items c.deref_mut.result.now new answer.0 o.layout o.heads.items o.base o.arena
+    let it = found_of g.D.Disk _ items c.deref_mut.result.now new answer.0 o.layout o.heads.items o.base o.arena
     c.deref_mut.ensures.value c.requires.rooms c.requires.few c.find_log.ensures.read c.in-Ok.ensures.layout c.in-Ok.ensures.found answer.2 c.in-Ok.ensures.base c.in-Ok.ensures.arena in
     mount_is g.D.Disk c.into_log.result (disks_of new) (tables_of new) (map g.D.Disk.bytes (disks_of items)) answer.0 o.layout o.heads.items o.base o.arena it l_is
 
@@ -65,7 +65,7 @@ returns-in-Ok-clause-answer g c =
     let l_is : c.into_log.result ≡ found_log (disks_of new) (tables_of new) o.layout o.heads.items o.base o.arena =
     c.into_log.ensures ∙ ap (λ (ps : List (Part _)). found_log (disks_of ps) (tables_of ps) o.layout o.heads.items o.base o.arena) back in
     let answer = c.in-Ok.ensures.answer in
-    let it = found_of g.D.Disk g.met.D.Disk.size_fits _ items c.deref_mut.result.now new answer.0 o.layout o.heads.items o.base o.arena
+    let it = found_of g.D.Disk _ items c.deref_mut.result.now new answer.0 o.layout o.heads.items o.base o.arena
     c.deref_mut.ensures.value c.requires.rooms c.requires.few c.find_log.ensures.read c.in-Ok.ensures.layout c.in-Ok.ensures.found answer.2 c.in-Ok.ensures.base c.in-Ok.ensures.arena in
     let layout_is : o.layout ≡ layout_of (tables_of items) = c.in-Ok.ensures.layout ∙ ap (λ (ps : List (Part _)). layout_of (tables_of ps)) c.deref_mut.ensures.value in (
       answer.0,
@@ -76,11 +76,11 @@ returns-in-Ok-clause-answer g c =
     )
 
 pub returns-in-Ok-clause-settled : goal.returns-in-Ok-clause-settled
-returns-in-Ok-clause-settled g c told =
+returns-in-Ok-clause-settled g c =
     let new = c.find_log.new.parts in
     let back : take c.args.parts.len (new ++ drop (length new) c.args.parts.items) ≡ new = given_back c.args.parts.len new c.args.parts.items (omega arith) (omega arith) in
     let disks_are : c.into_log.result.disks ≡ disks_of new = ap (λ (l : LogState _). l.disks) c.into_log.ensures ∙ ap (λ (ps : List (Part _)). disks_of ps) back in
-    subst (All (λ disk. Only (g.D.Disk.bytes disk) (g.D.Disk.images disk))) (sym disks_are) (c.in-Ok.ensures.settled told)
+    subst (All (IsSynced g.D.Disk)) (sym disks_are) c.in-Ok.ensures.settled
 
 pub returns-in-Ok-clause-disks : goal.returns-in-Ok-clause-disks
 returns-in-Ok-clause-disks g c =
@@ -106,7 +106,7 @@ returns-in-Err-clause-found g c h base told distinct log =
     let are : AreFields (layout_of (tables_of items)) (map g.D.Disk.bytes (disks_of items)) answer.0 =
     subst (λ (ps : List (Part _)). AreFields (layout_of (tables_of ps)) (map g.D.Disk.bytes (disks_of ps)) answer.0) c.deref_mut.ensures.value (answer.1 told) in
     not_refused (names_of items) (layout_of (tables_of items)) answer.0 c.in-Err.bad distinct
-    (log_passes g.D.Disk (disks_of items) (layout_of (tables_of items)) answer.0 g.S.Scorer.score_of h base (regions_on g.D.Disk g.met.D.Disk.size_fits items c.requires.rooms) (numbers_small items) are log)
+    (log_passes g.D.Disk (disks_of items) (layout_of (tables_of items)) answer.0 g.S.Scorer.score_of h base (regions_on g.D.Disk items c.requires.rooms) (numbers_small items) are log)
     (subst (λ (ps : List (Part _)). RefusesMount (names_of ps) (layout_of (tables_of ps)) answer.0 c.in-Err.bad) c.deref_mut.ensures.value answer.2)
 
 pub returns-in-Err-clause-told : goal.returns-in-Err-clause-told

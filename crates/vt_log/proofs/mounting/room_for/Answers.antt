@@ -10,7 +10,7 @@ use Rattle.vt_log.proofs.AreFound.{room_there}
 use Rattle.vt_log.proofs.mounting.room_for.Goals as goal
 
 abbrev no_region : ArenaRegion
-no_region = record { part = 0; number = 0; at = 0; len = 0 }
+no_region = record { part = 0; number = 0; region = record { start = 0; len = 0 } }
 
 abbrev no_found : Found
 no_found = record { head = record { version = 0; number = 0; sealed = false; clumps = 0; used = 0; chain = record { 0 = [] } }; selector = 0 }
@@ -29,8 +29,8 @@ pub returns : goal.returns
 returns c =
     let r : ArenaRegion = get_or c.args.layout.now c.args.arena no_region in
     let found : Found = get_or c.args.heads.now c.args.arena no_found in
-    IfOk-weaker c.resume-2.result (λ a. a ≡ fresh_arena (get_or c.as_slice.result.now c.args.arena no_region).len (found.selector % 2) found.head) (IsRoomFor c.args.layout.now c.args.heads.now c.args.arena)
+    IfOk-weaker c.resume-2.result (λ a. a ≡ fresh_arena (get_or c.as_slice.result.now c.args.arena no_region).region.len (found.selector % 2) found.head) (IsRoomFor c.args.layout.now c.args.heads.now c.args.arena)
     (λ a fresh. room_there c.args.layout.now c.args.heads.now c.args.arena r found a (slice_get-get_or c.args.layout.now c.args.arena no_region (omega arith))
     (slice_get-get_or c.args.heads.now c.args.arena no_found (omega arith))
-    (fresh ∙ ap (λ (rs : List ArenaRegion). fresh_arena (get_or rs c.args.arena no_region).len (found.selector % 2) found.head) c.as_slice.ensures))
+    (fresh ∙ ap (λ (rs : List ArenaRegion). fresh_arena (get_or rs c.args.arena no_region).region.len (found.selector % 2) found.head) c.as_slice.ensures))
     c.resume-2.ensures

@@ -1,6 +1,6 @@
-use Rattle.std.proofs.Common.{◌≡◌, ◌<◌, ◌≤◌, ℕ, Some, IsTrue, map}
+use Rattle.std.proofs.Common.{◌≡◌, ◌<◌, ◌≤◌, ℕ, Some, map}
 use Rattle.std.specs.Prelude.{slice_get}
-use Rattle.vt_disk.specs.Disk.{Only}
+use Rattle.vt_disk.specs.Calls.{IsSynced}
 use Rattle.vt_log.specs.Log.{disks_of}
 use Rattle.vt_log.specs.Mounting.{AreRead}
 use Rattle.vt_log.proofs.mounting.sync_all.Given as goal
@@ -8,7 +8,7 @@ use Rattle.vt_log.proofs.mounting.sync_all.Given as goal
 -- so many disks were synced
 abbrev pub invariant-loop-part : goal.invariant-loop-part
 invariant-loop-part g l = record {
-  settled : IsTrue g.D.Disk.tells → (k : ℕ) (disk : _) → k < l.part-index → slice_get (disks_of l.parts) k ≡ Some disk → Only (g.D.Disk.bytes disk) (g.D.Disk.images disk);
+  settled : (k : ℕ) (disk : _) → k < l.part-index → slice_get (disks_of l.parts) k ≡ Some disk → IsSynced g.D.Disk disk;
   rest : (k : ℕ) → l.part-index ≤ k → slice_get l.parts k ≡ slice_get l.fn.parts k;
   read : AreRead g.D.Disk l.part-index l.fn.parts l.parts;
   faults : map g.D.Disk.faults (disks_of l.parts) ≡ map g.D.Disk.faults (disks_of l.fn.parts);

@@ -3,15 +3,12 @@ use Rattle.std.proofs.Common.{refl, ◌∙◌, ap, subst, arith}
 use Rattle.std.proofs.lemmas.Grind.{common_steps}
 use Rattle.vt_log.specs.Log.{LogState}
 use Rattle.vt_log.specs.Whole.{IsWhole}
-use Rattle.vt_log.proofs.Advances.{advances, front_kept, next_kept, batch_begins, batch_of_none, call_as_prepared, stand_as_prepared, at_as_prepared, within_as_prepared, in_use}
+use Rattle.vt_log.proofs.Advances.{advances, front_kept, next_kept, batch_begins, batch_of_none, calls_as_prepared, cause_as_called, stand_as_prepared, within_as_prepared}
 use Rattle.vt_log.proofs.Calls.{rest_stands}
 use Rattle.vt_log.proofs.log.Log.advance.Goals as goal
 
 pub returns-in-Some-clause-crash : goal.returns-in-Some-clause-crash
 returns-in-Some-clause-crash g c h tells sound files left = rest_stands _ _ c.args.self.now h files _ sound refl left
-
-pub returns-in-Some-clause-in_use : goal.returns-in-Some-clause-in_use
-returns-in-Some-clause-in_use g c some = in_use _ c.args.self.now (subst (IsWhole _) c.self.view_is c.self.invariant) some
 
 pub returns-then-is_empty-clause-crash : goal.returns-then-is_empty-clause-crash
 returns-then-is_empty-clause-crash g c h tells sound files left = rest_stands _ _ c.args.self.now h files _ sound refl left
@@ -27,15 +24,16 @@ returns-clause-crash g c h tells sound files left =
 pub returns-clause-advances : goal.returns-clause-advances
 returns-clause-advances g c = advances c.args.self.now c.prepare.new.self c.make_call.new.self c.make_call.result c.prepare.ensures.prepares c.make_call.ensures.makes c.make_call.ensures.last
 
-pub returns-clause-within : goal.returns-clause-within
-returns-clause-within g c r region before after at now =
-    c.make_call.ensures.within r region before after (at_as_prepared c.args.self.now c.prepare.new.self r region before c.prepare.ensures.prepares at) now
-
 pub returns-clause-batch : goal.returns-clause-batch
 returns-clause-batch g c runs = batch_begins c.args.self.now c.prepare.new.self c.make_call.new.self c.prepare.ensures.prepares c.make_call.ensures.batch
 
 pub returns-clause-one_call : goal.returns-clause-one_call
-returns-clause-one_call g c told runs some = call_as_prepared g.D.Disk c.args.self.now c.prepare.new.self c.make_call.new.self c.prepare.ensures.prepares (c.make_call.ensures.one_call told)
+returns-clause-one_call g c runs some = calls_as_prepared g.D.Disk c.make_call.result c.args.self.now c.prepare.new.self c.make_call.new.self c.prepare.ensures.prepares c.make_call.ensures.calls
+
+pub returns-clause-cause : goal.returns-clause-cause
+returns-clause-cause g c =
+    cause_as_called g.D.Disk c.make_call.result c.args.self.now c.make_call.new.self
+    (calls_as_prepared g.D.Disk c.make_call.result c.args.self.now c.prepare.new.self c.make_call.new.self c.prepare.ensures.prepares c.make_call.ensures.calls)
 
 pub returns-then-is_empty-clause-batch : goal.returns-then-is_empty-clause-batch
 returns-then-is_empty-clause-batch g c runs rest = batch_of_none _ c.args.self.now (subst (IsWhole _) c.self.view_is c.self.invariant) (grind (arith, common_steps))

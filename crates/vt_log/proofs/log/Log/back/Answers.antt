@@ -11,22 +11,22 @@ use Rattle.vt_log.proofs.StepsBack.{tail_inside, next_once, no_next}
 use Rattle.vt_log.proofs.log.Log.back.Goals as goal
 
 pub returns-then-tail-eq0-clause-entry : goal.returns-then-tail-eq0-clause-entry
-returns-then-tail-eq0-clause-entry g c arena at found r region disk queue next has there =
+returns-then-tail-eq0-clause-entry g c arena at found r disk queue next has there =
     let none : c.args.tail.now.left ≡ 0 = ap (λ (t : TailState). t.left) (sym c.tail.view_is) ∙ c.if-tail-eq0.true in
     absurd (no_next c.args.self.now c.args.tail.now arena at found c.requires none has next)
 
 pub returns-clause-entry : goal.returns-clause-entry
-returns-clause-entry g c arena at found r region disk queue next has there =
+returns-clause-entry g c arena at found r disk queue next has there =
     let l : LogState _ = c.args.self.now in
     let t : TailState = c.args.tail.now in
     let new : TailState = c.skip_empty.new.tail in
     let other = slice_get_there l.heads new.arena (tail_inside l new c.skip_empty.ensures.tail c.skip_empty.ensures.next.some) in
     let one = next_once l.heads t arena new.arena at new.at found other.0 has other.1 next c.skip_empty.ensures.next in
     let left : new.left ≡ t.left = c.skip_empty.ensures.same.0 in
-    let read = c.back_in_arena.ensures.entry found r region disk (subst (λ (a : ℕ). slice_get l.heads a ≡ Some found) one.0 has) (subst (λ (a : ℕ). IsAt l a r region disk) one.0 there) in
-    let here = subst (λ (a : At). (entry : List ℕ) × (IsTrue g.D.Disk.tells → entry ≡ last_entry region a.index (g.D.Disk.bytes disk)) × GivesEntry arena t.left found.head.used a entry c.back_in_arena.result) (sym one.1)
-    (subst (λ (a : ℕ). (entry : List ℕ) × (IsTrue g.D.Disk.tells → entry ≡ last_entry region new.at.index (g.D.Disk.bytes disk)) × GivesEntry a t.left found.head.used new.at entry c.back_in_arena.result) (sym one.0)
-    (subst (λ (n : ℕ). (entry : List ℕ) × (IsTrue g.D.Disk.tells → entry ≡ last_entry region new.at.index (g.D.Disk.bytes disk)) × GivesEntry new.arena n found.head.used new.at entry c.back_in_arena.result) left read)) in
+    let read = c.back_in_arena.ensures.entry found r disk (subst (λ (a : ℕ). slice_get l.heads a ≡ Some found) one.0 has) (subst (λ (a : ℕ). IsAt l a r disk) one.0 there) in
+    let here = subst (λ (a : At). (entry : List ℕ) × (IsTrue g.D.Disk.tells → entry ≡ last_entry r.region a.index (g.D.Disk.bytes disk)) × GivesEntry arena t.left found.head.used a entry c.back_in_arena.result) (sym one.1)
+    (subst (λ (a : ℕ). (entry : List ℕ) × (IsTrue g.D.Disk.tells → entry ≡ last_entry r.region new.at.index (g.D.Disk.bytes disk)) × GivesEntry a t.left found.head.used new.at entry c.back_in_arena.result) (sym one.0)
+    (subst (λ (n : ℕ). (entry : List ℕ) × (IsTrue g.D.Disk.tells → entry ≡ last_entry r.region new.at.index (g.D.Disk.bytes disk)) × GivesEntry new.arena n found.head.used new.at entry c.back_in_arena.result) left read)) in
     let moved = subst (λ (a : At). Moves arena a c.back_in_arena.new.tail c.back_in_arena.result) (sym one.1)
     (subst (λ (a : ℕ). Moves a new.at c.back_in_arena.new.tail c.back_in_arena.result) (sym one.0) c.back_in_arena.ensures.moved) in
     (here.0, here.1, here.2, moved)

@@ -3,10 +3,9 @@ use Rattle.std.proofs.Common.{◌≡◌, ◌-◌, ℕ, List, IsTrue, refl, sym, 
 use Rattle.std.specs.Prelude.{slice_get}
 use Rattle.std.proofs.lemmas.Result.{err_from_is_err_and}
 use Rattle.vt_base.specs.declared.place.Info.{Info}
-use Rattle.vt_disk.specs.declared.region.Region.{Region}
 use Rattle.vt_part.specs.declared.layout.ArenaRegion.{ArenaRegion}
 use Rattle.vt_arena.specs.declared.bad.BackBad.{BackBad}
-use Rattle.vt_arena.specs.declared.bad.BackBad.TheVariants.{Fault, Damaged}
+use Rattle.vt_arena.specs.declared.bad.BackBad.TheVariants.{Fault}
 use Rattle.vt_arena.specs.declared.directory.At.{At}
 use Rattle.vt_arena.specs.declared.head.Found.{Found}
 use Rattle.vt_arena.specs.Directory.{last_entry, Walks, IsAt as IsAtBlock}
@@ -36,10 +35,10 @@ returns-in_err-info-clause-blocks g c h n tells sound behind =
     c.args.self.now h n t found.0 sound c.requires.tail c.requires.queued found.1
     c.requires.some behind (λ disk. g.met.D.Disk.read_is_image disk tells) in
     let it = last.is in
-    let fault = c.in_err-info.ensures.committed found.0 it.r it.region it.device it.r.number
+    let fault = c.in_err-info.ensures.committed found.0 it.r it.device it.r.number
     last.content last.before last.behind last.stored tells
     (subst (λ (a : ℕ). slice_get c.args.self.now.heads a ≡ Some found.0) (sym arena) found.1)
-    (subst (λ (a : ℕ). IsAt c.args.self.now a it.r it.region it.device) (sym arena) it.at)
+    (subst (λ (a : ℕ). IsAt c.args.self.now a it.r it.device) (sym arena) it.at)
     it.content it.stand last.split last.head
     (subst (λ (a : At). IsAtBlock last.before last.stored a) (sym at) last.at) in
     let standing : At → TailState = λ a. record {
@@ -58,14 +57,13 @@ returns-in_err-info-clause-blocks g c h n tells sound behind =
     (fault, subst (IsBehind c.args.self.now h n) (sym same) behind)
 
 pub returns-in_err-info-clause-entry : goal.returns-in_err-info-clause-entry
-returns-in_err-info-clause-entry g c found q region disk has there =
+returns-in_err-info-clause-entry g c found q disk has there =
     let bad = c.in_err-info.field-0.0 in
-    let walks = subst (λ (t : TailState). (found : Found) (r : ArenaRegion) (region : Region)
-    (disk : _) → slice_get c.args.self.now.heads t.arena ≡ Some found
-    → IsAt c.args.self.now t.arena r region disk → (entry : List ℕ)
-    × (IsTrue g.D.Disk.tells → entry ≡ last_entry region t.at.index (g.D.Disk.bytes disk))
+    let walks = subst (λ (t : TailState). (found : Found) (r : ArenaRegion) (disk : _) → slice_get c.args.self.now.heads t.arena ≡ Some found
+    → IsAt c.args.self.now t.arena r disk → (entry : List ℕ)
+    × (IsTrue g.D.Disk.tells → entry ≡ last_entry r.region t.at.index (g.D.Disk.bytes disk))
     × Walks found.head.number found.head.used t.at entry (Err bad))
-    c.tail.view_is c.in_err-info.ensures.entry found q region disk has there in
+    c.tail.view_is c.in_err-info.ensures.entry found q disk has there in
     let handed = err_from_is_err_and c.from_residual.result c.from_residual.ensures.1 in
     let t : TailState = c.args.tail.now in (
       walks.0,
@@ -88,10 +86,10 @@ returns-clause-blocks g c h n tells sound behind =
     c.requires.some behind (λ disk. g.met.D.Disk.read_is_image disk tells) in
     let it = last.is in
     let info = c.in_ok-info.info in
-    let given = c.in_ok-info.ensures.committed found.0 it.r it.region it.device it.r.number
+    let given = c.in_ok-info.ensures.committed found.0 it.r it.device it.r.number
     last.content last.before last.behind last.stored tells
     (subst (λ (a : ℕ). slice_get c.args.self.now.heads a ≡ Some found.0) (sym arena) found.1)
-    (subst (λ (a : ℕ). IsAt c.args.self.now a it.r it.region it.device) (sym arena) it.at)
+    (subst (λ (a : ℕ). IsAt c.args.self.now a it.r it.device) (sym arena) it.at)
     it.content it.stand last.split last.head
     (subst (λ (a : At). IsAtBlock last.before last.stored a) (sym at) last.at) in
     let left : c.tail.inside.left ≡ t.left = ap (λ (t : TailState). t.left) c.tail.view_is in
@@ -115,14 +113,13 @@ returns-clause-blocks g c h n tells sound behind =
     }) arena)
 
 pub returns-clause-entry : goal.returns-clause-entry
-returns-clause-entry g c found q region disk has there =
+returns-clause-entry g c found q disk has there =
     let info = c.in_ok-info.info in
-    let walks = subst (λ (t : TailState). (found : Found) (r : ArenaRegion) (region : Region)
-    (disk : _) → slice_get c.args.self.now.heads t.arena ≡ Some found
-    → IsAt c.args.self.now t.arena r region disk → (entry : List ℕ)
-    × (IsTrue g.D.Disk.tells → entry ≡ last_entry region t.at.index (g.D.Disk.bytes disk))
+    let walks = subst (λ (t : TailState). (found : Found) (r : ArenaRegion) (disk : _) → slice_get c.args.self.now.heads t.arena ≡ Some found
+    → IsAt c.args.self.now t.arena r disk → (entry : List ℕ)
+    × (IsTrue g.D.Disk.tells → entry ≡ last_entry r.region t.at.index (g.D.Disk.bytes disk))
     × Walks found.head.number found.head.used t.at entry (Ok info))
-    c.tail.view_is c.in_ok-info.ensures.entry found q region disk has there in
+    c.tail.view_is c.in_ok-info.ensures.entry found q disk has there in
     let t : TailState = c.args.tail.now in
     let arena : c.tail.inside.arena ≡ t.arena = ap (λ (t : TailState). t.arena) c.tail.view_is in
     let left : c.tail.inside.left ≡ t.left = ap (λ (t : TailState). t.left) c.tail.view_is in (
@@ -132,8 +129,7 @@ returns-clause-entry g c found q region disk has there =
           (omega (arith, left, c.requires.tail.left, c.requires.some)) refl refl refl arena,
     )
 
-pub returns-in_err-info-clause-differ : goal.returns-in_err-info-clause-differ
-returns-in_err-info-clause-differ g c want found bad =
+pub returns-in_err-info-clause-differs : goal.returns-in_err-info-clause-differs
+returns-in_err-info-clause-differs g c =
     let handed = err_from_is_err_and c.from_residual.result c.from_residual.ensures.1 in
-    let same : handed.0 ≡ Damaged want found = cc in
-    c.in_err-info.ensures.differ want found (ap (λ (b : BackBad). Err b) (sym handed.2 ∙ same))
+    rw (handed.1, handed.2) c.in_err-info.ensures.differs

@@ -23,7 +23,6 @@ called_more : (g : _) (c : goal.In-Ok-More g)
     c.self.inside.parts.items c.index_mut.result.now (state_of c.self.inside) c.args.self.now (region_at c.as_slice.result.now c.self.inside.committing)
     c.advance.new.disk c.advance.new.self (Ok c.in-Ok-More.field-0)
 called_more g c = record {
-  region = _;
   made = record {
     sound = c.in-Ok-More.ensures.sound g.S.Scorer.score_of;
     crash = c.in-Ok-More.ensures.crash g.S.Scorer.score_of;
@@ -33,15 +32,13 @@ called_more g c = record {
     left = c.in-Ok-More.ensures.left;
     done = λ is. (c.in-Ok-More.ensures.done).0 (cc);
     stopped = λ n is. (c.in-Ok-More.ensures.stopped n).0 is;
-    faults_are = c.in-Ok-More.ensures.faults;
-    calls_are = c.in-Ok-More.ensures.calls;
-    images_are = c.in-Ok-More.ensures.images;
-    bytes_are = c.in-Ok-More.ensures.bytes;
-    size_is = c.in-Ok-More.ensures.size;
+    faults = c.in-Ok-More.ensures.faults;
+    calls = c.in-Ok-More.ensures.calls;
+    writes = c.in-Ok-More.ensures.writes;
   };
   there = arena_there g.D.Disk c.self.inside.parts.items c.index_mut.result.now (state_of c.self.inside) c.args.self.now c.as_slice.result.now
-      (region_at c.as_slice.result.now c.self.inside.committing) _ c.self.view_is c.self.invariant refl refl c.requires.runs c.requires.some c.requires.ready
-      c.as_slice.ensures refl (record { start = refl; len = refl }) c.index_mut.ensures.value;
+      (region_at c.as_slice.result.now c.self.inside.committing) c.self.view_is c.self.invariant refl refl c.requires.runs c.requires.some c.requires.ready
+      c.as_slice.ensures refl c.index_mut.ensures.value;
 }
 
 more : (g : _) (c : goal.In-Ok-More g)
@@ -68,7 +65,6 @@ called_ended : (g : _) (c : goal.Then-not-sealed g)
     c.self.inside.parts.items c.index_mut.result.now (state_of c.self.inside) c.args.self.now (region_at c.as_slice.result.now c.self.inside.committing)
     c.advance.new.disk c.advance.new.self (Ok c.in-Ok-Done.field-0)
 called_ended g c = record {
-  region = _;
   made = record {
     sound = c.in-Ok-Done.ensures.sound g.S.Scorer.score_of;
     crash = c.in-Ok-Done.ensures.crash g.S.Scorer.score_of;
@@ -78,15 +74,13 @@ called_ended g c = record {
     left = c.in-Ok-Done.ensures.left;
     done = λ is. (c.in-Ok-Done.ensures.done).0 (cc);
     stopped = λ n is. (c.in-Ok-Done.ensures.stopped n).0 is;
-    faults_are = c.in-Ok-Done.ensures.faults;
-    calls_are = c.in-Ok-Done.ensures.calls;
-    images_are = c.in-Ok-Done.ensures.images;
-    bytes_are = c.in-Ok-Done.ensures.bytes;
-    size_is = c.in-Ok-Done.ensures.size;
+    faults = c.in-Ok-Done.ensures.faults;
+    calls = c.in-Ok-Done.ensures.calls;
+    writes = c.in-Ok-Done.ensures.writes;
   };
   there = arena_there g.D.Disk c.self.inside.parts.items c.index_mut.result.now (state_of c.self.inside) c.args.self.now c.as_slice.result.now
-      (region_at c.as_slice.result.now c.self.inside.committing) _ c.self.view_is c.self.invariant refl refl c.requires.runs c.requires.some c.requires.ready
-      c.as_slice.ensures refl (record { start = refl; len = refl }) c.index_mut.ensures.value;
+      (region_at c.as_slice.result.now c.self.inside.committing) c.self.view_is c.self.invariant refl refl c.requires.runs c.requires.some c.requires.ready
+      c.as_slice.ensures refl c.index_mut.ensures.value;
 }
 
 last_ended : (g : _) (c : goal.Then-not-sealed g) → IsLast (state_of c.self.inside) (region_at c.as_slice.result.now c.self.inside.committing) c.index_mut-in-Ok-Done.result.now c.advance.new.self
@@ -152,7 +146,6 @@ called_turned : (g : _) (c : goal.After-move_to g)
     c.self.inside.parts.items c.index_mut.result.now (state_of c.self.inside) c.args.self.now (region_at c.as_slice.result.now c.self.inside.committing)
     c.advance.new.disk c.advance.new.self (Ok c.in-Ok-Done.field-0)
 called_turned g c = record {
-  region = _;
   made = record {
     sound = c.in-Ok-Done.ensures.sound g.S.Scorer.score_of;
     crash = c.in-Ok-Done.ensures.crash g.S.Scorer.score_of;
@@ -162,15 +155,13 @@ called_turned g c = record {
     left = c.in-Ok-Done.ensures.left;
     done = λ is. (c.in-Ok-Done.ensures.done).0 (cc);
     stopped = λ n is. (c.in-Ok-Done.ensures.stopped n).0 is;
-    faults_are = c.in-Ok-Done.ensures.faults;
-    calls_are = c.in-Ok-Done.ensures.calls;
-    images_are = c.in-Ok-Done.ensures.images;
-    bytes_are = c.in-Ok-Done.ensures.bytes;
-    size_is = c.in-Ok-Done.ensures.size;
+    faults = c.in-Ok-Done.ensures.faults;
+    calls = c.in-Ok-Done.ensures.calls;
+    writes = c.in-Ok-Done.ensures.writes;
   };
   there = arena_there g.D.Disk c.self.inside.parts.items c.index_mut.result.now (state_of c.self.inside) c.args.self.now c.as_slice.result.now
-      (region_at c.as_slice.result.now c.self.inside.committing) _ c.self.view_is c.self.invariant refl refl c.requires.runs c.requires.some c.requires.ready
-      c.as_slice.ensures refl (record { start = refl; len = refl }) c.index_mut.ensures.value;
+      (region_at c.as_slice.result.now c.self.inside.committing) c.self.view_is c.self.invariant refl refl c.requires.runs c.requires.some c.requires.ready
+      c.as_slice.ensures refl c.index_mut.ensures.value;
 }
 
 last_turned : (g : _) (c : goal.After-move_to g) → IsLast (state_of c.self.inside) (region_at c.as_slice.result.now c.self.inside.committing) c.index_mut-in-Ok-Done.result.now c.advance.new.self
@@ -220,7 +211,6 @@ called_fault : (g : _) (c : goal.After-self-in-Err-1 g)
     c.self.inside.parts.items c.index_mut.result.now (state_of c.self.inside) c.args.self.now (region_at c.as_slice.result.now c.self.inside.committing)
     c.advance.new.disk c.advance.new.self (Err c.in-Err.field-0)
 called_fault g c = record {
-  region = _;
   made = record {
     sound = c.in-Err.ensures.sound g.S.Scorer.score_of;
     crash = c.in-Err.ensures.crash g.S.Scorer.score_of;
@@ -230,15 +220,13 @@ called_fault g c = record {
     left = c.in-Err.ensures.left;
     done = λ is. absurd (cc);
     stopped = λ n is. (c.in-Err.ensures.stopped n).0 is;
-    faults_are = c.in-Err.ensures.faults;
-    calls_are = c.in-Err.ensures.calls;
-    images_are = c.in-Err.ensures.images;
-    bytes_are = c.in-Err.ensures.bytes;
-    size_is = c.in-Err.ensures.size;
+    faults = c.in-Err.ensures.faults;
+    calls = c.in-Err.ensures.calls;
+    writes = c.in-Err.ensures.writes;
   };
   there = arena_there g.D.Disk c.self.inside.parts.items c.index_mut.result.now (state_of c.self.inside) c.args.self.now c.as_slice.result.now
-      (region_at c.as_slice.result.now c.self.inside.committing) _ c.self.view_is c.self.invariant refl refl c.requires.runs c.requires.some c.requires.ready
-      c.as_slice.ensures refl (record { start = refl; len = refl }) c.index_mut.ensures.value;
+      (region_at c.as_slice.result.now c.self.inside.committing) c.self.view_is c.self.invariant refl refl c.requires.runs c.requires.some c.requires.ready
+      c.as_slice.ensures refl c.index_mut.ensures.value;
 }
 
 failed : (g : _) (c : goal.After-self-in-Err-1 g)

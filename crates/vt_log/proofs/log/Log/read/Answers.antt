@@ -89,7 +89,7 @@ returns-in_err-clump-clause-block g c h i e tells sound at placed kind score =
     subst (λ (result : Result (List ℕ) ReadBad). MatchResult result (λ block. block ≡ e.block.bytes)
     (λ bad. (bad ≡ Fault) ⊎ (bad ≡ NoMemory)))
     (sym (handed.1 ∙ ap (λ (b : ReadBad). Err b) handed.2))
-    (c.in_err-clump.ensures.committed it.is.r it.is.region it.is.device it.content it.before it.behind
+    (c.in_err-clump.ensures.committed it.is.r it.is.device it.content it.before it.behind
     it.stored tells it.is.at it.is.content it.is.stand it.split it.offset)
 
 pub returns-in_err-clump-clause-answer : goal.returns-in_err-clump-clause-answer
@@ -103,8 +103,8 @@ returns-in_err-clump-clause-answer g c =
     c.args.key.now c.from_residual.result nowhere
     (omega (arith, c.if-place-arenas.false, c.arenas-arenas.ensures))
     (λ r at none. let it = c.in_err-clump.ensures.outside r at none in cc (is, it.0))
-    (λ r region disk at has.
-    let it = c.in_err-clump.ensures.stored r region disk at has in (
+    (λ r disk at has.
+    let it = c.in_err-clump.ensures.stored r disk at has in (
       it.0,
       it.1,
       subst (ReadsAs g.S.Scorer.score_of c.args.key.now it.0) (sym is)
@@ -128,7 +128,7 @@ returns-in_err-check_key-clause-block g c h i e tells sound at placed kind score
     let it = stored_at g.S.Scorer.score_of g.D.Disk
     c.args.self.now h i e c.args.place sound at placed nowhere
     (λ disk. g.met.D.Disk.read_is_image disk tells) in
-    let read = c.in_ok-clump.ensures.committed it.is.r it.is.region it.is.device it.content it.before
+    let read = c.in_ok-clump.ensures.committed it.is.r it.is.device it.content it.before
     it.behind it.stored tells it.is.at it.is.content it.is.stand it.split it.offset in
     let clump = c.in_ok-clump.clump in
     absurd (no_other c.args.key.now clump.kind clump.score.0 c.in_err-check_key.field-0.0
@@ -149,8 +149,8 @@ returns-in_err-check_key-clause-answer g c =
     c.args.key.now result nowhere
     (omega (arith, c.if-place-arenas.false, c.arenas-arenas.ensures))
     (λ r at none. let it = c.in_ok-clump.ensures.outside r at none in absurd (cc (it.0)))
-    (λ r region disk at has.
-    let it = c.in_ok-clump.ensures.stored r region disk at has in (
+    (λ r disk at has.
+    let it = c.in_ok-clump.ensures.stored r disk at has in (
       it.0,
       it.1,
       subst (ReadsAs g.S.Scorer.score_of c.args.key.now it.0) (sym is)
@@ -173,7 +173,7 @@ returns-clause-block g c h i e tells sound at placed kind score =
     let it = stored_at g.S.Scorer.score_of g.D.Disk
     c.args.self.now h i e c.args.place sound at placed nowhere
     (λ disk. g.met.D.Disk.read_is_image disk tells) in
-    let read = c.in_ok-clump.ensures.committed it.is.r it.is.region it.is.device it.content it.before
+    let read = c.in_ok-clump.ensures.committed it.is.r it.is.device it.content it.before
     it.behind it.stored tells it.is.at it.is.content it.is.stand it.split it.offset in
     read.bytes ∙ sym (ap (λ (x : Accepted). x.block.bytes) it.block)
 
@@ -186,8 +186,8 @@ returns-clause-answer g c =
     c.args.key.now (Ok clump.bytes) nowhere
     (omega (arith, c.if-place-arenas.false, c.arenas-arenas.ensures))
     (λ r at none. let it = c.in_ok-clump.ensures.outside r at none in absurd (cc (it.0)))
-    (λ r region disk at has.
-    let it = c.in_ok-clump.ensures.stored r region disk at has in (
+    (λ r disk at has.
+    let it = c.in_ok-clump.ensures.stored r disk at has in (
       it.0,
       it.1,
       reads_block g.S.Scorer.score_of c.args.key.now it.0 clump it.2

@@ -1,55 +1,52 @@
 -- One disk is read.
-use Rattle.std.proofs.Common.{◌≡◌, List, ℕ, IsTrue, refl, sym, ◌∙◌, ap, subst, get_or, ◌+◌, ◌^◌, ◌<◌, Err}
-use Rattle.vt_disk.specs.declared.region.Region.{Region}
+use Rattle.std.proofs.Common.{◌≡◌, List, ℕ, IsTrue, refl, sym, ◌∙◌, ap, subst, get_or, Err}
 use Rattle.vt_arena.specs.declared.bad.ReadBad.TheVariants.{Damaged}
-use Rattle.vt_arena.specs.Layout.{IsContent}
-use Rattle.vt_arena.specs.Reading.{HasHeader, clump_at, ReadsAs}
+use Rattle.vt_arena.specs.Layout.{IsContent, HasBlocks}
+use Rattle.vt_arena.specs.Reading.{HasHeader, clump_at, is_fault, ReadsAs}
 use Rattle.vt_base.specs.declared.why.FieldValue.TheVariants.{Number}
 use Rattle.vt_model.specs.declared.TheConstants.{HEAD_LEN}
 use Rattle.vt_part.specs.declared.layout.ArenaRegion.{ArenaRegion}
 use Rattle.vt_log.specs.Whole.{IsWhole}
-use Rattle.vt_log.proofs.OnlyReads.{no_region, region_at, lent, blocks_lent, reads_cause, read_whole, unchanged}
+use Rattle.vt_log.proofs.Disks.{tells_set}
+use Rattle.vt_log.proofs.OnlyReads.{no_region, lent, none_read, read_whole, unchanged}
 use Rattle.vt_log.proofs.log.Log.read_clump.Goals as goal
 use Rattle.vt_log.proofs.log.Log.read_clump.Goals.{then-has_header, else-has_header}
 
 pub invariant_of-self : goal.invariant_of-self
 invariant_of-self g c =
     let r : ArenaRegion = get_or c.as_slice.result.now c.args.place.arena no_region in
-    let it = lent g.S.Scorer.score_of g.D.Disk
+    let it = lent g.S.Scorer.score_of g.D.Disk 2
     c.self.inside.parts.items c.args.place.arena r no_region c.index_mut.result.now
     c.read.new.disk _ c.args.self.now c.self.invariant c.self.view_is refl refl c.requires
     (ap (λ (rs : List ArenaRegion). get_or rs c.args.place.arena no_region) c.as_slice.ensures)
-    c.index_mut.ensures.value c.read.ensures.bytes c.read.ensures.images
-    c.read.ensures.size in
+    c.index_mut.ensures.value c.read.ensures.reads in
     it.only.whole (subst (IsWhole g.D.Disk) c.self.view_is c.self.invariant)
 
 pub read-requires : goal.read-requires
 read-requires g c =
     let r : ArenaRegion = get_or c.as_slice.result.now c.args.place.arena no_region in
     let p = c.index_mut.result.now in
-    let it = lent g.S.Scorer.score_of g.D.Disk
+    let it = lent g.S.Scorer.score_of g.D.Disk 0
     c.self.inside.parts.items c.args.place.arena r no_region p p.disk _ c.args.self.now
     c.self.invariant c.self.view_is refl refl c.requires
     (ap (λ (rs : List ArenaRegion). get_or rs c.args.place.arena no_region) c.as_slice.ensures)
-    c.index_mut.ensures.value refl (λ image left. left) refl in
-    record { region = it.fits }
+    c.index_mut.ensures.value (none_read g.D.Disk p.disk) in
+    record { region = it.region.within }
 
 pub returns : goal.returns
 returns g c =
     let r : ArenaRegion = get_or c.as_slice.result.now c.args.place.arena no_region in
-    let it = lent g.S.Scorer.score_of g.D.Disk
+    let it = lent g.S.Scorer.score_of g.D.Disk 2
     c.self.inside.parts.items c.args.place.arena r no_region c.index_mut.result.now
     c.read.new.disk _ c.args.self.now c.self.invariant c.self.view_is refl refl c.requires
     (ap (λ (rs : List ArenaRegion). get_or rs c.args.place.arena no_region) c.as_slice.ensures)
-    c.index_mut.ensures.value c.read.ensures.bytes c.read.ensures.images
-    c.read.ensures.size in
-    let made : Region = region_at r it.small in
+    c.index_mut.ensures.value c.read.ensures.reads in
     let offset : c.from-offset.result ≡ c.args.place.offset = c.from-offset.ensures in
     record {
       outside = λ q at none.
-          let none_there : ¬ HasHeader r.len c.from-offset.result = λ has. none
-          (subst (λ (x : ArenaRegion). HasHeader x.len c.args.place.offset) (sym (it.r_one q at))
-          (subst (λ (n : ℕ). HasHeader r.len n) offset has)) in (
+          let none_there : ¬ HasHeader r.region.len c.from-offset.result = λ has. none
+          (subst (λ (x : ArenaRegion). HasHeader x.region.len c.args.place.offset) (it.r_one q at)
+          (subst (λ (n : ℕ). HasHeader r.region.len n) offset has)) in (
             c.read.ensures.outside none_there
                 ∙ ap (λ (n : ℕ). Err (Damaged (Number HEAD_LEN) (Number n))) offset,
             unchanged g.S.Scorer.score_of g.D.Disk r.part _
@@ -60,45 +57,43 @@ returns g c =
               | else-has_header w ↦ w.steps-is
             ],
           );
-      stored = λ q region disk at has.
-          let here : HasHeader made.len c.args.place.offset =
-          subst (λ (x : ArenaRegion). HasHeader x.len c.args.place.offset)
-          (it.r_one q at.arena) has in
-          subst (λ (x : Region). (bytes : List ℕ)
+      stored = λ q disk at has.
+          let here : HasHeader r.region.len c.args.place.offset =
+          subst (λ (x : ArenaRegion). HasHeader x.region.len c.args.place.offset)
+          (sym (it.r_one q at.arena)) has in
+          subst (λ (x : ArenaRegion). (bytes : List ℕ)
           × (IsTrue g.D.Disk.tells
-          → bytes ≡ clump_at x c.args.place.offset (g.D.Disk.bytes disk))
+          → bytes ≡ clump_at x.region c.args.place.offset (g.D.Disk.bytes disk))
           × ReadsAs g.S.Scorer.score_of bytes c.read.result)
-          (it.region_one q region disk at it.small)
+          (it.r_one q at.arena)
           (subst (λ (d : _). (bytes : List ℕ)
-          × (IsTrue g.D.Disk.tells → bytes ≡ clump_at made c.args.place.offset (g.D.Disk.bytes d))
+          × (IsTrue g.D.Disk.tells → bytes ≡ clump_at r.region c.args.place.offset (g.D.Disk.bytes d))
           × ReadsAs g.S.Scorer.score_of bytes c.read.result)
-          (it.disk_one q region disk at)
+          (it.disk_one q disk at)
           (subst (λ (n : ℕ). (bytes : List ℕ)
           × (IsTrue g.D.Disk.tells
-          → bytes ≡ clump_at made n (g.D.Disk.bytes c.index_mut.result.now.disk))
+          → bytes ≡ clump_at r.region n (g.D.Disk.bytes c.index_mut.result.now.disk))
           × ReadsAs g.S.Scorer.score_of bytes c.read.result) offset
-          (c.read.ensures.answer (subst (λ (n : ℕ). HasHeader made.len n) (sym offset) here))));
-      committed = λ q region disk a before behind s tells at content blocks split is.
-          let region_is : (k : r.at + r.len < 2 ^ 64) → region ≡ region_at r k =
-          λ k. sym (it.region_one q region disk at k) in
+          (c.read.ensures.answer (subst (λ (n : ℕ). HasHeader r.region.len n) (sym offset) here))));
+      committed = λ q disk a before behind s tells at content blocks split is.
+          let back : q ≡ r = sym (it.r_one q at.arena) in
           c.read.ensures.committed a before behind s tells
-          (subst (λ (x : Region). IsContent g.S.Scorer.score_of x.len a) (region_is it.small)
-          content)
-          (blocks_lent region r a.stored (g.D.Disk.bytes disk) _ region_is
-          (ap g.D.Disk.bytes (it.disk_one q region disk at)) blocks _)
+          (subst (λ (x : ArenaRegion). IsContent g.S.Scorer.score_of x.region.len a) back content)
+          (subst (λ (x : ArenaRegion). HasBlocks x.region a.stored (g.D.Disk.bytes c.index_mut.result.now.disk)) back
+          (subst (λ (d : _). HasBlocks q.region a.stored (g.D.Disk.bytes d)) (sym (it.disk_one q disk at)) blocks))
           split (offset ∙ is);
       whole = read_whole g.S.Scorer.score_of c.read.result c.read.ensures.whole;
       cost = λ q at has.
-          let here : HasHeader r.len c.from-offset.result =
-          subst (λ (x : ArenaRegion). HasHeader x.len c.from-offset.result) (it.r_one q at)
-          (subst (λ (n : ℕ). HasHeader q.len n) (sym offset) has) in
+          let here : HasHeader r.region.len c.from-offset.result =
+          subst (λ (x : ArenaRegion). HasHeader x.region.len c.from-offset.result) (sym (it.r_one q at))
+          (subst (λ (n : ℕ). HasHeader q.region.len n) (sym offset) has) in
           let lies : IsTrue c.has_header.result = c.has_header.ensures.1 here in
           elim c.if-has_header.branch [
             | then-has_header w ↦ w.steps-is ∙ w.tick.ensures
             | else-has_header w ↦ absurd (cc)
           ];
-      reads = it.reads 2 c.read.ensures.most_calls;
+      reads = it.reads;
       spares = it.spares;
-      cause = reads_cause g.D.Disk.faults c.args.self.now.disks _ r.part _ c.read.new.disk
+      cause = tells_set g.D.Disk.faults is_fault c.args.self.now.disks _ r.part _ c.read.new.disk
           c.read.result it.only.was it.only.disks_are c.read.ensures.cause;
     }
