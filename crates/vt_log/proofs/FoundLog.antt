@@ -1,6 +1,6 @@
 -- A log that was found.
 use Rattle.std.proofs.Common.{◌≡◌, ◌≢◌, ◌⊎◌, ⊎_elim, inl, inr, ℕ, zero, suc, ◌+◌, ◌^◌, ◌<◌, ◌≤◌, ◌==◌, ◌||◌, Bool, true, false, cond, List, [], ◌∷◌, ◌++◌, length, get_or, map, take, drop, refl, sym, ◌∙◌, ap, subst, arith, append-nil, length-append, Some, None, Option, option_map, IsTrue}
-use Rattle.std.specs.Prelude.{All, AllPairs, MatchBool, slice_get, sum_by, filter}
+use Rattle.std.specs.Prelude.{All, AllPairs, IsFalse, MatchBool, slice_get, sum_by, filter}
 use Rattle.std.proofs.lemmas.Bool.Decides.{nat_tests, eqb_tells}
 use Rattle.std.proofs.lemmas.List.{length-map, take_all, drop_all}
 use Rattle.std.proofs.lemmas.List.Elements.{All-weaker, All-nil, All-cons, All-head, All-tail, All-append, All-map}
@@ -28,7 +28,7 @@ use Rattle.vt_arena.specs.declared.bad.ArenaBad.TheVariants.{Torn}
 use Rattle.vt_arena.specs.declared.bad.Field.TheVariants.{Sealed}
 use Rattle.vt_arena.specs.declared.head.ArenaHead.{ArenaHead}
 use Rattle.vt_arena.specs.declared.head.Found.{Found}
-use Rattle.vt_arena.specs.Arena.{ArenaState, fresh_arena}
+use Rattle.vt_arena.specs.Arena.{ArenaState, fresh_arena, is_committing}
 use Rattle.vt_arena.specs.Faults.{first_bad as first_bad_in, CanStand}
 use Rattle.vt_arena.specs.Heads.{fields_of, flag_of, sealed_in, clumps_in}
 use Rattle.vt_arena.specs.Layout.{Content, IsContent, IsArena, head_of}
@@ -222,8 +222,9 @@ module _ {D : Type 0} (disk : DiskOf D) (disks : List D) (tables : List Table) (
     durable = refl;
   })
 
-  pub mounted_by : IsMountedBy layout fields (found_log disks tables layout heads base arena)
-  mounted_by = record {
+  pub mounted_by : (names : List (List ℕ)) → AreDistinct names → IsMountedBy names layout fields (found_log disks tables layout heads base arena)
+  mounted_by names distinct = record {
+    distinct = distinct;
     passed = is.passed.passed;
     heads = is.passed.heads_are;
     before = is.first.before;
@@ -584,6 +585,8 @@ pub mount_is : {D : Type 0} (disk : DiskOf D) (l : LogState D) (disks : List D) 
 mount_is {D = D} disk l disks tables files fields layout heads base arena is l_is =
     subst IsMounted (sym l_is) (record {
       committing = refl;
+      staged = ap (λ (a : ArenaState). a.staged) is.room.fresh;
+      rest = subst (λ (a : ArenaState). IsFalse (is_committing a)) (sym is.room.fresh) refl;
       queue = refl;
       filling = filling_is disk disks tables layout files fields heads base arena is;
       durable = refl;

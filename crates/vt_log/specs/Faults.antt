@@ -98,10 +98,11 @@ abbrev pub is_fault_now : LogErr → Bool
 is_fault_now LogFault = true
 is_fault_now (Stopped n) = false
 
--- a log that these fields give: no test of theirs fails, its heads are those that they spell, and
--- its base is the first unsealed arena, or their count
-pub record IsMountedBy {D : Type 0} (layout : List ArenaRegion) (fields : List (List ℕ))
-    (l : LogState D) : Type 0 where
+-- a log that these fields give: no two partitions have one name, no test of the fields fails, its
+-- heads are those that they spell, and its base is the first unsealed arena, or their count
+pub record IsMountedBy {D : Type 0} (names : List (List ℕ)) (layout : List ArenaRegion)
+    (fields : List (List ℕ)) (l : LogState D) : Type 0 where
+  pub distinct : AreDistinct names
   pub passed : first_bad Bool.false 0 layout fields ≡ None
   pub heads : map (λ found. fields_of found.head) l.heads ≡ fields
   pub before : All (λ found. found.head.sealed ≡ Bool.true) (take l.base l.heads)

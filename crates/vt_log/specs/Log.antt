@@ -1,5 +1,5 @@
 -- A log as its calls see it.
-use Rattle.std.specs.Prelude.{◌≡◌, ℕ, ◌+◌, Bool, if◌then◌else◌, is_some, Option, Some, None, Result, Ok, Err, Vec, List, [], ◌++◌, length, map, sum_by, slice_get, slice_index}
+use Rattle.std.specs.Prelude.{◌≡◌, ℕ, ◌+◌, Bool, IsFalse, if◌then◌else◌, is_some, Option, Some, None, Result, Ok, Err, Vec, List, [], ◌++◌, length, map, sum_by, slice_get, slice_index}
 use Rattle.std.specs.declared.alloc.Global.{Global}
 use Rattle.std.specs.Option.{option_map_or}
 use Rattle.vt_clump.specs.declared.packed.Packed.{Packed}
@@ -11,7 +11,7 @@ use Rattle.vt_part.specs.Parts.{disk_of}
 use Rattle.vt_part.specs.Table.{Table}
 use Rattle.vt_arena.specs.declared.head.ArenaHead.{ArenaHead}
 use Rattle.vt_arena.specs.declared.head.Found.{Found}
-use Rattle.vt_arena.specs.Arena.{ArenaState, added_by}
+use Rattle.vt_arena.specs.Arena.{ArenaState, added_by, is_committing}
 use Rattle.vt_arena.specs.Places.{block_room, has_room}
 use Rattle.vt_log.specs.declared.filling.Filling.{Filling}
 use Rattle.vt_log.specs.Logs.{accepted}
@@ -100,9 +100,12 @@ has_next l n = is_some (next_filling l n)
 abbrev pub disks_of : {D : Type 0} → List (Part D) → List D
 disks_of parts = map (λ part. disk_of part) parts
 
--- a log that has made no call: nothing is queued, and the arena that is committed in is the base
+-- a log that has made no call: nothing is queued, staged or under way, and the arena that is
+-- committed in is the base
 pub record IsMounted {D : Type 0} (l : LogState D) : Type 0 where
   pub committing : l.committing ≡ l.base
+  pub staged : l.arena.staged ≡ []
+  pub rest : IsFalse (is_committing l.arena)
   pub queue : l.queue ≡ no_queue
   pub filling : l.filling ≡ found_filling l.heads l.base
   pub durable : l.durable ≡ sum_by (λ found. found.head.clumps) l.heads

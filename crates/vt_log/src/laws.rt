@@ -1,6 +1,6 @@
 //! What the layers above lean on between the calls of a log.
 
-ghost use Rattle.std.specs.Prelude.{◌≡◌, ◌≤◌, ◌^◌, ℕ, List, All};
+ghost use Rattle.std.specs.Prelude.{◌≡◌, ◌≤◌, ℕ, List, All};
 ghost use Rattle.vt_model.specs.History.{History};
 ghost use Rattle.vt_part.specs.declared.layout.ArenaRegion.{ArenaRegion};
 ghost use Rattle.vt_log.specs.Log.{LogState};
@@ -8,6 +8,7 @@ ghost use Rattle.vt_log.specs.Logs.{IsLog};
 ghost use Rattle.vt_log.specs.Sound.{IsSound, AreImages, StandForPrefix};
 
 use vt_disk::Disk;
+use vt_part::MOST_ARENA;
 
 /// Between two calls a crash leaves disks that, taken together, stand for a prefix of the history
 /// that has all durable blocks.
@@ -21,7 +22,7 @@ pub fn crash_gives_a_prefix<D: Disk>()
 /// Files are one log at most.
 pub fn logs_are_told_apart()
     ensures { (score_of : List ℕ → List ℕ) (layout : List ArenaRegion) (files : List (List ℕ))
-        (g h : History) (a b : ℕ) → All (λ r. r.region.len ≤ 2 ^ 30) layout
+        (g h : History) (a b : ℕ) → All (λ r. r.region.len ≤ MOST_ARENA) layout
         → IsLog score_of layout files g a → IsLog score_of layout files h b
         → (g ≡ h) × (a ≡ b) }
 {}

@@ -18,9 +18,12 @@ pub use bad::{Full, LogBad, LogErr, Progress};
 pub use laws::{crash_gives_a_prefix, logs_are_told_apart};
 pub use log::Log;
 pub use mounting::{format, mount};
+use vt_arena::STAGED_MAX;
 
-/// How many blocks may be queued.
-pub const QUEUE_MAX: usize = 64;
+/// How many blocks may be queued: as many as one commit takes.
+pub const QUEUE_MAX: usize = STAGED_MAX;
+
+const _: () = prove!(QUEUE_MAX == 64);
 
 #[cfg(test)]
 mod tests;

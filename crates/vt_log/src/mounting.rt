@@ -106,10 +106,10 @@ pub fn mount<D: Disk, S: Scorer + Drop>(
         × (log.tables ≡ tables_of parts.items)) }
 
     // Each refusal comes exactly where its test is the first to fail.
-    ensures distinct { IfOk result (λ _. AreDistinct (names_of parts.items)) }
     ensures answer { (fields : List (List ℕ)) × (IsTrue D.tells
         → AreFields (layout_of (tables_of parts.items)) (map D.bytes (disks_of parts.items)) fields)
-        × MatchResult result (λ log. IsMountedBy (layout_of (tables_of parts.items)) fields log)
+        × MatchResult result
+        (IsMountedBy (names_of parts.items) (layout_of (tables_of parts.items)) fields)
         (λ refusal. RefusesMount (names_of parts.items) (layout_of (tables_of parts.items)) fields
         refusal.0) }
 

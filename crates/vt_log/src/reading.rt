@@ -21,8 +21,9 @@ use std::alloc::Global;
 use std::sync::ledger::Ledger;
 use vt_arena::{ReadBad, has_header};
 use vt_base::{Bytes, FieldValue, Key, Kind, Place, Score, Scorer};
-use vt_clump::{Clump, HEADER_LEN, Packed};
+use vt_clump::{Clump, Packed};
 use vt_disk::Disk;
+use vt_model::CLUMP_HEADER_LEN;
 use vt_steps::Steps;
 
 impl<D: Disk, S: Scorer> Log<D, S> {
@@ -155,7 +156,7 @@ fn copy_queued(alloc: Global, packed: &Packed, key: &Key) -> Result<Bytes, ReadB
         ⊎ IsDamagedBy key.now packed.now.kind packed.now.score.0 bad) }
 {
     check_key(key, packed.kind, packed.score)?;
-    match Bytes::copy_of(alloc, &packed.bytes.as_slice()[HEADER_LEN..]) {
+    match Bytes::copy_of(alloc, &packed.bytes.as_slice()[CLUMP_HEADER_LEN..]) {
         Ok(block) => Ok(block),
         Err(NoMemory) => Err(ReadBad::NoMemory),
     }

@@ -14,7 +14,7 @@ use vt_arena::{ArenaBad, ArenaHead, BackBad, Field, ReadBad};
 use vt_base::{Failed, FieldValue, Info, Key, Kind, Place, Scorer, Sha1Scorer, Text, Why};
 use vt_clump::{Packed, pack};
 use vt_disk::Disk;
-use vt_memdisk::{Listed, MemDisk};
+use vt_memdisk::{CrashMode, Listed, MemDisk};
 use vt_model::PlainStore;
 use vt_part::{Part, PartBad};
 use vt_steps::Steps;
@@ -282,28 +282,11 @@ fn count_back<L: Ledger>(log: &mut TestLog, steps: &mut Steps<L>) -> Result<u64,
     Ok(blocks)
 }
 
-/// What a crash leaves of the pending bytes: the synced ones in mode 0, the written ones in mode 1,
-/// the written ones at even places in mode 2, and a5 in mode 3.
-fn crash(rt: &HostRuntime, disk: MemDisk<Listed>, mode: usize) -> Result<MemDisk<Listed>, Fail> {
-    let mut choice = Vec::new(rt.alloc());
-    for at in 0..disk.len() {
-        if disk.pending(at) {
-            choice.push(match mode {
-                0 => 256,
-                1 => 257,
-                2 => if at % 2 == 0 { 257 } else { 256 },
-                _ => 0xa5,
-            })?;
-        }
-    }
-    Ok(disk.crash(&choice))
-}
-
 /// The log after a crash of its one disk.
-fn crashed(rt: &HostRuntime, log: TestLog, mode: usize) -> Result<TestLog, Fail> {
+fn crashed(rt: &HostRuntime, log: TestLog, mode: CrashMode) -> Result<TestLog, Fail> {
     let mut parts = log.into_devices();
     let part = parts.pop().ok_or("no partition")?;
-    mounted(rt, crash(rt, part.into_devices(), mode)?)
+    mounted(rt, part.into_devices().crash_in(mode))
 }
 
 /// So many blocks were accepted, and so many of them are committed.
@@ -614,7 +597,7 @@ fn after_crash<L: Ledger>(
     log: TestLog,
     committed: u8,
     calls: u8,
-    mode: usize,
+    mode: CrashMode,
     steps: &mut Steps<L>,
 ) -> Result<TestLog, Fail> {
     let mut log = log;
@@ -649,7 +632,7 @@ fn see_left<L: Ledger>(
 fn first_commit<L: Ledger>(
     rt: &HostRuntime,
     calls: u8,
-    mode: usize,
+    mode: CrashMode,
     steps: &mut Steps<L>,
 ) -> Result<(), Fail> {
     let mut log = after_crash(rt, with_one(rt, 40_960)?, 0, calls, mode, steps)?;
@@ -660,7 +643,7 @@ fn first_commit<L: Ledger>(
 fn second_commit<L: Ledger>(
     rt: &HostRuntime,
     calls: u8,
-    mode: usize,
+    mode: CrashMode,
     steps: &mut Steps<L>,
 ) -> Result<(), Fail> {
     let mut log = after_crash(rt, with_two(rt)?, 1, calls, mode, steps)?;
@@ -672,7 +655,7 @@ fn second_commit<L: Ledger>(
 fn sealing_commit<L: Ledger>(
     rt: &HostRuntime,
     calls: u8,
-    mode: usize,
+    mode: CrashMode,
     steps: &mut Steps<L>,
 ) -> Result<(), Fail> {
     let mut log = after_crash(rt, with_three(rt)?, 1, calls, mode, steps)?;
@@ -697,7 +680,7 @@ fn a_crash<L: Ledger>(rt: &HostRuntime, blank: Blank) -> Result<(), Fail>
     requires some { 0 < L.parts }
 {
     let mut steps = Steps::<L>::new(blank);
-    for mode in 0..4 {
+    for mode in CrashMode::ALL {
         for calls in 0..7 {
             first_commit(rt, calls, mode, &mut steps)?;
             second_commit(rt, calls, mode, &mut steps)?;

@@ -53,9 +53,6 @@ returns-in-Ok-clause-mounted g c =
     c.deref_mut.ensures.value c.requires.rooms c.requires.few c.find_log.ensures.read c.in-Ok.ensures.layout c.in-Ok.ensures.found answer.2 c.in-Ok.ensures.base c.in-Ok.ensures.arena in
     mount_is g.D.Disk c.into_log.result (disks_of new) (tables_of new) (map g.D.Disk.bytes (disks_of items)) answer.0 o.layout o.heads.items o.base o.arena it l_is
 
-pub returns-in-Ok-clause-distinct : goal.returns-in-Ok-clause-distinct
-returns-in-Ok-clause-distinct g c = subst (λ (ps : List (Part _)). AreDistinct (names_of ps)) c.deref_mut.ensures.value c.in-Ok.ensures.distinct
-
 pub returns-in-Ok-clause-answer : goal.returns-in-Ok-clause-answer
 returns-in-Ok-clause-answer g c =
     let new = c.find_log.new.parts in
@@ -70,9 +67,10 @@ returns-in-Ok-clause-answer g c =
     let layout_is : o.layout ≡ layout_of (tables_of items) = c.in-Ok.ensures.layout ∙ ap (λ (ps : List (Part _)). layout_of (tables_of ps)) c.deref_mut.ensures.value in (
       answer.0,
       λ told. subst (λ (ps : List (Part _)). AreFields (layout_of (tables_of ps)) (map g.D.Disk.bytes (disks_of ps)) answer.0) c.deref_mut.ensures.value (answer.1 told),
-      subst (λ (l : LogState _). IsMountedBy (layout_of (tables_of items)) answer.0 l) (sym l_is)
-          (subst (λ (rs : List _). IsMountedBy rs answer.0 (found_log (disks_of new) (tables_of new) o.layout o.heads.items o.base o.arena)) layout_is
-          (mounted_by g.D.Disk (disks_of new) (tables_of new) o.layout (map g.D.Disk.bytes (disks_of items)) answer.0 o.heads.items o.base o.arena it)),
+      subst (λ (l : LogState _). IsMountedBy (names_of items) (layout_of (tables_of items)) answer.0 l) (sym l_is)
+          (subst (λ (rs : List _). IsMountedBy (names_of items) rs answer.0 (found_log (disks_of new) (tables_of new) o.layout o.heads.items o.base o.arena)) layout_is
+          (mounted_by g.D.Disk (disks_of new) (tables_of new) o.layout (map g.D.Disk.bytes (disks_of items)) answer.0 o.heads.items o.base o.arena it (names_of items)
+          (subst (λ (ps : List (Part _)). AreDistinct (names_of ps)) c.deref_mut.ensures.value c.in-Ok.ensures.distinct))),
     )
 
 pub returns-in-Ok-clause-settled : goal.returns-in-Ok-clause-settled
