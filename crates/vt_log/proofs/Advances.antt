@@ -18,7 +18,7 @@ use Rattle.vt_log.specs.declared.bad.Progress.TheVariants.{Idle, Step, Durable}
 use Rattle.vt_log.specs.declared.bad.LogErr.{LogErr}
 use Rattle.vt_log.specs.declared.bad.LogErr.TheVariants.{Fault, Stopped}
 use Rattle.vt_log.specs.Answers.{Advances, MakesCall, EndsCommit, CallsArena}
-use Rattle.vt_log.specs.Committing.{TakesAll, Prepares, MakesOrEnds}
+use Rattle.vt_log.specs.Committing.{TakesAll, TakesStep, Prepares, MakesOrEnds, MakesOneCall}
 use Rattle.vt_log.specs.Faults.{CountsFaults, is_fault_now}
 use Rattle.vt_log.specs.declared.filling.Filling.{Filling}
 use Rattle.vt_log.specs.declared.queue.Waiting.{Waiting}
@@ -27,8 +27,8 @@ use Rattle.vt_log.specs.Queue.{WaitsFor}
 use Rattle.vt_log.specs.Sound.{AreWithinCall, StandForPrefix}
 use Rattle.vt_log.specs.Whole.{IsOnDisk, IsWhole, Fill, turned_to}
 use Rattle.vt_log.proofs.Disks.{tells_set}
-use Rattle.vt_log.proofs.Fillings.{fits_within, turned_arena, fill_arena}
-use Rattle.vt_log.proofs.Memory.{at_slice}
+use Rattle.vt_log.proofs.Fill.{fits_within, turned_arena, fill_arena}
+use Rattle.vt_log.proofs.Lists.{at_slice}
 use Rattle.vt_log.proofs.Owed.{none_made}
 
 makes_call : {D : Type 0} (old m new : LogState D) → Prepares old m → MakesCall m new → MakesCall old new
@@ -154,3 +154,64 @@ next_kept disk (Ok (Durable blocks)) old new n whole it layout filling =
 next_kept disk (Err Fault) old new n whole it layout filling =
     next_same old new n layout filling (ap (λ (found : List Found). slice_get found (old.filling.arena + 1)) it.0.heads)
 next_kept disk (Err (Stopped call)) old new n whole it layout filling = ap (λ (l : LogState _). next_filling l n) it.1
+
+-- ---- all that a call does, on any disks
+
+pub step_stopped : {D : Type 0} (disk : DiskOf D) (l : LogState D) (n : ℕ) → l.stopped ≡ Some n → TakesStep disk (Err (Stopped n)) l l
+step_stopped disk l n is = record {
+  advances = (is, refl);
+  stopped = λ k. (λ same. is ∙ cc, λ other. let both : Some n ≡ Some k = sym is ∙ other in cc);
+  idle = λ runs. absurd (let both : None ≡ Some n = sym runs ∙ is in cc);
+  kept = (refl, refl, refl, refl);
+  front_is = refl;
+  next = λ k. refl;
+  batch = λ runs. absurd (let both : None ≡ Some n = sym runs ∙ is in cc);
+  one_call = λ runs. absurd (let both : None ≡ Some n = sym runs ∙ is in cc);
+  cause = refl;
+}
+
+pub step_idle : {D : Type 0} (disk : DiskOf D) (l : LogState D) → IsWhole disk l → l.stopped ≡ None → queued l ≡ 0 → TakesStep disk (Ok Idle) l l
+step_idle disk l whole runs none = record {
+  advances = (none, refl);
+  stopped = λ k. (λ same. absurd (cc), λ is. absurd (let both : None ≡ Some k = sym runs ∙ is in cc));
+  idle = λ _ _. refl;
+  kept = (refl, refl, refl, refl);
+  front_is = refl;
+  next = λ k. refl;
+  batch = λ _ _. batch_of_none disk l whole none;
+  one_call = λ _ some. absurd (omega (arith, none, some));
+  cause = refl;
+}
+
+never_stopped : {D : Type 0} (result : Result Progress LogErr) (m new : LogState D) (n : ℕ) → MakesOrEnds result m new → result ≡ Err (Stopped n) → ⊥
+never_stopped (Ok progress) m new n makes is = cc
+never_stopped (Err Fault) m new n makes is = cc
+never_stopped (Err (Stopped k)) m new n makes is = makes
+
+pub step_made : {D : Type 0} (score_of : List ℕ → List ℕ) (disk : DiskOf D) (result : Result Progress LogErr) (old m new : LogState D) → IsWhole disk old → old.stopped ≡ None → 0 < queued old
+    → Prepares old m → MakesOneCall score_of disk m new result → TakesStep disk result old new
+step_made {D = D} score_of disk result old m new whole runs some prep made = record {
+  advances = moves;
+  stopped = λ n. (λ is. absurd (never_stopped result m new n made.makes is), λ is. absurd (let both : None ≡ Some n = sym runs ∙ is in cc));
+  idle = λ _ none. absurd (omega (arith, none, some));
+  kept = kept;
+  front_is = front_kept disk result old new whole moves;
+  next = λ n. next_kept disk result old new n whole moves kept.0 kept.3;
+  batch = λ _. batch_begins old m new prep made.batch;
+  one_call = λ _ _. called;
+  cause = cause_as_called disk result old new called;
+}
+  where
+    moves : Advances result old new
+    moves = advances old m new result prep made.makes made.last
+
+    called : CallsArena disk result old new
+    called = calls_as_prepared disk result old m new prep made.calls
+
+    kept : (new.layout ≡ old.layout) × (new.tables ≡ old.tables) × (new.base ≡ old.base) × (new.filling ≡ old.filling)
+    kept = (
+      made.kept.0 ∙ ap (λ (l : LogState D). l.layout) prep.same,
+      made.kept.1 ∙ ap (λ (l : LogState D). l.tables) prep.same,
+      made.kept.2 ∙ ap (λ (l : LogState D). l.base) prep.same,
+      made.kept.3 ∙ ap (λ (l : LogState D). l.filling) prep.same,
+    )

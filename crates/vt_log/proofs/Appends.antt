@@ -30,8 +30,8 @@ use Rattle.vt_log.specs.Logs.{accepted, IsUntouched}
 use Rattle.vt_log.specs.Queue.{WaitsFor, with_block, waiting_block, spot_of}
 use Rattle.vt_log.specs.Sound.{IsFilledBy, IsSound}
 use Rattle.vt_log.specs.Whole.{IsWhole, turned_to}
-use Rattle.vt_log.proofs.Memory.{slice_get_other, at_drop, slice_get_left, slice_get_right}
-use Rattle.vt_log.proofs.Fillings.{found_arena, fill_push, fill_arena}
+use Rattle.vt_log.proofs.Lists.{slice_get_other, at_drop, slice_get_left, slice_get_right}
+use Rattle.vt_log.proofs.Fill.{found_arena, fill_push, fill_arena}
 
 -- the log with one more block
 abbrev pub with_appended : {D : Type 0} → Packed → Place → Filling → LogState D → LogState D
@@ -147,70 +147,69 @@ fits_same l f lengths n filled =
     ap (λ (k : ℕ). nat_le k (slice_index (setup_of l).arenas f.arena - HEAD_LEN))
     (omega (arith, filled.used, filled.clumps, sum_by-append block_room lengths (n ∷ []), length-append lengths (n ∷ [])))
 
--- the next arena is untouched
-pub found_empty : {D : Type 0} (score_of : List ℕ → List ℕ) (disk : DiskOf D) (l : LogState D) (h : History) (i : ℕ)
-    → IsSound score_of disk l h → l.committing < i → IsFilledBy [] (found_filling l.heads i)
-found_empty score_of disk l h i sound behind = ⊎_elim
-    (λ (it : (x : Found) × (i < length l.heads) × (slice_get l.heads i ≡ Some x) × (get_or l.heads i x ≡ x)).
-    let r = slice_get_other l.layout l.heads i it.0 sound.whole.many it.2 in
-    let a = slice_get_other sound.contents l.layout i r.0 (sym sound.many) r.1 in
-    let untouched = at_drop IsUntouched (l.committing + 1) sound.contents i a.0 sound.split.behind (omega (arith, behind)) a.1 in
-    let head = sound.heads i r.0 it.0 a.0 r.1 it.2 a.1 in
-    let none : head_of score_of r.0.number a.0 ≡ head_of score_of r.0.number (record { sealed = a.0.sealed; stored = [] }) =
-    ap (λ (stored : List Stored). head_of score_of r.0.number (record { sealed = a.0.sealed; stored = stored })) untouched.1 in
-    record {
-      used = rw it.2 (ap (λ (it : ArenaHead). it.used) (head ∙ none));
-      clumps = rw it.2 (ap (λ (it : ArenaHead). it.clumps) (head ∙ none));
-    })
-    (λ (past : (length l.heads ≤ i) × (slice_get l.heads i ≡ None)). record { used = rw past.1; clumps = rw past.1 })
-    (slice_get_cases l.heads i).1
+-- ---- where disks are sound for a history
 
--- what fills the next arena is what the history has there
-pub next_filled : {D : Type 0} (score_of : List ℕ → List ℕ) (disk : DiskOf D) (l : LogState D) (h : History) (n : ℕ) (f : Filling)
-    → IsSound score_of disk l h → IsNextFilling l n f → IsFilledBy (lengths_in f.arena h) f
-next_filled score_of disk l h n f sound next = ⊎_elim
-    (λ (here : (fits_in l.layout l.filling n ≡ true) × (f ≡ l.filling)).
-    subst (λ (g : Filling). IsFilledBy (lengths_in g.arena h) g) (sym here.1) sound.filling)
-    (λ (there : (fits_in l.layout l.filling n ≡ false) × (f ≡ found_filling l.heads (l.filling.arena + 1))).
-    let arena : f.arena ≡ l.filling.arena + 1 = ap (λ (g : Filling). g.arena) there.1 ∙ found_arena l.heads (l.filling.arena + 1) in
-    let below = fill_arena l.layout l.heads _ l.filling l.queue.waiting sound.whole.queue in
-    let none : lengths_in f.arena h ≡ [] = lengths_none f.arena h (All-weaker (λ (e : Accepted). e.arena ≤ l.filling.arena) (λ (e : Accepted). e.arena < f.arena)
-    (λ e least. omega (arith, least, arena)) h sound.arenas) in
-    rw none (subst (IsFilledBy []) (sym there.1) (found_empty score_of disk l h (l.filling.arena + 1) sound (omega (arith, below.0)))))
-    next.which
+module _ {D : Type 0} (score_of : List ℕ → List ℕ) (disk : DiskOf D) (l : LogState D) (h : History) (sound : IsSound score_of disk l h) where
+  -- the next arena is untouched
+  pub found_empty : (i : ℕ) → l.committing < i → IsFilledBy [] (found_filling l.heads i)
+  found_empty i behind = ⊎_elim
+      (λ (it : (x : Found) × (i < length l.heads) × (slice_get l.heads i ≡ Some x) × (get_or l.heads i x ≡ x)).
+      let r = slice_get_other l.layout l.heads i it.0 sound.whole.many it.2 in
+      let a = slice_get_other sound.contents l.layout i r.0 (sym sound.many) r.1 in
+      let untouched = at_drop IsUntouched (l.committing + 1) sound.contents i a.0 sound.split.behind (omega (arith, behind)) a.1 in
+      let head = sound.heads i r.0 it.0 a.0 r.1 it.2 a.1 in
+      let none : head_of score_of r.0.number a.0 ≡ head_of score_of r.0.number (record { sealed = a.0.sealed; stored = [] }) =
+      ap (λ (stored : List Stored). head_of score_of r.0.number (record { sealed = a.0.sealed; stored = stored })) untouched.1 in
+      record {
+        used = rw it.2 (ap (λ (it : ArenaHead). it.used) (head ∙ none));
+        clumps = rw it.2 (ap (λ (it : ArenaHead). it.clumps) (head ∙ none));
+      })
+      (λ (past : (length l.heads ≤ i) × (slice_get l.heads i ≡ None)). record { used = rw past.1; clumps = rw past.1 })
+      (slice_get_cases l.heads i).1
 
--- the next arena of the model is the one that is found
-pub next_arena_is : {D : Type 0} (score_of : List ℕ → List ℕ) (disk : DiskOf D) (l : LogState D) (h : History) (n : ℕ)
-    → IsSound score_of disk l h → next_arena (setup_of l) h n ≡ option_map (λ f. f.arena) (next_filling l n)
-next_arena_is score_of disk l h n sound =
-    let a = l.filling.arena in
-    let next : Filling = found_filling l.heads (a + 1) in
-    let below = fill_arena l.layout l.heads _ l.filling l.queue.waiting sound.whole.queue in
-    let here = fits_same l l.filling (lengths_in a h) n sound.filling in
-    let there : fits_in l.layout next n ≡ fits (setup_of l) (a + 1) (n ∷ []) =
-    fits_same l next [] n (found_empty score_of disk l h (a + 1) sound (omega (arith, below.0)))
-    ∙ ap (λ (k : ℕ). fits (setup_of l) k (n ∷ [])) (found_arena l.heads (a + 1)) in
-    let start : next_arena (setup_of l) h n ≡ cond (fits (setup_of l) a (lengths_in a h ++ n ∷ [])) (Some a) (cond (fits (setup_of l) (a + 1) (n ∷ [])) (Some (a + 1)) None) =
-    ap (λ (k : ℕ). cond (fits (setup_of l) k (lengths_in k h ++ n ∷ [])) (Some k) (cond (fits (setup_of l) (k + 1) (n ∷ [])) (Some (k + 1)) None)) (sym sound.last) in
-    start
-    ∙ ap (λ (b : Bool). cond b (Some a) (cond (fits (setup_of l) (a + 1) (n ∷ [])) (Some (a + 1)) None)) (sym here)
-    ∙ ap (λ (b : Bool). cond (fits_in l.layout l.filling n) (Some a) (cond b (Some (a + 1)) None)) (sym there)
-    ∙ ap (λ (k : ℕ). cond (fits_in l.layout l.filling n) (Some a) (cond (fits_in l.layout next n) (Some k) None)) (sym (found_arena l.heads (a + 1)))
-    ∙ at (fits_in l.layout l.filling n) (fits_in l.layout next n) next
-  where
-    at : (b d : Bool) (next : Filling) → cond b (Some l.filling.arena) (cond d (Some next.arena) None) ≡ option_map (λ (f : Filling). f.arena) (cond b (Some l.filling) (cond d (Some next) None))
-    at true d next = refl
-    at false true next = refl
-    at false false next = refl
+  -- what fills the next arena is what the history has there
+  pub next_filled : (n : ℕ) (f : Filling) → IsNextFilling l n f → IsFilledBy (lengths_in f.arena h) f
+  next_filled n f next = ⊎_elim
+      (λ (here : (fits_in l.layout l.filling n ≡ true) × (f ≡ l.filling)).
+      subst (λ (g : Filling). IsFilledBy (lengths_in g.arena h) g) (sym here.1) sound.filling)
+      (λ (there : (fits_in l.layout l.filling n ≡ false) × (f ≡ found_filling l.heads (l.filling.arena + 1))).
+      let arena : f.arena ≡ l.filling.arena + 1 = ap (λ (g : Filling). g.arena) there.1 ∙ found_arena l.heads (l.filling.arena + 1) in
+      let below = fill_arena l.layout l.heads _ l.filling l.queue.waiting sound.whole.queue in
+      let none : lengths_in f.arena h ≡ [] = lengths_none f.arena h (All-weaker (λ (e : Accepted). e.arena ≤ l.filling.arena) (λ (e : Accepted). e.arena < f.arena)
+      (λ e least. omega (arith, least, arena)) h sound.arenas) in
+      rw none (subst (IsFilledBy []) (sym there.1) (found_empty (l.filling.arena + 1) (omega (arith, below.0)))))
+      next.which
 
-pub has_next_is : {D : Type 0} (score_of : List ℕ → List ℕ) (disk : DiskOf D) (l : LogState D) (h : History) (n : ℕ)
-    → IsSound score_of disk l h → has_next l n ≡ is_some (next_arena (setup_of l) h n)
-has_next_is score_of disk l h n sound =
-    at (next_filling l n) ∙ sym (ap (λ (o : Option ℕ). is_some o) (next_arena_is score_of disk l h n sound))
-  where
-    at : (o : Option Filling) → is_some o ≡ is_some (option_map (λ (f : Filling). f.arena) o)
-    at None = refl
-    at (Some f) = refl
+  -- the next arena of the model is the one that is found
+  pub next_arena_is : (n : ℕ) → next_arena (setup_of l) h n ≡ option_map (λ f. f.arena) (next_filling l n)
+  next_arena_is n =
+      let a = l.filling.arena in
+      let next : Filling = found_filling l.heads (a + 1) in
+      let below = fill_arena l.layout l.heads _ l.filling l.queue.waiting sound.whole.queue in
+      let here = fits_same l l.filling (lengths_in a h) n sound.filling in
+      let there : fits_in l.layout next n ≡ fits (setup_of l) (a + 1) (n ∷ []) =
+      fits_same l next [] n (found_empty (a + 1) (omega (arith, below.0)))
+      ∙ ap (λ (k : ℕ). fits (setup_of l) k (n ∷ [])) (found_arena l.heads (a + 1)) in
+      let start : next_arena (setup_of l) h n ≡ cond (fits (setup_of l) a (lengths_in a h ++ n ∷ [])) (Some a) (cond (fits (setup_of l) (a + 1) (n ∷ [])) (Some (a + 1)) None) =
+      ap (λ (k : ℕ). cond (fits (setup_of l) k (lengths_in k h ++ n ∷ [])) (Some k) (cond (fits (setup_of l) (k + 1) (n ∷ [])) (Some (k + 1)) None)) (sym sound.last) in
+      start
+      ∙ ap (λ (b : Bool). cond b (Some a) (cond (fits (setup_of l) (a + 1) (n ∷ [])) (Some (a + 1)) None)) (sym here)
+      ∙ ap (λ (b : Bool). cond (fits_in l.layout l.filling n) (Some a) (cond b (Some (a + 1)) None)) (sym there)
+      ∙ ap (λ (k : ℕ). cond (fits_in l.layout l.filling n) (Some a) (cond (fits_in l.layout next n) (Some k) None)) (sym (found_arena l.heads (a + 1)))
+      ∙ at (fits_in l.layout l.filling n) (fits_in l.layout next n) next
+    where
+      at : (b d : Bool) (next : Filling) → cond b (Some l.filling.arena) (cond d (Some next.arena) None) ≡ option_map (λ (f : Filling). f.arena) (cond b (Some l.filling) (cond d (Some next) None))
+      at true d next = refl
+      at false true next = refl
+      at false false next = refl
+
+  pub has_next_is : (n : ℕ) → has_next l n ≡ is_some (next_arena (setup_of l) h n)
+  has_next_is n =
+      at (next_filling l n) ∙ sym (ap (λ (o : Option ℕ). is_some o) (next_arena_is n))
+    where
+      at : (o : Option Filling) → is_some o ≡ is_some (option_map (λ (f : Filling). f.arena) o)
+      at None = refl
+      at (Some f) = refl
 
 -- the disks stay sound, for the history with the block
 pub append_sound : {D : Type 0} (score_of : List ℕ → List ℕ) (disk : DiskOf D) (l : LogState D) (h : History)
@@ -220,7 +219,7 @@ pub append_sound : {D : Type 0} (score_of : List ℕ → List ℕ) (disk : DiskO
     × (place_of (setup_of l) (h ++ accepted place.arena (stored_of packed) ∷ []) (length h) ≡ Some (spot_of place))
     × IsSound score_of disk (with_appended packed place f l) (h ++ accepted place.arena (stored_of packed) ∷ [])
 append_sound score_of disk l h packed place f well sound room is place_is = (
-  next_arena_is score_of disk l h packed.len sound ∙ ap (λ (o : Option Filling). option_map (λ (f : Filling). f.arena) o) is,
+  next_arena_is score_of disk l h sound packed.len ∙ ap (λ (o : Option Filling). option_map (λ (f : Filling). f.arena) o) is,
   stands,
   record {
     whole = append_whole disk l packed place f sound.whole room is arena;
@@ -264,7 +263,7 @@ append_sound score_of disk l h packed place f well sound room is place_is = (
     inside = omega (arith, sound.front)
 
     fills : IsFilledBy (lengths_in f.arena h) f
-    fills = next_filled score_of disk l h packed.len f sound next
+    fills = next_filled score_of disk l h sound packed.len f next
 
     stands : place_of (setup_of l) (h ++ e ∷ []) (length h) ≡ Some (spot_of place)
     stands = place_of-push (setup_of l) h e

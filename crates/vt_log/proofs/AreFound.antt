@@ -31,15 +31,7 @@ use Rattle.vt_log.specs.Log.{disks_of}
 use Rattle.vt_log.specs.Mounting.{IsTold, IsEarly, AreSettled, StopsSyncing, AreRead, AreFieldsAt, FindsNext, refused_by, IsFound, AreFound, RefusesArenas, ArePassed, IsRoomFor}
 use Rattle.vt_log.specs.Whole.{IsOnDisk}
 use Rattle.vt_log.proofs.Disks.{parts_disks, parts_tables, calls_set, hold_set, tells_as, tells_set}
-use Rattle.vt_log.proofs.Memory.{slice_get_other, at_slice, slice_get_left, slice_get_right, slice_get_set_same, slice_get_set_other}
-
--- lists of one image have one length, and one image of the elements at a place
-pub map_long : {X Y : Type 0} (f : X → Y) (xs ys : List X) → map f ys ≡ map f xs → length ys ≡ length xs
-map_long {Y = Y} f xs ys same = sym (length-map ys f) ∙ ap (λ (zs : List Y). length zs) same ∙ length-map xs f
-
-pub map_there : {X Y : Type 0} (f : X → Y) (xs ys : List X) (i : ℕ) (x y : X) → map f ys ≡ map f xs → slice_get xs i ≡ Some x → slice_get ys i ≡ Some y → f y ≡ f x
-map_there {Y = Y} f xs ys i x y same at_x at_y =
-    same_Some (f y) (f x) (sym (slice_get-map f ys i ∙ ap (option_map f) at_y) ∙ ap (λ (zs : List Y). slice_get zs i) same ∙ slice_get-map f xs i ∙ ap (option_map f) at_x)
+use Rattle.vt_log.proofs.Lists.{map_long, map_there, slice_get_other, at_slice, slice_get_left, slice_get_right, slice_get_set_same, slice_get_set_other}
 
 pub on_ok : {T E P : Type 0} (r : Result T E) → P → OnOk r P
 on_ok (Ok t) p = p

@@ -13,7 +13,7 @@ use Rattle.vt_part.specs.declared.part.Part.{Part}
 use Rattle.vt_part.specs.Parts.{disk_of, table_of, tables_of}
 use Rattle.vt_log.specs.Answers.{Spares, HoldTheSame}
 use Rattle.vt_log.specs.Faults.{OneHasRisen}
-use Rattle.vt_log.proofs.Memory.{slice_get_set_same, slice_get_set_other}
+use Rattle.vt_log.proofs.Lists.{slice_get_set_same, slice_get_set_other}
 
 -- what stays of the elements stays of the list
 pub map_same : {X Y : Type 0} (f : X → Y) (xs : List X) (i : ℕ) (x y : X) → slice_get xs i ≡ Some x → f y ≡ f x → map f (set xs i y) ≡ map f xs

@@ -34,11 +34,11 @@ use Rattle.vt_log.specs.Logs.{accepted, blocks_from, IsUntouched}
 use Rattle.vt_log.specs.Queue.{WaitsFor, waiting_block, spot_of}
 use Rattle.vt_log.specs.Sound.{IsAt, IsSound}
 use Rattle.vt_log.specs.Whole.{IsOnDisk, IsWhole, Fill, turned_to}
-use Rattle.vt_log.proofs.Calls.{ChangesRegion, on_disk_set, others_stay, at_before}
-use Rattle.vt_log.proofs.Contents.{blocks_set, split_set, split_sealed, longer_prefix}
-use Rattle.vt_log.proofs.Fillings.{fits_within, turned_arena}
-use Rattle.vt_log.proofs.Images.{number_is}
-use Rattle.vt_log.proofs.Memory.{at_slice, at_drop, slice_get_set_same, slice_get_set_other, slice_get_drop}
+use Rattle.vt_log.proofs.CallsArena.{ChangesRegion, on_disk_set, others_stay, at_before}
+use Rattle.vt_log.proofs.IsSplit.{blocks_set, split_set, split_sealed, longer_prefix}
+use Rattle.vt_log.proofs.Fill.{fits_within, turned_arena}
+use Rattle.vt_log.proofs.StandForPrefix.{number_is}
+use Rattle.vt_log.proofs.Lists.{at_slice, at_drop, slice_get_set_same, slice_get_set_other, slice_get_drop}
 use Rattle.vt_log.proofs.Stages.{turned_same}
 
 -- what the last call leaves of an arena
@@ -214,91 +214,11 @@ committed_next score_of disk l h a sound is = (
     inside : l.durable ≤ length h
     inside = omega (arith, sound.front)
 
--- an arena that isn't committed in stays what it is
-pub kept_others : {D : Type 0} (score_of : List ℕ → List ℕ) (disk : DiskOf D) (l k : LogState D) (h : History)
-    (r : ArenaRegion) (found : Found) (d e : D) (b : ArenaState) (next : Content) → (sound : IsSound score_of disk l h)
-    → IsEnding score_of disk l r found d e b → k.layout ≡ l.layout → k.disks ≡ set l.disks r.part e
-    → (i : ℕ) (q : ArenaRegion) (device : D) (c : Content) → i ≢ l.committing → IsAt k i q device → slice_get (set sound.contents l.committing next) i ≡ Some c
-    → IsSettled q.region (disk.bytes device) (disk.images device) × IsArena score_of q.region q.number c (disk.bytes device)
-kept_others score_of disk l k h r found d e b next sound ending layout disks i q device c not_this there_at content =
-    let was = at_before l k i q device r.part e layout disks there_at in
-    let rest = sound.others i q was.0 c not_this was.1 (sym (slice_get_set_other sound.contents l.committing i next not_this) ∙ content) in
-    let stay = others_stay score_of disk l r d e sound.whole ending.at ending.changes i q was.0 device not_this was.1 was.2 in
-    (stay.settled rest.0, stay.arena q.number c rest.1)
-
--- the heads are those of what is committed
-pub kept_heads : {D : Type 0} (score_of : List ℕ → List ℕ) (disk : DiskOf D) (l : LogState D) (h : History)
-    (r : ArenaRegion) (found : Found) (d e : D) (b : ArenaState) (next : Content) → (sound : IsSound score_of disk l h)
-    → IsEnding score_of disk l r found d e b → l.committing < length sound.contents → b.head ≡ head_of score_of b.number next
-    → (i : ℕ) (q : ArenaRegion) (f : Found) (c : Content) → slice_get l.layout i ≡ Some q → slice_get (set l.heads l.committing (record found { head = b.head })) i ≡ Some f
-    → slice_get (set sound.contents l.committing next) i ≡ Some c → f.head ≡ head_of score_of q.number c
-kept_heads score_of disk l h r found d e b next sound ending within head i q f c q_at f_at c_at = ⊎_elim
-    (λ (is : i ≡ l.committing).
-    let q_is : r ≡ q = same_Some r q (sym ending.at.arena ∙ sym (ap (slice_get l.layout) is) ∙ q_at) in
-    let f_is : record found { head = b.head } ≡ f = same_Some _ f (sym (slice_get_set_same l.heads l.committing (record found { head = b.head }) (slice_get_within l.heads l.committing found ending.has))
-    ∙ sym (ap (slice_get (set l.heads l.committing (record found { head = b.head }))) is) ∙ f_at) in
-    let c_is : next ≡ c = same_Some next c (sym (slice_get_set_same sound.contents l.committing next within) ∙ sym (ap (slice_get (set sound.contents l.committing next)) is) ∙ c_at) in
-    let number : b.number ≡ q.number = ending.ends.number ∙ number_is disk l r sound.whole ending.at.arena ∙ ap (λ (x : ArenaRegion). x.number) q_is in
-    ap (λ (x : Found). x.head) (sym f_is) ∙ head ∙ ap (λ (n : ℕ). head_of score_of n next) number ∙ ap (head_of score_of q.number) c_is)
-    (λ (not_this : i ≢ l.committing). sound.heads i q f c q_at (sym (slice_get_set_other l.heads l.committing i (record found { head = b.head }) not_this) ∙ f_at)
-    (sym (slice_get_set_other sound.contents l.committing i next not_this) ∙ c_at))
-    (cases_eq i l.committing)
-
-pub kept_selectors : {D : Type 0} (score_of : List ℕ → List ℕ) (disk : DiskOf D) (l k : LogState D) (h : History)
-    (r : ArenaRegion) (found : Found) (d e : D) (b : ArenaState) → (sound : IsSound score_of disk l h)
-    → IsEnding score_of disk l r found d e b → k.layout ≡ l.layout → k.disks ≡ set l.disks r.part e
-    → (i : ℕ) (q : ArenaRegion) (device : D) (f : Found) → l.committing < i → IsAt k i q device → slice_get (set l.heads l.committing (record found { head = b.head })) i ≡ Some f
-    → f.selector % 2 ≡ named_number q.region FRAME_LEN (disk.bytes device)
-kept_selectors score_of disk l k h r found d e b sound ending layout disks i q device f behind there_at f_at =
-    let not_this : i ≢ l.committing = λ same. omega (arith, behind, same) in
-    let was = at_before l k i q device r.part e layout disks there_at in
-    let stay = others_stay score_of disk l r d e sound.whole ending.at ending.changes i q was.0 device not_this was.1 was.2 in
-    sound.selectors i q was.0 f behind was.1 (sym (slice_get_set_other l.heads l.committing i (record found { head = b.head }) not_this) ∙ f_at) ∙ sym stay.selector
-
 kept_places : {D : Type 0} (score_of : List ℕ → List ℕ) (disk : DiskOf D) (l : LogState D) (h : History) → IsSound score_of disk l h
     → (i : ℕ) (place : Place) → slice_get (drop (length l.arena.staged) l.queue.places) i ≡ Some place → place_of (setup_of l) h (l.durable + length l.arena.staged + i) ≡ Some (spot_of place)
 kept_places score_of disk l h sound i place is =
     ap (place_of (setup_of l) h) (let z : l.durable + length l.arena.staged + i ≡ l.durable + (length l.arena.staged + i) = omega arith in z)
     ∙ sound.places (length l.arena.staged + i) place (sym (slice_get_drop (length l.arena.staged) i l.queue.places) ∙ is)
-
--- the disks stay sound by the last call, where it doesn't seal
-pub ended_sound : {D : Type 0} (score_of : List ℕ → List ℕ) (disk : DiskOf D) (l : LogState D) (h : History)
-    (r : ArenaRegion) (found : Found) (d e : D) (b : ArenaState) (calls : ℕ) (a : Content) → (sound : IsSound score_of disk l h)
-    → IsEnding score_of disk l r found d e b → l.arena.next.sealed ≡ false → slice_get sound.contents l.committing ≡ Some a
-    → IsSoundArena score_of b r.region (next_content l.arena a) (disk.bytes e) (disk.images e) → IsSound score_of disk (ended l r.part e found b calls) h
-ended_sound {D = D} score_of disk l h r found d e b calls a sound ending unsealed content stays = record {
-  whole = ended_whole disk l r found d e b calls sound.whole ending.ends unsealed ending.at.arena ending.has ending.fit ending.at.disk_is ending.changes.size_is;
-  contents = set sound.contents l.committing next;
-  many = length-set sound.contents l.committing next ∙ sound.many;
-  split = split_set l.committing sound.contents next within sound.split unsealed;
-  current = λ q device c there_at c_at.
-      let r_is : r ≡ q = same_Some r q (sym ending.at.arena ∙ there_at.arena) in
-      let part : q.part ≡ r.part = ap (λ (x : ArenaRegion). x.part) (sym r_is) in
-      let disk_is : e ≡ device = same_Some e device (sym (slice_get_set_same l.disks r.part e (slice_get_within l.disks r.part d ending.at.disk_is)) ∙ sym (ap (slice_get (set l.disks r.part e)) part) ∙ there_at.disk_is) in
-      let c_is : next ≡ c = same_Some next c (sym (slice_get_set_same sound.contents l.committing next within) ∙ c_at) in
-      subst (λ (x : Content). IsSoundArena score_of b q.region x (disk.bytes device) (disk.images device)) c_is
-      (subst (λ (x : ArenaRegion). IsSoundArena score_of b x.region next (disk.bytes device) (disk.images device)) r_is (subst (λ (x : D). IsSoundArena score_of b r.region next (disk.bytes x) (disk.images x)) disk_is stays));
-  others = λ i q device c not_this there_at c_at. kept_others score_of disk l _ h r found d e b next sound ending refl refl i q device c not_this there_at c_at;
-  heads = kept_heads score_of disk l h r found d e b next sound ending within stays.head;
-  selectors = λ i q device f behind there_at f_at. kept_selectors score_of disk l _ h r found d e b sound ending refl refl i q device f behind there_at f_at;
-  committed = blocks.0;
-  queued = blocks.1 ∙ sym (ap (λ (ps : List Packed). map (accepted l.committing) (map stored_of ps) ++ map waiting_block l.queue.waiting) ending.ends.staged);
-  front = omega (arith, sound.front, sound.whole.places, length-drop (length l.arena.staged) l.queue.places);
-  packed = sound.packed;
-  places = kept_places score_of disk l h sound;
-  filling = sound.filling;
-  last = sound.last;
-  arenas = sound.arenas;
-}
-  where
-    next : Content
-    next = next_content l.arena a
-
-    within : l.committing < length sound.contents
-    within = slice_get_within sound.contents l.committing a content
-
-    blocks : (take (l.durable + length l.arena.staged) h ≡ blocks_from 0 (set sound.contents l.committing next)) × (drop (l.durable + length l.arena.staged) h ≡ map waiting_block l.queue.waiting) × (l.durable + length l.arena.staged ≤ length h)
-    blocks = committed_next score_of disk l h a sound content
 
 -- the log after the last call, where the arena is sealed: the next one is committed in
 abbrev pub turned : {D : Type 0} → LogState D → (part : ℕ) → (e : D) → (found : Found) → (b : ArenaState) → (calls len : ℕ) → (next : Found) → LogState D
@@ -379,79 +299,153 @@ turned_whole disk l r q found next d e b calls len whole ends sealed here has fi
     new_head : slice_get (set l.heads l.committing (record found { head = b.head })) l.committing ≡ Some (record found { head = b.head })
     new_head = slice_get_set_same l.heads l.committing (record found { head = b.head }) (slice_get_within l.heads l.committing found has)
 
--- and the disks sound
-pub turned_sound : {D : Type 0} (score_of : List ℕ → List ℕ) (disk : DiskOf D) (l : LogState D) (h : History)
-    (r q : ArenaRegion) (found next_found : Found) (d e : D) (b : ArenaState) (calls len : ℕ) (a : Content) → (sound : IsSound score_of disk l h)
-    → IsEnding score_of disk l r found d e b → l.arena.next.sealed ≡ true → slice_get sound.contents l.committing ≡ Some a
-    → slice_get l.layout (l.committing + 1) ≡ Some q → slice_get l.heads (l.committing + 1) ≡ Some next_found → len ≡ q.region.len
-    → CommitsIn score_of disk b r.region (next_content l.arena a) e → IsSound score_of disk (turned l r.part e found b calls len next_found) h
-turned_sound {D = D} score_of disk l h r q found next_found d e b calls len a sound ending sealed content next_here next_has len_is commits = record {
-  whole = whole;
-  contents = cs;
-  many = length-set sound.contents l.committing next ∙ sound.many;
-  split = split_sealed l.committing sound.contents next within sound.split sealed;
-  current = λ s device c there_at c_at.
-      let s_is : q ≡ s = same_Some q s (sym next_here ∙ there_at.arena) in
-      let not_this : l.committing + 1 ≢ l.committing = λ same. omega (arith, same) in
-      let rests = kept_others score_of disk l k h r found d e b next sound ending refl refl (l.committing + 1) s device c not_this (record { arena = there_at.arena; disk_is = there_at.disk_is }) c_at in
-      let selector = kept_selectors score_of disk l k h r found d e b sound ending refl refl (l.committing + 1) s device next_found (omega arith) (record { arena = there_at.arena; disk_is = there_at.disk_is }) later_next in
-      let head : next_found.head ≡ head_of score_of s.number c = kept_heads score_of disk l h r found d e b next sound ending within commits.sound.head (l.committing + 1) s next_found c there_at.arena later_next c_at in
-      let untouched = at_drop IsUntouched (l.committing + 1) sound.contents (l.committing + 1) c sound.split.behind (omega arith) (sym (slice_get_set_other sound.contents l.committing (l.committing + 1) next not_this) ∙ c_at) in
-      let empty_head : next_found.head ≡ head_of score_of s.number (record { sealed = c.sealed; stored = [] }) =
-      head ∙ ap (λ (stored : List Stored). head_of score_of s.number (record { sealed = c.sealed; stored = stored })) untouched.1 in
-      let on = at_slice (IsOnDisk disk (set l.disks r.part e)) l.layout (l.committing + 1) s whole.regions there_at.arena in
-      let disk_is : on.device ≡ device = same_Some on.device device (sym on.has ∙ there_at.disk_is) in
-      let stand : CanStand s.number s.region.len next_found.head = record {
-        version = ap (λ (h : ArenaHead). h.version) empty_head;
-        number_is = ap (λ (h : ArenaHead). h.number) empty_head;
-        chain = ap (λ (h : ArenaHead). length h.chain.0) empty_head;
-        fit = omega (arith, (sound.whole.heads (l.committing + 1) q next_found next_here next_has).fit, ap (λ (x : ArenaRegion). x.region.len) s_is);
-      } in
-      subst (λ (n : ℕ). IsSoundArena score_of (fresh_arena n (next_found.selector % 2) next_found.head) s.region c (disk.bytes device) (disk.images device))
-      (sym (ap (λ (x : ArenaRegion). x.region.len) s_is) ∙ sym len_is)
-      (fresh_sound score_of s.region (disk.size device) s.number (next_found.selector % 2) c next_found.head (disk.bytes device) (disk.images device)
-      (subst (λ (x : D). IsRegion s.region (disk.size x)) disk_is on.region) rests.0 rests.1 selector head stand);
-  others = λ i s device c not_next there_at c_at. ⊎_elim
+-- ---- the disks after the last call
+
+module _ {D : Type 0} (score_of : List ℕ → List ℕ) (disk : DiskOf D) (l : LogState D) (h : History) (r : ArenaRegion) (found : Found) (d e : D) (b : ArenaState)
+    (sound : IsSound score_of disk l h) (ending : IsEnding score_of disk l r found d e b) where
+  -- an arena that isn't committed in stays what it is
+  pub kept_others : (k : LogState D) (next : Content) → k.layout ≡ l.layout → k.disks ≡ set l.disks r.part e
+      → (i : ℕ) (q : ArenaRegion) (device : D) (c : Content) → i ≢ l.committing → IsAt k i q device → slice_get (set sound.contents l.committing next) i ≡ Some c
+      → IsSettled q.region (disk.bytes device) (disk.images device) × IsArena score_of q.region q.number c (disk.bytes device)
+  kept_others k next layout disks i q device c not_this there_at content =
+      let was = at_before l k i q device r.part e layout disks there_at in
+      let rest = sound.others i q was.0 c not_this was.1 (sym (slice_get_set_other sound.contents l.committing i next not_this) ∙ content) in
+      let stay = others_stay score_of disk l r d e ending.at ending.changes sound.whole i q was.0 device not_this was.1 was.2 in
+      (stay.settled rest.0, stay.arena q.number c rest.1)
+
+  -- the heads are those of what is committed
+  pub kept_heads : (next : Content) → l.committing < length sound.contents → b.head ≡ head_of score_of b.number next
+      → (i : ℕ) (q : ArenaRegion) (f : Found) (c : Content) → slice_get l.layout i ≡ Some q → slice_get (set l.heads l.committing (record found { head = b.head })) i ≡ Some f
+      → slice_get (set sound.contents l.committing next) i ≡ Some c → f.head ≡ head_of score_of q.number c
+  kept_heads next within head i q f c q_at f_at c_at = ⊎_elim
       (λ (is : i ≡ l.committing).
-      let r_is : r ≡ s = same_Some r s (sym ending.at.arena ∙ sym (ap (slice_get l.layout) is) ∙ there_at.arena) in
-      let part : s.part ≡ r.part = ap (λ (x : ArenaRegion). x.part) (sym r_is) in
-      let disk_is : e ≡ device = same_Some e device (sym (slice_get_set_same l.disks r.part e (slice_get_within l.disks r.part d ending.at.disk_is)) ∙ sym (ap (slice_get (set l.disks r.part e)) part) ∙ there_at.disk_is) in
-      let c_is : next ≡ c = same_Some next c (sym (slice_get_set_same sound.contents l.committing next within) ∙ sym (ap (slice_get cs) is) ∙ c_at) in
-      let number : b.number ≡ s.number = ending.ends.number ∙ number_is disk l r sound.whole ending.at.arena ∙ ap (λ (x : ArenaRegion). x.number) r_is in
-      subst (λ (x : ArenaRegion). IsSettled x.region (disk.bytes device) (disk.images device) × IsArena score_of x.region s.number c (disk.bytes device)) r_is
-      (subst (λ (x : D). IsSettled r.region (disk.bytes x) (disk.images x) × IsArena score_of r.region s.number c (disk.bytes x)) disk_is
-      (commits.settled, subst (λ (n : ℕ). IsArena score_of r.region n c (disk.bytes e)) number (subst (λ (x : Content). IsArena score_of r.region b.number x (disk.bytes e)) c_is commits.arena))))
-      (λ (not_this : i ≢ l.committing). kept_others score_of disk l k h r found d e b next sound ending refl refl i s device c not_this there_at c_at)
-      (cases_eq i l.committing);
-  heads = kept_heads score_of disk l h r found d e b next sound ending within commits.sound.head;
-  selectors = λ i s device f behind there_at f_at. kept_selectors score_of disk l k h r found d e b sound ending refl refl i s device f (omega (arith, behind)) there_at f_at;
-  committed = blocks.0;
-  queued = blocks.1;
-  front = omega (arith, sound.front, sound.whole.places, length-drop (length l.arena.staged) l.queue.places);
-  packed = sound.packed;
-  places = kept_places score_of disk l h sound;
-  filling = sound.filling;
-  last = sound.last;
-  arenas = sound.arenas;
-}
-  where
-    k : LogState D
-    k = turned l r.part e found b calls len next_found
+      let q_is : r ≡ q = same_Some r q (sym ending.at.arena ∙ sym (ap (slice_get l.layout) is) ∙ q_at) in
+      let f_is : record found { head = b.head } ≡ f = same_Some _ f (sym (slice_get_set_same l.heads l.committing (record found { head = b.head }) (slice_get_within l.heads l.committing found ending.has))
+      ∙ sym (ap (slice_get (set l.heads l.committing (record found { head = b.head }))) is) ∙ f_at) in
+      let c_is : next ≡ c = same_Some next c (sym (slice_get_set_same sound.contents l.committing next within) ∙ sym (ap (slice_get (set sound.contents l.committing next)) is) ∙ c_at) in
+      let number : b.number ≡ q.number = ending.ends.number ∙ number_is disk l r sound.whole ending.at.arena ∙ ap (λ (x : ArenaRegion). x.number) q_is in
+      ap (λ (x : Found). x.head) (sym f_is) ∙ head ∙ ap (λ (n : ℕ). head_of score_of n next) number ∙ ap (head_of score_of q.number) c_is)
+      (λ (not_this : i ≢ l.committing). sound.heads i q f c q_at (sym (slice_get_set_other l.heads l.committing i (record found { head = b.head }) not_this) ∙ f_at)
+      (sym (slice_get_set_other sound.contents l.committing i next not_this) ∙ c_at))
+      (cases_eq i l.committing)
 
-    next : Content
-    next = next_content l.arena a
+  pub kept_selectors : (k : LogState D) → k.layout ≡ l.layout → k.disks ≡ set l.disks r.part e
+      → (i : ℕ) (q : ArenaRegion) (device : D) (f : Found) → l.committing < i → IsAt k i q device → slice_get (set l.heads l.committing (record found { head = b.head })) i ≡ Some f
+      → f.selector % 2 ≡ named_number q.region FRAME_LEN (disk.bytes device)
+  kept_selectors k layout disks i q device f behind there_at f_at =
+      let not_this : i ≢ l.committing = λ same. omega (arith, behind, same) in
+      let was = at_before l k i q device r.part e layout disks there_at in
+      let stay = others_stay score_of disk l r d e ending.at ending.changes sound.whole i q was.0 device not_this was.1 was.2 in
+      sound.selectors i q was.0 f behind was.1 (sym (slice_get_set_other l.heads l.committing i (record found { head = b.head }) not_this) ∙ f_at) ∙ sym stay.selector
 
-    cs : List Content
-    cs = set sound.contents l.committing next
+  -- the disks stay sound by the last call, where it doesn't seal
+  pub ended_sound : (calls : ℕ) (a : Content) → l.arena.next.sealed ≡ false → slice_get sound.contents l.committing ≡ Some a
+      → IsSoundArena score_of b r.region (next_content l.arena a) (disk.bytes e) (disk.images e) → IsSound score_of disk (ended l r.part e found b calls) h
+  ended_sound calls a unsealed content stays = record {
+    whole = ended_whole disk l r found d e b calls sound.whole ending.ends unsealed ending.at.arena ending.has ending.fit ending.at.disk_is ending.changes.size_is;
+    contents = set sound.contents l.committing next;
+    many = length-set sound.contents l.committing next ∙ sound.many;
+    split = split_set l.committing sound.contents next within sound.split unsealed;
+    current = λ q device c there_at c_at.
+        let r_is : r ≡ q = same_Some r q (sym ending.at.arena ∙ there_at.arena) in
+        let part : q.part ≡ r.part = ap (λ (x : ArenaRegion). x.part) (sym r_is) in
+        let disk_is : e ≡ device = same_Some e device (sym (slice_get_set_same l.disks r.part e (slice_get_within l.disks r.part d ending.at.disk_is)) ∙ sym (ap (slice_get (set l.disks r.part e)) part) ∙ there_at.disk_is) in
+        let c_is : next ≡ c = same_Some next c (sym (slice_get_set_same sound.contents l.committing next within) ∙ c_at) in
+        subst (λ (x : Content). IsSoundArena score_of b q.region x (disk.bytes device) (disk.images device)) c_is
+        (subst (λ (x : ArenaRegion). IsSoundArena score_of b x.region next (disk.bytes device) (disk.images device)) r_is (subst (λ (x : D). IsSoundArena score_of b r.region next (disk.bytes x) (disk.images x)) disk_is stays));
+    others = λ i q device c not_this there_at c_at. kept_others _ next refl refl i q device c not_this there_at c_at;
+    heads = kept_heads next within stays.head;
+    selectors = λ i q device f behind there_at f_at. kept_selectors _ refl refl i q device f behind there_at f_at;
+    committed = blocks.0;
+    queued = blocks.1 ∙ sym (ap (λ (ps : List Packed). map (accepted l.committing) (map stored_of ps) ++ map waiting_block l.queue.waiting) ending.ends.staged);
+    front = omega (arith, sound.front, sound.whole.places, length-drop (length l.arena.staged) l.queue.places);
+    packed = sound.packed;
+    places = kept_places score_of disk l h sound;
+    filling = sound.filling;
+    last = sound.last;
+    arenas = sound.arenas;
+  }
+    where
+      next : Content
+      next = next_content l.arena a
 
-    whole : IsWhole disk k
-    whole = turned_whole disk l r q found next_found d e b calls len sound.whole ending.ends sealed ending.at.arena ending.has ending.fit ending.at.disk_is ending.changes.size_is next_here next_has len_is
+      within : l.committing < length sound.contents
+      within = slice_get_within sound.contents l.committing a content
 
-    within : l.committing < length sound.contents
-    within = slice_get_within sound.contents l.committing a content
+      blocks : (take (l.durable + length l.arena.staged) h ≡ blocks_from 0 (set sound.contents l.committing next)) × (drop (l.durable + length l.arena.staged) h ≡ map waiting_block l.queue.waiting) × (l.durable + length l.arena.staged ≤ length h)
+      blocks = committed_next score_of disk l h a sound content
 
-    later_next : slice_get (set l.heads l.committing (record found { head = b.head })) (l.committing + 1) ≡ Some next_found
-    later_next = slice_get_set_other l.heads l.committing (l.committing + 1) (record found { head = b.head }) (λ same. omega (arith, same)) ∙ next_has
+  -- and the disks sound
+  pub turned_sound : (q : ArenaRegion) (next_found : Found) (calls len : ℕ) (a : Content) → l.arena.next.sealed ≡ true → slice_get sound.contents l.committing ≡ Some a
+      → slice_get l.layout (l.committing + 1) ≡ Some q → slice_get l.heads (l.committing + 1) ≡ Some next_found → len ≡ q.region.len
+      → CommitsIn score_of disk b r.region (next_content l.arena a) e → IsSound score_of disk (turned l r.part e found b calls len next_found) h
+  turned_sound q next_found calls len a sealed content next_here next_has len_is commits = record {
+    whole = whole;
+    contents = cs;
+    many = length-set sound.contents l.committing next ∙ sound.many;
+    split = split_sealed l.committing sound.contents next within sound.split sealed;
+    current = λ s device c there_at c_at.
+        let s_is : q ≡ s = same_Some q s (sym next_here ∙ there_at.arena) in
+        let not_this : l.committing + 1 ≢ l.committing = λ same. omega (arith, same) in
+        let rests = kept_others k next refl refl (l.committing + 1) s device c not_this (record { arena = there_at.arena; disk_is = there_at.disk_is }) c_at in
+        let selector = kept_selectors k refl refl (l.committing + 1) s device next_found (omega arith) (record { arena = there_at.arena; disk_is = there_at.disk_is }) later_next in
+        let head : next_found.head ≡ head_of score_of s.number c = kept_heads next within commits.sound.head (l.committing + 1) s next_found c there_at.arena later_next c_at in
+        let untouched = at_drop IsUntouched (l.committing + 1) sound.contents (l.committing + 1) c sound.split.behind (omega arith) (sym (slice_get_set_other sound.contents l.committing (l.committing + 1) next not_this) ∙ c_at) in
+        let empty_head : next_found.head ≡ head_of score_of s.number (record { sealed = c.sealed; stored = [] }) =
+        head ∙ ap (λ (stored : List Stored). head_of score_of s.number (record { sealed = c.sealed; stored = stored })) untouched.1 in
+        let on = at_slice (IsOnDisk disk (set l.disks r.part e)) l.layout (l.committing + 1) s whole.regions there_at.arena in
+        let disk_is : on.device ≡ device = same_Some on.device device (sym on.has ∙ there_at.disk_is) in
+        let stand : CanStand s.number s.region.len next_found.head = record {
+          version = ap (λ (h : ArenaHead). h.version) empty_head;
+          number_is = ap (λ (h : ArenaHead). h.number) empty_head;
+          chain = ap (λ (h : ArenaHead). length h.chain.0) empty_head;
+          fit = omega (arith, (sound.whole.heads (l.committing + 1) q next_found next_here next_has).fit, ap (λ (x : ArenaRegion). x.region.len) s_is);
+        } in
+        subst (λ (n : ℕ). IsSoundArena score_of (fresh_arena n (next_found.selector % 2) next_found.head) s.region c (disk.bytes device) (disk.images device))
+        (sym (ap (λ (x : ArenaRegion). x.region.len) s_is) ∙ sym len_is)
+        (fresh_sound score_of s.region (disk.size device) s.number (next_found.selector % 2) c next_found.head (disk.bytes device) (disk.images device)
+        (subst (λ (x : D). IsRegion s.region (disk.size x)) disk_is on.region) rests.0 rests.1 selector head stand);
+    others = λ i s device c not_next there_at c_at. ⊎_elim
+        (λ (is : i ≡ l.committing).
+        let r_is : r ≡ s = same_Some r s (sym ending.at.arena ∙ sym (ap (slice_get l.layout) is) ∙ there_at.arena) in
+        let part : s.part ≡ r.part = ap (λ (x : ArenaRegion). x.part) (sym r_is) in
+        let disk_is : e ≡ device = same_Some e device (sym (slice_get_set_same l.disks r.part e (slice_get_within l.disks r.part d ending.at.disk_is)) ∙ sym (ap (slice_get (set l.disks r.part e)) part) ∙ there_at.disk_is) in
+        let c_is : next ≡ c = same_Some next c (sym (slice_get_set_same sound.contents l.committing next within) ∙ sym (ap (slice_get cs) is) ∙ c_at) in
+        let number : b.number ≡ s.number = ending.ends.number ∙ number_is disk l r sound.whole ending.at.arena ∙ ap (λ (x : ArenaRegion). x.number) r_is in
+        subst (λ (x : ArenaRegion). IsSettled x.region (disk.bytes device) (disk.images device) × IsArena score_of x.region s.number c (disk.bytes device)) r_is
+        (subst (λ (x : D). IsSettled r.region (disk.bytes x) (disk.images x) × IsArena score_of r.region s.number c (disk.bytes x)) disk_is
+        (commits.settled, subst (λ (n : ℕ). IsArena score_of r.region n c (disk.bytes e)) number (subst (λ (x : Content). IsArena score_of r.region b.number x (disk.bytes e)) c_is commits.arena))))
+        (λ (not_this : i ≢ l.committing). kept_others k next refl refl i s device c not_this there_at c_at)
+        (cases_eq i l.committing);
+    heads = kept_heads next within commits.sound.head;
+    selectors = λ i s device f behind there_at f_at. kept_selectors k refl refl i s device f (omega (arith, behind)) there_at f_at;
+    committed = blocks.0;
+    queued = blocks.1;
+    front = omega (arith, sound.front, sound.whole.places, length-drop (length l.arena.staged) l.queue.places);
+    packed = sound.packed;
+    places = kept_places score_of disk l h sound;
+    filling = sound.filling;
+    last = sound.last;
+    arenas = sound.arenas;
+  }
+    where
+      k : LogState D
+      k = turned l r.part e found b calls len next_found
 
-    blocks : (take (l.durable + length l.arena.staged) h ≡ blocks_from 0 cs) × (drop (l.durable + length l.arena.staged) h ≡ map waiting_block l.queue.waiting) × (l.durable + length l.arena.staged ≤ length h)
-    blocks = committed_next score_of disk l h a sound content
+      next : Content
+      next = next_content l.arena a
+
+      cs : List Content
+      cs = set sound.contents l.committing next
+
+      whole : IsWhole disk k
+      whole = turned_whole disk l r q found next_found d e b calls len sound.whole ending.ends sealed ending.at.arena ending.has ending.fit ending.at.disk_is ending.changes.size_is next_here next_has len_is
+
+      within : l.committing < length sound.contents
+      within = slice_get_within sound.contents l.committing a content
+
+      later_next : slice_get (set l.heads l.committing (record found { head = b.head })) (l.committing + 1) ≡ Some next_found
+      later_next = slice_get_set_other l.heads l.committing (l.committing + 1) (record found { head = b.head }) (λ same. omega (arith, same)) ∙ next_has
+
+      blocks : (take (l.durable + length l.arena.staged) h ≡ blocks_from 0 cs) × (drop (l.durable + length l.arena.staged) h ≡ map waiting_block l.queue.waiting) × (l.durable + length l.arena.staged ≤ length h)
+      blocks = committed_next score_of disk l h a sound content

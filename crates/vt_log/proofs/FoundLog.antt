@@ -46,9 +46,9 @@ use Rattle.vt_log.specs.Logs.{accepted, blocks_from, IsSealed, IsUntouched, InOr
 use Rattle.vt_log.specs.Mounting.{AreRead, AreFound, ArePassed, IsFound, IsFirstOpen, IsRoomFor, found_log}
 use Rattle.vt_log.specs.Sound.{IsAt, IsSplit, IsFilledBy, IsSound}
 use Rattle.vt_log.specs.Whole.{IsOnDisk, IsWhole}
-use Rattle.vt_log.proofs.Contents.{split_order, blocks_arenas, last_arena_le}
+use Rattle.vt_log.proofs.IsSplit.{split_order, blocks_arenas, last_arena_le}
 use Rattle.vt_log.proofs.AreFound.{fields_of_all, on_held}
-use Rattle.vt_log.proofs.Memory.{slice_get_other, at_slice}
+use Rattle.vt_log.proofs.Lists.{slice_get_other, at_slice}
 
 -- ---- the regions
 

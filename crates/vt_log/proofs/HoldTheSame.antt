@@ -23,7 +23,7 @@ use Rattle.vt_log.specs.Whole.{IsOnDisk, IsWhole}
 use Rattle.vt_part.specs.declared.part.Part.{Part}
 use Rattle.vt_part.specs.Parts.{disk_of, tables_of}
 use Rattle.vt_log.proofs.Disks.{parts_disks, parts_tables, hold_set}
-use Rattle.vt_log.proofs.Memory.{slice_get_other, at_slice}
+use Rattle.vt_log.proofs.Lists.{map_long, map_there, slice_get_other, at_slice}
 
 -- an arena stays sound where the images are among those that there were
 pub among_arena : (score_of : List ℕ → List ℕ) (a : ArenaState) (region : Region) (old : Content) (read : List ℕ) (before after : List ℕ → Type 0) → AreAmong after before
@@ -53,14 +53,6 @@ among_arena score_of a region old read before after among sound = record {
   synced = λ made c left. sound.synced made c (among c left);
 }
 
--- one function of the elements at a place
-map_at : {X Y : Type 0} (f : X → Y) (xs ys : List X) (i : ℕ) (x y : X) → map f ys ≡ map f xs → slice_get xs i ≡ Some x → slice_get ys i ≡ Some y → f y ≡ f x
-map_at {Y = Y} f xs ys i x y same at_x at_y =
-    same_Some (f y) (f x) (sym (slice_get-map f ys i ∙ ap (option_map f) at_y) ∙ ap (λ (zs : List Y). slice_get zs i) same ∙ slice_get-map f xs i ∙ ap (option_map f) at_x)
-
-map_long : {X Y : Type 0} (f : X → Y) (xs ys : List X) → map f ys ≡ map f xs → length ys ≡ length xs
-map_long {Y = Y} f xs ys same = sym (length-map ys f) ∙ ap (λ (zs : List Y). length zs) same ∙ length-map xs f
-
 -- a log stays whole and sound where its disks hold the same
 pub hold_whole : {D : Type 0} (disk : DiskOf D) (l : LogState D) (ds : List D) → IsWhole disk l → HoldTheSame disk l.disks ds
     → IsWhole disk (record l { disks = ds })
@@ -72,7 +64,7 @@ hold_whole disk l ds whole hold = record {
       record {
         device = now.0;
         has = now.1;
-        region = subst (IsRegion r.region) (sym (map_at disk.size l.disks ds r.part on.device now.0 hold.sizes_are on.has now.1)) on.region;
+        region = subst (IsRegion r.region) (sym (map_there disk.size l.disks ds r.part on.device now.0 hold.sizes_are on.has now.1)) on.region;
       }) l.layout whole.regions;
   apart = whole.apart;
   few = whole.few;
@@ -109,12 +101,12 @@ hold_sound {D = D} score_of disk l ds h hold sound = record {
   split = sound.split;
   current = λ r device a at has.
       let was = was_at l ds l.committing r device many at in
-      let same : disk.bytes device ≡ disk.bytes was.0 = map_at disk.bytes l.disks ds r.part was.0 device hold.bytes_are was.1.disk_is at.disk_is in
+      let same : disk.bytes device ≡ disk.bytes was.0 = map_there disk.bytes l.disks ds r.part was.0 device hold.bytes_are was.1.disk_is at.disk_is in
       subst (λ (b : List ℕ). IsSoundArena score_of l.arena r.region a b (disk.images device)) (sym same)
       (among_arena score_of l.arena r.region a (disk.bytes was.0) (disk.images was.0) (disk.images device) (hold.images_are r.part was.0 device was.1.disk_is at.disk_is) (sound.current r was.0 a was.1 has));
   others = λ i r device a other at has.
       let was = was_at l ds i r device many at in
-      let same : disk.bytes device ≡ disk.bytes was.0 = map_at disk.bytes l.disks ds r.part was.0 device hold.bytes_are was.1.disk_is at.disk_is in
+      let same : disk.bytes device ≡ disk.bytes was.0 = map_there disk.bytes l.disks ds r.part was.0 device hold.bytes_are was.1.disk_is at.disk_is in
       let rests = sound.others i r was.0 a other was.1 has in (
         λ c left. rests.0 c (hold.images_are r.part was.0 device was.1.disk_is at.disk_is c left) ∙ sym (ap (region_bytes r.region) same),
         subst (λ (b : List ℕ). IsArena score_of r.region r.number a b) (sym same) rests.1,
@@ -122,7 +114,7 @@ hold_sound {D = D} score_of disk l ds h hold sound = record {
   heads = sound.heads;
   selectors = λ i r device found behind at has.
       let was = was_at l ds i r device many at in
-      let same : disk.bytes device ≡ disk.bytes was.0 = map_at disk.bytes l.disks ds r.part was.0 device hold.bytes_are was.1.disk_is at.disk_is in
+      let same : disk.bytes device ≡ disk.bytes was.0 = map_there disk.bytes l.disks ds r.part was.0 device hold.bytes_are was.1.disk_is at.disk_is in
       sound.selectors i r was.0 found behind was.1 has ∙ sym (ap (named_number r.region FRAME_LEN) same);
   committed = sound.committed;
   queued = sound.queued;

@@ -27,10 +27,9 @@ use Rattle.vt_log.specs.Formatting.{AreEmpty, IsEmpty, InFirstHeads, WritesInFir
 use Rattle.vt_log.specs.Log.{disks_of}
 use Rattle.vt_log.specs.Logs.{first_unsealed, IsUntouched, InOrder, IsLog}
 use Rattle.vt_log.specs.Sound.{AreImages}
-use Rattle.vt_log.proofs.Contents.{untouched_blocks}
+use Rattle.vt_log.proofs.IsSplit.{untouched_blocks}
 use Rattle.vt_log.proofs.Disks.{map_same, tells_set}
-use Rattle.vt_log.proofs.AreFound.{map_there}
-use Rattle.vt_log.proofs.Memory.{slice_get_other, at_slice, slice_get_set_same, slice_get_set_other}
+use Rattle.vt_log.proofs.Lists.{slice_get_other, at_slice, slice_get_set_same, slice_get_set_other, map_there}
 use Rattle.vt_log.proofs.FoundLog.{arena_len}
 
 -- ---- one partition

@@ -8,7 +8,7 @@ use Rattle.vt_part.specs.declared.layout.ArenaRegion.{ArenaRegion}
 use Rattle.vt_arena.specs.Layout.{Content, IsArena}
 use Rattle.vt_arena.proofs.Unique.{one_content}
 use Rattle.vt_log.specs.Logs.{blocks_from, first_unsealed, AreArenas, IsLog}
-use Rattle.vt_log.proofs.Memory.{slice_get_other, at_slice}
+use Rattle.vt_log.proofs.Lists.{slice_get_other, at_slice}
 
 pub same_contents : (score_of : List ℕ → List ℕ) (layout : List ArenaRegion) (files : List (List ℕ)) (cs ds : List Content) → All (λ r. r.region.len ≤ 2 ^ 30) layout
     → AreArenas score_of layout files cs → AreArenas score_of layout files ds → cs ≡ ds

@@ -1,12 +1,13 @@
-pub mod Memory
-pub mod Fillings
+pub mod Lists
+pub mod IsWhole
+pub mod Fill
 pub mod Appends
-pub mod Contents
-pub mod Images
+pub mod IsSplit
+pub mod StandForPrefix
 pub mod Stages
 pub mod Owed
 pub mod Disks
-pub mod Calls
+pub mod CallsArena
 pub mod EndsCommit
 pub mod Advances
 pub mod HoldTheSame
@@ -15,7 +16,7 @@ pub mod IsLog
 pub mod OnlyReads
 pub mod Places
 pub mod StoredAt
-pub mod Damages
+pub mod Differ
 pub mod AnswersRead
 pub mod StepsBack
 pub mod MakesOneCall

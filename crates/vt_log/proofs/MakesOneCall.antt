@@ -39,11 +39,11 @@ use Rattle.vt_log.specs.Sound.{IsAt, IsSound, AreWithinCall, StandForPrefix}
 use Rattle.vt_log.specs.Queue.{QueueState}
 use Rattle.vt_log.specs.Whole.{IsOnDisk, IsWhole}
 use Rattle.vt_log.proofs.Advances.{committing_there}
-use Rattle.vt_log.proofs.Calls.{KeepsArena, ChangesRegion, step_keeps, fault_keeps, call_whole, call_sound, call_stands}
+use Rattle.vt_log.proofs.CallsArena.{KeepsArena, ChangesRegion, step_keeps, fault_keeps, call_whole, call_sound, call_stands}
 use Rattle.vt_log.proofs.Disks.{parts_disks, parts_tables}
 use Rattle.vt_log.proofs.EndsCommit.{EndsArena, last_ends, ended, ended_whole, ended_sound, turned, turned_whole, turned_sound, IsEnding, next_there}
 use Rattle.vt_log.proofs.HoldTheSame.{with_disk, part_there}
-use Rattle.vt_log.proofs.Memory.{slice_get_other, at_slice, slice_get_set_same, slice_get_set_other}
+use Rattle.vt_log.proofs.Lists.{slice_get_other, at_slice, slice_get_set_same, slice_get_set_other}
 use Rattle.vt_log.proofs.Owed.{step_made, call_owed, ended_owed, turned_owed}
 
 -- what a call of an arena's commit tells
@@ -71,40 +71,7 @@ pub record IsCalled {D : Type 0} (score_of : List ℕ → List ℕ) (disk : Disk
   pub at : IsAt l l.committing r d
   pub made : IsAdvanced score_of disk l.arena r.region d e b step
 
--- ---- the disks
-
-calls_arena : {D : Type 0} (score_of : List ℕ → List ℕ) (disk : DiskOf D)
-    (l k : LogState D) (r : ArenaRegion) (d e : D) (b : ArenaState) (step : Result Step TwinErr) (result : Result Progress LogErr)
-    → IsCalled score_of disk l r d e b step → k.disks ≡ set l.disks r.part e
-    → CountsFault is_fault_now result (disk.faults d) (disk.faults e) → CallsArena disk result l k
-calls_arena score_of disk l k r d e b step result it disks cause = record {
-  r = r;
-  arena = it.at.arena;
-  before = d;
-  after = e;
-  was = it.at.disk_is;
-  disks = disks;
-  writes = it.made.writes;
-  calls = it.made.calls (it.whole.runs it.runs);
-  cause = cause;
-}
-
-changes : {D : Type 0} (score_of : List ℕ → List ℕ) (disk : DiskOf D)
-    (l : LogState D) (r : ArenaRegion) (d e : D) (b : ArenaState) (step : Result Step TwinErr)
-    → IsCalled score_of disk l r d e b step → IsTrue disk.tells → ChangesRegion disk r.region d e
-changes score_of disk l r d e b step it told =
-    record { size_is = it.made.writes.size; images_are = it.made.writes.images; bytes_are = it.made.writes.bytes told }
-
--- a crash at any moment of the call
-stands : {D : Type 0} (score_of : List ℕ → List ℕ) (disk : DiskOf D)
-    (l : LogState D) (r : ArenaRegion) (d e : D) (b : ArenaState) (step : Result Step TwinErr)
-    → IsCalled score_of disk l r d e b step
-    → (h : History) → IsTrue disk.tells → IsSound score_of disk l h → (files : List (List ℕ)) → AreWithinCall disk l.disks (set l.disks r.part e) files → StandForPrefix score_of l files h
-stands score_of disk l r d e b step it h told sound files left =
-    call_stands score_of disk l h r d e (commit_calls l.arena ≤ calls_made l.arena + 2) files sound it.at (changes score_of disk l r d e b step it told)
-    (λ a has c moment. it.made.crash a told (sound.current r d a it.at has) c moment) left
-
--- ---- a call that ends no commit
+-- ---- what a call leaves in memory
 
 abbrev called : {D : Type 0} → LogState D → (part : ℕ) → (e : D) → (b : ArenaState) → (calls : ℕ) → (stopped : Option ℕ) → LogState D
 called l part e b calls stopped = record l { disks = set l.disks part e; arena = b; calls = calls; stopped = stopped }
@@ -125,84 +92,10 @@ takes_all l part e b calls stopped keeps all = record {
   seal = subst (λ (h : ArenaHead). IsTrue h.sealed ↔ (0 < length l.queue.waiting)) (sym keeps.next) all.seal;
 }
 
--- its last call isn't made yet
-pub more_made : {D : Type 0} (score_of : List ℕ → List ℕ) (disk : DiskOf D)
-    (l : LogState D) (r : ArenaRegion) (d e : D) (b : ArenaState)
-    → IsCalled score_of disk l r d e b (Ok More)
-    → MakesOneCall score_of disk l (called l r.part e b (one_more l.calls) l.stopped) (Ok StepMade)
-more_made score_of disk l r d e b it = record {
-  whole = call_whole disk l r.part d e b (one_more l.calls) l.stopped it.whole it.ready keeps runs it.at.disk_is it.made.writes.size;
-  sound = λ h told sound. call_sound score_of disk l h r d e b (one_more l.calls) l.stopped sound it.ready keeps runs it.at
-      (changes score_of disk l r d e b (Ok More) it told) (λ a has. it.made.sound a told (sound.current r d a it.at has));
-  crash = stands score_of disk l r d e b (Ok More) it;
-  makes = (makes_call l r.part e b l.stopped keeps, it.runs, call_owed l b (set l.disks r.part e) (one_more l.calls) l.stopped keeps.staged keeps.next it.ready made it.made.left);
-  batch = λ all more. takes_all l r.part e b (one_more l.calls) l.stopped keeps all;
-  last = λ n is. absurd (cc);
-  kept = (refl, refl, refl, refl);
-  calls = calls_arena score_of disk l (called l r.part e b (one_more l.calls) l.stopped) r d e b (Ok More) (Ok StepMade) it refl it.made.faults;
-}
-  where
-    keeps : KeepsArena l.arena b
-    keeps = subst (λ (x : ArenaState). KeepsArena l.arena x) (sym it.made.steps) (step_keeps l.arena).0
-
-    runs : l.stopped ≡ None → b.stopped ≡ None
-    runs none = ap (λ (x : ArenaState). x.stopped) it.made.steps ∙ (step_keeps l.arena).1 ∙ it.whole.runs none
-
-    made : calls_made b ≡ calls_made l.arena + 1
-    made = ap (λ (x : ArenaState). calls_made x) it.made.steps ∙ step_made l.arena
-
--- it failed
-pub fault_made : {D : Type 0} (score_of : List ℕ → List ℕ) (disk : DiskOf D)
-    (l : LogState D) (r : ArenaRegion) (d e : D) (b : ArenaState) (err : TwinErr)
-    → IsCalled score_of disk l r d e b (Err err)
-    → MakesOneCall score_of disk l (called l r.part e b (one_more l.calls) (Some l.calls)) (Err Fault)
-fault_made score_of disk l r d e b (TwinStopped n) it = absurd (let off = it.made.stopped n refl in let on = it.whole.runs it.runs in cc)
-fault_made score_of disk l r d e b TwinFault it = record {
-  whole = call_whole disk l r.part d e b (one_more l.calls) (Some l.calls) it.whole it.ready keeps runs it.at.disk_is it.made.writes.size;
-  sound = λ h told sound. call_sound score_of disk l h r d e b (one_more l.calls) (Some l.calls) sound it.ready keeps runs it.at
-      (changes score_of disk l r d e b (Err TwinFault) it told) (λ a has. it.made.sound a told (sound.current r d a it.at has));
-  crash = stands score_of disk l r d e b (Err TwinFault) it;
-  makes = (makes_call l r.part e b (Some l.calls) keeps, refl);
-  batch = λ all more. takes_all l r.part e b (one_more l.calls) (Some l.calls) keeps all;
-  last = λ n is. absurd (cc);
-  kept = (refl, refl, refl, refl);
-  calls = calls_arena score_of disk l (called l r.part e b (one_more l.calls) (Some l.calls)) r d e b (Err TwinFault) (Err Fault) it refl it.made.faults;
-}
-  where
-    keeps : KeepsArena l.arena b
-    keeps = subst (λ (x : ArenaState). KeepsArena l.arena x) (sym it.made.steps) (fault_keeps l.arena)
-
-    runs : Some l.calls ≡ None → b.stopped ≡ None
-    runs none = absurd (cc)
-
--- ---- one that ends a commit
-
 -- what else is known where the last call was made
 pub record IsLast {D : Type 0} (l : LogState D) (r : ArenaRegion) (found : Found) (b : ArenaState) : Type 0 where
   pub has : slice_get l.heads l.committing ≡ Some found
   pub fit : b.head.used + directory_room b.head.clumps ≤ arena_room r.region.len
-
-content_there : {D : Type 0} (score_of : List ℕ → List ℕ) (disk : DiskOf D) (l : LogState D) (h : History) (r : ArenaRegion)
-    → (sound : IsSound score_of disk l h) → slice_get l.layout l.committing ≡ Some r → (a : Content) × (slice_get sound.contents l.committing ≡ Some a)
-content_there score_of disk l h r sound at = slice_get_other sound.contents l.layout l.committing r (sym sound.many) at
-
-ends_arena : {D : Type 0} (score_of : List ℕ → List ℕ) (disk : DiskOf D)
-    (l : LogState D) (r : ArenaRegion) (d e : D) (b : ArenaState)
-    → IsCalled score_of disk l r d e b (Ok Done) → EndsArena l.arena b
-ends_arena score_of disk l r d e b it =
-    subst (λ (x : ArenaState). EndsArena l.arena x) (sym it.made.steps) (last_ends l.arena (it.whole.runs it.runs))
-
-is_ending : {D : Type 0} (score_of : List ℕ → List ℕ) (disk : DiskOf D)
-    (l : LogState D) (r : ArenaRegion) (found : Found) (d e : D) (b : ArenaState)
-    → IsCalled score_of disk l r d e b (Ok Done) → IsLast l r found b → IsTrue disk.tells
-    → IsEnding score_of disk l r found d e b
-is_ending score_of disk l r found d e b it last told = record {
-  ends = ends_arena score_of disk l r d e b it;
-  has = last.has;
-  at = it.at;
-  changes = changes score_of disk l r d e b (Ok Done) it told;
-  fit = last.fit;
-}
 
 -- the blocks leave the queue
 ends_commit : {D : Type 0} (l : LogState D) (found : Found) (b : ArenaState) (m : LogState D) → slice_get l.heads l.committing ≡ Some found → b.head ≡ l.arena.next
@@ -226,79 +119,169 @@ ends_commit l found b m has head_is calls heads durable staged waiting places = 
         let gone : packed_of m ≡ map (λ (w : Waiting). w.packed) l.queue.waiting = λ j. staged j ++ map (λ (w : Waiting). w.packed) (waiting j) in
         gone ∙ sym (drop_at l.arena.staged (map (λ (w : Waiting). w.packed) l.queue.waiting) (length l.arena.staged) refl)
 
--- and the arena isn't sealed
-pub ended_made : {D : Type 0} (score_of : List ℕ → List ℕ) (disk : DiskOf D)
-    (l : LogState D) (r : ArenaRegion) (found : Found) (d e : D) (b : ArenaState)
-    → IsCalled score_of disk l r d e b (Ok Done) → IsLast l r found b → b.next.sealed ≡ false
-    → MakesOneCall score_of disk l (ended l r.part e found b (one_more l.calls)) (Ok (Durable (l.durable + length l.arena.staged)))
-ended_made {D = D} score_of disk l r found d e b it last no_seal = record {
-  whole = ended_whole disk l r found d e b (one_more l.calls) it.whole ends unsealed it.at.arena last.has last.fit it.at.disk_is it.made.writes.size;
-  sound = λ h told sound.
-      let content = content_there score_of disk l h r sound it.at.arena in
-      ended_sound score_of disk l h r found d e b (one_more l.calls) content.0 sound
-      (is_ending score_of disk l r found d e b it last told) unsealed content.1
-      (it.made.sound content.0 told (sound.current r d content.0 it.at content.1));
-  crash = stands score_of disk l r d e b (Ok Done) it;
-  makes = (
-    ends_commit l found b m last.has ends.head refl refl refl ends.staged refl refl,
-    refl,
-    it.runs,
-    ended_owed l m ends.staged (ap (λ (h : ArenaHead). h.sealed) ends.next ∙ unsealed) refl unsealed refl it.ready it.made.left,
-  );
-  batch = λ all more. absurd (omega (arith, more, it.made.done refl));
-  last = λ n is. it.made.done refl;
-  kept = (refl, refl, refl, refl);
-  calls = calls_arena score_of disk l m r d e b (Ok Done) (Ok (Durable (l.durable + length l.arena.staged))) it refl it.made.faults;
-}
-  where
-    m : LogState D
-    m = ended l r.part e found b (one_more l.calls)
+-- ---- one call, by its answer
 
-    ends : EndsArena l.arena b
-    ends = ends_arena score_of disk l r d e b it
+module _ {D : Type 0} (score_of : List ℕ → List ℕ) (disk : DiskOf D) (l : LogState D) (r : ArenaRegion) (d e : D) (b : ArenaState) where
+  calls_arena : (k : LogState D) (step : Result Step TwinErr) (result : Result Progress LogErr)
+      → IsCalled score_of disk l r d e b step → k.disks ≡ set l.disks r.part e
+      → CountsFault is_fault_now result (disk.faults d) (disk.faults e) → CallsArena disk result l k
+  calls_arena k step result it disks cause = record {
+    r = r;
+    arena = it.at.arena;
+    before = d;
+    after = e;
+    was = it.at.disk_is;
+    disks = disks;
+    writes = it.made.writes;
+    calls = it.made.calls (it.whole.runs it.runs);
+    cause = cause;
+  }
 
-    unsealed : l.arena.next.sealed ≡ false
-    unsealed = sym (ap (λ (h : ArenaHead). h.sealed) ends.next) ∙ no_seal
+  changes : (step : Result Step TwinErr) → IsCalled score_of disk l r d e b step → IsTrue disk.tells → ChangesRegion disk r.region d e
+  changes step it told =
+      record { size_is = it.made.writes.size; images_are = it.made.writes.images; bytes_are = it.made.writes.bytes told }
 
--- or it is, and the next one is turned to
-pub turned_made : {D : Type 0} (score_of : List ℕ → List ℕ) (disk : DiskOf D)
-    (l : LogState D) (r q : ArenaRegion) (found next : Found) (d e : D) (b : ArenaState) (len : ℕ)
-    → ((device : D) → IsTrue disk.tells → disk.images device (disk.bytes device)) → IsCalled score_of disk l r d e b (Ok Done) → IsLast l r found b
-    → b.next.sealed ≡ true → slice_get l.layout (l.committing + 1) ≡ Some q → slice_get l.heads (l.committing + 1) ≡ Some next → len ≡ q.region.len
-    → MakesOneCall score_of disk l (turned l r.part e found b (one_more l.calls) len next) (Ok (Durable (l.durable + length l.arena.staged)))
-turned_made {D = D} score_of disk l r q found next d e b len read it last seals next_here next_has len_is = record {
-  whole = turned_whole disk l r q found next d e b (one_more l.calls) len it.whole ends sealed it.at.arena last.has last.fit it.at.disk_is it.made.writes.size next_here next_has len_is;
-  sound = λ h told sound.
-      let content = content_there score_of disk l h r sound it.at.arena in
-      let was = sound.current r d content.0 it.at content.1 in
-      turned_sound score_of disk l h r q found next d e b (one_more l.calls) len content.0 sound
-      (is_ending score_of disk l r found d e b it last told) sealed content.1 next_here next_has len_is
-      (record {
-        sound = it.made.sound content.0 told was;
-        settled = λ c left. ap (region_bytes r.region) (it.made.settled refl told c left);
-        arena = subst (λ (n : ℕ). IsArena score_of r.region n (next_content l.arena content.0) (disk.bytes e)) (sym ends.number) (it.made.last content.0 told was refl (disk.bytes e) (read e told));
-      });
-  crash = stands score_of disk l r d e b (Ok Done) it;
-  makes = (
-    ends_commit l found b m last.has ends.head refl refl refl refl refl refl,
-    refl,
-    it.runs,
-    turned_owed l m refl (it.whole.unsealed (l.committing + 1) next (omega arith) next_has) refl sealed (it.whole.way sealed) it.made.left,
-  );
-  batch = λ all more. absurd (omega (arith, more, it.made.done refl));
-  last = λ n is. it.made.done refl;
-  kept = (refl, refl, refl, refl);
-  calls = calls_arena score_of disk l m r d e b (Ok Done) (Ok (Durable (l.durable + length l.arena.staged))) it refl it.made.faults;
-}
-  where
-    m : LogState D
-    m = turned l r.part e found b (one_more l.calls) len next
+  -- a crash at any moment of the call
+  stands : (step : Result Step TwinErr) → IsCalled score_of disk l r d e b step
+      → (h : History) → IsTrue disk.tells → IsSound score_of disk l h → (files : List (List ℕ)) → AreWithinCall disk l.disks (set l.disks r.part e) files → StandForPrefix score_of l files h
+  stands step it h told sound files left =
+      call_stands score_of disk l r d e it.at (changes step it told) h (commit_calls l.arena ≤ calls_made l.arena + 2) files sound
+      (λ a has c moment. it.made.crash a told (sound.current r d a it.at has) c moment) left
 
-    ends : EndsArena l.arena b
-    ends = ends_arena score_of disk l r d e b it
+  -- ---- a call that ends no commit
 
-    sealed : l.arena.next.sealed ≡ true
-    sealed = sym (ap (λ (h : ArenaHead). h.sealed) ends.next) ∙ seals
+  -- its last call isn't made yet
+  pub more_made : IsCalled score_of disk l r d e b (Ok More)
+      → MakesOneCall score_of disk l (called l r.part e b (one_more l.calls) l.stopped) (Ok StepMade)
+  more_made it = record {
+    whole = call_whole disk l r.part d e b (one_more l.calls) l.stopped it.whole it.ready keeps runs it.at.disk_is it.made.writes.size;
+    sound = λ h told sound. call_sound score_of disk l r d e it.at (changes (Ok More) it told) h b (one_more l.calls) l.stopped sound it.ready keeps runs
+        (λ a has. it.made.sound a told (sound.current r d a it.at has));
+    crash = stands (Ok More) it;
+    makes = (makes_call l r.part e b l.stopped keeps, it.runs, call_owed l b (set l.disks r.part e) (one_more l.calls) l.stopped keeps.staged keeps.next it.ready made it.made.left);
+    batch = λ all more. takes_all l r.part e b (one_more l.calls) l.stopped keeps all;
+    last = λ n is. absurd (cc);
+    kept = (refl, refl, refl, refl);
+    calls = calls_arena (called l r.part e b (one_more l.calls) l.stopped) (Ok More) (Ok StepMade) it refl it.made.faults;
+  }
+    where
+      keeps : KeepsArena l.arena b
+      keeps = subst (λ (x : ArenaState). KeepsArena l.arena x) (sym it.made.steps) (step_keeps l.arena).0
+
+      runs : l.stopped ≡ None → b.stopped ≡ None
+      runs none = ap (λ (x : ArenaState). x.stopped) it.made.steps ∙ (step_keeps l.arena).1 ∙ it.whole.runs none
+
+      made : calls_made b ≡ calls_made l.arena + 1
+      made = ap (λ (x : ArenaState). calls_made x) it.made.steps ∙ step_made l.arena
+
+  -- it failed
+  pub fault_made : (err : TwinErr) → IsCalled score_of disk l r d e b (Err err)
+      → MakesOneCall score_of disk l (called l r.part e b (one_more l.calls) (Some l.calls)) (Err Fault)
+  fault_made (TwinStopped n) it = absurd (let off = it.made.stopped n refl in let on = it.whole.runs it.runs in cc)
+  fault_made TwinFault it = record {
+    whole = call_whole disk l r.part d e b (one_more l.calls) (Some l.calls) it.whole it.ready keeps runs it.at.disk_is it.made.writes.size;
+    sound = λ h told sound. call_sound score_of disk l r d e it.at (changes (Err TwinFault) it told) h b (one_more l.calls) (Some l.calls) sound it.ready keeps runs
+        (λ a has. it.made.sound a told (sound.current r d a it.at has));
+    crash = stands (Err TwinFault) it;
+    makes = (makes_call l r.part e b (Some l.calls) keeps, refl);
+    batch = λ all more. takes_all l r.part e b (one_more l.calls) (Some l.calls) keeps all;
+    last = λ n is. absurd (cc);
+    kept = (refl, refl, refl, refl);
+    calls = calls_arena (called l r.part e b (one_more l.calls) (Some l.calls)) (Err TwinFault) (Err Fault) it refl it.made.faults;
+  }
+    where
+      keeps : KeepsArena l.arena b
+      keeps = subst (λ (x : ArenaState). KeepsArena l.arena x) (sym it.made.steps) (fault_keeps l.arena)
+
+      runs : Some l.calls ≡ None → b.stopped ≡ None
+      runs none = absurd (cc)
+
+  -- ---- one that ends a commit
+
+  content_there : (h : History) → (sound : IsSound score_of disk l h) → slice_get l.layout l.committing ≡ Some r → (a : Content) × (slice_get sound.contents l.committing ≡ Some a)
+  content_there h sound at = slice_get_other sound.contents l.layout l.committing r (sym sound.many) at
+
+  ends_arena : IsCalled score_of disk l r d e b (Ok Done) → EndsArena l.arena b
+  ends_arena it =
+      subst (λ (x : ArenaState). EndsArena l.arena x) (sym it.made.steps) (last_ends l.arena (it.whole.runs it.runs))
+
+  is_ending : (found : Found) → IsCalled score_of disk l r d e b (Ok Done) → IsLast l r found b → IsTrue disk.tells
+      → IsEnding score_of disk l r found d e b
+  is_ending found it last told = record {
+    ends = ends_arena it;
+    has = last.has;
+    at = it.at;
+    changes = changes (Ok Done) it told;
+    fit = last.fit;
+  }
+
+  -- and the arena isn't sealed
+  pub ended_made : (found : Found) → IsCalled score_of disk l r d e b (Ok Done) → IsLast l r found b → b.next.sealed ≡ false
+      → MakesOneCall score_of disk l (ended l r.part e found b (one_more l.calls)) (Ok (Durable (l.durable + length l.arena.staged)))
+  ended_made found it last no_seal = record {
+    whole = ended_whole disk l r found d e b (one_more l.calls) it.whole ends unsealed it.at.arena last.has last.fit it.at.disk_is it.made.writes.size;
+    sound = λ h told sound.
+        let content = content_there h sound it.at.arena in
+        ended_sound score_of disk l h r found d e b sound (is_ending found it last told) (one_more l.calls) content.0 unsealed content.1
+        (it.made.sound content.0 told (sound.current r d content.0 it.at content.1));
+    crash = stands (Ok Done) it;
+    makes = (
+      ends_commit l found b m last.has ends.head refl refl refl ends.staged refl refl,
+      refl,
+      it.runs,
+      ended_owed l m ends.staged (ap (λ (h : ArenaHead). h.sealed) ends.next ∙ unsealed) refl unsealed refl it.ready it.made.left,
+    );
+    batch = λ all more. absurd (omega (arith, more, it.made.done refl));
+    last = λ n is. it.made.done refl;
+    kept = (refl, refl, refl, refl);
+    calls = calls_arena m (Ok Done) (Ok (Durable (l.durable + length l.arena.staged))) it refl it.made.faults;
+  }
+    where
+      m : LogState D
+      m = ended l r.part e found b (one_more l.calls)
+
+      ends : EndsArena l.arena b
+      ends = ends_arena it
+
+      unsealed : l.arena.next.sealed ≡ false
+      unsealed = sym (ap (λ (h : ArenaHead). h.sealed) ends.next) ∙ no_seal
+
+  -- or it is, and the next one is turned to
+  pub turned_made : (q : ArenaRegion) (found next : Found) (len : ℕ) → ((device : D) → IsTrue disk.tells → disk.images device (disk.bytes device)) → IsCalled score_of disk l r d e b (Ok Done) → IsLast l r found b
+      → b.next.sealed ≡ true → slice_get l.layout (l.committing + 1) ≡ Some q → slice_get l.heads (l.committing + 1) ≡ Some next → len ≡ q.region.len
+      → MakesOneCall score_of disk l (turned l r.part e found b (one_more l.calls) len next) (Ok (Durable (l.durable + length l.arena.staged)))
+  turned_made q found next len read it last seals next_here next_has len_is = record {
+    whole = turned_whole disk l r q found next d e b (one_more l.calls) len it.whole ends sealed it.at.arena last.has last.fit it.at.disk_is it.made.writes.size next_here next_has len_is;
+    sound = λ h told sound.
+        let content = content_there h sound it.at.arena in
+        let was = sound.current r d content.0 it.at content.1 in
+        turned_sound score_of disk l h r found d e b sound (is_ending found it last told) q next (one_more l.calls) len content.0 sealed content.1 next_here next_has len_is
+        (record {
+          sound = it.made.sound content.0 told was;
+          settled = λ c left. ap (region_bytes r.region) (it.made.settled refl told c left);
+          arena = subst (λ (n : ℕ). IsArena score_of r.region n (next_content l.arena content.0) (disk.bytes e)) (sym ends.number) (it.made.last content.0 told was refl (disk.bytes e) (read e told));
+        });
+    crash = stands (Ok Done) it;
+    makes = (
+      ends_commit l found b m last.has ends.head refl refl refl refl refl refl,
+      refl,
+      it.runs,
+      turned_owed l m refl (it.whole.unsealed (l.committing + 1) next (omega arith) next_has) refl sealed (it.whole.way sealed) it.made.left,
+    );
+    batch = λ all more. absurd (omega (arith, more, it.made.done refl));
+    last = λ n is. it.made.done refl;
+    kept = (refl, refl, refl, refl);
+    calls = calls_arena m (Ok Done) (Ok (Durable (l.durable + length l.arena.staged))) it refl it.made.faults;
+  }
+    where
+      m : LogState D
+      m = turned l r.part e found b (one_more l.calls) len next
+
+      ends : EndsArena l.arena b
+      ends = ends_arena it
+
+      sealed : l.arena.next.sealed ≡ true
+      sealed = sym (ap (λ (h : ArenaHead). h.sealed) ends.next) ∙ seals
 
 -- ---- the log as its partitions have it
 
@@ -420,53 +403,6 @@ pub record IsCalledIn {D : Type 0} (score_of : List ℕ → List ℕ) (disk : Di
   pub made : IsAdvanced score_of disk v.arena r.region (disk_of p) e b step
   pub there : IsThere disk ps p v m r
 
-called_in : {D : Type 0} (score_of : List ℕ → List ℕ) (disk : DiskOf D)
-    (ps : List (Part D)) (p : Part D) (v m : LogState D) (r : ArenaRegion) (e : D) (b : ArenaState) (step : Result Step TwinErr)
-    → (it : IsCalledIn score_of disk ps p v m r e b step) → IsCalled score_of disk v r (disk_of p) e b step
-called_in score_of disk ps p v m r e b step it =
-    record { whole = it.there.whole; runs = it.there.runs; ready = it.there.ready; at = it.there.at; made = it.made }
-
-pub more_in_parts : {D : Type 0} {score_of : List ℕ → List ℕ} {disk : DiskOf D}
-    {ps : List (Part D)} {p : Part D} {v m : LogState D} {r : ArenaRegion} {e : D} {b : ArenaState} {step : Step} {calls : ℕ}
-    → IsCalledIn score_of disk ps p v m r e b (Ok step) → step ≡ More → calls ≡ one_more v.calls
-    → MakesOneCall score_of disk m (with_disk ps r.part p e (record v { arena = b; calls = calls })) (Ok StepMade)
-more_in_parts {D = D} {score_of = score_of} {disk = disk}
-    {ps = ps} {p = p} {v = v} {m = m} {r = r} {e = e} {b = b} {step = step} {calls = calls} it more is =
-    subst (λ (x : LogState D). MakesOneCall score_of disk x (with_disk ps r.part p e (record v { arena = b; calls = calls })) (Ok StepMade)) made.there.view
-    (subst (λ (x : LogState D). MakesOneCall score_of disk v x (Ok StepMade)) (sym state)
-    (more_made score_of disk v r (disk_of p) e b (called_in score_of disk ps p v m r e b (Ok More) made)))
-  where
-    made : IsCalledIn score_of disk ps p v m r e b (Ok More)
-    made = subst (λ (s : Step). IsCalledIn score_of disk ps p v m r e b (Ok s)) more it
-
-    are : AreParts ps r.part p v
-    are = made.there.parts
-
-    state : with_disk ps r.part p e (record v { arena = b; calls = calls }) ≡ called v r.part e b (one_more v.calls) v.stopped
-    state =
-        let same : record v { disks = set v.disks r.part e; arena = b; calls = calls } ≡ called v r.part e b (one_more v.calls) v.stopped =
-        λ j. record v { disks = set v.disks r.part e; arena = b; calls = is j } in
-        parts_state ps r.part p e (record v { arena = b; calls = calls }) are.disks are.tables are.at ∙ same
-
-pub fault_in_parts : {D : Type 0} {score_of : List ℕ → List ℕ} {disk : DiskOf D}
-    {ps : List (Part D)} {p : Part D} {v m : LogState D} {r : ArenaRegion} {e : D} {b : ArenaState} {err : TwinErr} {calls : ℕ}
-    → IsCalledIn score_of disk ps p v m r e b (Err err) → calls ≡ one_more v.calls
-    → MakesOneCall score_of disk m (with_disk ps r.part p e (record v { arena = b; calls = calls; stopped = Some v.calls })) (Err Fault)
-fault_in_parts {D = D} {score_of = score_of} {disk = disk}
-    {ps = ps} {p = p} {v = v} {m = m} {r = r} {e = e} {b = b} {err = err} {calls = calls} made is =
-    subst (λ (x : LogState D). MakesOneCall score_of disk x (with_disk ps r.part p e (record v { arena = b; calls = calls; stopped = Some v.calls })) (Err Fault)) made.there.view
-    (subst (λ (x : LogState D). MakesOneCall score_of disk v x (Err Fault)) (sym state)
-    (fault_made score_of disk v r (disk_of p) e b err (called_in score_of disk ps p v m r e b (Err err) made)))
-  where
-    are : AreParts ps r.part p v
-    are = made.there.parts
-
-    state : with_disk ps r.part p e (record v { arena = b; calls = calls; stopped = Some v.calls }) ≡ called v r.part e b (one_more v.calls) (Some v.calls)
-    state =
-        let same : record v { disks = set v.disks r.part e; arena = b; calls = calls; stopped = Some v.calls } ≡ called v r.part e b (one_more v.calls) (Some v.calls) =
-        λ j. record v { disks = set v.disks r.part e; arena = b; calls = is j; stopped = Some v.calls } in
-        parts_state ps r.part p e (record v { arena = b; calls = calls; stopped = Some v.calls }) are.disks are.tables are.at ∙ same
-
 -- how the blocks of a commit leave the log's memory
 pub record Settles {D : Type 0} (v : LogState D) (found : Found) (b : ArenaState) (heads : List Found) (queue : QueueState) (durable calls : ℕ) : Type 0 where
   pub heads_are : heads ≡ set v.heads v.committing (record found { head = b.head })
@@ -475,73 +411,112 @@ pub record Settles {D : Type 0} (v : LogState D) (found : Found) (b : ArenaState
   pub durable_is : durable ≡ v.durable + length v.arena.staged
   pub calls_is : calls ≡ one_more v.calls
 
-pub ended_in_parts : {D : Type 0} {score_of : List ℕ → List ℕ} {disk : DiskOf D}
-    {ps : List (Part D)} {p : Part D} {v m : LogState D} {r : ArenaRegion} {found : Found} {e : D} {b : ArenaState} {step : Step} {heads : List Found} {queue : QueueState} {durable calls : ℕ}
-    → IsCalledIn score_of disk ps p v m r e b (Ok step) → step ≡ Done → IsLast v r found b → Settles v found b heads queue durable calls → b.next.sealed ≡ false
-    → MakesOneCall score_of disk m (with_disk ps r.part p e (record v { heads = heads; arena = b; queue = queue; durable = durable; calls = calls })) (Ok (Durable durable))
-ended_in_parts {D = D} {score_of = score_of} {disk = disk}
-    {ps = ps} {p = p} {v = v} {m = m} {r = r} {found = found} {e = e} {b = b} {step = step} {heads = heads} {queue = queue} {durable = durable} {calls = calls} it done last settles no_seal =
-    subst (λ (x : LogState D). MakesOneCall score_of disk x k (Ok (Durable durable))) made.there.view
-    (subst (λ (x : LogState D). MakesOneCall score_of disk v x (Ok (Durable durable))) (sym state)
-    (subst (λ (n : ℕ). MakesOneCall score_of disk v (ended v r.part e found b (one_more v.calls)) (Ok (Durable n))) (sym settles.durable_is)
-    (ended_made score_of disk v r found (disk_of p) e b (called_in score_of disk ps p v m r e b (Ok Done) made) last no_seal)))
-  where
-    made : IsCalledIn score_of disk ps p v m r e b (Ok Done)
-    made = subst (λ (s : Step). IsCalledIn score_of disk ps p v m r e b (Ok s)) done it
+module _ {D : Type 0} {score_of : List ℕ → List ℕ} {disk : DiskOf D}
+    {ps : List (Part D)} {p : Part D} {v m : LogState D} {r : ArenaRegion} {e : D} {b : ArenaState} where
+  called_in : (step : Result Step TwinErr) → IsCalledIn score_of disk ps p v m r e b step → IsCalled score_of disk v r (disk_of p) e b step
+  called_in step it =
+      record { whole = it.there.whole; runs = it.there.runs; ready = it.there.ready; at = it.there.at; made = it.made }
 
-    are : AreParts ps r.part p v
-    are = made.there.parts
+  pub more_in_parts : {step : Step} {calls : ℕ}
+      → IsCalledIn score_of disk ps p v m r e b (Ok step) → step ≡ More → calls ≡ one_more v.calls
+      → MakesOneCall score_of disk m (with_disk ps r.part p e (record v { arena = b; calls = calls })) (Ok StepMade)
+  more_in_parts {step = step} {calls = calls} it more is =
+      subst (λ (x : LogState D). MakesOneCall score_of disk x (with_disk ps r.part p e (record v { arena = b; calls = calls })) (Ok StepMade)) made.there.view
+      (subst (λ (x : LogState D). MakesOneCall score_of disk v x (Ok StepMade)) (sym state)
+      (more_made score_of disk v r (disk_of p) e b (called_in (Ok More) made)))
+    where
+      made : IsCalledIn score_of disk ps p v m r e b (Ok More)
+      made = subst (λ (s : Step). IsCalledIn score_of disk ps p v m r e b (Ok s)) more it
 
-    k : LogState D
-    k = with_disk ps r.part p e (record v { heads = heads; arena = b; queue = queue; durable = durable; calls = calls })
+      are : AreParts ps r.part p v
+      are = made.there.parts
 
-    state : with_disk ps r.part p e (record v { heads = heads; arena = b; queue = queue; durable = durable; calls = calls }) ≡ ended v r.part e found b (one_more v.calls)
-    state =
-        let same : record v { disks = set v.disks r.part e; heads = heads; arena = b; queue = queue; durable = durable; calls = calls } ≡ ended v r.part e found b (one_more v.calls) =
-        λ j. record v {
-          disks = set v.disks r.part e;
-          heads = settles.heads_are j;
-          arena = b;
-          queue = record { waiting = settles.waiting j; places = settles.places j };
-          durable = settles.durable_is j;
-          calls = settles.calls_is j;
-        } in
-        parts_state ps r.part p e (record v { heads = heads; arena = b; queue = queue; durable = durable; calls = calls }) are.disks are.tables are.at ∙ same
+      state : with_disk ps r.part p e (record v { arena = b; calls = calls }) ≡ called v r.part e b (one_more v.calls) v.stopped
+      state =
+          let same : record v { disks = set v.disks r.part e; arena = b; calls = calls } ≡ called v r.part e b (one_more v.calls) v.stopped =
+          λ j. record v { disks = set v.disks r.part e; arena = b; calls = is j } in
+          parts_state ps r.part p e (record v { arena = b; calls = calls }) are.disks are.tables are.at ∙ same
 
-pub turned_in_parts : {D : Type 0} {score_of : List ℕ → List ℕ} {disk : DiskOf D}
-    {ps : List (Part D)} {p : Part D} {v m : LogState D} {r q : ArenaRegion} {found next : Found} {e : D} {b turn : ArenaState} {step : Step} {heads : List Found} {queue : QueueState} {durable calls : ℕ}
-    → ((device : D) → IsTrue disk.tells → disk.images device (disk.bytes device)) → IsCalledIn score_of disk ps p v m r e b (Ok step) → step ≡ Done → IsLast v r found b
-    → Settles v found b heads queue durable calls → b.next.sealed ≡ true → IsNextArena v q next → turn ≡ fresh_arena q.region.len (next.selector % 2) next.head
-    → MakesOneCall score_of disk m
-    (with_disk ps r.part p e (record v { heads = heads; committing = v.committing + 1; arena = turn; queue = queue; durable = durable; calls = calls })) (Ok (Durable durable))
-turned_in_parts {D = D} {score_of = score_of} {disk = disk}
-    {ps = ps} {p = p} {v = v} {m = m} {r = r} {q = q} {found = found} {next = next} {e = e} {b = b} {turn = turn} {step = step} {heads = heads} {queue = queue} {durable = durable} {calls = calls}
-    read it done last settles seals is_next turn_is =
-    subst (λ (x : LogState D). MakesOneCall score_of disk x k (Ok (Durable durable))) made.there.view
-    (subst (λ (x : LogState D). MakesOneCall score_of disk v x (Ok (Durable durable))) (sym state)
-    (subst (λ (n : ℕ). MakesOneCall score_of disk v (turned v r.part e found b (one_more v.calls) q.region.len next) (Ok (Durable n))) (sym settles.durable_is)
-    (turned_made score_of disk v r q found next (disk_of p) e b q.region.len read (called_in score_of disk ps p v m r e b (Ok Done) made) last seals is_next.here is_next.has refl)))
-  where
-    made : IsCalledIn score_of disk ps p v m r e b (Ok Done)
-    made = subst (λ (s : Step). IsCalledIn score_of disk ps p v m r e b (Ok s)) done it
+  pub fault_in_parts : {err : TwinErr} {calls : ℕ}
+      → IsCalledIn score_of disk ps p v m r e b (Err err) → calls ≡ one_more v.calls
+      → MakesOneCall score_of disk m (with_disk ps r.part p e (record v { arena = b; calls = calls; stopped = Some v.calls })) (Err Fault)
+  fault_in_parts {err = err} {calls = calls} made is =
+      subst (λ (x : LogState D). MakesOneCall score_of disk x (with_disk ps r.part p e (record v { arena = b; calls = calls; stopped = Some v.calls })) (Err Fault)) made.there.view
+      (subst (λ (x : LogState D). MakesOneCall score_of disk v x (Err Fault)) (sym state)
+      (fault_made score_of disk v r (disk_of p) e b err (called_in (Err err) made)))
+    where
+      are : AreParts ps r.part p v
+      are = made.there.parts
 
-    are : AreParts ps r.part p v
-    are = made.there.parts
+      state : with_disk ps r.part p e (record v { arena = b; calls = calls; stopped = Some v.calls }) ≡ called v r.part e b (one_more v.calls) (Some v.calls)
+      state =
+          let same : record v { disks = set v.disks r.part e; arena = b; calls = calls; stopped = Some v.calls } ≡ called v r.part e b (one_more v.calls) (Some v.calls) =
+          λ j. record v { disks = set v.disks r.part e; arena = b; calls = is j; stopped = Some v.calls } in
+          parts_state ps r.part p e (record v { arena = b; calls = calls; stopped = Some v.calls }) are.disks are.tables are.at ∙ same
 
-    k : LogState D
-    k = with_disk ps r.part p e (record v { heads = heads; committing = v.committing + 1; arena = turn; queue = queue; durable = durable; calls = calls })
+  pub ended_in_parts : {found : Found} {step : Step} {heads : List Found} {queue : QueueState} {durable calls : ℕ}
+      → IsCalledIn score_of disk ps p v m r e b (Ok step) → step ≡ Done → IsLast v r found b → Settles v found b heads queue durable calls → b.next.sealed ≡ false
+      → MakesOneCall score_of disk m (with_disk ps r.part p e (record v { heads = heads; arena = b; queue = queue; durable = durable; calls = calls })) (Ok (Durable durable))
+  ended_in_parts {found = found} {step = step} {heads = heads} {queue = queue} {durable = durable} {calls = calls} it done last settles no_seal =
+      subst (λ (x : LogState D). MakesOneCall score_of disk x k (Ok (Durable durable))) made.there.view
+      (subst (λ (x : LogState D). MakesOneCall score_of disk v x (Ok (Durable durable))) (sym state)
+      (subst (λ (n : ℕ). MakesOneCall score_of disk v (ended v r.part e found b (one_more v.calls)) (Ok (Durable n))) (sym settles.durable_is)
+      (ended_made score_of disk v r (disk_of p) e b found (called_in (Ok Done) made) last no_seal)))
+    where
+      made : IsCalledIn score_of disk ps p v m r e b (Ok Done)
+      made = subst (λ (s : Step). IsCalledIn score_of disk ps p v m r e b (Ok s)) done it
 
-    state : with_disk ps r.part p e (record v { heads = heads; committing = v.committing + 1; arena = turn; queue = queue; durable = durable; calls = calls }) ≡ turned v r.part e found b (one_more v.calls) q.region.len next
-    state =
-        let same : record v { disks = set v.disks r.part e; heads = heads; committing = v.committing + 1; arena = turn; queue = queue; durable = durable; calls = calls }
-        ≡ turned v r.part e found b (one_more v.calls) q.region.len next =
-        λ j. record v {
-          disks = set v.disks r.part e;
-          heads = settles.heads_are j;
-          committing = v.committing + 1;
-          arena = turn_is j;
-          queue = record { waiting = settles.waiting j; places = settles.places j };
-          durable = settles.durable_is j;
-          calls = settles.calls_is j;
-        } in
-        parts_state ps r.part p e (record v { heads = heads; committing = v.committing + 1; arena = turn; queue = queue; durable = durable; calls = calls }) are.disks are.tables are.at ∙ same
+      are : AreParts ps r.part p v
+      are = made.there.parts
+
+      k : LogState D
+      k = with_disk ps r.part p e (record v { heads = heads; arena = b; queue = queue; durable = durable; calls = calls })
+
+      state : with_disk ps r.part p e (record v { heads = heads; arena = b; queue = queue; durable = durable; calls = calls }) ≡ ended v r.part e found b (one_more v.calls)
+      state =
+          let same : record v { disks = set v.disks r.part e; heads = heads; arena = b; queue = queue; durable = durable; calls = calls } ≡ ended v r.part e found b (one_more v.calls) =
+          λ j. record v {
+            disks = set v.disks r.part e;
+            heads = settles.heads_are j;
+            arena = b;
+            queue = record { waiting = settles.waiting j; places = settles.places j };
+            durable = settles.durable_is j;
+            calls = settles.calls_is j;
+          } in
+          parts_state ps r.part p e (record v { heads = heads; arena = b; queue = queue; durable = durable; calls = calls }) are.disks are.tables are.at ∙ same
+
+  pub turned_in_parts : {q : ArenaRegion} {found next : Found} {turn : ArenaState} {step : Step} {heads : List Found} {queue : QueueState} {durable calls : ℕ}
+      → ((device : D) → IsTrue disk.tells → disk.images device (disk.bytes device)) → IsCalledIn score_of disk ps p v m r e b (Ok step) → step ≡ Done → IsLast v r found b
+      → Settles v found b heads queue durable calls → b.next.sealed ≡ true → IsNextArena v q next → turn ≡ fresh_arena q.region.len (next.selector % 2) next.head
+      → MakesOneCall score_of disk m
+      (with_disk ps r.part p e (record v { heads = heads; committing = v.committing + 1; arena = turn; queue = queue; durable = durable; calls = calls })) (Ok (Durable durable))
+  turned_in_parts {q = q} {found = found} {next = next} {turn = turn} {step = step} {heads = heads} {queue = queue} {durable = durable} {calls = calls}
+      read it done last settles seals is_next turn_is =
+      subst (λ (x : LogState D). MakesOneCall score_of disk x k (Ok (Durable durable))) made.there.view
+      (subst (λ (x : LogState D). MakesOneCall score_of disk v x (Ok (Durable durable))) (sym state)
+      (subst (λ (n : ℕ). MakesOneCall score_of disk v (turned v r.part e found b (one_more v.calls) q.region.len next) (Ok (Durable n))) (sym settles.durable_is)
+      (turned_made score_of disk v r (disk_of p) e b q found next q.region.len read (called_in (Ok Done) made) last seals is_next.here is_next.has refl)))
+    where
+      made : IsCalledIn score_of disk ps p v m r e b (Ok Done)
+      made = subst (λ (s : Step). IsCalledIn score_of disk ps p v m r e b (Ok s)) done it
+
+      are : AreParts ps r.part p v
+      are = made.there.parts
+
+      k : LogState D
+      k = with_disk ps r.part p e (record v { heads = heads; committing = v.committing + 1; arena = turn; queue = queue; durable = durable; calls = calls })
+
+      state : with_disk ps r.part p e (record v { heads = heads; committing = v.committing + 1; arena = turn; queue = queue; durable = durable; calls = calls }) ≡ turned v r.part e found b (one_more v.calls) q.region.len next
+      state =
+          let same : record v { disks = set v.disks r.part e; heads = heads; committing = v.committing + 1; arena = turn; queue = queue; durable = durable; calls = calls }
+          ≡ turned v r.part e found b (one_more v.calls) q.region.len next =
+          λ j. record v {
+            disks = set v.disks r.part e;
+            heads = settles.heads_are j;
+            committing = v.committing + 1;
+            arena = turn_is j;
+            queue = record { waiting = settles.waiting j; places = settles.places j };
+            durable = settles.durable_is j;
+            calls = settles.calls_is j;
+          } in
+          parts_state ps r.part p e (record v { heads = heads; committing = v.committing + 1; arena = turn; queue = queue; durable = durable; calls = calls }) are.disks are.tables are.at ∙ same

@@ -19,7 +19,7 @@ use Rattle.vt_log.specs.Sound.{IsAt}
 use Rattle.vt_log.specs.Whole.{IsOnDisk, IsWhole}
 use Rattle.vt_log.proofs.Disks.{spares_set, calls_set}
 use Rattle.vt_log.proofs.HoldTheSame.{IsReadOnly, read_only, with_disk, part_there}
-use Rattle.vt_log.proofs.Memory.{at_slice}
+use Rattle.vt_log.proofs.Lists.{at_slice}
 
 -- a value to read an arena's region by
 abbrev pub no_region : ArenaRegion

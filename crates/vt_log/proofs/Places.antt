@@ -16,7 +16,7 @@ use Rattle.vt_arena.specs.Layout.{Content}
 use Rattle.vt_arena.specs.Places.{lengths_of}
 use Rattle.vt_log.specs.Logs.{accepted, blocks_from}
 use Rattle.vt_log.proofs.Appends.{lengths_none}
-use Rattle.vt_log.proofs.Memory.{slice_get_left, slice_get_right}
+use Rattle.vt_log.proofs.Lists.{slice_get_left, slice_get_right}
 use Rattle.vt_log.proofs.IsBehind.{blocks_below}
 
 -- how many blocks stand in the arenas before this one

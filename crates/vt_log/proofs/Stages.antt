@@ -26,8 +26,8 @@ use Rattle.vt_log.specs.Logs.{accepted}
 use Rattle.vt_log.specs.Queue.{QueueState, WaitsFor, waiting_block}
 use Rattle.vt_log.specs.Sound.{IsSound}
 use Rattle.vt_log.specs.Whole.{IsWhole, Fill, turned_to}
-use Rattle.vt_log.proofs.Fillings.{fits_within, turned_arena}
-use Rattle.vt_log.proofs.Memory.{slice_get_other}
+use Rattle.vt_log.proofs.Fill.{fits_within, turned_arena}
+use Rattle.vt_log.proofs.Lists.{slice_get_other}
 
 -- the log with the block staged that waits longest, and these left to wait
 abbrev pub with_next_staged : {D : Type 0} → (score_of : List ℕ → List ℕ) → Packed → List Waiting → LogState D → LogState D

@@ -1,5 +1,5 @@
 -- A walk back through the arenas.
-use Rattle.std.proofs.Common.{◌≡◌, ◌≢◌, ◌⊎◌, ⊎_elim, inl, inr, ℕ, zero, suc, ◌+◌, ◌-◌, ◌<◌, ◌≤◌, min, List, [], ◌∷◌, ◌++◌, length, get_or, take, drop, map, refl, sym, ◌∙◌, ap, subst, arith, Some, Ok, Err}
+use Rattle.std.proofs.Common.{◌≡◌, ◌≢◌, ◌⊎◌, ⊎_elim, inl, inr, ℕ, zero, suc, ◌+◌, ◌-◌, ◌<◌, ◌≤◌, min, List, [], ◌∷◌, ◌++◌, length, get_or, take, drop, map, refl, sym, ◌∙◌, ap, subst, arith, Some, Ok, Err, ◌^◌}
 use Rattle.std.specs.Prelude.{All, slice_get, sum_by}
 use Rattle.std.specs.Option.{option_map}
 use Rattle.std.proofs.lemmas.Bool.{cases_eq, cases_lt}
@@ -29,7 +29,9 @@ use Rattle.vt_log.specs.Log.{LogState, setup_of, packed_of}
 use Rattle.vt_log.specs.Logs.{accepted, blocks_from}
 use Rattle.vt_log.specs.Queue.{spot_of}
 use Rattle.vt_log.specs.Sound.{IsSound}
-use Rattle.vt_log.proofs.Memory.{slice_get_other, at_slice}
+use Rattle.vt_log.specs.Whole.{IsWhole}
+use Rattle.vt_log.proofs.IsWhole.{head_small}
+use Rattle.vt_log.proofs.Lists.{slice_get_other, at_slice}
 use Rattle.vt_log.proofs.Places.{blocks_before, take_blocks, block_at, lengths_take, slice_get_there, split_at}
 use Rattle.vt_log.proofs.StoredAt.{HasContent, has_content, queued_as, front_take, front_same}
 use Rattle.vt_log.proofs.IsBehind.{blocks_below}
@@ -185,7 +187,7 @@ at_last score_of disk l h n t found sound tail none at some behind reads =
     let few : min n l.durable ≡ t.left = omega (arith, behind.left, it.most) in
     let end : t.at.end ≡ used_of (take (j + 1) stored) =
     behind.end ∙ ap (λ (k : ℕ). sum_by block_room (lengths_in t.arena (take k h))) few ∙ ap (λ (ls : List ℕ). sum_by block_room ls) all.lengths ∙ ap (λ (k : ℕ). used_of (take k stored)) (sym index) in
-    let is = has_content score_of disk l h t.arena it.content sound it.at reads in
+    let is = has_content score_of disk l h sound t.arena it.content it.at reads in
     let spot : Accepted → Spot = λ (x : Accepted). record { arena = x.arena; offset = offset_behind (setup_of l) x.arena (lengths_in x.arena (take m h)) } in
     let placed : place_of (setup_of l) h m ≡ Some (spot (accepted t.arena s.0)) = ap (option_map spot) block in
     record {
@@ -215,7 +217,7 @@ pub queue_steps : {D : Type 0} (score_of : List ℕ → List ℕ) (disk : DiskOf
     → IsSound score_of disk l h → IsBehind l h n t → IsQueued p place t.left info → slice_get (packed_of l) new.queued ≡ Some p → slice_get l.queue.places new.queued ≡ Some place
     → new.queued + 1 ≡ t.queued → new.left + 1 ≡ t.left → new.arena ≡ t.arena → new.at ≡ t.at → StepsBack score_of l h n new (Some info)
 queue_steps score_of disk l h n t new p place info sound behind is packed placed queue left arena at =
-    let q = queued_as score_of disk l h new.queued p sound packed in
+    let q = queued_as score_of disk l h sound new.queued p packed in
     let number : l.durable + new.queued ≡ new.left = omega (arith, behind.queue, behind.left, queue, left) in
     let before : min n l.durable ≡ min new.left l.durable = omega (arith, behind.queue, behind.left, queue, left) in (
       new.left,
@@ -432,5 +434,14 @@ gives_info number arena left used at entry read info walks many key size offset 
 pub tail_inside : {D : Type 0} (l : LogState D) (t : TailState) → IsTailOf l t → 0 < t.at.index → t.arena < length l.heads
 tail_inside l t tail some = ⊎_elim
     (λ (less : t.arena < length l.heads). less)
-    (λ (past : length l.heads ≤ t.arena). absurd (omega (arith, tail.end past, some)))
+    (λ (past : length l.heads ≤ t.arena). absurd (omega (arith, (tail.end past).0, some)))
+    (cases_lt t.arena (length l.heads))
+
+-- the place before a walk is a small one
+pub tail_small : {D : Type 0} (disk : DiskOf D) (l : LogState D) (t : TailState) → IsWhole disk l → IsTailOf l t → t.at.end ≤ 2 ^ 30
+tail_small disk l t whole tail = ⊎_elim
+    (λ (less : t.arena < length l.heads).
+    let found = slice_get_there l.heads t.arena less in
+    omega (arith, (tail.head found.0 found.1).1, (head_small disk l t.arena found.0 whole found.1).1))
+    (λ (past : length l.heads ≤ t.arena). omega (arith, (tail.end past).1))
     (cases_lt t.arena (length l.heads))

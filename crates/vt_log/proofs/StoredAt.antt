@@ -23,8 +23,8 @@ use Rattle.vt_log.specs.Log.{LogState, setup_of, packed_of}
 use Rattle.vt_log.specs.Logs.{accepted, blocks_from}
 use Rattle.vt_log.specs.Queue.{IsNowhere, spot_of, waiting_block}
 use Rattle.vt_log.specs.Sound.{IsAt, IsSound}
-use Rattle.vt_log.proofs.Images.{there}
-use Rattle.vt_log.proofs.Memory.{slice_get_other, at_slice, slice_get_left, slice_get_drop}
+use Rattle.vt_log.proofs.StandForPrefix.{there}
+use Rattle.vt_log.proofs.Lists.{slice_get_other, at_slice, slice_get_left, slice_get_drop}
 use Rattle.vt_log.proofs.Places.{blocks_before, block_of, block_at, lengths_take, slice_get_there, split_at}
 
 -- a block that has a place is there
@@ -51,20 +51,6 @@ place_once c h i j s at_i at_j =
     (λ (same : i ≤ j). omega (arith, rest, same))
     (cases_lt j i))
     (cases_lt i j)
-
--- what is staged is packed
-pub staged_packed : {D : Type 0} (score_of : List ℕ → List ℕ) (disk : DiskOf D) (l : LogState D) (h : History)
-    → IsSound score_of disk l h → All (IsPacked score_of) l.arena.staged
-staged_packed score_of disk l h sound = ⊎_elim
-    (λ (some : l.committing < length l.layout).
-    let r = slice_get_there l.layout l.committing some in
-    let it = there disk l l.committing r.0 sound.whole r.1 in
-    let a = slice_get_other sound.contents l.layout l.committing r.0 (sym sound.many) r.1 in
-    (sound.current r.0 it.disk a.0 it.at a.1).packed)
-    (λ (past : length l.layout ≤ l.committing).
-    let none = sound.whole.none (omega (arith, past, sound.whole.committing)) in
-    subst (All (IsPacked score_of)) (sym none.0) (All-nil (IsPacked score_of)))
-    (cases_lt l.committing (length l.layout))
 
 -- a queued clump is a block of the queue
 queue_at : (score_of : List ℕ → List ℕ) (c : ℕ) (staged : List Packed) (waiting : List Waiting) (i : ℕ) (p : Packed) → All (IsPacked score_of) staged
@@ -97,32 +83,6 @@ whole_block score_of p packed =
     let n = size_in p.bytes in
     sym (take_all n (drop 38 p.bytes) (omega (arith, rest, packed.len, length-take n (drop 38 p.bytes))))
 
-pub queued_as : {D : Type 0} (score_of : List ℕ → List ℕ) (disk : DiskOf D) (l : LogState D) (h : History) (index : ℕ) (p : Packed)
-    → IsSound score_of disk l h → slice_get (packed_of l) index ≡ Some p → IsQueuedAs score_of l h index p
-queued_as score_of disk l h index p sound at =
-    let it = queue_at score_of l.committing l.arena.staged l.queue.waiting index p (staged_packed score_of disk l h sound) sound.packed at in
-    record {
-      arena = it.0;
-      block = sym (slice_get_drop l.durable index h) ∙ ap (λ (g : History). slice_get g index) sound.queued ∙ it.1;
-      packed = it.2;
-      bytes = whole_block score_of p it.2;
-    }
-
--- a block whose place is none of the queue's is committed
-pub is_durable : {D : Type 0} (score_of : List ℕ → List ℕ) (disk : DiskOf D) (l : LogState D) (h : History) (i : ℕ) (place : Place)
-    → IsSound score_of disk l h → i < length h → place_of (setup_of l) h i ≡ Some (spot_of place) → IsNowhere l.queue.places place → i < l.durable
-is_durable score_of disk l h i place sound below at nowhere = ⊎_elim
-    (λ (less : i < l.durable). less)
-    (λ (behind : l.durable ≤ i).
-    let q = slice_get_there l.queue.places (i - l.durable) (omega (arith, behind, below, sound.front)) in
-    let k : l.durable + (i - l.durable) ≡ i = omega (arith, behind) in
-    let other : place_of (setup_of l) h i ≡ Some (spot_of q.0) = subst (λ (n : ℕ). place_of (setup_of l) h n ≡ Some (spot_of q.0)) k (sound.places (i - l.durable) q.0 q.1) in
-    let spots : spot_of q.0 ≡ spot_of place = same_Some (spot_of q.0) (spot_of place) (sym other ∙ at) in
-    let back : Spot → Place = λ (s : Spot). record { arena = s.arena; offset = s.offset } in
-    let same : q.0 ≡ place = ap back spots in
-    absurd (nowhere (i - l.durable) (q.1 ∙ ap (λ (x : Place). Some x) same)))
-    (cases_lt i l.durable)
-
 -- a committed block is one of its arena's
 pub record IsCommitted (contents : List Content) (h : History) (i : ℕ) (e : Accepted) : Type 0 where
   pub content : Content
@@ -144,33 +104,6 @@ front_take xs n i below within =
     sym (take-append-le i (take n xs) (drop n xs) (omega (arith, below, length-take-le n xs within)))
     ∙ ap (take i) (take-append-drop n xs)
 
-pub committed : {D : Type 0} (score_of : List ℕ → List ℕ) (disk : DiskOf D) (l : LogState D) (h : History) (i : ℕ) (e : Accepted)
-    → (sound : IsSound score_of disk l h) → slice_get h i ≡ Some e → i < l.durable → IsCommitted sound.contents h i e
-committed score_of disk l h i e sound at below =
-    let within : l.durable ≤ length h = omega (arith, sound.front) in
-    let many : i < length (blocks_from 0 sound.contents) = omega (arith, below, within, length-take-le l.durable h within, ap (λ (g : History). length g) sound.committed) in
-    let it = block_of 0 sound.contents i many in
-    let is : Some e ≡ Some (accepted (0 + it.arena) it.stored) =
-    sym at ∙ sym (front_same h l.durable i below within) ∙ ap (λ (g : History). slice_get g i) sound.committed
-    ∙ ap (slice_get (blocks_from 0 sound.contents)) it.is ∙ block_at 0 sound.contents it.arena it.content it.index it.stored it.at it.has in
-    let own : 0 + it.arena ≡ it.arena = omega arith in
-    let block : e ≡ accepted it.arena it.stored = same_Some e (accepted it.arena it.stored) (is ∙ ap (λ (n : ℕ). Some (accepted n it.stored)) own) in
-    let arena : it.arena ≡ e.arena = sym (ap (λ (x : Accepted). x.arena) block) in
-    let lengths : lengths_in it.arena (take i h) ≡ lengths_of (take it.index it.content.stored) =
-    ap (lengths_in it.arena) (sym (front_take h l.durable i (omega (arith, below)) within) ∙ ap (take i) sound.committed)
-    ∙ ap (λ (n : ℕ). lengths_in it.arena (take n (blocks_from 0 sound.contents))) it.is
-    ∙ lengths_take sound.contents it.arena it.content it.index it.at (omega (arith, slice_get_within it.content.stored it.index it.stored it.has)) in
-    record {
-      content = it.content;
-      index = it.index;
-      stored = it.stored;
-      at = subst (λ (n : ℕ). slice_get sound.contents n ≡ Some it.content) arena it.at;
-      has = it.has;
-      block = subst (λ (n : ℕ). e ≡ accepted n it.stored) arena block;
-      count = subst (λ (n : ℕ). i ≡ blocks_before n sound.contents + it.index) arena it.is;
-      lengths = subst (λ (n : ℕ). lengths_in n (take i h) ≡ lengths_of (take it.index it.content.stored)) arena lengths;
-    }
-
 -- an arena's blocks stand in its region, as it is read
 pub record HasContent {D : Type 0} (score_of : List ℕ → List ℕ) (disk : DiskOf D) (l : LogState D) (arena : ℕ) (a : Content) : Type 0 where
   pub r : ArenaRegion
@@ -179,29 +112,6 @@ pub record HasContent {D : Type 0} (score_of : List ℕ → List ℕ) (disk : Di
   pub content : IsContent score_of r.region.len a
   pub stand : HasBlocks r.region a.stored (disk.bytes device)
   pub head : (found : Found) → slice_get l.heads arena ≡ Some found → found.head ≡ head_of score_of r.number a
-
-pub has_content : {D : Type 0} (score_of : List ℕ → List ℕ) (disk : DiskOf D) (l : LogState D) (h : History) (arena : ℕ) (a : Content)
-    → (sound : IsSound score_of disk l h) → slice_get sound.contents arena ≡ Some a → ((device : D) → disk.images device (disk.bytes device)) → HasContent score_of disk l arena a
-has_content score_of disk l h arena a sound at reads =
-    let r = slice_get_other l.layout sound.contents arena a sound.many at in
-    let it = there disk l arena r.0 sound.whole r.1 in
-    let both : IsContent score_of r.0.region.len a × HasBlocks r.0.region a.stored (disk.bytes it.disk) = ⊎_elim
-    (λ (same : arena ≡ l.committing).
-    let arena_at : IsAt l l.committing r.0 it.disk = subst (λ (n : ℕ). IsAt l n r.0 it.disk) same it.at in
-    let current = sound.current r.0 it.disk a arena_at (subst (λ (n : ℕ). slice_get sound.contents n ≡ Some a) same at) in
-    (current.content, current.kept (disk.bytes it.disk) (reads it.disk)))
-    (λ (other : arena ≢ l.committing).
-    let rest = sound.others arena r.0 it.disk a other it.at at in
-    (rest.1.content, rest.1.blocks))
-    (cases_eq arena l.committing) in
-    record {
-      r = r.0;
-      device = it.disk;
-      at = it.at;
-      content = both.0;
-      stand = both.1;
-      head = λ found has. sound.heads arena r.0 found a r.1 has at;
-    }
 
 -- the block whose place is none of the queue's stands there in its arena
 pub record IsStoredAt {D : Type 0} (score_of : List ℕ → List ℕ) (disk : DiskOf D) (l : LogState D) (place : Place) (e : Accepted) : Type 0 where
@@ -215,26 +125,113 @@ pub record IsStoredAt {D : Type 0} (score_of : List ℕ → List ℕ) (disk : Di
   pub block : e ≡ accepted place.arena stored
   pub scored : stored.score ≡ score_of stored.block
 
-pub stored_at : {D : Type 0} (score_of : List ℕ → List ℕ) (disk : DiskOf D) (l : LogState D) (h : History) (i : ℕ) (e : Accepted) (place : Place)
-    → IsSound score_of disk l h → slice_get h i ≡ Some e → place_of (setup_of l) h i ≡ Some (spot_of place) → IsNowhere l.queue.places place
-    → ((device : D) → disk.images device (disk.bytes device)) → IsStoredAt score_of disk l place e
-stored_at score_of disk l h i e place sound at placed nowhere reads =
-    let below = is_durable score_of disk l h i place sound (slice_get_within h i e at) placed nowhere in
-    let it = committed score_of disk l h i e sound at below in
-    let spot : Accepted → Spot = λ (x : Accepted). record { arena = x.arena; offset = offset_behind (setup_of l) x.arena (lengths_in x.arena (take i h)) } in
-    let spots : spot e ≡ spot_of place = same_Some (spot e) (spot_of place) (sym (ap (option_map spot) at) ∙ placed) in
-    let arena : e.arena ≡ place.arena = ap (λ (s : Spot). s.arena) spots in
-    let offset : place.offset ≡ offset_of (take it.index it.content.stored) =
-    sym (ap (λ (s : Spot). s.offset) spots) ∙ ap (offset_behind (setup_of l) e.arena) it.lengths in
-    let is = has_content score_of disk l h e.arena it.content sound it.at reads in
-    record {
-      content = it.content;
-      before = take it.index it.content.stored;
-      behind = drop (it.index + 1) it.content.stored;
-      stored = it.stored;
-      is = subst (λ (n : ℕ). HasContent score_of disk l n it.content) arena is;
-      split = split_at it.content.stored it.index it.stored it.has;
-      offset = offset;
-      block = subst (λ (n : ℕ). e ≡ accepted n it.stored) arena it.block;
-      scored = (at_slice (IsStored score_of) it.content.stored it.index it.stored is.content.stored it.has).scored;
-    }
+-- ---- where disks are sound for a history
+
+module _ {D : Type 0} (score_of : List ℕ → List ℕ) (disk : DiskOf D) (l : LogState D) (h : History) (sound : IsSound score_of disk l h) where
+  -- what is staged is packed
+  pub staged_packed : All (IsPacked score_of) l.arena.staged
+  staged_packed = ⊎_elim
+      (λ (some : l.committing < length l.layout).
+      let r = slice_get_there l.layout l.committing some in
+      let it = there disk l l.committing r.0 sound.whole r.1 in
+      let a = slice_get_other sound.contents l.layout l.committing r.0 (sym sound.many) r.1 in
+      (sound.current r.0 it.disk a.0 it.at a.1).packed)
+      (λ (past : length l.layout ≤ l.committing).
+      let none = sound.whole.none (omega (arith, past, sound.whole.committing)) in
+      subst (All (IsPacked score_of)) (sym none.0) (All-nil (IsPacked score_of)))
+      (cases_lt l.committing (length l.layout))
+
+  pub queued_as : (index : ℕ) (p : Packed) → slice_get (packed_of l) index ≡ Some p → IsQueuedAs score_of l h index p
+  queued_as index p at =
+      let it = queue_at score_of l.committing l.arena.staged l.queue.waiting index p (staged_packed) sound.packed at in
+      record {
+        arena = it.0;
+        block = sym (slice_get_drop l.durable index h) ∙ ap (λ (g : History). slice_get g index) sound.queued ∙ it.1;
+        packed = it.2;
+        bytes = whole_block score_of p it.2;
+      }
+
+  -- a block whose place is none of the queue's is committed
+  pub is_durable : (i : ℕ) (place : Place) → i < length h → place_of (setup_of l) h i ≡ Some (spot_of place) → IsNowhere l.queue.places place → i < l.durable
+  is_durable i place below at nowhere = ⊎_elim
+      (λ (less : i < l.durable). less)
+      (λ (behind : l.durable ≤ i).
+      let q = slice_get_there l.queue.places (i - l.durable) (omega (arith, behind, below, sound.front)) in
+      let k : l.durable + (i - l.durable) ≡ i = omega (arith, behind) in
+      let other : place_of (setup_of l) h i ≡ Some (spot_of q.0) = subst (λ (n : ℕ). place_of (setup_of l) h n ≡ Some (spot_of q.0)) k (sound.places (i - l.durable) q.0 q.1) in
+      let spots : spot_of q.0 ≡ spot_of place = same_Some (spot_of q.0) (spot_of place) (sym other ∙ at) in
+      let back : Spot → Place = λ (s : Spot). record { arena = s.arena; offset = s.offset } in
+      let same : q.0 ≡ place = ap back spots in
+      absurd (nowhere (i - l.durable) (q.1 ∙ ap (λ (x : Place). Some x) same)))
+      (cases_lt i l.durable)
+
+  pub committed : (i : ℕ) (e : Accepted) → slice_get h i ≡ Some e → i < l.durable → IsCommitted sound.contents h i e
+  committed i e at below =
+      let within : l.durable ≤ length h = omega (arith, sound.front) in
+      let many : i < length (blocks_from 0 sound.contents) = omega (arith, below, within, length-take-le l.durable h within, ap (λ (g : History). length g) sound.committed) in
+      let it = block_of 0 sound.contents i many in
+      let is : Some e ≡ Some (accepted (0 + it.arena) it.stored) =
+      sym at ∙ sym (front_same h l.durable i below within) ∙ ap (λ (g : History). slice_get g i) sound.committed
+      ∙ ap (slice_get (blocks_from 0 sound.contents)) it.is ∙ block_at 0 sound.contents it.arena it.content it.index it.stored it.at it.has in
+      let own : 0 + it.arena ≡ it.arena = omega arith in
+      let block : e ≡ accepted it.arena it.stored = same_Some e (accepted it.arena it.stored) (is ∙ ap (λ (n : ℕ). Some (accepted n it.stored)) own) in
+      let arena : it.arena ≡ e.arena = sym (ap (λ (x : Accepted). x.arena) block) in
+      let lengths : lengths_in it.arena (take i h) ≡ lengths_of (take it.index it.content.stored) =
+      ap (lengths_in it.arena) (sym (front_take h l.durable i (omega (arith, below)) within) ∙ ap (take i) sound.committed)
+      ∙ ap (λ (n : ℕ). lengths_in it.arena (take n (blocks_from 0 sound.contents))) it.is
+      ∙ lengths_take sound.contents it.arena it.content it.index it.at (omega (arith, slice_get_within it.content.stored it.index it.stored it.has)) in
+      record {
+        content = it.content;
+        index = it.index;
+        stored = it.stored;
+        at = subst (λ (n : ℕ). slice_get sound.contents n ≡ Some it.content) arena it.at;
+        has = it.has;
+        block = subst (λ (n : ℕ). e ≡ accepted n it.stored) arena block;
+        count = subst (λ (n : ℕ). i ≡ blocks_before n sound.contents + it.index) arena it.is;
+        lengths = subst (λ (n : ℕ). lengths_in n (take i h) ≡ lengths_of (take it.index it.content.stored)) arena lengths;
+      }
+
+  pub has_content : (arena : ℕ) (a : Content) → slice_get sound.contents arena ≡ Some a → ((device : D) → disk.images device (disk.bytes device)) → HasContent score_of disk l arena a
+  has_content arena a at reads =
+      let r = slice_get_other l.layout sound.contents arena a sound.many at in
+      let it = there disk l arena r.0 sound.whole r.1 in
+      let both : IsContent score_of r.0.region.len a × HasBlocks r.0.region a.stored (disk.bytes it.disk) = ⊎_elim
+      (λ (same : arena ≡ l.committing).
+      let arena_at : IsAt l l.committing r.0 it.disk = subst (λ (n : ℕ). IsAt l n r.0 it.disk) same it.at in
+      let current = sound.current r.0 it.disk a arena_at (subst (λ (n : ℕ). slice_get sound.contents n ≡ Some a) same at) in
+      (current.content, current.kept (disk.bytes it.disk) (reads it.disk)))
+      (λ (other : arena ≢ l.committing).
+      let rest = sound.others arena r.0 it.disk a other it.at at in
+      (rest.1.content, rest.1.blocks))
+      (cases_eq arena l.committing) in
+      record {
+        r = r.0;
+        device = it.disk;
+        at = it.at;
+        content = both.0;
+        stand = both.1;
+        head = λ found has. sound.heads arena r.0 found a r.1 has at;
+      }
+
+  pub stored_at : (i : ℕ) (e : Accepted) (place : Place) → slice_get h i ≡ Some e → place_of (setup_of l) h i ≡ Some (spot_of place) → IsNowhere l.queue.places place
+      → ((device : D) → disk.images device (disk.bytes device)) → IsStoredAt score_of disk l place e
+  stored_at i e place at placed nowhere reads =
+      let below = is_durable i place (slice_get_within h i e at) placed nowhere in
+      let it = committed i e at below in
+      let spot : Accepted → Spot = λ (x : Accepted). record { arena = x.arena; offset = offset_behind (setup_of l) x.arena (lengths_in x.arena (take i h)) } in
+      let spots : spot e ≡ spot_of place = same_Some (spot e) (spot_of place) (sym (ap (option_map spot) at) ∙ placed) in
+      let arena : e.arena ≡ place.arena = ap (λ (s : Spot). s.arena) spots in
+      let offset : place.offset ≡ offset_of (take it.index it.content.stored) =
+      sym (ap (λ (s : Spot). s.offset) spots) ∙ ap (offset_behind (setup_of l) e.arena) it.lengths in
+      let is = has_content e.arena it.content it.at reads in
+      record {
+        content = it.content;
+        before = take it.index it.content.stored;
+        behind = drop (it.index + 1) it.content.stored;
+        stored = it.stored;
+        is = subst (λ (n : ℕ). HasContent score_of disk l n it.content) arena is;
+        split = split_at it.content.stored it.index it.stored it.has;
+        offset = offset;
+        block = subst (λ (n : ℕ). e ≡ accepted n it.stored) arena it.block;
+        scored = (at_slice (IsStored score_of) it.content.stored it.index it.stored is.content.stored it.has).scored;
+      }

@@ -26,7 +26,7 @@ pub record TailState : Type 0 where
 pub record IsTailOf {D : Type 0} (l : LogState D) (t : TailState) : Type 0 where
   pub queue : t.queued ≤ queued l
   pub arena : t.arena ≤ length l.heads
-  pub end : length l.heads ≤ t.arena → t.at.index ≡ 0
+  pub end : length l.heads ≤ t.arena → (t.at.index ≡ 0) × (t.at.end ≡ 0)
   pub head : (found : Found) → slice_get l.heads t.arena ≡ Some found
       → (t.at.index ≤ found.head.clumps) × (t.at.end ≤ found.head.used)
   pub left : t.left

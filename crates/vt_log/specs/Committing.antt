@@ -1,14 +1,15 @@
 -- The steps of a commit, between its calls.
 use Rattle.std.specs.Prelude.{◌≡◌, ◌↔◌, ◌⊎◌, ℕ, ◌+◌, ◌<◌, ◌≤◌, Bool, IsTrue, IsFalse, List, [], Some, None, Result, Ok, Err, length, map, slice_get}
+use Rattle.vt_disk.specs.Members.{DiskOf}
 use Rattle.vt_model.specs.History.{History}
 use Rattle.vt_arena.specs.Arena.{is_committing, calls_made, commit_calls}
 use Rattle.vt_log.specs.declared.bad.Progress.{Progress}
 use Rattle.vt_log.specs.declared.bad.Progress.TheVariants.{Idle, Step, Durable}
 use Rattle.vt_log.specs.declared.bad.LogErr.{LogErr}
 use Rattle.vt_log.specs.declared.bad.LogErr.TheVariants.{Fault, Stopped}
-use Rattle.vt_log.specs.Answers.{MakesCall, EndsCommit, CallsArena}
-use Rattle.vt_log.specs.Log.{LogState, packed_of}
-use Rattle.vt_disk.specs.Members.{DiskOf}
+use Rattle.vt_log.specs.Answers.{Advances, MakesCall, EndsCommit, CallsArena}
+use Rattle.vt_log.specs.Faults.{CountsFaults, is_fault_now}
+use Rattle.vt_log.specs.Log.{LogState, front, queued, packed_of, next_filling}
 use Rattle.vt_log.specs.Owed.{owed}
 use Rattle.vt_log.specs.Queue.{WaitsFor}
 use Rattle.vt_log.specs.Sound.{IsSound, AreWithinCall, StandForPrefix}
@@ -44,6 +45,24 @@ pub record Prepares {D : Type 0} (old new : LogState D) : Type 0 where
   pub begun : (new ≡ old) ⊎ IsFalse (is_committing new.arena)
   pub commit : IsTrue (is_committing old.arena) → new ≡ old
   pub batch : IsFalse (is_committing old.arena) → TakesAll new
+
+-- What a call of `advance` does, whatever the disks hold.
+pub record TakesStep {D : Type 0} (disk : DiskOf D) (result : Result Progress LogErr)
+    (old new : LogState D) : Type 0 where
+  pub advances : Advances result old new
+  pub stopped : (n : ℕ) → (result ≡ Err (Stopped n)) ↔ (old.stopped ≡ Some n)
+  pub idle : old.stopped ≡ None → queued old ≡ 0 → result ≡ Ok Idle
+  pub kept : (new.layout ≡ old.layout) × (new.tables ≡ old.tables) × (new.base ≡ old.base)
+      × (new.filling ≡ old.filling)
+  -- the count of accepted blocks stays, and where the next block goes
+  pub front_is : front new ≡ front old
+  pub next : (n : ℕ) → next_filling new n ≡ next_filling old n
+  -- the first call of a commit begins it with all that waits for the arena, and with its seal where
+  -- a block waits for the next one
+  pub batch : old.stopped ≡ None → IsFalse (is_committing old.arena) → TakesAll new
+  -- it makes one device call, or none where it is idle or stopped
+  pub one_call : old.stopped ≡ None → 0 < queued old → CallsArena disk result old new
+  pub cause : CountsFaults disk is_fault_now result old.disks new.disks
 
 -- what a device call makes of a log
 abbrev pub MakesOrEnds : {D : Type 0} → Result Progress LogErr → (old new : LogState D) → Type 0

@@ -13,10 +13,8 @@ use vt_disk::Disk;
 use vt_twin::{Step, TwinErr};
 
 impl<D: Disk, S: Scorer> Log<D, S> {
-    ghost use Rattle.vt_log.specs.Answers.{Advances, CallsArena};
-    ghost use Rattle.vt_log.specs.Committing.{Stages, IsReady, TakesAll, Prepares, MakesOneCall};
-    ghost use Rattle.vt_log.specs.Faults.{CountsFaults, is_fault_now};
-    ghost use Rattle.vt_log.specs.Log.{LogState, queued, front, packed_of, next_filling};
+    ghost use Rattle.vt_log.specs.Committing.{Stages, IsReady, TakesAll, TakesStep, Prepares, MakesOneCall};
+    ghost use Rattle.vt_log.specs.Log.{LogState, queued, packed_of};
     ghost use Rattle.vt_log.specs.Queue.{WaitsFor};
     ghost use Rattle.vt_log.specs.Owed.{owed, seal_calls};
     ghost use Rattle.vt_log.specs.Sound.{IsSound, AreWithinCall, StandForPrefix};
@@ -67,26 +65,8 @@ impl<D: Disk, S: Scorer> Log<D, S> {
             → (files : List (List ℕ)) → AreWithinCall D.Disk self.old.disks self.new.disks files
             → StandForPrefix S.score_of self.old files h }
 
-        ensures advances { Advances result self.old self.new }
-        ensures stopped { (n : ℕ)
-            → (result ≡ Err (LogErr.Stopped n)) ↔ (self.old.stopped ≡ Some n) }
-        ensures idle { self.old.stopped ≡ None → queued self.old ≡ 0 → result ≡ Ok Progress.Idle }
-        ensures kept { (self.new.layout ≡ self.old.layout) × (self.new.tables ≡ self.old.tables)
-            × (self.new.base ≡ self.old.base) × (self.new.filling ≡ self.old.filling) }
-
-        // The count of accepted blocks stays, and where the next block goes.
-        ensures front { front self.new ≡ front self.old }
-        ensures next { (n : ℕ) → next_filling self.new n ≡ next_filling self.old n }
-
-        // The first call of a commit begins it with all that waits for the arena, and with its
-        // seal where a block waits for the next one.
-        ensures batch { self.old.stopped ≡ None → IsFalse (is_committing self.old.arena)
-            → TakesAll self.new }
-
-        // It makes one call, or none where it is idle or stopped.
-        ensures one_call { self.old.stopped ≡ None → 0 < queued self.old
-            → CallsArena D.Disk result self.old self.new }
-        ensures cause { CountsFaults D.Disk is_fault_now result self.old.disks self.new.disks }
+        // So much holds whatever the disks have.
+        ensures step { TakesStep D.Disk result self.old self.new }
     {
         if let Some(call) = self.stopped {
             return Err(LogErr::Stopped(call));

@@ -18,7 +18,7 @@ use crate::filling::Filling;
 use crate::queue::Queue;
 use std::marker::Model;
 use vt_arena::{Arena, ArenaHead, Found, has_room};
-use vt_base::{Failed, Place, Scorer};
+use vt_base::{Failed, Place, Score, Scorer};
 use vt_clump::Packed;
 use vt_disk::Disk;
 use vt_model::HEAD_LEN;
@@ -121,7 +121,8 @@ impl<D: Disk, S: Scorer> Log<D, S> {
 
     /// How many blocks were accepted.
     pub fn front(&self) -> u64
-        ensures { result ≡ front self.now }
+        ensures front { result ≡ front self.now }
+        ensures most { result < 2 ^ 63 }
     {
         self.durable + self.queue.len() as u64
     }
@@ -138,6 +139,13 @@ impl<D: Disk, S: Scorer> Log<D, S> {
         ensures { result ≡ self.now.base }
     {
         self.base
+    }
+
+    /// The score of a block's bytes.
+    pub fn score(&self, block: &[u8]) -> Score
+        ensures { result.0 ≡ S.score_of block.now }
+    {
+        self.scorer.score(block)
     }
 
     /// Whether 64 blocks are queued.

@@ -1,4 +1,4 @@
-use Rattle.vt_log.proofs.Images.{moment_stands}
+use Rattle.vt_log.proofs.StandForPrefix.{moment_stands}
 use Rattle.vt_log.proofs.laws.crash_gives_a_prefix.Goals as goal
 
 pub returns : goal.returns

@@ -11,7 +11,7 @@ use Rattle.vt_log.specs.Faults.{AreFields, bad_arena}
 use Rattle.vt_log.specs.Log.{disks_of}
 use Rattle.vt_log.specs.Mounting.{AreFieldsAt, AreFound}
 use Rattle.vt_log.specs.Whole.{IsOnDisk}
-use Rattle.vt_log.proofs.Memory.{at_slice}
+use Rattle.vt_log.proofs.Lists.{at_slice}
 use Rattle.vt_log.proofs.AreFound.{read_then, fields_there, fields_are, fields_of_all, Passes, passes_more, passes_all, stops, found_more, on_held, found_file, fields_more}
 use Rattle.vt_log.proofs.mounting.find_all.Goals as goal
 use Rattle.vt_log.proofs.mounting.find_all.Goals.{then-behind, else-behind}

@@ -9,7 +9,7 @@ use Rattle.vt_log.specs.Log.{disks_of}
 use Rattle.vt_log.specs.Logs.{IsLog}
 use Rattle.vt_log.proofs.AreFound.{counts_from}
 use Rattle.vt_log.proofs.IsEmpty.{tables_set, sizes_set, faults_set, writes_set, empty_set, stops_here, room_kept, empty_log, settled_parts}
-use Rattle.vt_log.proofs.Memory.{slice_get_set_other}
+use Rattle.vt_log.proofs.Lists.{slice_get_set_other}
 use Rattle.vt_log.proofs.mounting.format.Goals as goal
 
 pub format_part-requires : goal.format_part-requires

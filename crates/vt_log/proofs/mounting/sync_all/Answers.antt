@@ -10,7 +10,7 @@ use Rattle.vt_log.specs.declared.bad.LogBad.TheVariants.{Fault}
 use Rattle.vt_log.specs.Faults.{is_fault}
 use Rattle.vt_log.specs.Log.{disks_of}
 use Rattle.vt_log.proofs.AreFound.{read_set, read_then, synced, sync_stops, settled_more, settled_all, counts_set, counts_from}
-use Rattle.vt_log.proofs.Memory.{slice_get_set_other}
+use Rattle.vt_log.proofs.Lists.{slice_get_set_other}
 use Rattle.vt_log.proofs.mounting.sync_all.Goals as goal
 
 pub returns-in_err-sync-clause-read : goal.returns-in_err-sync-clause-read

@@ -16,7 +16,7 @@ invariant_of-self g c =
 
 pub returns-in_default-clause-appends : goal.returns-in_default-clause-appends
 returns-in_default-clause-appends g c h well sound =
-    next_arena_is _ _ c.args.self.now h c.args.packed.len sound
+    next_arena_is _ _ c.args.self.now h sound c.args.packed.len
     ∙ ap (λ (o : Option Filling). option_map (λ (f : Filling). f.arena) o) (sym c.next_filling.ensures.next ∙ none c.next_filling.result c.in_default.not-Some)
   where
     none : (o : Option Filling) → ((f : Filling) → o ≡ Some f → ⊥) → o ≡ None

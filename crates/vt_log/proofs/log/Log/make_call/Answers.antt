@@ -10,7 +10,7 @@ use Rattle.vt_log.specs.View.{state_of}
 use Rattle.vt_log.proofs.EndsCommit.{next_there}
 use Rattle.vt_log.proofs.HoldTheSame.{with_disk}
 use Rattle.vt_log.proofs.MakesOneCall.{IsCalledIn, region_at, arena_there, same_len, more_in_parts, fault_in_parts, ended_in_parts, turned_in_parts, IsLast, last_call, Settles, IsNextArena, seals_too, next_arena_there}
-use Rattle.vt_log.proofs.Memory.{durable_small}
+use Rattle.vt_log.proofs.IsWhole.{durable_small}
 use Rattle.vt_log.proofs.log.Log.make_call.Goals as goal
 
 pub advance-requires-clause-same : goal.advance-requires-clause-same

@@ -3,7 +3,7 @@ use Rattle.std.proofs.Common.{◌≡◌, sym, ◌∙◌, subst, ap, refl}
 use Rattle.std.proofs.lemmas.Option.{slice_get_read}
 use Rattle.vt_log.specs.Whole.{IsWhole}
 use Rattle.vt_log.specs.Log.{LogState}
-use Rattle.vt_log.proofs.Fillings.{fits_small, next_none}
+use Rattle.vt_log.proofs.Fill.{fits_small, next_none}
 use Rattle.vt_log.proofs.log.Log.next_filling.Goals as goal
 
 pub returns-then-fits-clause-small : goal.returns-then-fits-clause-small

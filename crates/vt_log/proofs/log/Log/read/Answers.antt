@@ -13,7 +13,7 @@ use Rattle.vt_log.specs.Queue.{IsFirstAt, spot_of}
 use Rattle.vt_log.specs.Reading.{ReadsAs}
 use Rattle.vt_log.specs.Whole.{IsWhole}
 use Rattle.vt_log.proofs.AnswersRead.{nowhere_in, no_other, queued_gives, queued_block, unread, reads_block, reads_other, not_free, answers_queued, answers_nowhere, answers_there}
-use Rattle.vt_log.proofs.Damages.{answer_two}
+use Rattle.vt_log.proofs.Differ.{answer_two}
 use Rattle.vt_log.proofs.StoredAt.{place_once, queued_as, stored_at}
 use Rattle.vt_log.proofs.log.Log.read.Goals as goal
 
@@ -24,7 +24,7 @@ returns-in-Some-clause-block g c h i e tells sound at placed kind score =
     c.self.view_is c.in-Some.ensures.found in
     let p = c.packed.result.now in
     let q = queued_as g.S.Scorer.score_of g.D.Disk
-    c.args.self.now h c.in-Some.index p sound c.packed.ensures in
+    c.args.self.now h sound c.in-Some.index p c.packed.ensures in
     let same : i ≡ c.args.self.now.durable + c.in-Some.index =
     place_once (setup_of c.args.self.now) h i (c.args.self.now.durable + c.in-Some.index)
     (spot_of c.args.place) placed (sound.places c.in-Some.index c.args.place places.at) in
@@ -52,7 +52,7 @@ returns-then-place-arenas-clause-block g c h i e tells sound at placed kind scor
     let nowhere = nowhere_in _ c.args.self.now c.args.place c.self.view_is
     c.in_default.ensures.none in
     let it = stored_at g.S.Scorer.score_of g.D.Disk
-    c.args.self.now h i e c.args.place sound at placed nowhere
+    c.args.self.now h sound i e c.args.place at placed nowhere
     (λ disk. g.met.D.Disk.read_is_image disk tells) in
     absurd (omega (
       arith,
@@ -83,7 +83,7 @@ returns-in_err-clump-clause-block g c h i e tells sound at placed kind score =
     let nowhere = nowhere_in _ c.args.self.now c.args.place c.self.view_is
     c.in_default.ensures.none in
     let it = stored_at g.S.Scorer.score_of g.D.Disk
-    c.args.self.now h i e c.args.place sound at placed nowhere
+    c.args.self.now h sound i e c.args.place at placed nowhere
     (λ disk. g.met.D.Disk.read_is_image disk tells) in
     let handed = err_from_is_err_and c.from_residual.result c.from_residual.ensures.1 in
     subst (λ (result : Result (List ℕ) ReadBad). MatchResult result (λ block. block ≡ e.block.bytes)
@@ -126,7 +126,7 @@ returns-in_err-check_key-clause-block g c h i e tells sound at placed kind score
     let nowhere = nowhere_in _ c.args.self.now c.args.place c.self.view_is
     c.in_default.ensures.none in
     let it = stored_at g.S.Scorer.score_of g.D.Disk
-    c.args.self.now h i e c.args.place sound at placed nowhere
+    c.args.self.now h sound i e c.args.place at placed nowhere
     (λ disk. g.met.D.Disk.read_is_image disk tells) in
     let read = c.in_ok-clump.ensures.committed it.is.r it.is.device it.content it.before
     it.behind it.stored tells it.is.at it.is.content it.is.stand it.split it.offset in
@@ -171,7 +171,7 @@ returns-clause-block g c h i e tells sound at placed kind score =
     let nowhere = nowhere_in _ c.args.self.now c.args.place c.self.view_is
     c.in_default.ensures.none in
     let it = stored_at g.S.Scorer.score_of g.D.Disk
-    c.args.self.now h i e c.args.place sound at placed nowhere
+    c.args.self.now h sound i e c.args.place at placed nowhere
     (λ disk. g.met.D.Disk.read_is_image disk tells) in
     let read = c.in_ok-clump.ensures.committed it.is.r it.is.device it.content it.before
     it.behind it.stored tells it.is.at it.is.content it.is.stand it.split it.offset in

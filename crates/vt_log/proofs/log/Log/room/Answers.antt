@@ -9,4 +9,4 @@ use Rattle.vt_log.proofs.log.Log.room.Goals as goal
 pub returns : goal.returns
 returns g c =
     let room : c.is_some.result ≡ has_next c.args.self.now c.args.n = c.is_some.ensures ∙ ap (λ (o : Option Filling). is_some o) c.next_filling.ensures.next in
-    record { room = room; next = λ h sound. room ∙ has_next_is _ _ c.args.self.now h c.args.n sound }
+    record { room = room; next = λ h sound. room ∙ has_next_is _ _ c.args.self.now h sound c.args.n }

@@ -9,4 +9,4 @@ returns-clause-behind g c h sound =
     let queue : c.len.result ≡ queued c.args.self.now = c.len.ensures ∙ ap (λ (l : LogState _). queued l) c.self.view_is in
     let items : c.len-2.result ≡ length c.self.inside.heads.items = search rules in
     let arenas : c.len-2.result ≡ length c.args.self.now.heads = items ∙ ap (λ (l : LogState _). length l.heads) c.self.view_is in
-    rw (c.front.ensures, queue, arenas) (tail_behind _ _ c.args.self.now h sound)
+    rw (c.front.ensures.front, queue, arenas) (tail_behind _ _ c.args.self.now h sound)

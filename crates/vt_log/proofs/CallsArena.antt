@@ -32,8 +32,8 @@ use Rattle.vt_log.specs.Logs.{accepted}
 use Rattle.vt_log.specs.Queue.{waiting_block}
 use Rattle.vt_log.specs.Sound.{IsAt, IsSound, AreWithinCall, StandForPrefix}
 use Rattle.vt_log.specs.Whole.{IsOnDisk, IsWhole}
-use Rattle.vt_log.proofs.Images.{region_long, number_is, stand_for_prefix, moment_stands}
-use Rattle.vt_log.proofs.Memory.{slice_get_other, slice_get_set_same, slice_get_set_other}
+use Rattle.vt_log.proofs.StandForPrefix.{region_long, number_is, stand_for_prefix, moment_stands}
+use Rattle.vt_log.proofs.Lists.{slice_get_other, slice_get_set_same, slice_get_set_other}
 
 -- what the calls of a commit leave of an arena but the last
 pub record KeepsArena (a b : ArenaState) : Type 0 where
@@ -132,31 +132,6 @@ pub record StaysAt {D : Type 0} (score_of : List ℕ → List ℕ) (disk : DiskO
   pub arena : (number : ℕ) (a : Content) → IsArena score_of region number a (disk.bytes before) → IsArena score_of region number a (disk.bytes after)
   pub selector : named_number region FRAME_LEN (disk.bytes after) ≡ named_number region FRAME_LEN (disk.bytes before)
 
-pub others_stay : {D : Type 0} (score_of : List ℕ → List ℕ) (disk : DiskOf D) (l : LogState D) (r : ArenaRegion) (d e : D)
-    → IsWhole disk l → IsAt l l.committing r d → ChangesRegion disk r.region d e
-    → (i : ℕ) (q : ArenaRegion) (before after : D) → i ≢ l.committing → IsAt l i q before → slice_get (set l.disks r.part e) q.part ≡ Some after
-    → StaysAt score_of disk q.region before after
-others_stay {D = D} score_of disk l r d e whole at changes i q before after not_this there_at now = ⊎_elim
-    (λ (same : q.part ≡ r.part).
-    let was : d ≡ before = same_Some d before (sym at.disk_is ∙ sym (ap (slice_get l.disks) same) ∙ there_at.disk_is) in
-    let is : e ≡ after = same_Some e after (sym (slice_get_set_same l.disks r.part e (slice_get_within l.disks r.part d at.disk_is)) ∙ sym (ap (slice_get (set l.disks r.part e)) same) ∙ now) in
-    let gap = apart_at l.layout i l.committing q r whole.apart not_this there_at.arena at.arena same in
-    let clear : (k : ℕ) → Inside r.region k → ¬ Inside q.region k = λ k inside there. ⊎_elim
-    (λ (h : q.region.start + q.region.len ≤ r.region.start). omega (arith, h, inside.0, there.1))
-    (λ (h : r.region.start + r.region.len ≤ q.region.start). omega (arith, h, inside.1, there.0)) gap in
-    let long : 24576 ≤ q.region.len = region_long disk l i q before whole there_at in
-    let stay : region_bytes q.region (disk.bytes e) ≡ region_bytes q.region (disk.bytes d) =
-    part_same (Inside r.region) q.region.start q.region.len (disk.bytes d) (disk.bytes e) changes.bytes_are (λ k above below inside. clear k inside (above, below)) in
-    subst (λ (x : D). StaysAt score_of disk q.region x after) was (subst (λ (x : D). StaysAt score_of disk q.region d x) is (record {
-      settled = settled_elsewhere q.region r.region (disk.bytes d) (disk.bytes e) (disk.images d) (disk.images e) clear changes.bytes_are changes.images_are;
-      arena = λ number a. arena_in_region score_of q.region number a (disk.bytes d) (disk.bytes e) long stay;
-      selector = named_in_region q.region (disk.bytes d) (disk.bytes e) long stay;
-    })))
-    (λ (different : q.part ≢ r.part).
-    let same : before ≡ after = same_Some before after (sym there_at.disk_is ∙ sym (slice_get_set_other l.disks r.part q.part e different) ∙ now) in
-    subst (λ (x : D). StaysAt score_of disk q.region before x) same (record { settled = λ h. h; arena = λ number a h. h; selector = refl }))
-    (cases_eq q.part r.part)
-
 -- the disk of an arena was one before
 pub at_before : {D : Type 0} (l k : LogState D) (i : ℕ) (q : ArenaRegion) (after : D) (part : ℕ) (e : D) → k.layout ≡ l.layout → k.disks ≡ set l.disks part e
     → IsAt k i q after → (before : D) × IsAt l i q before × (slice_get (set l.disks part e) q.part ≡ Some after)
@@ -165,71 +140,95 @@ at_before l k i q after part e layout disks at =
     let was = slice_get_other l.disks (set l.disks part e) q.part after (length-set l.disks part e) now in
     (was.0, record { arena = sym (ap (λ rs. slice_get rs i) layout) ∙ at.arena; disk_is = was.1 }, now)
 
--- a disk stays sound by a call that ends no commit
-pub call_sound : {D : Type 0} (score_of : List ℕ → List ℕ) (disk : DiskOf D) (l : LogState D) (h : History)
-    (r : ArenaRegion) (d e : D) (b : ArenaState) (calls : ℕ) (stopped : Option ℕ) → (sound : IsSound score_of disk l h) → IsReady l → KeepsArena l.arena b
-    → (stopped ≡ None → b.stopped ≡ None) → IsAt l l.committing r d → ChangesRegion disk r.region d e
-    → ((a : Content) → slice_get sound.contents l.committing ≡ Some a → IsSoundArena score_of b r.region a (disk.bytes e) (disk.images e))
-    → IsSound score_of disk (record l { disks = set l.disks r.part e; arena = b; calls = calls; stopped = stopped }) h
-call_sound {D = D} score_of disk l h r d e b calls stopped sound ready keeps runs at changes stays = record {
-  whole = call_whole disk l r.part d e b calls stopped sound.whole ready keeps runs at.disk_is changes.size_is;
-  contents = sound.contents;
-  many = sound.many;
-  split = sound.split;
-  current = λ q device a there_at has.
-      let r_is : r ≡ q = same_Some r q (sym at.arena ∙ there_at.arena) in
-      let part : q.part ≡ r.part = ap (λ (x : ArenaRegion). x.part) (sym r_is) in
-      let disk_is : e ≡ device = same_Some e device (sym (slice_get_set_same l.disks r.part e (slice_get_within l.disks r.part d at.disk_is)) ∙ sym (ap (slice_get (set l.disks r.part e)) part) ∙ there_at.disk_is) in
-      subst (λ (x : ArenaRegion). IsSoundArena score_of b x.region a (disk.bytes device) (disk.images device)) r_is (subst (λ (x : D). IsSoundArena score_of b r.region a (disk.bytes x) (disk.images x)) disk_is (stays a has));
-  others = λ i q device a not_this there_at has.
-      let was = at_before l _ i q device r.part e refl refl there_at in
-      let rest = sound.others i q was.0 a not_this was.1 has in
-      let stay = others_stay score_of disk l r d e sound.whole at changes i q was.0 device not_this was.1 was.2 in
-      (stay.settled rest.0, stay.arena q.number a rest.1);
-  heads = sound.heads;
-  selectors = λ i q device found behind there_at has.
-      let was = at_before l _ i q device r.part e refl refl there_at in
-      let stay = others_stay score_of disk l r d e sound.whole at changes i q was.0 device (λ same. omega (arith, behind, same)) was.1 was.2 in
-      sound.selectors i q was.0 found behind was.1 has ∙ sym stay.selector;
-  committed = sound.committed;
-  queued = sound.queued ∙ sym (ap (λ (ps : List Packed). map (accepted l.committing) (map stored_of ps) ++ map waiting_block l.queue.waiting) keeps.staged);
-  front = sound.front;
-  packed = sound.packed;
-  places = sound.places;
-  filling = sound.filling;
-  last = sound.last;
-  arenas = sound.arenas;
-}
+-- ---- a call of the disk of the arena that is committed in
 
--- A crash at any moment of a call leaves disks that stand for a prefix.
-pub call_stands : {D : Type 0} (score_of : List ℕ → List ℕ) (disk : DiskOf D) (l : LogState D) (h : History)
-    (r : ArenaRegion) (d e : D) (Began : Type 0) (files : List (List ℕ)) → (sound : IsSound score_of disk l h)
-    → IsAt l l.committing r d → ChangesRegion disk r.region d e
-    → ((a : Content) → slice_get sound.contents l.committing ≡ Some a → (c : List ℕ) → WithinCall (disk.images d) (disk.images e) c
-    → GivesOldOrNext Began score_of r.region l.arena.number a (next_content l.arena a) c)
-    → AreWithinCall disk l.disks (set l.disks r.part e) files → StandForPrefix score_of l files h
-call_stands {D = D} score_of disk l h r d e Began files sound at changes crashes left =
-    stand_for_prefix score_of disk l h files sound left.many
-    (λ q device a file there_at has of.
-    let r_is : r ≡ q = same_Some r q (sym at.arena ∙ there_at.arena) in
-    let number : l.arena.number ≡ q.number = number_is disk l q sound.whole there_at.arena in
-    let moment : WithinCall (disk.images d) (disk.images e) file = left.each r.part d e file at.disk_is (slice_get_set_same l.disks r.part e (slice_get_within l.disks r.part d at.disk_is))
-    (ap (λ (x : ArenaRegion). slice_get files x.part) r_is ∙ of) in
-    ⊎_elim
-    (λ (old : IsArena score_of r.region l.arena.number a file).
-    inl (subst (λ (x : ArenaRegion). IsArena score_of x.region q.number a file) r_is (subst (λ (n : ℕ). IsArena score_of r.region n a file) number old)))
-    (λ (next : Began × IsArena score_of r.region l.arena.number (next_content l.arena a) file).
-    inr (subst (λ (x : ArenaRegion). IsArena score_of x.region q.number (next_content l.arena a) file) r_is (subst (λ (n : ℕ). IsArena score_of r.region n (next_content l.arena a) file) number next.1)))
-    (crashes a has file moment))
-    (λ i q device a file not_this there_at has of.
-    let after = slice_get_other (set l.disks r.part e) l.disks q.part device (sym (length-set l.disks r.part e)) there_at.disk_is in
-    let stay = others_stay score_of disk l r d e sound.whole at changes i q device after.0 not_this there_at after.1 in
-    let rest = sound.others i q device a not_this there_at has in
-    let long : 24576 ≤ q.region.len = region_long disk l i q device sound.whole there_at in
-    ⊎_elim
-    (λ (was : disk.images device file). arena_in_region score_of q.region q.number a (disk.bytes device) file long (rest.0 file was) rest.1)
-    (λ (is : disk.images after.0 file). arena_in_region score_of q.region q.number a (disk.bytes after.0) file long (stay.settled rest.0 file is) (stay.arena q.number a rest.1))
-    (left.each q.part device after.0 file there_at.disk_is after.1 of))
+module _ {D : Type 0} (score_of : List ℕ → List ℕ) (disk : DiskOf D) (l : LogState D) (r : ArenaRegion) (d e : D)
+    (at : IsAt l l.committing r d) (changes : ChangesRegion disk r.region d e) where
+  pub others_stay : IsWhole disk l → (i : ℕ) (q : ArenaRegion) (before after : D) → i ≢ l.committing → IsAt l i q before → slice_get (set l.disks r.part e) q.part ≡ Some after
+      → StaysAt score_of disk q.region before after
+  others_stay whole i q before after not_this there_at now = ⊎_elim
+      (λ (same : q.part ≡ r.part).
+      let was : d ≡ before = same_Some d before (sym at.disk_is ∙ sym (ap (slice_get l.disks) same) ∙ there_at.disk_is) in
+      let is : e ≡ after = same_Some e after (sym (slice_get_set_same l.disks r.part e (slice_get_within l.disks r.part d at.disk_is)) ∙ sym (ap (slice_get (set l.disks r.part e)) same) ∙ now) in
+      let gap = apart_at l.layout i l.committing q r whole.apart not_this there_at.arena at.arena same in
+      let clear : (k : ℕ) → Inside r.region k → ¬ Inside q.region k = λ k inside there. ⊎_elim
+      (λ (h : q.region.start + q.region.len ≤ r.region.start). omega (arith, h, inside.0, there.1))
+      (λ (h : r.region.start + r.region.len ≤ q.region.start). omega (arith, h, inside.1, there.0)) gap in
+      let long : 24576 ≤ q.region.len = region_long disk l i q before whole there_at in
+      let stay : region_bytes q.region (disk.bytes e) ≡ region_bytes q.region (disk.bytes d) =
+      part_same (Inside r.region) q.region.start q.region.len (disk.bytes d) (disk.bytes e) changes.bytes_are (λ k above below inside. clear k inside (above, below)) in
+      subst (λ (x : D). StaysAt score_of disk q.region x after) was (subst (λ (x : D). StaysAt score_of disk q.region d x) is (record {
+        settled = settled_elsewhere q.region r.region (disk.bytes d) (disk.bytes e) (disk.images d) (disk.images e) clear changes.bytes_are changes.images_are;
+        arena = λ number a. arena_in_region score_of q.region number a (disk.bytes d) (disk.bytes e) long stay;
+        selector = named_in_region q.region (disk.bytes d) (disk.bytes e) long stay;
+      })))
+      (λ (different : q.part ≢ r.part).
+      let same : before ≡ after = same_Some before after (sym there_at.disk_is ∙ sym (slice_get_set_other l.disks r.part q.part e different) ∙ now) in
+      subst (λ (x : D). StaysAt score_of disk q.region before x) same (record { settled = λ h. h; arena = λ number a h. h; selector = refl }))
+      (cases_eq q.part r.part)
+
+  -- a disk stays sound by a call that ends no commit
+  pub call_sound : (h : History) (b : ArenaState) (calls : ℕ) (stopped : Option ℕ) → (sound : IsSound score_of disk l h) → IsReady l → KeepsArena l.arena b
+      → (stopped ≡ None → b.stopped ≡ None)
+      → ((a : Content) → slice_get sound.contents l.committing ≡ Some a → IsSoundArena score_of b r.region a (disk.bytes e) (disk.images e))
+      → IsSound score_of disk (record l { disks = set l.disks r.part e; arena = b; calls = calls; stopped = stopped }) h
+  call_sound h b calls stopped sound ready keeps runs stays = record {
+    whole = call_whole disk l r.part d e b calls stopped sound.whole ready keeps runs at.disk_is changes.size_is;
+    contents = sound.contents;
+    many = sound.many;
+    split = sound.split;
+    current = λ q device a there_at has.
+        let r_is : r ≡ q = same_Some r q (sym at.arena ∙ there_at.arena) in
+        let part : q.part ≡ r.part = ap (λ (x : ArenaRegion). x.part) (sym r_is) in
+        let disk_is : e ≡ device = same_Some e device (sym (slice_get_set_same l.disks r.part e (slice_get_within l.disks r.part d at.disk_is)) ∙ sym (ap (slice_get (set l.disks r.part e)) part) ∙ there_at.disk_is) in
+        subst (λ (x : ArenaRegion). IsSoundArena score_of b x.region a (disk.bytes device) (disk.images device)) r_is (subst (λ (x : D). IsSoundArena score_of b r.region a (disk.bytes x) (disk.images x)) disk_is (stays a has));
+    others = λ i q device a not_this there_at has.
+        let was = at_before l _ i q device r.part e refl refl there_at in
+        let rest = sound.others i q was.0 a not_this was.1 has in
+        let stay = others_stay sound.whole i q was.0 device not_this was.1 was.2 in
+        (stay.settled rest.0, stay.arena q.number a rest.1);
+    heads = sound.heads;
+    selectors = λ i q device found behind there_at has.
+        let was = at_before l _ i q device r.part e refl refl there_at in
+        let stay = others_stay sound.whole i q was.0 device (λ same. omega (arith, behind, same)) was.1 was.2 in
+        sound.selectors i q was.0 found behind was.1 has ∙ sym stay.selector;
+    committed = sound.committed;
+    queued = sound.queued ∙ sym (ap (λ (ps : List Packed). map (accepted l.committing) (map stored_of ps) ++ map waiting_block l.queue.waiting) keeps.staged);
+    front = sound.front;
+    packed = sound.packed;
+    places = sound.places;
+    filling = sound.filling;
+    last = sound.last;
+    arenas = sound.arenas;
+  }
+
+  -- A crash at any moment of a call leaves disks that stand for a prefix.
+  pub call_stands : (h : History) (Began : Type 0) (files : List (List ℕ)) → (sound : IsSound score_of disk l h)
+      → ((a : Content) → slice_get sound.contents l.committing ≡ Some a → (c : List ℕ) → WithinCall (disk.images d) (disk.images e) c
+      → GivesOldOrNext Began score_of r.region l.arena.number a (next_content l.arena a) c)
+      → AreWithinCall disk l.disks (set l.disks r.part e) files → StandForPrefix score_of l files h
+  call_stands h Began files sound crashes left =
+      stand_for_prefix score_of disk l h files sound left.many
+      (λ q device a file there_at has of.
+      let r_is : r ≡ q = same_Some r q (sym at.arena ∙ there_at.arena) in
+      let number : l.arena.number ≡ q.number = number_is disk l q sound.whole there_at.arena in
+      let moment : WithinCall (disk.images d) (disk.images e) file = left.each r.part d e file at.disk_is (slice_get_set_same l.disks r.part e (slice_get_within l.disks r.part d at.disk_is))
+      (ap (λ (x : ArenaRegion). slice_get files x.part) r_is ∙ of) in
+      ⊎_elim
+      (λ (old : IsArena score_of r.region l.arena.number a file).
+      inl (subst (λ (x : ArenaRegion). IsArena score_of x.region q.number a file) r_is (subst (λ (n : ℕ). IsArena score_of r.region n a file) number old)))
+      (λ (next : Began × IsArena score_of r.region l.arena.number (next_content l.arena a) file).
+      inr (subst (λ (x : ArenaRegion). IsArena score_of x.region q.number (next_content l.arena a) file) r_is (subst (λ (n : ℕ). IsArena score_of r.region n (next_content l.arena a) file) number next.1)))
+      (crashes a has file moment))
+      (λ i q device a file not_this there_at has of.
+      let after = slice_get_other (set l.disks r.part e) l.disks q.part device (sym (length-set l.disks r.part e)) there_at.disk_is in
+      let stay = others_stay sound.whole i q device after.0 not_this there_at after.1 in
+      let rest = sound.others i q device a not_this there_at has in
+      let long : 24576 ≤ q.region.len = region_long disk l i q device sound.whole there_at in
+      ⊎_elim
+      (λ (was : disk.images device file). arena_in_region score_of q.region q.number a (disk.bytes device) file long (rest.0 file was) rest.1)
+      (λ (is : disk.images after.0 file). arena_in_region score_of q.region q.number a (disk.bytes after.0) file long (stay.settled rest.0 file is) (stay.arena q.number a rest.1))
+      (left.each q.part device after.0 file there_at.disk_is after.1 of))
 
 -- and where no call is made
 pub rest_stands : {D : Type 0} (score_of : List ℕ → List ℕ) (disk : DiskOf D) (l : LogState D) (h : History)

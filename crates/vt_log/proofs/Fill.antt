@@ -12,7 +12,7 @@ use Rattle.vt_log.specs.declared.filling.Filling.{Filling}
 use Rattle.vt_log.specs.declared.queue.Waiting.{Waiting}
 use Rattle.vt_log.specs.Log.{LogState, filled_as, found_filling, fits_in, next_filling, with_room_taken}
 use Rattle.vt_log.specs.Whole.{IsOnDisk, IsWhole, Fill, turned_to}
-use Rattle.vt_log.proofs.Memory.{at_slice}
+use Rattle.vt_log.proofs.Lists.{at_slice}
 
 -- a block fits an arena that is there, within its region
 pub fits_within : (layout : List ArenaRegion) (f : Filling) (n : ℕ) → IsTrue (fits_in layout f n)

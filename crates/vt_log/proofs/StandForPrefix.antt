@@ -22,9 +22,9 @@ use Rattle.vt_log.specs.Logs.{accepted, blocks_from, AreArenas}
 use Rattle.vt_log.specs.Queue.{WaitsFor, waiting_block}
 use Rattle.vt_log.specs.Sound.{IsAt, IsSplit, IsSound, AreImages, StandForPrefix}
 use Rattle.vt_log.specs.Whole.{IsOnDisk, IsWhole, Fill}
-use Rattle.vt_log.proofs.Contents.{split_order, blocks_set, blocks_arenas, last_arena_le, split_set, split_sealed, longer_prefix}
-use Rattle.vt_log.proofs.Fillings.{fill_arena, turned_arena}
-use Rattle.vt_log.proofs.Memory.{slice_get_other, at_slice, slice_get_set_same, slice_get_set_other}
+use Rattle.vt_log.proofs.IsSplit.{split_order, blocks_set, blocks_arenas, last_arena_le, split_set, split_sealed, longer_prefix}
+use Rattle.vt_log.proofs.Fill.{fill_arena, turned_arena}
+use Rattle.vt_log.proofs.Lists.{slice_get_other, at_slice, slice_get_set_same, slice_get_set_other}
 
 -- an arena that there is, and its disk
 pub record IsThere {D : Type 0} (l : LogState D) (i : ℕ) (r : ArenaRegion) : Type 0 where

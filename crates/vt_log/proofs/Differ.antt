@@ -24,8 +24,8 @@ use Rattle.vt_log.specs.Log.{LogState}
 use Rattle.vt_log.specs.Queue.{IsNowhere}
 use Rattle.vt_log.specs.Reading.{IsOther, ReadsAs, AnswersRead}
 use Rattle.vt_log.specs.Whole.{IsOnDisk, IsWhole}
-use Rattle.vt_log.proofs.Images.{there}
-use Rattle.vt_log.proofs.Memory.{at_slice}
+use Rattle.vt_log.proofs.StandForPrefix.{there}
+use Rattle.vt_log.proofs.Lists.{at_slice}
 use Rattle.vt_log.proofs.Places.{slice_get_there}
 
 -- this fault of a clump, if there is one, has two values

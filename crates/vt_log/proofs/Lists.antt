@@ -1,14 +1,9 @@
--- What a log in memory keeps says of its numbers.
-use Rattle.std.proofs.Common.{◌≡◌, ℕ, zero, suc, ◌+◌, ◌-◌, ◌^◌, ◌<◌, ◌≤◌, List, [], ◌∷◌, ◌++◌, length, get_or, take, drop, refl, ◌∙◌, ap, subst, arith, Some, set}
+-- Elements of lists at their places.
+use Rattle.std.proofs.Common.{◌≡◌, ℕ, zero, suc, ◌+◌, ◌-◌, ◌<◌, ◌≤◌, List, [], ◌∷◌, ◌++◌, length, get_or, take, drop, map, refl, sym, ◌∙◌, ap, subst, arith, Some, option_map, set}
 use Rattle.std.specs.Prelude.{All, slice_get}
-use Rattle.std.proofs.lemmas.Option.{slice_get_within, slice_get-get_or, get_or_from_slice_get}
+use Rattle.std.proofs.lemmas.Option.{slice_get_within, slice_get-map, same_Some, get_or_from_slice_get}
 use Rattle.std.proofs.lemmas.List.Elements.{All-get_or}
-use Rattle.std.proofs.lemmas.List.{get_or-drop, get_or-take, length-take, length-drop}
-use Rattle.std.proofs.lemmas.List.Sums.{sum_by-le}
-use Rattle.vt_disk.specs.Members.{DiskOf}
-use Rattle.vt_arena.specs.declared.head.Found.{Found}
-use Rattle.vt_log.specs.Log.{LogState}
-use Rattle.vt_log.specs.Whole.{IsOnDisk, IsWhole}
+use Rattle.std.proofs.lemmas.List.{get_or-drop, get_or-take, length-take, length-drop, length-map}
 
 -- lists of one length have elements at the same places
 pub slice_get_other : {X Y : Type 0} (xs : List X) (ys : List Y) (i : ℕ) (y : Y) → length ys ≡ length xs → slice_get ys i ≡ Some y → (x : X) × (slice_get xs i ≡ Some x)
@@ -22,25 +17,6 @@ slice_get_other (x ∷ xs) (y ∷ ys) (suc i) z many at = slice_get_other xs ys 
 pub at_slice : {X : Type 0} (P : X → Type 0) (xs : List X) (i : ℕ) (x : X) → All P xs → slice_get xs i ≡ Some x → P x
 at_slice P xs i x all at =
     subst P (get_or_from_slice_get xs i x x at) (All-get_or P xs i x (slice_get_within xs i x at) all)
-
--- an arena's head has few clumps, and few bytes of them
-pub head_small : {D : Type 0} (disk : DiskOf D) (l : LogState D) (i : ℕ) (found : Found) → IsWhole disk l → slice_get l.heads i ≡ Some found
-    → (found.head.clumps ≤ 42949672) × (found.head.used ≤ 2 ^ 30)
-head_small disk l i found whole at =
-    let r = slice_get_other l.layout l.heads i found whole.many at in
-    let on = at_slice (IsOnDisk disk l.disks) l.layout i r.0 whole.regions r.1 in
-    let fit = (whole.heads i r.0 found r.1 at).fit in
-    (omega (arith, fit, on.region.len.1), omega (arith, fit, on.region.len.1))
-
--- so that all of them have few
-pub durable_small : {D : Type 0} (disk : DiskOf D) (l : LogState D) → IsWhole disk l → l.durable ≤ 184467440000000000
-durable_small disk l whole =
-    let most = sum_by-le (λ (found : Found). found.head.clumps) 42949672 l.heads
-    (λ i d below. (head_small disk l i _ whole (slice_get-get_or l.heads i d below)).0) in
-    let e = whole.durable in
-    let few = whole.few in
-    let many = whole.many in
-    omega (arith, most, e, few, many)
 
 -- what holds of each element behind the first ones
 pub at_drop : {X : Type 0} (P : X → Type 0) (n : ℕ) (xs : List X) (i : ℕ) (x : X) → All P (drop n xs) → n ≤ i → slice_get xs i ≡ Some x → P x
@@ -85,3 +61,11 @@ pub slice_get_drop : {X : Type 0} (n i : ℕ) (xs : List X) → slice_get (drop 
 slice_get_drop zero i xs = ap (slice_get xs) (let e : i ≡ 0 + i = omega arith in e)
 slice_get_drop (suc n) i [] = refl
 slice_get_drop (suc n) i (x ∷ xs) = slice_get_drop n i xs ∙ ap (slice_get (x ∷ xs)) (let e : suc (n + i) ≡ suc n + i = omega arith in e)
+
+-- lists of one image have one length, and one image of the elements at a place
+pub map_long : {X Y : Type 0} (f : X → Y) (xs ys : List X) → map f ys ≡ map f xs → length ys ≡ length xs
+map_long {Y = Y} f xs ys same = sym (length-map ys f) ∙ ap (λ (zs : List Y). length zs) same ∙ length-map xs f
+
+pub map_there : {X Y : Type 0} (f : X → Y) (xs ys : List X) (i : ℕ) (x y : X) → map f ys ≡ map f xs → slice_get xs i ≡ Some x → slice_get ys i ≡ Some y → f y ≡ f x
+map_there {Y = Y} f xs ys i x y same at_x at_y =
+    same_Some (f y) (f x) (sym (slice_get-map f ys i ∙ ap (option_map f) at_y) ∙ ap (λ (zs : List Y). slice_get zs i) same ∙ slice_get-map f xs i ∙ ap (option_map f) at_x)
