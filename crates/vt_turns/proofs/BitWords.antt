@@ -1,11 +1,11 @@
 -- The steps on the words of the bits keep the rule.
-use Rattle.std.proofs.Common.{◌≡◌, ◌≢◌, ℕ, suc, ◌+◌, ◌<◌, List, [], ◌∷◌, ◌++◌, length, set, sym, refl, ap, ◌∙◌, subst, ⊎_elim, arith, true, get_or, length-set, get_or-set_same, get_or-set_other, ◌*◌, ◌^◌}
+use Rattle.std.proofs.Common.{◌≡◌, ◌≢◌, ◌⊎◌, inl, inr, ℕ, suc, ◌+◌, ◌<◌, List, [], ◌∷◌, ◌++◌, length, set, sym, refl, ap, ◌∙◌, subst, ⊎_elim, arith, true, get_or, length-set, get_or-set_same, get_or-set_other, ◌*◌, ◌^◌}
 use Rattle.std.specs.Prelude.{Option, Some, None, ◌/◌, ◌%◌, bit_or}
 use mathlib.Core.Option.{some, some-injective, none}
 use native.Mathlib.Decide.{ℕ_discrete}
 use lib.ListN.{get_elem?}
 use Rattle.atomic_table.specs.Table.{Splits, Joins, State, Me, Act, keeps, step, stepped, Allows}
-use Rattle.atomic_table.proofs.Lists.{at_set, set_here, set_else, at_snoc, at_longer}
+use Rattle.atomic_table.proofs.Lists.{at_set, set_here, set_else, at_last, at_snoc, at_longer}
 use Rattle.vt_turns.specs.declared.view.View.{View}
 use Rattle.vt_turns.specs.declared.view.Opening.{Opening}
 use Rattle.vt_turns.specs.Meaning.{Meaning}
@@ -13,10 +13,10 @@ use Rattle.vt_turns.specs.Lists.{times}
 use Rattle.vt_turns.specs.Views.{with_bits, turn_of, faults_of, durable_of}
 use Rattle.vt_turns.specs.Rule.{Knows, Stands, HasBit, Rule, Placed}
 use Rattle.vt_turns.specs.Steps.{TellsBit, TellsBitSet}
-use Rattle.vt_turns.proofs.Moves.{St, unchanged}
+use Rattle.vt_turns.proofs.Moves.{St, unchanged, no_others_on}
 use Rattle.vt_turns.proofs.Lists.{inside, total_same}
 use Rattle.std.specs.Int.{bit_at}
-use Rattle.std.proofs.lemmas.Nat.Bits.{bit_at_or, bit_at-lt, bit_at_set_same}
+use Rattle.std.proofs.lemmas.Nat.Bits.{bit_at_or, bit_at-lt, bit_at_set_same, bit_at_set_other}
 use mir.Syntax.{w64}
 use lib.Seq.{set-get_or}
 
@@ -27,8 +27,10 @@ module _ {P B : Type 0} (M : Meaning P B) where
       → Knows M opening s.homes r.holder r.parts r.history id w
       → ((p : ℕ) → HasBit s.words (length r.parts) p → HasBit (set s.words i x) (length r.parts) p)
       → ((k p : ℕ) → get_elem? w.bits k ≡ some p → HasBit (set s.words i x) (length r.parts) p)
+      → ((k p : ℕ) → get_elem? v.bits k ≡ some p → get_elem? w.bits k ≡ some p)
+      → ((p : ℕ) → HasBit (set s.words i x) (length r.parts) p → HasBit s.words (length r.parts) p ⊎ ((k : ℕ) × (get_elem? w.bits k ≡ some p)))
       → Rule M extra opening record { words = set s.words i x; homes = s.homes; views = set s.views id w }
-  relit {extra} {opening} s r id i x v w at behind share own faults turns mine more known = record {
+  relit {extra} {opening} s r id i x v w at behind share own faults turns mine more known longer come = record {
     parts = r.parts;
     history = r.history;
     holder = r.holder;
@@ -49,6 +51,7 @@ module _ {P B : Type 0} (M : Meaning P B) where
     bits = λ kept j k p b e d. more p (r.bits kept j k p b e d);
     known_bits = λ j k p u e d. ⊎_elim (λ (t : (j ≡ id) × (w ≡ u)). known k p (ap (λ (z : View P B). get_elem? z.bits k) t.1 ∙ d))
         (λ (t : (j ≢ id) × (get_elem? s.views j ≡ some u)). more p (r.known_bits j k p u t.1 d)) (at_set s.views id j w u e);
+    no_other_bits = λ p is. ⊎_elim (λ old. no_others_on M opening s.views id p v w at (λ k e. longer k p e) (r.no_other_bits p old)) (λ (t : (k : ℕ) × (get_elem? w.bits k ≡ some p)). inr (id, t.0, w, set_here s.views id w (inside s.views id v at), t.1)) (come p is);
   }
     where
       go : (k j : ℕ) → k < length r.parts → r.holder k ≡ suc j → Dec (j ≡ id) → (u : View P B) × (y : P) × (get_elem? (set s.views id w) j ≡ some u) × (turn_of u k ≡ Some y)
@@ -103,10 +106,24 @@ module _ {P B : Type 0} (M : Meaning P B) where
       this : HasBit (set s.words i x) slots p
       this = ap (λ (z : ℕ). bit_at z (p % 64)) here ∙ bit_at_set_same w64 (get_or s.words i 0) (p % 64) (omega arith)
 
+      -- a bit that is set behind the step was set, or is this one
+      only : (q : ℕ) → HasBit (set s.words i x) slots q → HasBit s.words slots q ⊎ ((k : ℕ) × (get_elem? (v.bits ++ p ∷ []) k ≡ some q))
+      only q is = by_word (ℕ_discrete (suc slots + q / 64) i) (ℕ_discrete (q % 64) (p % 64))
+        where
+          Goal : Type 0
+          Goal = HasBit s.words slots q ⊎ ((k : ℕ) × (get_elem? (v.bits ++ p ∷ []) k ≡ some q))
+
+          by_word : Dec (suc slots + q / 64 ≡ i) → Dec (q % 64 ≡ p % 64) → Goal
+          by_word (yes e) (yes same) = let this_one : p ≡ q = omega arith in inr (length v.bits, at_last v.bits p (length v.bits) refl ∙ ap (λ (z : ℕ). some z) this_one)
+          by_word (yes e) (no other) = inl (ap (λ (z : ℕ). bit_at (get_or s.words z 0) (q % 64)) e ∙ sym (bit_at_set_other w64 (get_or s.words i 0) (p % 64) (omega arith) (q % 64) other) ∙ ap (λ (z : ℕ). bit_at z (q % 64)) (sym here) ∙ ap (λ (z : ℕ). bit_at (get_or (set s.words i x) z 0) (q % 64)) (sym e) ∙ is)
+          by_word (no n) d = inl (ap (λ (z : ℕ). bit_at z (q % 64)) (sym (get_or-set_other s.words i (suc slots + q / 64) x 0 n)) ∙ is)
+
       kept : Rule M extra opening (stepped s i x id c (with_bits (p ∷ []) v) keeps)
       kept = relit s r id i x v (with_bits (p ∷ []) v) at (omega arith) refl refl refl refl (lit_agrees s r id p v at)
           (λ q is. subst (λ (n : ℕ). HasBit (set s.words i x) n q) (sym same_slots) (more q (subst (λ (n : ℕ). HasBit s.words n q) same_slots is)))
           (λ k q e. subst (λ (n : ℕ). HasBit (set s.words i x) n q) (sym same_slots) (known_then (set s.words i x) slots p v (λ k' q' e'. more q' (subst (λ (n : ℕ). HasBit s.words n q') same_slots (r.known_bits id k' q' v at e'))) this k q e))
+          (λ k q e. at_longer v.bits (p ∷ []) k q e)
+          (λ q is. subst (λ (n : ℕ). HasBit (set s.words i x) n q → HasBit s.words n q ⊎ ((k : ℕ) × (get_elem? (v.bits ++ p ∷ []) k ≡ some q))) (sym same_slots) (only q) is)
 
   -- a bit is looked at
   pub shines : (extra : ℕ) (opening : Opening P B) (slots id p : ℕ) (v : View P B) (c : List (ℕ × Option P)) → p / 64 < extra
@@ -134,7 +151,9 @@ module _ {P B : Type 0} (M : Meaning P B) where
         keeps,
         tt,
         relit s r id i x v (with_bits (p ∷ []) v) at (omega arith) refl refl refl refl (lit_agrees s r id p v at) more
-            (known_then (set s.words i x) (length r.parts) p v (λ k q d. more q (r.known_bits id k q v at d)) (more p (ap (λ (n : ℕ). bit_at (get_or s.words (suc n + p / 64) 0) (p % 64)) same_slots ∙ e))),
+            (known_then (set s.words i x) (length r.parts) p v (λ k q d. more q (r.known_bits id k q v at d)) (more p (ap (λ (n : ℕ). bit_at (get_or s.words (suc n + p / 64) 0) (p % 64)) same_slots ∙ e)))
+            (λ k q d. at_longer v.bits (p ∷ []) k q d)
+            (λ q is. inl (subst (λ (l : List ℕ). HasBit l (length r.parts) q) (set-get_or s.words i 0) is)),
         ((λ _. refl), (λ n. absurd (n e))),
       )
       go (no n) = (

@@ -15,7 +15,7 @@ use Rattle.vt_turns.specs.Rule.{Placed, Holds, Knows, Counted, Stands, HasBit, R
 use Rattle.vt_turns.specs.Calls.{MayBook}
 use Rattle.vt_turns.specs.Steps.{TellsBooked}
 use Rattle.vt_turns.proofs.Knowing.{knows_booked}
-use Rattle.vt_turns.proofs.Moves.{is_log, positive, Some-same, St, of_turn, has_share, bits_stay, bits_known, alone_with}
+use Rattle.vt_turns.proofs.Moves.{is_log, positive, Some-same, St, of_turn, has_share, bits_stay, bits_stood, bits_known, no_others_on, alone_with}
 use Rattle.vt_turns.proofs.Lists.{total_set, total_same, at_put_here, at_put_else, inside}
 
 module _ {P B : Type 0} (M : Meaning P B) (lawful : Lawful M) where
@@ -164,6 +164,7 @@ module _ {P B : Type 0} (M : Meaning P B) (lawful : Lawful M) where
       numbers = λ q. total_same (λ (u : View P B). times q u.own) s.views id v w at refl ∙ r.numbers q;
       bits = λ kept i q p c e d. subst (λ (z : ℕ). HasBit (set s.words (suc k) 1) z p) (sym (length-set r.parts k y)) (bits_stay M s.words (suc k) 1 (length r.parts) p (let f = inside r.parts k x h.1 in omega arith) (r.bits kept i q p c e d));
       known_bits = λ i q p u e d. subst (λ (z : ℕ). HasBit (set s.words (suc k) 1) z p) (sym (length-set r.parts k y)) (bits_stay M s.words (suc k) 1 (length r.parts) p (let f = inside r.parts k x h.1 in omega arith) (bits_known M s r id v w at refl i q p u e d));
+      no_other_bits = λ p is. no_others_on M opening s.views id p v w at (λ q e. e) (r.no_other_bits p (bits_stood M s.words (suc k) 1 (length r.parts) p (let f = inside r.parts k x h.1 in omega arith) (subst (λ (z : ℕ). HasBit (set s.words (suc k) 1) z p) (length-set r.parts k y) is)));
     }
 
   -- what is TellsBooked keeps the rule

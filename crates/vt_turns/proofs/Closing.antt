@@ -1,5 +1,5 @@
 -- How the rule begins and ends.
-use Rattle.std.proofs.Common.{◌≡◌, ℕ, zero, suc, ◌+◌, ◌<◌, List, [], ◌∷◌, length, replicate, get_or, map, sym, refl, ap, ◌∙◌, subst, arith, ◌++◌}
+use Rattle.std.proofs.Common.{◌≡◌, inl, ℕ, zero, suc, ◌+◌, ◌<◌, List, [], ◌∷◌, length, replicate, get_or, map, sym, refl, ap, ◌∙◌, subst, arith, ◌++◌}
 use Rattle.std.specs.Int.{bit_at}
 use Rattle.std.specs.Prelude.{◌/◌, ◌%◌, Option, Some}
 use mathlib.Core.Option.{some, some-injective, some-ne-none}
@@ -47,10 +47,10 @@ all_some (x ∷ xs) [] e h = absurd (omega arith)
 all_some (x ∷ xs) (p ∷ ps) e h = λ i. some-injective x (Some p) (h zero p refl) i ∷ all_some xs ps (omega arith) (λ k q d. h (suc k) q d) i
 
 module _ {P B : Type 0} (M : Meaning P B) where
-  pub opens : (extra : ℕ) (began : Opening P B) (ws bits : List ℕ) (slots : List (Option P)) → CanOpen M began bits → length ws ≡ suc (length began.parts) + extra → get_or ws 0 0 ≡ length began.history → ((k : ℕ) → k < length began.parts → get_or ws (suc k) 0 ≡ 0)
-      → ((q : ℕ) → get_or ws (suc (length began.parts) + q) 0 ≡ get_or bits q 0) → FullOf slots began.parts
+  pub opens : (extra : ℕ) (began : Opening P B) (ws : List ℕ) (slots : List (Option P)) → CanOpen M began → length ws ≡ suc (length began.parts) + extra → get_or ws 0 0 ≡ length began.history → ((k : ℕ) → k < length began.parts → get_or ws (suc k) 0 ≡ 0)
+      → ((q : ℕ) → get_or ws (suc (length began.parts) + q) 0 ≡ get_or began.bits q 0) → FullOf slots began.parts
       → Rule M extra began (opened ws slots (first_view M began))
-  opens extra began ws bits slots o wide front none behind full = record {
+  opens extra began ws slots o wide front none behind full = record {
     parts = began.parts;
     history = began.history;
     holder = λ k. 0;
@@ -85,6 +85,7 @@ module _ {P B : Type 0} (M : Meaning P B) where
     numbers = λ n. sym (once_none (length began.history) n);
     bits = λ kept i k p b e d. ap (λ (z : ℕ). bit_at z (p % 64)) (behind (p / 64)) ∙ o.bits_set kept i k p b e d;
     known_bits = λ i k p v e d. absurd (some-ne-none p (sym (ap (λ (z : View P B). get_elem? z.bits k) (only (first_view M began) v i e) ∙ d)));
+    no_other_bits = λ p is. inl (sym (ap (λ (z : ℕ). bit_at z (p % 64)) (behind (p / 64))) ∙ is);
   }
 
   module _ {extra : ℕ} {opening : Opening P B} (s : St M) (r : Rule M extra opening s) (id : ℕ) (v : View P B) (at : get_elem? s.views id ≡ some v) (all : v.share ≡ 65536) (none_held : HoldsNone v) where

@@ -17,7 +17,7 @@ use Rattle.vt_turns.specs.Views.{turn_of, mark_of, stop_of, faults_of, front_of,
 use Rattle.vt_turns.specs.Rule.{Placed, Holds, Knows, Stands, HasBit, Rule}
 use Rattle.vt_turns.specs.Calls.{HasNumbersOf, MayRaise}
 use Rattle.vt_turns.specs.Steps.{TellsRaised, Loads, TellsFront}
-use Rattle.vt_turns.proofs.Moves.{positive, Some-same, St, of_turn, has_share, is_log, is_front, bits_stay, bits_known, alone_with, sees}
+use Rattle.vt_turns.proofs.Moves.{positive, Some-same, St, of_turn, has_share, is_log, is_front, bits_stay, bits_stood, bits_known, no_others_on, alone_with, sees}
 use Rattle.vt_turns.proofs.Lists.{total_set, total_same, at_put_here, at_put_else, there, inside, whole_prefix, longer_prefix, prefix_length, times-append, once_more}
 
 module _ {P B : Type 0} (M : Meaning P B) where
@@ -46,6 +46,7 @@ module _ {P B : Type 0} (M : Meaning P B) where
         numbers = λ q. total_same (λ (u : View P B). times q u.own) s.views id v w at (ap (times q) own) ∙ r.numbers q;
         bits = λ kept i q p b e d. subst (λ (l : List ℕ). HasBit l (length r.parts) p) (sym words_same) (r.bits kept i q p b e d);
         known_bits = λ i q p u e d. subst (λ (l : List ℕ). HasBit l (length r.parts) p) (sym words_same) (bits_known M s r id v w at bits i q p u e d);
+        no_other_bits = λ p is. no_others_on M opening s.views id p v w at (λ q e. ap (λ (l : List ℕ). get_elem? l q) bits ∙ e) (r.no_other_bits p (subst (λ (l : List ℕ). HasBit l (length r.parts) p) words_same is));
       }
     where
       go : (k j : ℕ) → k < length r.parts → r.holder k ≡ suc j → Dec (j ≡ id) → (u : View P B) × (x : P) × (get_elem? (set s.views id w) j ≡ some u) × (turn_of u k ≡ Some x)
@@ -282,6 +283,7 @@ module _ {P B : Type 0} (M : Meaning P B) (lawful : Lawful M) where
       numbers = numbers';
       bits = raised_lit;
       known_bits = λ i k p u e d. moved_lit p (bits_known M s r id v w at refl i k p u e d);
+      no_other_bits = λ p is. no_others_on M opening s.views id p v w at (λ q e. e) (r.no_other_bits p (bits_stood M s.words 0 m (length r.parts) p (omega arith) (subst (λ (z : ℕ). HasBit (set s.words 0 m) z p) long_is is)));
     }
       where
         moved_lit : (p : ℕ) → HasBit s.words (length r.parts) p → HasBit (set s.words 0 m) (length parts') p

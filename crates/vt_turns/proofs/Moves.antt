@@ -1,5 +1,5 @@
 -- Each step on a part's word keeps the rule.
-use Rattle.std.proofs.Common.{◌≡◌, ◌≢◌, ℕ, zero, suc, ◌<◌, ◌≤◌, eqb, eq-eqb, ne_eqb, List, [], ◌∷◌, length, get_or, set, sym, refl, ap, ◌∙◌, subst, ⊎_elim, arith, length-set, get_or-set_same, get_or-set_other}
+use Rattle.std.proofs.Common.{◌≡◌, ◌≢◌, ◌⊎◌, inl, inr, ℕ, zero, suc, ◌<◌, ◌≤◌, eqb, eq-eqb, ne_eqb, List, [], ◌∷◌, length, get_or, set, sym, refl, ap, ◌∙◌, subst, ⊎_elim, arith, length-set, get_or-set_same, get_or-set_other}
 use Rattle.std.specs.Int.{bit_at}
 use Rattle.std.specs.Prelude.{◌+◌, ◌/◌, ◌%◌, Option, Some, None}
 use mathlib.Core.Option.{none, some, some-injective, some-ne-none}
@@ -16,7 +16,7 @@ use Rattle.vt_turns.specs.declared.view.Opening.{Opening}
 use Rattle.vt_turns.specs.Meaning.{Meaning}
 use Rattle.vt_turns.specs.Lists.{times, once}
 use Rattle.vt_turns.specs.Views.{mark_of, holding, turn_of, faults_of, front_of, durable_of, seen_at, stable_at, taking, without}
-use Rattle.vt_turns.specs.Rule.{Placed, Holds, HasBit, Knows, Stands, Rule}
+use Rattle.vt_turns.specs.Rule.{Placed, Holds, HasBit, WasSet, IsKnown, Knows, Stands, Rule}
 use Rattle.vt_turns.specs.Calls.{Takes}
 use Rattle.vt_turns.specs.Steps.{Sees, TookAt, TellsTaken, TellsSlotHome, TellsSlotOut, TellsGiven}
 use Rattle.vt_turns.proofs.Lists.{put, put_here, put_else, total_same, total_parts, total_alone, at_put_here, at_put_else, there, inside, whole_prefix}
@@ -117,6 +117,22 @@ module _ {P B : Type 0} (M : Meaning P B) where
       (λ (t : (i ≡ id) × (w ≡ u)). r.known_bits id q p v at (ap (λ (l : List ℕ). get_elem? l q) (sym same ∙ ap (λ (z : View P B). z.bits) t.1) ∙ d))
       (λ (t : (i ≢ id) × (get_elem? s.views i ≡ some u)). r.known_bits i q p u t.1 d) (at_set s.views id i w u e)
 
+  -- the same the other way round
+  pub bits_stood : (words : List ℕ) (i x n p : ℕ) → i < suc n → HasBit (set words i x) n p → HasBit words n p
+  bits_stood words i x n p below is = sym (ap (λ (z : ℕ). bit_at z (p % 64)) (get_or-set_other words i (suc n + p / 64) x 0 (λ e. omega arith))) ∙ is
+
+  -- a seat's view that knows no less of the bits
+  pub known_on : (views : List (View P B)) (id p : ℕ) (v w : View P B) → get_elem? views id ≡ some v → ((k : ℕ) → get_elem? v.bits k ≡ some p → get_elem? w.bits k ≡ some p) → IsKnown views p → IsKnown (set views id w) p
+  known_on views id p v w at more t = go (ℕ_discrete t.0 id)
+    where
+      go : Dec (t.0 ≡ id) → IsKnown (set views id w) p
+      go (yes is) = let v_is : t.2 ≡ v = some-injective t.2 v (sym t.3 ∙ subst (λ (q : ℕ). get_elem? views q ≡ some v) (sym is) at) in
+          (id, t.1, w, set_here views id w (inside views id v at), more t.1 (ap (λ (u : View P B). get_elem? u.bits t.1) (sym v_is) ∙ t.4))
+      go (no apart) = (t.0, t.1, t.2, set_else views id t.0 w apart ∙ t.3, t.4)
+
+  pub no_others_on : (opening : Opening P B) (views : List (View P B)) (id p : ℕ) (v w : View P B) → get_elem? views id ≡ some v → ((k : ℕ) → get_elem? v.bits k ≡ some p → get_elem? w.bits k ≡ some p) → WasSet opening p ⊎ IsKnown views p → WasSet opening p ⊎ IsKnown (set views id w) p
+  no_others_on opening views id p v w at more = ⊎_elim (λ was. inl was) (λ t. inr (known_on views id p v w at more t))
+
   -- a step that changes nothing
   pub unchanged : {extra : ℕ} {opening : Opening P B} (s : St) (r : Rule M extra opening s) (id i : ℕ) (v : View P B) → get_elem? s.views id ≡ some v
       → Rule M extra opening record { words = set s.words i (get_or s.words i 0); homes = s.homes; views = set s.views id v }
@@ -194,6 +210,7 @@ module _ {P B : Type 0} (M : Meaning P B) where
         numbers = λ q. total_same (λ (u : View P B). times q u.own) s.views id v w m.at (ap (times q) m.own) ∙ r.numbers q;
         bits = λ kept i q p b e d. bits_stay s.words (suc k) n (length r.parts) p (omega arith) (r.bits kept i q p b e d);
         known_bits = λ i q p u e d. bits_stay s.words (suc k) n (length r.parts) p (omega arith) (bits_known s r id v w m.at m.bits i q p u e d);
+        no_other_bits = λ p is. no_others_on opening s.views id p v w m.at (λ q e. ap (λ (l : List ℕ). get_elem? l q) m.bits ∙ e) (r.no_other_bits p (bits_stood s.words (suc k) n (length r.parts) p (omega arith) is));
       }
     where
       at_k : (j : ℕ) (y : P) → Dec (j ≡ k) → get_elem? r.parts j ≡ some y → suc k < length s.words → Placed (put r.holder k hv j) (get_or (set s.words (suc k) n) (suc j) 0) (get_elem? homes' j) y

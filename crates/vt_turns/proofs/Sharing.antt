@@ -12,8 +12,8 @@ use Rattle.vt_turns.specs.declared.view.Opening.{Opening}
 use Rattle.vt_turns.specs.Meaning.{Meaning}
 use Rattle.vt_turns.specs.Lists.{or_else, total, times}
 use Rattle.vt_turns.specs.Views.{turn_of, mark_of, stop_of, faults_of, HoldsNone, durable_of, less_one, split_off, noted, joined, spent}
-use Rattle.vt_turns.specs.Rule.{Knows, Stands, HasBit, Rule}
-use Rattle.vt_turns.proofs.Moves.{is_log, Some-None, St, bits_known}
+use Rattle.vt_turns.specs.Rule.{Knows, Stands, HasBit, IsKnown, Rule}
+use Rattle.vt_turns.proofs.Moves.{is_log, Some-None, St, bits_known, no_others_on}
 use Rattle.vt_turns.proofs.Lists.{total_set, total_snoc, inside, times-append, at_both}
 
 module _ {P B : Type 0} (M : Meaning P B) where
@@ -93,6 +93,7 @@ module _ {P B : Type 0} (M : Meaning P B) where
       numbers = λ q. total_parted (λ (u : View P B). times q u.own) (omega arith) ∙ r.numbers q;
       bits = r.bits;
       known_bits = λ i k p u e d. ⊎_elim (λ old. bits_known M s r id v l at refl i k p u old d) (λ (is : n ≡ u). r.known_bits id k p v at (ap (λ (z : View P B). get_elem? z.bits k) is ∙ d)) (at_snoc (set s.views id l) n u i e);
+      no_other_bits = λ p is. ⊎_elim (λ was. inl was) (λ t. inr (t.0, t.1, t.2, at_longer (set s.views id l) (n ∷ []) t.0 t.2 t.3, t.4)) (no_others_on M opening s.views id p v l at (λ q e. e) (r.no_other_bits p is));
     }
 
   pub splits : (extra : ℕ) (opening : Opening P B) (id : ℕ) (v : View P B) → 1 < v.share → Splits (Rule M extra opening) id v (less_one v) (split_off v)
@@ -109,6 +110,10 @@ in_append : {A : Type 0} (l m : List A) (n : ℕ) (a : A) → get_elem? (l ++ m)
 in_append [] m n a e = inr (n, e)
 in_append (x ∷ xs) m zero a e = inl (0, e)
 in_append (x ∷ xs) m (suc n) a e = ⊎_elim (λ (t : (i : ℕ) × (get_elem? xs i ≡ some a)). inl (suc t.0, t.1)) (λ (t : (i : ℕ) × (get_elem? m i ≡ some a)). inr t) (in_append xs m n a e)
+
+at_behind : {A : Type 0} (l m : List A) (k : ℕ) (a : A) → get_elem? m k ≡ some a → (j : ℕ) × (get_elem? (l ++ m) j ≡ some a)
+at_behind [] m k a e = (k, e)
+at_behind (x ∷ xs) m k a e = let t = at_behind xs m k a e in (suc t.0, t.1)
 
 module _ {P B : Type 0} (M : Meaning P B) where
   module _ {extra : ℕ} {opening : Opening P B} (s : St M) (r : Rule M extra opening s) (id other : ℕ) (v w : View P B) (at : get_elem? s.views id ≡ some v) (apart : other ≢ id) (at_w : get_elem? s.views other ≡ some w) (share : 0 < v.share) (none_held : HoldsNone w) where
@@ -194,6 +199,20 @@ module _ {P B : Type 0} (M : Meaning P B) where
         (λ (t' : (i ≢ id) × (get_elem? s.views i ≡ some u)). r.known_bits i k p u t'.1 d) (at_set s.views id i both u t.1))
         (at_set (set s.views id both) other i (spent) u e)
 
+    -- what the pass that was joined knew is known
+    known_joined : (p : ℕ) (t : IsKnown s.views p) → Dec (t.0 ≡ other) → Dec (t.0 ≡ id) → IsKnown views2 p
+    known_joined p t is_other is_id = by is_other is_id
+      where
+        here : get_elem? views2 id ≡ some both
+        here = set_else (set s.views id both) other id (spent) (λ e. apart (sym e)) ∙ set_here s.views id both (inside s.views id v at)
+
+        by : Dec (t.0 ≡ other) → Dec (t.0 ≡ id) → IsKnown views2 p
+        by (yes is) d = let w_is : t.2 ≡ w = some-injective t.2 w (sym t.3 ∙ subst (λ (q : ℕ). get_elem? s.views q ≡ some w) (sym is) at_w) in
+            let there = at_behind v.bits w.bits t.1 p (ap (λ (u : View P B). get_elem? u.bits t.1) (sym w_is) ∙ t.4) in (id, there.0, both, here, there.1)
+        by (no ne) (yes is) = let v_is : t.2 ≡ v = some-injective t.2 v (sym t.3 ∙ subst (λ (q : ℕ). get_elem? s.views q ≡ some v) (sym is) at) in
+            (id, t.1, both, here, at_longer v.bits w.bits t.1 p (ap (λ (u : View P B). get_elem? u.bits t.1) (sym v_is) ∙ t.4))
+        by (no ne) (no ne') = (t.0, t.1, t.2, set_else (set s.views id both) other t.0 (spent) ne ∙ set_else s.views id t.0 both ne' ∙ t.3, t.4)
+
     pub kept_joined : Rule M extra opening record { words = s.words; homes = s.homes; views = views2 }
     kept_joined = record {
       parts = r.parts;
@@ -214,6 +233,7 @@ module _ {P B : Type 0} (M : Meaning P B) where
       numbers = λ q. total_joined (λ (u : View P B). times q u.own) (times-append q v.own w.own) refl ∙ r.numbers q;
       bits = r.bits;
       known_bits = known2;
+      no_other_bits = λ p is. ⊎_elim (λ was. inl was) (λ t. inr (known_joined p t (ℕ_discrete t.0 other) (ℕ_discrete t.0 id))) (r.no_other_bits p is);
     }
 
   pub joins : (extra : ℕ) (opening : Opening P B) (id other : ℕ) (v w : View P B) → 0 < v.share → HoldsNone w → Joins (Rule M extra opening) id v other w (joined v w) (spent)

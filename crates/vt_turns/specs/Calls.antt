@@ -1,6 +1,5 @@
 -- What the calls ask, and what they tell.
-use Rattle.std.specs.Prelude.{◌≡◌, ℕ, ◌+◌, ◌<◌, ◌≤◌, List, [], ◌∷◌, ◌++◌, length, take, slice_index, Option, Some, true, false, ◌/◌, ◌%◌}
-use Rattle.std.specs.Int.{bit_at}
+use Rattle.std.specs.Prelude.{◌≡◌, ℕ, ◌+◌, ◌<◌, ◌≤◌, List, [], ◌∷◌, ◌++◌, length, take, Option, Some, true, false}
 use mathlib.Core.Option.{some}
 use mathlib.Core.List.{IsPrefix}
 use lib.ListN.{get_elem?}
@@ -11,7 +10,7 @@ use Rattle.vt_turns.specs.declared.shared.Turns.{Turns}
 use Rattle.vt_turns.specs.Meaning.{Meaning}
 use Rattle.vt_turns.specs.Lists.{times, once}
 use Rattle.vt_turns.specs.Views.{turn_of, mark_of, stop_of, faults_of, front_of, durable_of, holding, with_bits}
-use Rattle.vt_turns.specs.Rule.{Apart, Stands}
+use Rattle.vt_turns.specs.Rule.{Apart, Stands, WasSet}
 use Rattle.vt_turns.specs.Steps.{Sees, LacksBit}
 
 module _ {P B : Type 0} where
@@ -32,7 +31,7 @@ module _ {P B : Type 0} where
 
 module _ {P B : Type 0} (M : Meaning P B) where
   -- with what a store is opened: the log first, every part sound, and the bits of its blocks set
-  pub record CanOpen (o : Opening P B) (bits : List ℕ) : Type 0 where
+  pub record CanOpen (o : Opening P B) : Type 0 where
     pub some_log : 0 < length o.parts
     pub front : front_of M o.parts ≡ length o.history
     pub apart : Apart M o.parts
@@ -41,7 +40,7 @@ module _ {P B : Type 0} (M : Meaning P B) where
         → M.within o (durable_of M o.parts) x
     pub bits_set : o.kept ≡ true → (i k p : ℕ) (b : B)
         → get_elem? o.history i ≡ some b → get_elem? (M.places b) k ≡ some p
-        → bit_at (slice_index bits (p / 64)) (p % 64) ≡ 1
+        → WasSet o p
 
   -- x was at home as the part k, and the pass with the view v has it now, with the view w
   pub record Takes (k : ℕ) (v : View P B) (x : P) (w : View P B) : Type 0 where

@@ -2,7 +2,7 @@
 --
 -- Word 0 is the front, the count of accepted blocks. Word 1 + k is that of the part k, 0 where no
 -- pass holds it. Behind them stand the words of the Bloom bits, of 64 bits each.
-use Rattle.std.specs.Prelude.{◌≡◌, ◌≢◌, ℕ, suc, ◌+◌, ◌<◌, ◌≤◌, List, [], length, slice_index, Option, Some, None, true, false, ◌/◌, ◌%◌}
+use Rattle.std.specs.Prelude.{◌≡◌, ◌≢◌, ◌⊎◌, ℕ, suc, ◌+◌, ◌<◌, ◌≤◌, List, [], length, slice_index, Option, Some, None, true, false, ◌/◌, ◌%◌}
 use Rattle.std.specs.Int.{bit_at}
 use mathlib.Core.Option.{some}
 use mathlib.Core.Option as maybe
@@ -22,6 +22,16 @@ Homes P = List (maybe.Option (Option P))
 -- among these words, of a table of so many parts, the Bloom bit at this place is set
 abbrev pub HasBit : List ℕ → (parts place : ℕ) → Type 0
 HasBit words parts place = bit_at (slice_index words (suc parts + place / 64)) (place % 64) ≡ 1
+
+module _ {P B : Type 0} where
+  -- the bit was set when the store was opened
+  abbrev pub WasSet : Opening P B → (place : ℕ) → Type 0
+  WasSet opening place = bit_at (slice_index opening.bits (place / 64)) (place % 64) ≡ 1
+
+  -- a pass knows the bit as set
+  abbrev pub IsKnown : List (View P B) → (place : ℕ) → Type 0
+  IsKnown views place = (i : ℕ) × (k : ℕ) × (v : View P B)
+      × (get_elem? views i ≡ some v) × (get_elem? v.bits k ≡ some place)
 
 module _ {P : Type 0} where
   -- a part that nobody holds lies in its slot, and its word is 0 there alone
@@ -108,3 +118,6 @@ module _ {P B : Type 0} (M : Meaning P B) where
     pub known_bits : (i k p : ℕ) (v : View P B)
         → get_elem? s.views i ≡ some v → get_elem? v.bits k ≡ some p
         → HasBit s.words (length parts) p
+    -- no other bit is set: each was at the opening, or a pass knows it
+    pub no_other_bits : (p : ℕ) → HasBit s.words (length parts) p
+        → WasSet opening p ⊎ IsKnown s.views p

@@ -86,7 +86,7 @@ module _ {P B : Type 0} where
   -- what is left of a pass that was joined to another
   abbrev pub spent : View P B
   spent = record {
-    opening = record { parts = []; history = []; kept = false };
+    opening = record { parts = []; history = []; bits = []; kept = false };
     share = 0;
     seen = [];
     olds = [];

@@ -113,7 +113,8 @@ impl<P: Held<B> + Drop, B> Turns<P, B> {
         bits: &[u64],
     ) -> Result<(Turns<P, B>, Pass<P, B>), (NoMemory, Vec<P>)>
         requires parts { J.opening.parts ≡ parts.items }
-        requires opens { CanOpen P.means J.opening bits.now }
+        requires bits { J.opening.bits ≡ bits.now }
+        requires opens { CanOpen P.means J.opening }
         requires front { front ≡ length J.opening.history }
         ensures pass { IfOk result (λ r. IsPassOf r.0 r.1) }
         ensures view { IfOk result (λ r. view r.1 ≡ first_view P.means J.opening) }

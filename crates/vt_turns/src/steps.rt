@@ -16,7 +16,7 @@ pub trait Opened<P, B> {
 }
 
 impl<P, B> Opened<P, B> for Brand {
-    ghost opening = { record { parts = []; history = []; kept = false } };
+    ghost opening = { record { parts = []; history = []; bits = []; kept = false } };
 }
 
 /// The rule of a table that only remembers this.

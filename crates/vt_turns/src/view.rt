@@ -9,6 +9,8 @@ pub struct Opening<P, B> {
     pub parts: LinkedList<P>,
     /// The blocks that were accepted by then, in order.
     pub history: LinkedList<B>,
+    /// The words of the Bloom bits.
+    pub bits: LinkedList<u64>,
     /// Whether it was known what the devices held. Where it wasn't, nothing is said of content.
     pub kept: bool,
 }

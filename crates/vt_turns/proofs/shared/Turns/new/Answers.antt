@@ -1,4 +1,4 @@
-use Rattle.std.proofs.Common.{◌≡◌, ◌+◌, ℕ, List, suc, length, sym, ap, ◌∙◌, subst, arith}
+use Rattle.std.proofs.Common.{◌≡◌, ◌+◌, ℕ, List, suc, length, get_or, sym, ap, ◌∙◌, subst, arith}
 use Rattle.atomic_table.specs.Table.{opening}
 use Rattle.vt_turns.specs.Lists.{first_list, FullOf}
 use Rattle.vt_turns.specs.declared.view.Opening.{Opening}
@@ -23,7 +23,7 @@ new-requires g c =
     let slots_are = subst (λ ps. FullOf c.wrapped.result.items ps) (sym parts_are) c.wrapped.ensures in
     subst (λ (z : Opening g.row.P.Denot g.row.B.Denot × List ℕ). Rule M (length c.args.bits.now) z.0 (opening z.1 c.wrapped.result.items (first_view M z.0)))
     (λ i. (sym c.in-Ok.ensures.opening i, sym (c.as_slice.ensures.value ∙ words_are) i))
-    (opens M (length c.args.bits.now) o ws c.args.bits.now c.wrapped.result.items c.requires.opens long (are.1 ∙ c.requires.front) are.2 are.3 slots_are)
+    (opens M (length c.args.bits.now) o ws c.wrapped.result.items c.requires.opens long (are.1 ∙ c.requires.front) are.2 (λ q. are.3 q ∙ ap (λ (l : List ℕ). get_or l q 0) (sym c.requires.bits)) slots_are)
 
 pub invariant_of-result : goal.invariant_of-result
 invariant_of-result g c =
