@@ -95,8 +95,8 @@ is_cut_of cut parts l a b is a_low a_high b_low b_high = ap (is_cut cut) is ∙ 
 
 -- with what an empty store is opened
 pub can_open : (parts : List Part) (l : TheLog) (a b : TheShard) → parts ≡ Log l ∷ Shard a ∷ Shard b ∷ [] → l.blocks.items ≡ [] → a.numbers.entries ≡ [] → b.numbers.entries ≡ [] → a.high ≡ b.low
-    → CanOpen part_means record { parts = parts; history = []; kept = true } (0 ∷ 0 ∷ [])
-can_open parts l a b is none a_none b_none cut = subst (λ (ps : List Part). CanOpen part_means record { parts = ps; history = []; kept = true } (0 ∷ 0 ∷ [])) (sym is) record {
+    → CanOpen part_means record { parts = parts; history = []; bits = 0 ∷ 0 ∷ []; kept = true }
+can_open parts l a b is none a_none b_none cut = subst (λ (ps : List Part). CanOpen part_means record { parts = ps; history = []; bits = 0 ∷ 0 ∷ []; kept = true }) (sym is) record {
   some_log = omega arith;
   front = ap length none;
   apart = apart;

@@ -21,7 +21,7 @@ use Rattle.vt_turns_example.specs.Stores.{Pass, TheView, IsIn, IsFree}
 use Rattle.vt_turns_example.specs.Talk.{IsTalk}
 use Rattle.vt_turns_example.specs.Work.{Works}
 use Rattle.vt_turns_example.specs.Workers.{less, own_of, owns, Joins, ServedTwo, Begins, AllBegun, Begun, Joining, HasServed, IsWhole}
-use Rattle.vt_turns_example.proofs.Talks.{talk_on, prefix_on}
+use Rattle.vt_turns_example.proofs.Talks.{talk_on, talk_from, prefix_on}
 use Rattle.vt_turns_example.proofs.Cuts.{log_at, not_shard}
 
 pub less_none : (v : TheView) → v ≡ less v 0
@@ -58,8 +58,8 @@ two_served v u p q r s first second q_is p_is two a b j = record {
   seen = prefix_on v.seen s.me.0.seen u.seen (subst (λ (h : List Block). IsPrefix h s.me.0.seen) (ap (λ (t : TheView). t.seen) p_is) b.seen) j.mine;
   by_first = a.added;
   by_second = b.added;
-  first_talk = talk_on r.me.0.seen u.seen first a.added j.theirs a.talk;
-  second_talk = talk_on s.me.0.seen u.seen second b.added j.mine b.talk;
+  first_talk = subst (λ (n : ℕ). IsTalk u.seen n first a.added) (ap (λ (t : TheView). length t.seen) q_is) (talk_on r.me.0.seen u.seen (length q.me.0.seen) first a.added j.theirs a.talk);
+  second_talk = subst (λ (n : ℕ). IsTalk u.seen n second b.added) (ap (λ (t : TheView). length t.seen) p_is) (talk_on s.me.0.seen u.seen (length p.me.0.seen) second b.added j.mine b.talk);
   own = j.own ∙ (λ i. (b.own ∙ ap (λ (t : TheView). t.own ++ b.added) p_is) i ++ (a.own ∙ ap (λ (t : TheView). t.own ++ a.added) q_is) i);
 }
 
@@ -93,15 +93,15 @@ module _ {L : Type 0} (told : L → List Line) where
     share = let one : p.me.0.share ≡ 1 = ap (λ (x : TheView). x.share) view_is in let same = w.share in let sum = j.share in let old = a.share in omega arith;
     seen = prefix_on v.seen u.seen u'.seen a.seen j.mine;
     own = j.own ∙ ap (λ (z : List ℕ). z ++ r.me.0.own) a.own ∙ append_assoc v.own (owns ends) r.me.0.own ∙ ap (λ (z : List ℕ). v.own ++ z) (ap (λ (q : Pass). owns ends ++ q.me.0.own) (sym pass_is) ∙ sym (owns_more ends e) ∙ ap owns (sym more_is));
-    talks = λ k t at. ⊎_elim (λ old_at. talk_on u.seen u'.seen (told t.link) (own_of t) j.mine (a.talks k t old_at)) (λ (same : e ≡ t). subst (λ (z : End L). IsTalk u'.seen (told z.link) (own_of z)) same mine)
+    talks = λ k t at. ⊎_elim (λ old_at. talk_on u.seen u'.seen (length v.seen) (told t.link) (own_of t) j.mine (a.talks k t old_at)) (λ (same : e ≡ t). subst (λ (z : End L). IsTalk u'.seen (length v.seen) (told z.link) (own_of z)) same mine)
         (at_snoc ends e t k (ap (λ (l : List (End L)). get_elem? l k) (sym more_is) ∙ at));
   }
     where
       added_is : w.added ≡ own_of e
       added_is = sym (w.own ∙ ap (λ (x : TheView). x.own ++ w.added) view_is) ∙ ap (λ (q : Pass). q.me.0.own) (sym pass_is)
 
-      mine : IsTalk u'.seen (told e.link) (own_of e)
-      mine = subst (λ (z : List ℕ). IsTalk u'.seen (told e.link) z) added_is (talk_on r.me.0.seen u'.seen (told e.link) w.added j.theirs w.talk)
+      mine : IsTalk u'.seen (length v.seen) (told e.link) (own_of e)
+      mine = subst (λ (z : ℕ × List ℕ). IsTalk u'.seen z.0 (told e.link) z.1) (λ i. (length (view_is i).seen, added_is i)) (talk_on r.me.0.seen u'.seen (length p.me.0.seen) (told e.link) w.added j.theirs w.talk)
 
   -- the log of the parts with which a store is closed
   log_is : (v : TheView) (cut : ℕ) (parts : List Part) (c : Closes part_means v parts) → is_cut cut v.opening.parts ≡ true → v.opening.kept ≡ true → c.history ≡ log_of parts
@@ -111,6 +111,6 @@ module _ {L : Type 0} (told : L → List Line) where
 
   pub closed_whole : (v u : TheView) (cut : ℕ) (ends : List (End L)) (parts : List Part) → (v.own ≡ []) × (v.opening.history ≡ []) → is_cut cut u.opening.parts ≡ true → u.opening.kept ≡ true → HasServed told v u ends → Closes part_means u parts → IsWhole told ends (log_of parts)
   closed_whole v u cut ends parts empty is kept s c = let same = log_is u cut parts c is kept in record {
-    talks = λ k x at. talk_on u.seen (log_of parts) (told x.link) (own_of x) (subst (λ (h : List Block). IsPrefix u.seen h) same c.seen) (s.talks k x at);
+    talks = λ k x at. talk_from (log_of parts) (length v.seen) 0 (told x.link) (own_of x) (omega arith) (talk_on u.seen (log_of parts) (length v.seen) (told x.link) (own_of x) (subst (λ (h : List Block). IsPrefix u.seen h) same c.seen) (s.talks k x at));
     once_each = λ n. ap (times n) (sym (s.own ∙ ap (λ z. z ++ owns ends) empty.0)) ∙ c.own n ∙ (λ i. once (length ((ap (λ o. o.history) s.opening ∙ empty.1) i)) (length (same i)) n);
   }

@@ -13,7 +13,7 @@ use Rattle.vt_turns_example.specs.declared.link.Ask.TheVariants.{Write, Look}
 use Rattle.vt_turns_example.specs.declared.link.Said.{Said}
 use Rattle.vt_turns_example.specs.declared.link.Said.TheVariants.{Added, Held, Collision, NoMemory, Absent, Unknown}
 use Rattle.vt_turns_example.specs.declared.link.Line.{Line}
-use Rattle.vt_turns_example.specs.Talk.{Answers, Adds, IsTalk}
+use Rattle.vt_turns_example.specs.Talk.{Answers, Adds, Tells, IsTalk}
 use Rattle.vt_turns_example.specs.Stores.{Pass, TheView, Answered}
 use Rattle.vt_turns_example.specs.Work.{Works}
 
@@ -41,36 +41,52 @@ adds_more ask NoMemory at h added rest more a = ap (λ (z : List ℕ). z ++ more
 adds_more ask Absent at h added rest more a = ap (λ (z : List ℕ). z ++ more) a
 adds_more ask Unknown at h added rest more a = ap (λ (z : List ℕ). z ++ more) a
 
+tells_on : (h g : List Block) (from : ℕ) (l : Line) (added rest : List ℕ) → IsPrefix h g → Tells h from l added rest → Tells g from l added rest
+tells_on h g from l added rest p t = record {
+  since = t.since;
+  within = let le = prefix_length h g p in let w = t.within in omega arith;
+  answers = subst (λ (z : List Block). Answers l.ask l.said z) (sym (take_same l.at h g p t.within)) t.answers;
+  adds = adds_on l.ask l.said l.at h g added rest p t.adds;
+}
+
 -- a talk of a history is one of every history that goes on from it
-pub talk_on : (h g : List Block) (lines : List Line) (added : List ℕ) → IsPrefix h g → IsTalk h lines added → IsTalk g lines added
-talk_on h g [] added p t = t
-talk_on h g (l ∷ ls) added p t = (
+pub talk_on : (h g : List Block) (from : ℕ) (lines : List Line) (added : List ℕ) → IsPrefix h g → IsTalk h from lines added → IsTalk g from lines added
+talk_on h g from [] added p t = t
+talk_on h g from (l ∷ ls) added p t = (t.0, tells_on h g from l added t.0 p t.1, talk_on h g l.at ls t.0 p t.2)
+
+-- and one from each smaller number
+pub talk_from : (h : List Block) (n m : ℕ) (lines : List Line) (added : List ℕ) → m ≤ n → IsTalk h n lines added → IsTalk h m lines added
+talk_from h n m [] added le t = t
+talk_from h n m (l ∷ ls) added le t = (
   t.0,
   record {
-    within = let le = prefix_length h g p in let w = t.1.within in omega arith;
-    answers = subst (λ (z : List Block). Answers l.ask l.said z) (sym (take_same l.at h g p t.1.within)) t.1.answers;
-    adds = adds_on l.ask l.said l.at h g added t.0 p t.1.adds;
+    since = let since = t.1.since in omega arith;
+    within = t.1.within;
+    answers = t.1.answers;
+    adds = t.1.adds;
   },
-  talk_on h g ls t.0 p t.2,
+  t.2,
 )
 
-pub talk_append : (h : List Block) (ls ms : List Line) (a b : List ℕ) → IsTalk h ls a → IsTalk h ms b → IsTalk h (ls ++ ms) (a ++ b)
-talk_append h [] ms a b s t = subst (λ (z : List ℕ). IsTalk h ms (z ++ b)) (sym s) t
-talk_append h (l ∷ ls) ms a b s t = (
+pub talk_append : (q h : List Block) (from : ℕ) (ls ms : List Line) (a b : List ℕ) → IsPrefix q h → from ≤ length q → IsTalk q from ls a → IsTalk h (length q) ms b → IsTalk h from (ls ++ ms) (a ++ b)
+talk_append q h from [] ms a b p le s t = subst (λ (z : List ℕ). IsTalk h from ms (z ++ b)) (sym s) (talk_from h (length q) from ms b le t)
+talk_append q h from (l ∷ ls) ms a b p le s t = let on = tells_on q h from l a s.0 p s.1 in (
   s.0 ++ b,
   record {
-    within = s.1.within;
-    answers = s.1.answers;
-    adds = adds_more l.ask l.said l.at h a s.0 b s.1.adds;
+    since = on.since;
+    within = on.within;
+    answers = on.answers;
+    adds = adds_more l.ask l.said l.at h a s.0 b on.adds;
   },
-  talk_append h ls ms s.0 b s.2 t,
+  talk_append q h l.at ls ms s.0 b p s.1.within s.2 t,
 )
 
 -- one answer is a talk
-pub one_talk : (v w : TheView) (line : Line) (ask : Ask) → line.ask ≡ ask → (a : Answered v ask line.said line.at w) → IsTalk w.seen (line ∷ []) a.added
+pub one_talk : (v w : TheView) (line : Line) (ask : Ask) → line.ask ≡ ask → (a : Answered v ask line.said line.at w) → IsTalk w.seen (length v.seen) (line ∷ []) a.added
 one_talk v w line ask is a = (
   [],
   record {
+    since = a.since;
     within = a.within;
     answers = subst (λ (q : Ask). Answers q line.said (take line.at w.seen)) (sym is) a.answers;
     adds = subst (λ (q : Ask). Adds q line.said line.at w.seen a.added []) (sym is) a.adds;
@@ -91,5 +107,5 @@ works_on p q r ls ms a b = record {
   seen = prefix_on p.me.0.seen q.me.0.seen r.me.0.seen a.seen b.seen;
   added = a.added ++ b.added;
   own = b.own ∙ ap (λ z. z ++ b.added) a.own ∙ append_assoc p.me.0.own a.added b.added;
-  talk = talk_append r.me.0.seen ls ms a.added b.added (talk_on q.me.0.seen r.me.0.seen ls a.added b.seen a.talk) b.talk;
+  talk = talk_append q.me.0.seen r.me.0.seen (length p.me.0.seen) ls ms a.added b.added b.seen (prefix_length p.me.0.seen q.me.0.seen a.seen) a.talk b.talk;
 }

@@ -36,13 +36,16 @@ Adds ask NoMemory at h added rest = added ≡ rest
 Adds ask Absent at h added rest = added ≡ rest
 Adds ask Unknown at h added rest = added ≡ rest
 
--- the line is the answer of the first `at` blocks of the history
-pub record Tells (h : List Block) (line : Line) (added rest : List ℕ) : Type 0 where
+-- the line is the answer of the first `at` blocks of the history, at least `from`
+pub record Tells (h : List Block) (from : ℕ) (line : Line) (added rest : List ℕ) : Type 0 where
+  pub since : from ≤ line.at
   pub within : line.at ≤ length h
   pub answers : Answers line.ask line.said (take line.at h)
   pub adds : Adds line.ask line.said line.at h added rest
 
--- each line is an answer of the history, and these are the numbers of the blocks that were added
-abbrev pub IsTalk : List Block → List Line → (added : List ℕ) → Type 0
-IsTalk h [] added = added ≡ []
-IsTalk h (line ∷ lines) added = (rest : List ℕ) × Tells h line added rest × IsTalk h lines rest
+-- Each line is an answer of the history, by numbers that begin at `from` or later and never fall,
+-- and these are the numbers of the blocks that were added.
+abbrev pub IsTalk : List Block → (from : ℕ) → List Line → (added : List ℕ) → Type 0
+IsTalk h from [] added = added ≡ []
+IsTalk h from (line ∷ lines) added =
+    (rest : List ℕ) × Tells h from line added rest × IsTalk h line.at lines rest

@@ -1,5 +1,5 @@
 -- What one worker does.
-use Rattle.std.specs.Prelude.{◌≡◌, List, [], ◌++◌, ℕ}
+use Rattle.std.specs.Prelude.{◌≡◌, List, [], ◌++◌, length, ℕ}
 use mathlib.Core.List.{IsPrefix}
 use Rattle.vt_turns.specs.Views.{HoldsNone}
 use Rattle.vt_turns_example.specs.declared.link.Line.{Line}
@@ -16,4 +16,4 @@ pub record Works (p r : Pass) (lines : List Line) : Type 0 where
   pub seen : IsPrefix p.me.0.seen r.me.0.seen
   pub added : List ℕ
   pub own : r.me.0.own ≡ p.me.0.own ++ added
-  pub talk : IsTalk r.me.0.seen lines added
+  pub talk : IsTalk r.me.0.seen (length p.me.0.seen) lines added

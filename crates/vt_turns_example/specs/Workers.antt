@@ -35,8 +35,8 @@ pub record ServedTwo (v : TheView) (first second : List Line) (u : TheView) : Ty
   pub seen : IsPrefix v.seen u.seen
   pub by_first : List ℕ
   pub by_second : List ℕ
-  pub first_talk : IsTalk u.seen first by_first
-  pub second_talk : IsTalk u.seen second by_second
+  pub first_talk : IsTalk u.seen (length v.seen) first by_first
+  pub second_talk : IsTalk u.seen (length v.seen) second by_second
   pub own : u.own ≡ (v.own ++ by_second) ++ by_first
 
 module _ {L : Type 0} where
@@ -73,7 +73,7 @@ module _ {L : Type 0} (told : L → List Line) where
     pub own : u.own ≡ v.own ++ owns ends
     -- what each link was told is a talk of what is seen, with the blocks that its worker added
     pub talks : (k : ℕ) (e : End L) → get_elem? ends k ≡ some e
-        → IsTalk u.seen (told e.link) (own_of e)
+        → IsTalk u.seen (length v.seen) (told e.link) (own_of e)
 
   -- all of them were joined
   abbrev pub HasServed : (v u : TheView) → List (End L) → Type 0
@@ -83,5 +83,5 @@ module _ {L : Type 0} (told : L → List Line) where
   -- exactly one worker
   pub record IsWhole (ends : List (End L)) (history : List Block) : Type 0 where
     pub talks : (k : ℕ) (e : End L) → get_elem? ends k ≡ some e
-        → IsTalk history (told e.link) (own_of e)
+        → IsTalk history 0 (told e.link) (own_of e)
     pub once_each : (n : ℕ) → times n (owns ends) ≡ once 0 (length history) n
