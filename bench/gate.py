@@ -1,9 +1,9 @@
 #!/usr/bin/env python3
 """Runs `rt ci`, and tells how long each crate's proof, tests, edits and runs took.
 
-Run it as bench/gate.py, at the top of the repository; what it is given goes to `rt ci`, as --anew or the names of
-crates. The lines of `rt ci` come on standard error, each behind the seconds since the start, and the table comes on
-standard output. The status is that of `rt ci`. It needs Python 3, and a Linux /proc.
+Run it as bench/gate.py, at the top of the repository; what it is given goes to `rt ci`, which takes words in some
+toolchains. The lines of `rt ci` come on standard error, each behind the seconds since the start, and the table comes
+on standard output. The status is that of `rt ci`. It needs Python 3, and a Linux /proc.
 
 What it tells is processor time: it looks five times a second at the processes that `rt ci` started, and goes by their
 command lines and folders. A check of a crate in a folder rt-edit-* is one of an edit, or the one that edits begin with.
