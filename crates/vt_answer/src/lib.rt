@@ -13,3 +13,6 @@ pub use answering::Answering;
 pub use asking::{Said, ask, reply};
 pub use output::Output;
 pub use store::Store;
+
+#[cfg(test)]
+mod tests;

@@ -1,6 +1,6 @@
 //! What a session asks.
 
-ghost use Rattle.std.specs.Prelude.{◌≤◌, ℕ, List, IfOk, length};
+ghost use Rattle.std.specs.Prelude.{◌≡◌, ◌≤◌, ℕ, List, IfOk, length};
 ghost use Rattle.vt_base.specs.Protocol.{Operation, read, write, sync, RMessage, r_read, r_write, r_sync};
 ghost use Rattle.vt_model.specs.History.{History};
 ghost use Rattle.vt_answer.specs.Condition.{Condition, GoesOn};
@@ -36,7 +36,8 @@ pub trait Store {
         ensures cause { TellsCause (condition self.old) (condition self.new) result }
         ensures goes_on { GoesOn (condition self.old) (condition self.new) }
         ensures once { does self.old (write kind bytes.now)
-            (said (λ score. r_write score.0) result) self.new };
+            (said (λ score. r_write score.0) result) self.new }
+        ensures scored { IfOk result (λ score. score.0 ≡ score_of bytes.now) };
 
     /// The bytes of a block, if it has `count` at most.
     fn read(&mut self, alloc: Global, score: &Score, kind: u8, count: u32) -> Result<Bytes, Why>

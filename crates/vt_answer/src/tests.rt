@@ -1,0 +1,198 @@
+//! Sessions over a store that answers what it is told to: bytes in, bytes out.
+
+ghost use Rattle.std.specs.Prelude.{◌≤◌, ⊤, Bool, [], replicate};
+
+use super::*;
+use std::alloc::{AllocError, Global};
+use std::process::Abort;
+use std::test::Fail;
+use vt_base::{Bytes, FieldValue, Score, Site, Why};
+use vt_out::{MemSink, Sink};
+use vt_session::{Ended, Next, parse_all};
+use vt_wire::{Reply, Request};
+
+const OUR_LINE: &[u8] = b"venti-02-rattle\n";
+
+/// A client's line and a hello, and the welcome.
+const GREETING: &[u8] = b"venti-02-test\n\x00\x0b\x04\x00\x00\x0202\x00\x00\x00\x00\x00";
+
+const WELCOME: &[u8] = b"\x00\x0f\x05\x00\x00\x09anonymous\x00\x00";
+
+/// Writes of one byte under the tags 1, 2 and 3, of the types 13, 1 and 2.
+const WRITES: &[u8] = b"\x00\x07\x0e\x01\x0d\x00\x00\x00x\x00\x07\x0e\x02\x01\x00\x00\x00x\
+\x00\x07\x0e\x03\x02\x00\x00\x00x";
+
+/// What is said to them: the score, and two failures.
+const WROTE: &[u8] = b"\x00\x16\x0f\x01ssssssssssssssssssss\x00\x11\x01\x02\x00\x0dblock damaged\
+\x00\x0d\x01\x03\x00\x09no memory";
+
+/// A read of type 13 under tag 4.
+const READ: &[u8] = b"\x00\x1a\x0c\x04ssssssssssssssssssss\x0d\x00\x00\x03";
+
+/// A sync, a ping and a goodbye.
+const REST: &[u8] = b"\x00\x02\x10\x05\x00\x02\x02\x06\x00\x02\x06\x07";
+
+const SCORE: Score = Score(*b"ssssssssssssssssssss");
+
+const DAMAGE: Why = Why::Damaged {
+    site: Site::Bucket(1),
+    want: FieldValue::Number(2),
+    found: FieldValue::Number(3),
+};
+
+/// Answers each call with what stands here for its type, and counts the calls. It holds no history,
+/// so nothing is claimed of its answers.
+#[derive(Drop)]
+struct Scripted {
+    /// How many bytes a block has that is read.
+    length: usize,
+    writes: u64,
+    reads: u64,
+    syncs: u64,
+    ghost fits: { length ≤ 57344 },
+}
+
+impl Store for Scripted {
+    ghost score_of = { λ bytes. replicate 20 115 };
+
+    ghost condition = { λ s. record {
+      setup = record { arenas = []; base = 0; sections = [] };
+      alone = Bool.false;
+      faults = [];
+      stops = [];
+      durable = 0;
+    } };
+
+    ghost holds = { λ s h. ⊥ };
+
+    ghost does = { λ s m reply s'. ⊤ };
+
+    ghost durable_is_held = { λ s h hold. absurd hold };
+
+    fn write(&mut self, _alloc: Global, kind: u8, _bytes: &[u8]) -> Result<Score, Why> {
+        self.writes = self.writes.wrapping_add(1);
+        match kind {
+            13 => Ok(SCORE),
+            1 => Err(DAMAGE),
+            _ => Err(Why::NoMemory),
+        }
+    }
+
+    fn read(
+        &mut self,
+        alloc: Global,
+        _score: &Score,
+        _kind: u8,
+        _count: u32,
+    ) -> Result<Bytes, Why> {
+        self.reads = self.reads.wrapping_add(1);
+        let Ok(block) = vec![in alloc; b'b'; self.length] else {
+            return Err(Why::NoMemory);
+        };
+        Ok(Bytes::from_vec(block))
+    }
+
+    fn sync(&mut self) -> Result<(), Why> {
+        self.syncs = self.syncs.wrapping_add(1);
+        Ok(())
+    }
+}
+
+fn answering_reads(length: usize) -> Scripted
+    requires { length ≤ 57344 }
+{
+    Scripted {
+        length,
+        writes: 0,
+        reads: 0,
+        syncs: 0,
+    }
+}
+
+fn joined(alloc: Global, parts: &[&[u8]]) -> Result<Vec<u8>, AllocError> {
+    let mut all = Vec::new(alloc);
+    for part in parts {
+        all.extend_from_slice(part)?;
+    }
+    Ok(all)
+}
+
+/// Each message gets its reply under its tag, in order; the first failure is kept.
+#[test]
+fn replies(rt: HostRuntime) -> Result<(), Fail> {
+    let alloc = rt.alloc();
+    let input = joined(alloc, &[GREETING, WRITES, READ, REST])?;
+    let output = joined(
+        alloc,
+        &[
+            OUR_LINE,
+            WELCOME,
+            WROTE,
+            b"\x00\x05\x0d\x04bbb\x00\x02\x11\x05\x00\x02\x03\x06",
+        ],
+    )?;
+    let mut store = answering_reads(3);
+    let mut sink = MemSink::new(alloc, 1_000)?;
+    let mut answering = Answering::new(alloc)?;
+    let ended = answering.answer_input(alloc, &mut store, &input, &mut sink);
+    assert_eq!(rt; ended, Ended::Goodbye);
+    assert_eq!(rt; answering.failure(), Some(DAMAGE));
+    assert_eq!(rt; sink.written(), output.as_slice());
+    assert_eq!(rt; (store.writes, store.reads, store.syncs), (3, 1, 1));
+    Ok(())
+}
+
+/// Three reads of the longest blocks, of which two wait with the line: with all writes well, and
+/// with each of the two failing.
+#[test]
+fn long_replies(rt: HostRuntime) -> Result<(), Fail> {
+    let alloc = rt.alloc();
+    let input = joined(alloc, &[GREETING, READ, READ, READ])?;
+    let first = OUR_LINE.len() + WELCOME.len() + 2 * 57_348;
+    let cases: [(&[u64], Ended, usize); 3] = [
+        (&[], Ended::Closed, first + 57_348),
+        (&[0], Ended::WriteFault, first / 2),
+        (&[1], Ended::WriteFault, first + 57_348 / 2),
+    ];
+    for (failing, ended, written) in cases {
+        let mut store = answering_reads(57_344);
+        let failing = Vec::from_slice(alloc, failing)?;
+        let mut sink = MemSink::new(alloc, 1 << 18)?.failing(failing);
+        let mut answering = Answering::new(alloc)?;
+        let mut heard = parse_all(&input);
+        let found = answering.answer_all(alloc, &mut store, heard, &mut sink);
+        assert_eq!(rt; found.unwrap_or(Ended::WriteFault), ended);
+        assert_eq!(rt; sink.written().len(), written);
+        assert_eq!(rt; answering.failure(), None);
+    }
+    Ok(())
+}
+
+/// One item at a time, and a store that is asked without a session.
+#[test]
+fn one_at_a_time(rt: HostRuntime) -> Result<(), Fail> {
+    let alloc = rt.alloc();
+    let mut store = answering_reads(3);
+    let mut sink = MemSink::new(alloc, 1_000)?;
+    let mut answering = Answering::new(alloc)?;
+    let ping = Next::Message(6, Request::Ping);
+    assert_eq!(rt;
+        answering.answer(alloc, &mut store, &ping, &mut sink).ok(),
+        Some(None)
+    );
+    assert!(rt; sink.written().is_empty());
+    let end = Next::End(Ended::Cut);
+    let ended = answering.answer(alloc, &mut store, &end, &mut sink);
+    assert_eq!(rt; ended.ok(), Some(Some(Ended::Cut)));
+    assert_eq!(rt;
+        sink.written(),
+        joined(alloc, &[OUR_LINE, b"\x00\x02\x03\x06"])?.as_slice()
+    );
+    let answer = ask(alloc, &mut store, &Request::Sync);
+    assert_eq!(rt; reply(&answer), Reply::Sync);
+    let mut output = Output::new(alloc)?;
+    output.add(&mut sink, 6, &Reply::Ping)?;
+    output.flush(&mut sink)?;
+    assert_eq!(rt; sink.written().len(), 2 * (16 + 4));
+    Ok(())
+}
