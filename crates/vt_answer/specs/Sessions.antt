@@ -16,7 +16,8 @@ use Rattle.vt_session.specs.Talk.{HearsAll, EndsByInput, EndsInLast}
 use Rattle.vt_answer.specs.Members.{StoreOf}
 use Rattle.vt_answer.specs.Taking.{Takes}
 
--- what was said so far: the bytes that wait to be written, and why the store failed first, if it did
+-- what was said so far: the bytes that wait to be written, and why the store failed first, if it
+-- did
 pub record Spoken : Type 0 where
   pub waiting : List ℕ
   pub failure : Option Why

@@ -66,7 +66,8 @@ impl Output {
     pub fn add<K: Sink>(&mut self, sink: &mut K, tag: u8, reply: &Reply) -> Result<(), Failed>
         requires { FitsReply (reply_of reply.now) }
         ensures written { IsTrue K.tells →
-            Writes result (K.written sink.old) self.old (K.written sink.new) self.new (spelled tag (reply_of reply.now)) }
+            Writes result (K.written sink.old) self.old (K.written sink.new) self.new
+            (spelled tag (reply_of reply.now)) }
         ensures cause { HasCause result (K.faults sink.old) (K.faults sink.new) }
     {
         if ROOM - self.used < MAX_REPLY {
@@ -91,7 +92,8 @@ fn encode_at(buffer: &mut [u8], at: usize, tag: u8, reply: &Reply) -> usize
     requires fits { FitsReply (reply_of reply.now) }
     requires room { at + length (spelled tag (reply_of reply.now)) ≤ length buffer.old }
     ensures end { result ≡ at + length (spelled tag (reply_of reply.now)) }
-    ensures written { take result buffer.new ≡ take at buffer.old ++ spelled tag (reply_of reply.now) }
+    ensures written { take result buffer.new
+        ≡ take at buffer.old ++ spelled tag (reply_of reply.now) }
 {
     at + encode(tag, reply, &mut buffer[at..])
 }

@@ -1,5 +1,5 @@
 -- One more block, and its entry.
-use Rattle.std.proofs.Common.{◌≡◌, ◌⊎◌, ⊎_elim, inl, inr, ℕ, zero, suc, ◌+◌, ◌<◌, ◌≤◌, Bool, List, [], ◌∷◌, ◌++◌, length, replicate, refl, sym, ◌∙◌, ap, subst, arith, Some, None, Ok, Err, length-append, append-nil}
+use Rattle.std.proofs.Common.{◌≡◌, ◌⊎◌, ⊎_elim, inl, inr, ℕ, zero, suc, ◌+◌, ◌<◌, ◌≤◌, List, [], ◌∷◌, ◌++◌, length, replicate, refl, sym, ◌∙◌, ap, subst, arith, Some, None, Ok, Err, length-append, append-nil}
 use Rattle.std.specs.Prelude.{slice_get}
 use Rattle.vt_base.specs.Kind.{IsKind}
 use Rattle.vt_base.specs.declared.place.Entry.{Entry}
@@ -14,7 +14,7 @@ use Rattle.vt_model.specs.Places.{Setup, next_arena, place_of}
 use Rattle.vt_model.specs.Answer.{Outcome, answer_to_write, adds, with_added}
 use Rattle.vt_model.proofs.Adding.{IsLegal-with_added}
 use Rattle.vt_model.proofs.Spots.{place_of-append}
-use Rattle.vt_log.specs.Members.{DiskOf}
+use Rattle.vt_disk.specs.Members.{DiskOf}
 use Rattle.vt_log.specs.declared.bad.Full.{Full}
 use Rattle.vt_log.specs.Answers.{Appends}
 use Rattle.vt_log.specs.Log.{LogState, setup_of}

@@ -1,23 +1,22 @@
 -- What a store over one log answers, as a session sees it.
-use Rattle.std.proofs.Common.{◌≡◌, ◌⊎◌, ⊎_elim, inl, inr, ℕ, ◌<◌, ◌≤◌, ◌==◌, ◌^◌, ◌-◌, Bool, List, [], ◌∷◌, ◌++◌, length, map, take, refl, sym, ◌∙◌, ap, subst, arith, Option, Some, None, Ok, Err, Result, append-nil, length-append, zero, suc}
+use Rattle.std.proofs.Common.{◌≡◌, inl, inr, ℕ, ◌<◌, ◌≤◌, ◌^◌, Bool, List, [], ◌∷◌, ◌++◌, length, map, take, refl, sym, ◌∙◌, ap, subst, arith, Option, Some, None, Ok, Err, Result, append-nil, length-append, zero, suc}
 use Rattle.std.specs.Prelude.{slice_index, OnOk}
 use Rattle.std.specs.List.{Contains}
 use Rattle.std.specs.Option.{option_to_list}
 use Rattle.std.proofs.Math.Seq.{take-append_seam}
 use Rattle.std.proofs.lemmas.Bool.{cases_eq}
 use Rattle.vt_base.specs.declared.why.Why.{Why}
-use Rattle.vt_base.specs.declared.why.Why.TheVariants.{DiskFault, Stopped, Damaged, NoMemory}
+use Rattle.vt_base.specs.declared.why.Why.TheVariants.{DiskFault, Stopped}
 use Rattle.vt_base.specs.Protocol.{Operation, sync, RMessage, r_sync, r_refused}
 use Rattle.vt_model.specs.History.{History, Accepted}
-use Rattle.vt_model.specs.Answer.{Outcome, answer, with_added}
+use Rattle.vt_model.specs.Answer.{answer, with_added}
 use Rattle.vt_log.specs.Faults.{OneHasRisen}
 use Rattle.vt_log.specs.Log.{LogState, queued}
-use Rattle.vt_log.specs.Members.{DiskOf}
+use Rattle.vt_disk.specs.Members.{DiskOf}
 use Rattle.vt_session.specs.Turns.{Part, log, section, Cause, disk_fault, stopped, damaged, no_memory, why_of}
-use Rattle.vt_session.specs.Answered.{MayFail, NoneFell, OneRose, AreToldBy, StandsAt}
-use Rattle.vt_session.proofs.Turns.{get_within}
+use Rattle.vt_session.specs.Answered.{NoneFell, OneRose, AreToldBy, StandsAt}
 use Rattle.vt_answer.specs.Condition.{GoesOn, faults_over, IsNoDamage, IsNoFault}
-use Rattle.vt_answer.specs.Serving.{Answers, Fails, Lengthens, IsCovered, tells_failure, TellsCause, Serves as ServesAsked}
+use Rattle.vt_answer.specs.Serving.{Answers, Lengthens, IsCovered, tells_failure, TellsCause, Serves as ServesAsked}
 use Rattle.vt_prog.specs.Asked.{stops_of, condition_of}
 use Rattle.vt_prog.specs.Serving.{Serves, FailsFor, NoneFailed, TellsFaults, CommitsOrStops}
 use Rattle.vt_prog.specs.Store.{StoreState, memory, Holds}

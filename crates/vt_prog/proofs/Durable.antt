@@ -1,5 +1,5 @@
 -- What is durable of a log stays so.
-use Rattle.std.proofs.Common.{◌≡◌, ℕ, ◌≤◌, sym, ap, subst, arith, Ok, Err, Result}
+use Rattle.std.proofs.Common.{◌≡◌, ◌≤◌, sym, ap, subst, arith, Ok, Err, Result}
 use Rattle.vt_log.specs.declared.bad.LogErr.{LogErr}
 use Rattle.vt_log.specs.declared.bad.LogErr.TheVariants as refusals
 use Rattle.vt_log.specs.declared.bad.Progress.{Progress}

@@ -2,21 +2,21 @@
 use Rattle.std.proofs.Common.{◌≡◌, ◌⊎◌, ⊎_elim, inl, inr, ℕ, List, map, refl, sym, ◌∙◌, ap, subst, Option, Some, None, Ok, Err, Result, ◌<◌, ◌^◌, ◌-◌, arith, zero, suc, [], ◌∷◌}
 use Rattle.std.proofs.lemmas.Bool.{cases_lt}
 use Rattle.vt_base.specs.Faults.{HasRisen}
-use Rattle.std.specs.Prelude.{◌↔◌, IfErr, slice_index}
+use Rattle.std.specs.Prelude.{◌↔◌, IfErr, MatchBool, slice_index}
 use Rattle.vt_base.specs.declared.place.Place.{Place}
 use Rattle.vt_base.specs.declared.why.Why.{Why}
 use Rattle.vt_base.specs.declared.why.Why.TheVariants.{DiskFault, Stopped, NoMemory}
 use Rattle.vt_base.specs.Protocol.{Operation, sync, RMessage, r_sync}
-use Rattle.vt_log.specs.Members.{DiskOf}
+use Rattle.vt_disk.specs.Members.{DiskOf}
 use Rattle.vt_model.specs.History.{History}
 use Rattle.vt_arena.specs.declared.bad.ReadBad.{ReadBad}
 use Rattle.vt_arena.specs.declared.bad.ReadBad.TheVariants as unread
+use Rattle.vt_arena.specs.Reading.{is_fault}
 use Rattle.vt_log.specs.declared.bad.Progress.{Progress}
 use Rattle.vt_log.specs.declared.bad.LogErr.{LogErr}
 use Rattle.vt_log.specs.declared.bad.LogErr.TheVariants as refusals
 use Rattle.vt_log.specs.Faults.{OneHasRisen}
 use Rattle.vt_log.specs.Log.{LogState}
-use Rattle.vt_log.specs.Reading.{CountsFault}
 use Rattle.vt_session.specs.Turns.{Cause, disk_fault, stopped, damaged, no_memory, log, section, why_of}
 use Rattle.vt_session.specs.Answered.{MayFail, ReachesParts, TakesMemory, WritesTo}
 use Rattle.vt_prog.specs.Serving.{Serves, FailsFor, NoneFailed, TellsFaults, CommitsOrStops, LeavesOrStops, MayNotRead, why_unread, block_or_why}
@@ -82,7 +82,8 @@ leaves_or_stops X disk old now new why is stays = absurd is
 -- ---- reading a block
 
 pub read_tells : {D : Type 0} (X : Type 0) (disk : DiskOf D) (place : Place) (bad : ReadBad) (old new : LogState D)
-    → CountsFault bad (map disk.faults old.disks) (map disk.faults new.disks) → new.stopped ≡ old.stopped
+    → MatchBool (is_fault bad) (OneHasRisen (map disk.faults old.disks) (map disk.faults new.disks)) (map disk.faults new.disks ≡ map disk.faults old.disks)
+    → new.stopped ≡ old.stopped
     → TellsFaults {X = X} disk old new (Err (why_unread place bad))
 read_tells X disk place unread.Fault old new cause same = cause
 read_tells X disk place (unread.Damaged want found) old new cause same = (cause, same)

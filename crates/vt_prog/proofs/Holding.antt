@@ -1,6 +1,6 @@
 -- How a store goes on holding its history.
 use Rattle.std.proofs.Common.{◌≡◌, ℕ, Bool, List, [], map, refl, sym, ◌∙◌, ap, subst, IsTrue, rules}
-use Rattle.vt_log.specs.Members.{DiskOf}
+use Rattle.vt_disk.specs.Members.{DiskOf}
 use Rattle.vt_part.specs.declared.layout.ArenaRegion.{ArenaRegion}
 use Rattle.vt_model.specs.History.{History}
 use Rattle.vt_log.specs.Log.{LogState, setup_of}
@@ -9,8 +9,8 @@ use Rattle.vt_prog.specs.Store.{StoreState, Holds, HoldsInMemory, IsEmptyLog}
 
 pub setup_kept : {D : Type 0} (old new : LogState D) → new.layout ≡ old.layout → new.base ≡ old.base → setup_of new ≡ setup_of old
 setup_kept old new layout base =
-    ap (λ (ls : List ArenaRegion). record { arenas = map (λ r. r.len) ls; base = new.base; sections = [] }) layout
-    ∙ ap (λ (b : ℕ). record { arenas = map (λ r. r.len) old.layout; base = b; sections = [] }) base
+    ap (λ (ls : List ArenaRegion). record { arenas = map (λ r. r.region.len) ls; base = new.base; sections = [] }) layout
+    ∙ ap (λ (b : ℕ). record { arenas = map (λ r. r.region.len) old.layout; base = b; sections = [] }) base
 
 -- the store with the log as it is now
 pub with_log : {D : Type 0} (score_of : List ℕ → List ℕ) (disk : DiskOf D) (s : StoreState D) (l : LogState D) (h : History)

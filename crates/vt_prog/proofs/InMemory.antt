@@ -1,7 +1,7 @@
 -- A session over a store of which no call fails: want of memory is its only failure.
-use Rattle.std.proofs.Common.{◌≡◌, ⊎_elim, ℕ, List, [], ◌∷◌, ◌++◌, ◌<◌, sym, ◌∙◌, ap, subst, arith, IsTrue, refl, map}
+use Rattle.std.proofs.Common.{◌≡◌, ⊎_elim, ℕ, List, [], ◌∷◌, ◌++◌, ◌∙◌, subst, arith, IsTrue, refl, map}
 use Rattle.std.specs.Prelude.{slice_index}
-use Rattle.std.specs.List.{AllByRecursion, flat_map}
+use Rattle.std.specs.List.{AllByRecursion}
 use Rattle.std.proofs.lemmas.Grind.{flat_map-append}
 use Rattle.vt_model.specs.History.{History}
 use Rattle.vt_model.specs.Places.{Setup}
@@ -12,7 +12,7 @@ use Rattle.vt_answer.specs.Condition.{IsNoDamage, IsNoFault}
 use Rattle.vt_prog.specs.Members.{StoreOf}
 use Rattle.vt_answer.specs.Taking.{Takes}
 use Rattle.vt_prog.specs.Commands.Session.{OnlyMemory}
-use Rattle.vt_log.specs.Members.{DiskOf}
+use Rattle.vt_disk.specs.Members.{DiskOf}
 use Rattle.vt_prog.specs.Store.{memory, StoreState, HoldsInMemory}
 use Rattle.vt_prog.proofs.Failing.{zeros}
 

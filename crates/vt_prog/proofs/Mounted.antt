@@ -1,10 +1,10 @@
 -- What is mounted of one partition of one arena.
 use Rattle.std.proofs.Common.{◌≡◌, ◌⊎◌, ⊎_elim, ℕ, zero, suc, List, [], ◌∷◌, ◌++◌, length, map, take, drop, sym, ◌∙◌, ap, subst, arith, Some}
-use Rattle.std.specs.Prelude.{slice_get}
+use Rattle.std.specs.Prelude.{MatchBool, slice_get}
 use Rattle.std.specs.List.{range_with_len}
 use Rattle.std.proofs.Math.Seq.{take-append_seam}
 use Rattle.std.proofs.lemmas.List.{length-map, drop_all}
-use Rattle.vt_log.specs.Members.{DiskOf}
+use Rattle.vt_disk.specs.Members.{DiskOf}
 use Rattle.vt_part.specs.declared.layout.ArenaRegion.{ArenaRegion}
 use Rattle.vt_part.specs.Layout.{layout_of, arena_of, AreDistinct}
 use Rattle.vt_part.specs.declared.part.Part.{Part}
@@ -12,15 +12,15 @@ use Rattle.vt_part.specs.Parts.{table_of, tables_of}
 use Rattle.vt_part.specs.Table.{Table}
 use Rattle.vt_log.specs.declared.bad.LogBad.{LogBad}
 use Rattle.vt_log.specs.declared.bad.LogBad.TheVariants as bads
-use Rattle.vt_log.specs.Faults.{CountsFault}
+use Rattle.vt_log.specs.Faults.{OneHasRisen, is_fault}
 use Rattle.vt_log.specs.Sound.{AreImages}
 use Rattle.vt_prog.specs.Memory.{IsOneArena}
 use Rattle.vt_prog.proofs.Failing.{none_rose}
 
 -- the one arena is the whole layout
-pub one_region : (t : Table) → IsOneArena t → map (λ r. r.len) (layout_of (t ∷ [])) ≡ 1048576 ∷ []
+pub one_region : (t : Table) → IsOneArena t → map (λ r. r.region.len) (layout_of (t ∷ [])) ≡ 1048576 ∷ []
 one_region t is =
-    ap (λ (n : ℕ). map (λ (r : ArenaRegion). r.len) (map (arena_of 0 t) (range_with_len 0 n) ++ [])) is.count
+    ap (λ (n : ℕ). map (λ (r : ArenaRegion). r.region.len) (map (arena_of 0 t) (range_with_len 0 n) ++ [])) is.count
     ∙ ap (λ (n : ℕ). n ∷ []) is.arena_size
 
 -- no two partitions of one have one name
@@ -40,9 +40,9 @@ own_images disk own disks = record {
 }
 
 pub only_memory : {D : Type 0} (disk : DiskOf D) → ((device : D) → disk.faults device ≡ 0) → (bad : LogBad) (old new : List D)
-    → CountsFault bad (map disk.faults old) (map disk.faults new) → (bad ≡ bads.Fault) ⊎ (bad ≡ bads.NoMemory) → bad ≡ bads.NoMemory
+    → MatchBool (is_fault bad) (OneHasRisen (map disk.faults old) (map disk.faults new)) (map disk.faults new ≡ map disk.faults old) → (bad ≡ bads.Fault) ⊎ (bad ≡ bads.NoMemory) → bad ≡ bads.NoMemory
 only_memory disk never bad old new cause is =
-    ⊎_elim (λ fault. absurd (none_rose disk never old new (subst (λ (b : LogBad). CountsFault b (map disk.faults old) (map disk.faults new)) fault cause))) (λ none. none) is
+    ⊎_elim (λ fault. absurd (none_rose disk never old new (subst (λ (b : LogBad). MatchBool (is_fault b) (OneHasRisen (map disk.faults old) (map disk.faults new)) (map disk.faults new ≡ map disk.faults old)) fault cause))) (λ none. none) is
 
 -- a list that was written over by one as long is that one
 pub written_back : {X : Type 0} (xs ys : List X) (n : ℕ) → length xs ≡ length ys → n ≡ length ys → take n (xs ++ drop (length xs) ys) ≡ xs

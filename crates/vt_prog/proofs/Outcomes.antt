@@ -1,5 +1,5 @@
 -- The causes of a session's outcome.
-use Rattle.std.proofs.Common.{◌≡◌, Bool, true, false, cond, refl, Err, ℕ}
+use Rattle.std.proofs.Common.{◌≡◌, true, false, cond, refl, Err, ℕ}
 use Rattle.vt_session.specs.declared.Ended.{Ended}
 use Rattle.vt_session.specs.declared.Ended.TheVariants as ends
 use Rattle.vt_prog.specs.declared.commands.session.SessionEnd.{SessionEnd}

@@ -1,5 +1,5 @@
 -- A run whose line on the fault sink was tried.
-use Rattle.std.proofs.Common.{◌≡◌, ℕ, List, Option, Some, None, Ok, Err}
+use Rattle.std.proofs.Common.{◌≡◌, ℕ, List, Option, Some, None, Err}
 use Rattle.std.specs.Prelude.{MatchOption}
 use Rattle.vt_prog.specs.declared.command.Command.{Command}
 use Rattle.vt_prog.specs.declared.command.Command.TheVariants.{Session}

@@ -11,7 +11,7 @@ use Rattle.vt_base.specs.declared.why.Why.TheVariants.{BadType, TooSmall, Absent
 use Rattle.vt_base.specs.Protocol.{read, r_read}
 use Rattle.vt_model.specs.History.{History, Accepted, has_key, held}
 use Rattle.vt_model.specs.Answer.{Outcome, answer_to_read, lends, refuses, replies, with_added}
-use Rattle.vt_log.specs.Members.{DiskOf}
+use Rattle.vt_disk.specs.Members.{DiskOf}
 use Rattle.vt_log.specs.Log.{LogState}
 use Rattle.vt_session.specs.Answered.{ReachesParts}
 use Rattle.vt_prog.specs.Serving.{Serves, FailsFor, TellsFaults, MayNotRead}

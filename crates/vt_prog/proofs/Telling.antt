@@ -1,5 +1,5 @@
 -- What words tell of a run, and what its status does.
-use Rattle.std.proofs.Common.{◌≡◌, ◌≢◌, ◌⊎◌, ⊎_elim, inl, inr, ℕ, ◌&&◌, Bool, true, false, cond, List, [], ◌∷◌, refl, sym, ◌∙◌, ap, subst, Option, Some, None, Ok, Err}
+use Rattle.std.proofs.Common.{◌≡◌, ◌≢◌, ◌⊎◌, ⊎_elim, inl, inr, ℕ, ◌&&◌, true, false, cond, List, [], ◌∷◌, refl, sym, ◌∙◌, ap, subst, Option, Some, None, Ok, Err}
 use Rattle.std.specs.Prelude.{MatchOption, codes}
 use Rattle.std.specs.Str.{bytes_eq}
 use Rattle.std.proofs.lemmas.Slice.Eq.{bytes_eq-Decides}
@@ -11,7 +11,7 @@ use Rattle.vt_session.specs.declared.Ended.TheVariants as ends
 use Rattle.vt_prog.specs.declared.failure.Failure.TheVariants.{BadWords, Cut, Malformed, Spent, ReadFault, WriteFault, NoMemory}
 use Rattle.vt_prog.specs.Change.{Work}
 use Rattle.vt_prog.specs.Command.{command_of, command_of_two, session_words}
-use Rattle.vt_prog.specs.Commands.Session.{DoesSession, outcome_of, outcome_of_end}
+use Rattle.vt_prog.specs.Commands.Session.{DoesSession, outcome_of_end}
 use Rattle.vt_prog.specs.Failure.{Outcome, status_of, HasCauseIn}
 use Rattle.vt_prog.specs.Run.{Does, DoesWords, RefusesWords}
 

@@ -16,7 +16,7 @@ use Rattle.vt_prog.specs.declared.input.Reading.TheVariants.{End, Limit, Fault}
 use Rattle.vt_prog.specs.Reading.{EndsBy, is_fault}
 use Rattle.vt_prog.specs.Members.{StoreOf}
 use Rattle.vt_answer.specs.Sessions.{Says, AnswersInput, SinkCause, EndsByItself}
-use Rattle.vt_prog.specs.Commands.Session.{OnlyMemory, fails, AreUnsaid, IsSession, HasCauses, end_of_session}
+use Rattle.vt_prog.specs.Commands.Session.{OnlyMemory, fails, IsSession, HasCauses, end_of_session}
 use Rattle.vt_prog.specs.Store.{memory}
 use Rattle.vt_prog.proofs.InMemory.{only_memory, front_only, turns_alone}
 

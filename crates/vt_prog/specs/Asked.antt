@@ -1,7 +1,7 @@
 -- A store over one log, as a session asks it.
-use Rattle.std.specs.Prelude.{ℕ, ◌≡◌, ⊤, Bool, Option, Some, None, List, [], ◌∷◌, map}
+use Rattle.std.specs.Prelude.{ℕ, ◌≡◌, Bool, Option, Some, None, List, [], ◌∷◌, map}
 use Rattle.vt_base.specs.Protocol.{Operation, ping, read, write, sync, RMessage, r_sync}
-use Rattle.vt_log.specs.Members.{DiskOf}
+use Rattle.vt_disk.specs.Members.{DiskOf}
 use Rattle.vt_log.specs.Log.{queued}
 use Rattle.vt_log.specs.Answers.{OnlyReads}
 use Rattle.vt_session.specs.Turns.{Part, log}

@@ -6,7 +6,7 @@ use Rattle.vt_base.specs.declared.why.Site.TheVariants.{Clump}
 use Rattle.vt_base.specs.declared.why.Why.{Why}
 use Rattle.vt_base.specs.declared.why.Why.TheVariants.{DiskFault, Stopped, Damaged, NoMemory}
 use Rattle.vt_base.specs.Protocol.{Operation, RMessage, r_refused}
-use Rattle.vt_log.specs.Members.{DiskOf}
+use Rattle.vt_disk.specs.Members.{DiskOf}
 use Rattle.vt_model.specs.History.{History}
 use Rattle.vt_model.specs.Answer.{answer, with_added}
 use Rattle.vt_arena.specs.declared.bad.ReadBad.{ReadBad}

@@ -1,8 +1,8 @@
 -- A store over one log: what it keeps, and which history that stands for.
-use Rattle.std.specs.Prelude.{ℕ, ◌≡◌, ◌==◌, ◌&&◌, Bool, IsTrue, Option, None, Some, List, [], ◌∷◌, length, slice_get, find}
+use Rattle.std.specs.Prelude.{ℕ, ◌≡◌, ◌==◌, ◌&&◌, IsTrue, Option, None, Some, List, [], ◌∷◌, length, slice_get, find}
 use Rattle.std.specs.Str.{bytes_eq}
 use Rattle.vt_base.specs.declared.place.Entry.{Entry}
-use Rattle.vt_log.specs.Members.{DiskOf}
+use Rattle.vt_disk.specs.Members.{DiskOf}
 use Rattle.vt_model.specs.History.{History, Accepted}
 use Rattle.vt_model.specs.Places.{Setup, place_of}
 use Rattle.vt_model.specs.Legal.{IsLegal}

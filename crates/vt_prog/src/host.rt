@@ -59,7 +59,8 @@ impl<S: Source, K: Sink, F: Sink> Host for Streams<S, K, F> {
 
     type FaultSink = F;
 
-    ghost lent = { λ host. record { source = host.source; sink = host.sink; fault_sink = host.fault_sink } };
+    ghost lent = { λ host.
+        record { source = host.source; sink = host.sink; fault_sink = host.fault_sink } };
 
     ghost lending = { λ host lent.
         record { source = lent.source; sink = lent.sink; fault_sink = lent.fault_sink } };

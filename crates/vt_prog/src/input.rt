@@ -50,8 +50,8 @@ fn take_piece<S: Source>(
 ) -> Result<Piece, NoMemory>
     requires some { 0 < most }
     requires room { most ≤ length buffer.old }
-    ensures { Adds result most input.old.items input.new.items (S.left source.old) (S.left source.new)
-        (IsTrue S.tells) (S.faults source.old) (S.faults source.new) }
+    ensures { Adds result most input.old.items input.new.items (S.left source.old)
+        (S.left source.new) (IsTrue S.tells) (S.faults source.old) (S.faults source.new) }
 {
     match source.take(&mut buffer[..most]) {
         Err(_) => Ok(Piece::Fault),
@@ -65,11 +65,13 @@ fn take_piece<S: Source>(
 
 /// Reads a source to its end, or until 2^62 bytes came, or until a read fails.
 pub fn read_all<S: Source>(alloc: Global, source: &mut S) -> Result<(Vec<u8>, Reading), NoMemory>
-    ensures taken { IfOk result (λ it. IsTrue S.tells → S.left source.old ≡ it.0.items ++ S.left source.new) }
+    ensures taken { IfOk result (λ it. IsTrue S.tells
+        → S.left source.old ≡ it.0.items ++ S.left source.new) }
     ensures ended { IfOk result (λ it. EndsBy it.1 it.0.items (IsTrue S.tells) (S.left source.new)
         (S.faults source.old) (S.faults source.new)) }
     ensures lost { OnErr result (IsTrue S.tells →
-        (front : List ℕ) × (S.left source.old ≡ front ++ S.left source.new) × (length front ≤ spent_len)) }
+        (front : List ℕ) × (S.left source.old ≡ front ++ S.left source.new)
+        × (length front ≤ spent_len)) }
     ensures no_fault { OnErr result (S.faults source.new ≡ S.faults source.old) }
 {
     let mut input = Vec::new(alloc);

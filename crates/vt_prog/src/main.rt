@@ -1,6 +1,8 @@
 //! The program: a Venti server and its tools (venti(8)).
 #![tactic(auto)]
 
+ghost use Rattle.std.specs.Prelude.{◌≡◌, IfOk, map, drop, string_bytes};
+
 mod command;
 mod commands;
 mod complaint;
@@ -13,6 +15,7 @@ mod memory;
 mod run;
 mod store;
 
+use crate::run::end;
 pub use command::{Command, command_of};
 pub use commands::session::{SessionEnd, session};
 pub use failure::{Failure, status};
@@ -20,36 +23,43 @@ pub use host::{Host, Streams};
 pub use run::{run, run_with};
 use std::alloc::Global;
 use std::env;
-use std::io::{self, ErrorKind};
+use std::io::ErrorKind;
 use std::process::ExitCode;
 use std::rt::Env;
 use vt_base::{NoMemory, Text};
 use vt_host::{StdSink, StdSource};
 
 fn main(rt: HostRuntime) -> ExitCode {
-    let Ok(words) = words(&rt) else {
-        return ExitCode::from(8);
-    };
     let mut host = Streams {
         source: StdSource::new(rt.stdin()),
         sink: StdSink::new(rt.stdout()),
         fault_sink: StdSink::new(rt.stderr()),
     };
-    ExitCode::from(run(&rt, rt.alloc(), &words, &mut host))
+    ExitCode::from(match arguments(&rt) {
+        Ok(words) => run(&rt, rt.alloc(), &words, &mut host),
+        Err(NoMemory) => end(&mut host.fault_sink, Err(Failure::NoMemory)),
+    })
 }
 
-/// The words of the command line, without the program's name. There are none where one isn't UTF-8: no command has
-/// that form.
-fn words(rt: &(impl Env + AllocGlobal)) -> Result<Vec<Text>, NoMemory> {
-    let mut words = Vec::new(rt.alloc());
+/// The words of the command line. There are none where one isn't UTF-8: no command has that form.
+fn arguments(rt: &(impl Env + AllocGlobal)) -> Result<Vec<Text>, NoMemory> {
     match env::args(rt) {
-        Ok(all) => {
-            for word in all.skip(1) {
-                words.push(Text::from_vec(word.into_bytes()))?;
-            }
-            Ok(words)
-        }
+        Ok(args) => words_of(rt.alloc(), &args.collect::<Vec<String>>(rt.alloc())?),
         Err(error) if error.kind() == ErrorKind::OutOfMemory => Err(NoMemory),
-        Err(_) => Ok(words),
+        Err(_) => Ok(Vec::new(rt.alloc())),
     }
+}
+
+/// The words behind the program's name.
+fn words_of(alloc: Global, args: &[String]) -> Result<Vec<Text>, NoMemory>
+    ensures { IfOk result (λ words. words.items ≡ map string_bytes (drop 1 args.now)) }
+{
+    let mut words = Vec::new(alloc);
+    let [_, behind @ ..] = args else {
+        return Ok(words);
+    };
+    for word in behind {
+        words.push(Text::copy_of(alloc, word.as_bytes())?)?;
+    }
+    Ok(words)
 }

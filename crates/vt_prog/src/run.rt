@@ -2,8 +2,8 @@
 
 ghost use Rattle.sha1.specs.Sha1.{sha1};
 ghost use Rattle.std.specs.Prelude.{◌≡◌};
-ghost use Rattle.vt_prog.specs.Change.{work_of};
-ghost use Rattle.vt_prog.specs.Failure.{HasCauseIn};
+ghost use Rattle.vt_prog.specs.Change.{work_of, sink_change, Attempts};
+ghost use Rattle.vt_prog.specs.Failure.{HasCauseIn, status_of, line_of};
 ghost use Rattle.vt_prog.specs.Run.{Did, DoesWords};
 
 use crate::command::{Command, command_of};
@@ -13,6 +13,7 @@ use crate::failure::{Failure, status};
 use crate::host::Host;
 use std::alloc::Global;
 use vt_base::{Scorer, Sha1Scorer, Text};
+use vt_out::Sink;
 
 /// Does what the words of the command line say, and answers the exit status (venti(8)). A status
 /// other than 0 has its line on the fault sink, if that takes it.
@@ -38,7 +39,16 @@ pub fn run_with<R, H: Host, S: Scorer>(
         (work_of H.Source.Source H.Sink.Sink H.FaultSink.Sink (H.lent host.old) (H.lent host.new)) }
 {
     let outcome = do_words(alloc, words, host, scorer);
-    complain_of(host.fault_sink(), outcome);
+    end(host.fault_sink(), outcome)
+}
+
+/// Says why a command did not end well, if it didn't, and gives the exit status.
+pub fn end<F: Sink>(fault_sink: &mut F, outcome: Result<(), Failure>) -> u8
+    ensures complained { Attempts (sink_change F.Sink fault_sink.old fault_sink.new)
+        (line_of outcome) }
+    ensures status { result ≡ status_of outcome }
+{
+    complain_of(fault_sink, outcome);
     status(outcome)
 }
 

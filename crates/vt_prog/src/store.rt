@@ -35,6 +35,8 @@ mod tests;
 #[derive(Drop)]
 pub struct LogStore<D: Disk, L: Ledger, S: Scorer> {
     scorer: S,
+    /// The score of no bytes.
+    zero: Score,
     log: Log<D, S>,
     entries: Vec<Entry>,
     steps: Steps<L>,
@@ -46,6 +48,10 @@ impl<D: Disk, L: Ledger, S: Scorer> Model for LogStore<D, L, S> {
     ghost Value = { StoreState D };
 
     ghost view = { λ s. record { log = s.log; entries = s.entries.items } };
+
+    ghost use Rattle.std.specs.Prelude.{◌≡◌, []};
+
+    ghost invariant = { λ s. s.zero.0 ≡ S.score_of [] };
 }
 
 impl<D: Disk, L: Ledger, S: Scorer> LogStore<D, L, S> {
@@ -56,8 +62,10 @@ impl<D: Disk, L: Ledger, S: Scorer> LogStore<D, L, S> {
     pub fn new(alloc: Global, scorer: S, log: Log<D, S>, steps: Steps<L>) -> Self
         ensures { result ≡ record { log = log; entries = [] } }
     {
+        let zero = scorer.score(&[]);
         LogStore {
             scorer,
+            zero,
             log,
             entries: Vec::new(alloc),
             steps,
@@ -72,6 +80,7 @@ impl<D: Disk, L: Ledger, S: Scorer> LogStore<D, L, S> {
             (FailsFor D.Disk self.old.log self.new.log)
             h (write kind bytes.now) (λ score. r_write score.0) result }
         ensures cause { TellsFaults D.Disk self.old.log self.new.log result }
+        ensures scored { IfOk result (λ score. score.0 ≡ S.score_of bytes.now) }
 
         // Where a block of the same score isn't read, whatever the disks hold, it is told why.
         ensures unread { (entry : Entry) → self.old.log.stopped ≡ None
@@ -131,7 +140,7 @@ impl<D: Disk, L: Ledger, S: Scorer> LogStore<D, L, S> {
         ensures most { IfOk result (λ block. length block ≤ 57344) }
     {
         let kind = Kind::from_wire(kind).ok_or(Why::BadType)?;
-        if *score == self.scorer.score(&[]) {
+        if *score == self.zero {
             return Ok(Bytes::from_vec(Vec::new(alloc)));
         }
         let key = Key {
@@ -182,7 +191,7 @@ impl<D: Disk, L: Ledger, S: Scorer> LogStore<D, L, S> {
             self.old.log self.new.log }
         ensures entries { self.new.entries ≡ self.old.entries }
     {
-        if *score == self.scorer.score(&[]) {
+        if *score == self.zero {
             return Ok(true);
         }
         let Some(entry) = find_score(&self.entries, score) else {

@@ -18,9 +18,8 @@ use std::marker::Brand;
 use std::sync::ledger::{Blank, Ledger};
 use vt_answer::Answering;
 use vt_base::{NoMemory, Scorer};
-use vt_disk::Disk;
+use vt_disk::{BLOCK_LEN, Disk};
 use vt_memdisk::MemDisk;
-use vt_part::BLOCK_LEN;
 use vt_session::Ended;
 use vt_steps::Steps;
 
@@ -96,7 +95,7 @@ fn hold_session<L: Ledger, H: Host, S: Scorer>(
         ran_out: false,
         taken: 0,
     };
-    // Memory for the answers is taken first: what was read is answered, also where the reading fails.
+    // Memory for the answers is taken first: what was read is answered, also where reading fails.
     let Ok((mut store, mut answering)) = prepare::<L, S>(alloc, scorer, blank) else {
         return nothing;
     };

@@ -13,9 +13,10 @@ use std::process::Abort;
 use std::sync::ledger::{Blank, Ledger};
 use std::test::Fail;
 use vt_base::{Scorer, Sha1Scorer, Text, Why};
+use vt_disk::BLOCK_LEN;
 use vt_log::Log;
 use vt_memdisk::{Listed, MemDisk};
-use vt_part::{BLOCK_LEN, Part};
+use vt_part::Part;
 use vt_steps::Steps;
 
 type FailingStore<L> = LogStore<MemDisk<Listed>, L, Sha1Scorer>;

@@ -1,5 +1,4 @@
 -- the line is that of the branch that was taken
-use Rattle.std.proofs.Common.{ap, ◌∙◌, Err}
 use Rattle.vt_prog.proofs.complaint.complain_of.Goals as goal
 
 pub returns-in-BadWords : goal.returns-in-BadWords

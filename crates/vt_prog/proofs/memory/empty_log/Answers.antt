@@ -29,11 +29,11 @@ returns-in-Ok-mount g c =
     let empty = subst (λ (ts : List Table). IsLog g.S.Scorer.score_of (layout_of ts) (map g.D.Disk.bytes (disks_of c.format.new.parts)) [] 0) (sym tables)
     (c.in-Ok.ensures.empty g.S.Scorer.score_of _ told (own_images g.D.Disk (λ disk. g.met.D.Disk.read_is_image disk told) _)) in
     let there = subst (λ (ps : List (Part _)). IsLog g.S.Scorer.score_of (layout_of (tables_of ps)) (map g.D.Disk.bytes (disks_of ps)) [] 0) (sym back) empty in
-    let found = c.in-Ok-mount.ensures.found [] 0 told c.in-Ok-mount.ensures.distinct there in
+    let found = c.in-Ok-mount.ensures.found [] 0 told c.in-Ok-mount.ensures.answer.2.distinct there in
     let layout = c.in-Ok-mount.ensures.layout.0 ∙ ap (λ (ps : List (Part _)). layout_of (tables_of ps)) back ∙ ap layout_of (tables ∙ ap tables_of (old ∙ one)) in
     record {
       sound = found.0;
-      setup = ap (λ (rs : List ArenaRegion). record { arenas = map (λ r. r.len) rs; base = c.in-Ok-mount.log.base; sections = [] }) layout
+      setup = ap (λ (rs : List ArenaRegion). record { arenas = map (λ r. r.region.len) rs; base = c.in-Ok-mount.log.base; sections = [] }) layout
           ∙ ap (λ (lens : List ℕ). record { arenas = lens; base = c.in-Ok-mount.log.base; sections = [] }) (one_region (table_of part) c.in_ok-part.ensures.table)
           ∙ ap (λ (base : ℕ). record { arenas = 1048576 ∷ []; base = base; sections = [] }) found.1;
       runs = c.in-Ok-mount.ensures.mounted.stopped;

@@ -8,7 +8,7 @@ returns-clause-table g c =
     let told = c.requires.tells in
     let there = c.in-Ok.ensures.partition told _ (g.met.D.Disk.read_is_image _ told) in
     let is = c.in-Ok-mount.ensures.all_are_found _ told there in
-    let one = c.in-Ok.ensures.count ∙ ap (λ (n : ℕ). count_for n 1048576) c.requires.size in
+    let one = ap (λ (n : ℕ). count_for n 1048576) c.requires.size in
     record {
       arena_size = ap (λ (t : Table). t.arena_size) is;
       count = ap (λ (t : Table). t.count) is ∙ one;

@@ -12,11 +12,11 @@ returns g c =
     let done = g.H.Host.lent c.do_words-outcome.new.host in
     let sink = g.H.FaultSink.Sink in
     let is = c.fault_sink.ensures.fault_sink ∙ c.do_words-outcome.ensures.quiet in
-    let complained = subst (λ s. Attempts (sink_change sink s c.complain_of.new.sink)
-    (line_of c.do_words-outcome.result)) is c.complain_of.ensures in
+    let complained = subst (λ s. Attempts (sink_change sink s c.end.new.fault_sink)
+    (line_of c.do_words-outcome.result)) is c.end.ensures.complained in
     simp again (record {
       did = ran (work_of g.H.Source.Source g.H.Sink.Sink sink before done)
-          (sink_change sink before.fault_sink c.complain_of.new.sink) g.S.Scorer.score_of
-          c.args.words.now c.do_words-outcome.result c.status.result c.status.ensures
+          (sink_change sink before.fault_sink c.end.new.fault_sink) g.S.Scorer.score_of
+          c.args.words.now c.do_words-outcome.result c.end.result c.end.ensures.status
           c.do_words-outcome.ensures.cause c.do_words-outcome.ensures.does complained;
     })

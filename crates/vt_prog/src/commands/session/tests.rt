@@ -101,7 +101,8 @@ fn refused(alloc: Global, text: &str) -> Result<Vec<u8>, Fail> {
     frame(alloc, 1, &parameters)
 }
 
-/// What comes in behind the line and the hello, and what goes out behind the server's line and its welcome.
+/// What comes in behind the line and the hello, and what goes out behind the server's line and its
+/// welcome.
 #[test]
 fn replies(rt: HostRuntime) -> Result<(), Fail> {
     let alloc = rt.alloc();
@@ -389,7 +390,8 @@ fn large_sample(alloc: Global) -> Result<Vec<u8>, Fail> {
     joined(alloc, &[LINE, HELLO, &write, &read, &read, &read])
 }
 
-/// Output of several writes, from input in pieces. A write that fails leaves what was written before it, and a front.
+/// Output of several writes, from input in pieces. A write that fails leaves what was written before
+/// it, and a front.
 #[test]
 fn large_output(rt: HostRuntime) -> Result<(), Fail> {
     let alloc = rt.alloc();

@@ -14,7 +14,7 @@ use Rattle.vt_prog.proofs.store.LogStore.collides.Goals as goal
 pub returns-in_default-clause-tells : goal.returns-in_default-clause-tells
 returns-in_default-clause-tells g c h hold =
     let was = subst (λ (s : StoreState _). Holds g.S.Scorer.score_of g.D.Disk s h) (sym c.self.view_is) hold in
-    let nonzero = sym (c.if-eq.ensures ∙ ap (bytes_eq c.args.score.now.0) c.score.ensures) in
+    let nonzero = sym (c.if-eq.ensures ∙ ap (bytes_eq c.args.score.now.0) c.self.invariant) in
     sym (none_collides g.S.Scorer.score_of h c.self.inside.entries.items was.many was.entries c.args.score.now.0 c.args.bytes.now c.requires nonzero
     (rw c.deref.ensures.value at (sym c.in_default.ensures)))
 
@@ -31,7 +31,7 @@ pub returns-clause-tells : goal.returns-clause-tells
 returns-clause-tells g c h hold =
     let score = g.S.Scorer.score_of in
     let was = subst (λ (s : StoreState _). Holds score g.D.Disk s h) (sym c.self.view_is) hold in
-    let nonzero = sym (c.if-eq.ensures ∙ ap (bytes_eq c.args.score.now.0) c.score.ensures) in
+    let nonzero = sym (c.if-eq.ensures ∙ ap (bytes_eq c.args.score.now.0) c.self.invariant) in
     let it = score_there score h c.self.inside.entries.items was.many was.entries c.args.score.now.0 c.in-Some.entry.now (rw c.deref.ensures.value at (sym c.in-Some.ensures)) in
     let block = c.in_ok-block.ensures.loads h it.index it.element hold it.at (was.entries it.index it.element c.in-Some.entry.now it.at it.at_other) in
     let same : score it.element.block.bytes ≡ score c.args.bytes.now =
@@ -47,7 +47,7 @@ found_as score {o = o} same is = subst (λ (x : StoreState _). entry_of_score x.
 pub returns-then-eq-clause-unread : goal.returns-then-eq-clause-unread
 returns-then-eq-clause-unread g c entry nonzero found =
     let score = g.S.Scorer.score_of in
-    absurd (nonzero ((bytes_eq-Decides c.args.score.now.0 (score [])).0 (sym (c.if-eq.ensures ∙ ap (bytes_eq c.args.score.now.0) c.score.ensures))))
+    absurd (nonzero ((bytes_eq-Decides c.args.score.now.0 (score [])).0 (sym (c.if-eq.ensures ∙ ap (bytes_eq c.args.score.now.0) c.self.invariant))))
 
 pub returns-in_default-clause-unread : goal.returns-in_default-clause-unread
 returns-in_default-clause-unread g c entry nonzero found =

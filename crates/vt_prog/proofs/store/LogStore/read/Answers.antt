@@ -22,7 +22,7 @@ returns-in_default-clause-serves g c h hold =
     let was = subst (λ (s : StoreState _). Holds score g.D.Disk s h) (sym c.self.view_is) hold in
     let known : is_kind c.args.kind ≡ true = sym c.from_wire.ensures.variant ∙ sym c.in_ok-kind.ensures.variant in
     let same : c.in_ok-kind.kind ≡ c.args.kind = subst (λ o. IfSome o (λ kind. kind ≡ c.args.kind)) c.in_ok-kind.ensures.ok_part c.from_wire.ensures.found in
-    let nonzero = sym (c.if-eq.ensures ∙ ap (bytes_eq c.args.score.now.0) c.score.ensures) in
+    let nonzero = sym (c.if-eq.ensures ∙ ap (bytes_eq c.args.score.now.0) c.self.invariant) in
     let none = no_key score h c.self.inside.entries.items was.many was.entries c.args.score.now.0 c.in_ok-kind.kind (rw c.deref.ensures.value at (sym c.in_default.ensures)) in
     let its = absent score h c.args.score.now.0 c.args.kind c.args.count known nonzero (subst (λ (k : ℕ). find (has_key score c.args.score.now.0 k) h ≡ None) same none) in
     inl (
@@ -37,7 +37,7 @@ returns-then-from-count-clause-serves g c h hold =
     let was = subst (λ (s : StoreState _). Holds score g.D.Disk s h) (sym c.self.view_is) hold in
     let known : is_kind c.args.kind ≡ true = sym c.from_wire.ensures.variant ∙ sym c.in_ok-kind.ensures.variant in
     let same : c.in_ok-kind.kind ≡ c.args.kind = subst (λ o. IfSome o (λ kind. kind ≡ c.args.kind)) c.in_ok-kind.ensures.ok_part c.from_wire.ensures.found in
-    let nonzero = sym (c.if-eq.ensures ∙ ap (bytes_eq c.args.score.now.0) c.score.ensures) in
+    let nonzero = sym (c.if-eq.ensures ∙ ap (bytes_eq c.args.score.now.0) c.self.invariant) in
     let it = key_there score h c.self.inside.entries.items was.many was.entries c.args.score.now.0 c.in_ok-kind.kind c.in-Some.entry.now (rw c.deref.ensures.value at (sym c.in-Some.ensures)) in
     let is = was.entries it.index it.element c.in-Some.entry.now it.at it.at_other in
     let its = too_small score h c.args.score.now.0 c.args.kind c.args.count known nonzero it.element (subst (λ (k : ℕ). find (has_key score c.args.score.now.0 k) h ≡ Some it.element) same it.found) (omega (arith, c.if-from-count.true, c.from.ensures, is.size)) in
@@ -53,7 +53,7 @@ returns-clause-serves g c h hold =
     let was = subst (λ (s : StoreState _). Holds score g.D.Disk s h) (sym c.self.view_is) hold in
     let known : is_kind c.args.kind ≡ true = sym c.from_wire.ensures.variant ∙ sym c.in_ok-kind.ensures.variant in
     let same : c.in_ok-kind.kind ≡ c.args.kind = subst (λ o. IfSome o (λ kind. kind ≡ c.args.kind)) c.in_ok-kind.ensures.ok_part c.from_wire.ensures.found in
-    let nonzero = sym (c.if-eq.ensures ∙ ap (bytes_eq c.args.score.now.0) c.score.ensures) in
+    let nonzero = sym (c.if-eq.ensures ∙ ap (bytes_eq c.args.score.now.0) c.self.invariant) in
     let it = key_there score h c.self.inside.entries.items was.many was.entries c.args.score.now.0 c.in_ok-kind.kind c.in-Some.entry.now (rw c.deref.ensures.value at (sym c.in-Some.ensures)) in
     let is = was.entries it.index it.element c.in-Some.entry.now it.at it.at_other in
     serves score h c.args.score.now.0 c.args.kind c.args.count known nonzero g.D.Disk c.args.self.now.log c.load.new.self.log
@@ -75,7 +75,7 @@ returns-in_err-kind-clause-answer g c entry known nonzero found size =
 pub returns-then-eq-clause-answer : goal.returns-then-eq-clause-answer
 returns-then-eq-clause-answer g c entry known nonzero found size =
     let score = g.S.Scorer.score_of in
-    absurd (nonzero ((bytes_eq-Decides c.args.score.now.0 (score [])).0 (sym (c.if-eq.ensures ∙ ap (bytes_eq c.args.score.now.0) c.score.ensures))))
+    absurd (nonzero ((bytes_eq-Decides c.args.score.now.0 (score [])).0 (sym (c.if-eq.ensures ∙ ap (bytes_eq c.args.score.now.0) c.self.invariant))))
 
 pub returns-in_default-clause-answer : goal.returns-in_default-clause-answer
 returns-in_default-clause-answer g c entry known nonzero found size =
