@@ -15,8 +15,9 @@ use Rattle.vt_isect.specs.declared.phase.Phase.TheVariants.{ChangeHead}
 use Rattle.vt_isect.specs.Agreement.{IsEntryOf, IsOfBlock, HasBlock, IsInBucket, AgreesWith, IsCovered, NoOthers, KnownAgrees}
 use Rattle.vt_isect.specs.Layout.{InRange}
 use Rattle.vt_isect.specs.Merging.{Merges}
-use Rattle.vt_isect.specs.Section.{SectionState, HasBucket, IsChanging, IsOfGroup, IsTodo}
+use Rattle.vt_isect.specs.Section.{SectionState, HasBucket, IsChanging, IsOfGroup, IsTodo, entries_of}
 use Rattle.vt_isect.specs.Sound.{Known, LeavesSection}
+use Rattle.vt_isect.proofs.AreNext.{of_group}
 
 pub get_at : (h : History) (i : ℕ) (b : Accepted) → slice_get h i ≡ Some b → (d : Accepted) → get_or h i d ≡ b
 get_at [] i b is d = cc
@@ -55,7 +56,7 @@ module _ {D : Type 0} (score : List ℕ → List ℕ) (c : Setup) (h : History) 
   group_blocks : HasBucket t.phase → (n : ℕ) → n ≡ t.bucket → (entry : Entry) → IsOfGroup t entry
       → IsOfBlock score c h entry × (bucket_of (bucket_count c) entry.key.score.0 ≡ n)
   group_blocks phase n here entry of = (
-    agrees.todo entry (phase, of.0, omega (arith, of.1)),
+    agrees.todo entry (phase, of_group t.written t.begun (entries_of t) entry of.0),
     sym (ap (λ (k : ℕ). bucket_of k entry.key.score.0) agrees.total) ∙ of.1 ∙ sym here,
   )
 

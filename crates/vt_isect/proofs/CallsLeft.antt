@@ -1,96 +1,17 @@
 -- How many device calls are left.
-use Rattle.std.proofs.Common.{◌≡◌, ◌≢◌, ⊎_elim, ℕ, zero, suc, ◌+◌, ◌*◌, ◌<◌, ◌≤◌, Bool, true, false, cond, List, [], ◌∷◌, length, Option, Some, None, Result, Ok, Err, refl, sym, ◌∙◌, ap, subst, arith}
-use Rattle.std.specs.Prelude.{nat_lt, IfErr, OnOk}
-use Rattle.std.specs.List.{Contains, count_by}
+use Rattle.std.proofs.Common.{◌≡◌, ◌≢◌, ⊎_elim, ℕ, ◌+◌, ◌-◌, ◌*◌, ◌<◌, ◌≤◌, List, [], length, Option, Some, None, Result, Ok, Err, refl, ap, subst, arith}
+use Rattle.std.specs.Prelude.{IfErr, OnOk}
 use Rattle.std.specs.Option.{option_map_or}
-use Rattle.std.proofs.lemmas.Bool.Decides.{Decides-ltb}
-use Rattle.std.proofs.lemmas.List.Sums.{sum_by-cons, count_by-le-length}
-use Rattle.vt_base.specs.declared.place.Entry.{Entry}
-use Rattle.vt_model.specs.Places.{bucket_of}
 use Rattle.vt_twin.specs.Twin.{Change, TwinState, calls_made}
 use Rattle.vt_twin.specs.declared.step.Step.{Step}
 use Rattle.vt_twin.specs.declared.step.Step.TheVariants.{More, Done}
 use Rattle.vt_isect.specs.declared.bad.ShardErr.{ShardErr}
 use Rattle.vt_isect.specs.declared.bad.ShardErr.TheVariants.{Fault, Damaged, Stopped}
-use Rattle.vt_isect.specs.declared.head.Head.{Head}
 use Rattle.vt_isect.specs.declared.phase.Phase.{Phase}
 use Rattle.vt_isect.specs.declared.phase.Phase.TheVariants.{Rest, ReadSelector, ReadFrame, ChangeBucket, ChangeHead}
 use Rattle.vt_isect.specs.Entries.{EntriesState}
-use Rattle.vt_isect.specs.Section.{SectionState, HasFrames, IsLent, entries_of}
-use Rattle.vt_isect.specs.Writeback.{Advances, BeginsFrom, GoesOn, NextPhase, calls_left, later, most_calls}
-
--- ---- counting
-
-at_most : (s t : Bool) → (s ≡ true → t ≡ true) → cond s 1 0 ≤ cond t 1 0
-at_most false t up = omega arith
-at_most true true up = omega arith
-at_most true false up = absurd (let e = up refl in cc)
-
--- where each element of one kind is of another, there are no more
-no_more : (p q : Entry → Bool) (xs : List Entry) → ((x : Entry) → p x ≡ true → q x ≡ true)
-    → count_by p xs ≤ count_by q xs
-no_more p q [] all = omega arith
-no_more p q (y ∷ ys) all =
-    let a = sum_by-cons (λ (e : Entry). cond (p e) 1 0) y ys in
-    let b = sum_by-cons (λ (e : Entry). cond (q e) 1 0) y ys in
-    let rest = no_more p q ys all in
-    let one = at_most (p y) (q y) (all y) in
-    omega (arith, a, b, rest, one)
-
--- and fewer, where some one of the other isn't of it
-fewer : (p q : Entry → Bool) (xs : List Entry) → ((x : Entry) → p x ≡ true → q x ≡ true)
-    → (x : Entry) → Contains xs x → p x ≡ false → q x ≡ true → count_by p xs + 1 ≤ count_by q xs
-fewer p q [] all x has out into = absurd (omega (arith, has.1))
-fewer p q (y ∷ ys) all x (zero, within, is) out into =
-    let here : p y ≡ false = ap p is ∙ out in
-    let there : q y ≡ true = ap q is ∙ into in
-    let a = sum_by-cons (λ (e : Entry). cond (p e) 1 0) y ys in
-    let b = sum_by-cons (λ (e : Entry). cond (q e) 1 0) y ys in
-    let c : ◌≡◌ {A = ℕ} (cond (p y) 1 0) 0 = ap {B = ℕ} (λ (t : Bool). cond t 1 0) here in
-    let d : ◌≡◌ {A = ℕ} (cond (q y) 1 0) 1 = ap {B = ℕ} (λ (t : Bool). cond t 1 0) there in
-    let rest = no_more p q ys all in
-    omega (arith, a, b, c, d, rest)
-fewer p q (y ∷ ys) all x (suc k, within, is) out into =
-    let a = sum_by-cons (λ (e : Entry). cond (p e) 1 0) y ys in
-    let b = sum_by-cons (λ (e : Entry). cond (q e) 1 0) y ys in
-    let rest = fewer p q ys all x (k, omega (arith, within), is) out into in
-    let one = at_most (p y) (q y) (all y) in
-    omega (arith, a, b, rest, one)
-
-pub below : (a b : ℕ) → a < b → nat_lt a b ≡ true
-below a b lt = (Decides-ltb a b).1 lt
-
-pub not_below : (a b : ℕ) → b ≤ a → nat_lt a b ≡ false
-not_below a b le = by (nat_lt a b) (λ yes. let lt = (Decides-ltb a b).0 yes in omega (arith, lt, le))
-  where
-    by : (t : Bool) → ¬ (t ≡ true) → t ≡ false
-    by false never = refl
-    by true never = absurd (never refl)
-
--- ---- entries of buckets to come
-
-abbrev of_entry : ℕ → Entry → ℕ
-of_entry total entry = bucket_of total entry.key.score.0
-
--- behind a bucket of some entry there are fewer than behind an earlier one
-later_fewer : (total old new : ℕ) (xs : List Entry) (x : Entry) → Contains xs x
-    → of_entry total x ≡ new → old < new → later total new xs + 1 ≤ later total old xs
-later_fewer total old new xs x has is low =
-    fewer (λ e. nat_lt new (of_entry total e)) (λ e. nat_lt old (of_entry total e)) xs
-    (λ e yes. below old (of_entry total e)
-    (let lt = (Decides-ltb new (of_entry total e)).0 yes in omega (arith, lt, low)))
-    x has (not_below new (of_entry total x) (omega (arith, is)))
-    (below old (of_entry total x) (omega (arith, is, low)))
-
-later_of_some : (total new : ℕ) (xs : List Entry) (x : Entry) → Contains xs x
-    → of_entry total x ≡ new → later total new xs + 1 ≤ length xs
-later_of_some total new xs x has is =
-    let a = fewer (λ e. nat_lt new (of_entry total e)) (λ e. true) xs (λ e yes. refl)
-    x has (not_below new (of_entry total x) (omega (arith, is))) refl in
-    let b = count_by-le-length (λ (e : Entry). true) xs in
-    omega (arith, a, b)
-
--- ---- calls
+use Rattle.vt_isect.specs.Section.{SectionState, HasFrames, IsLent}
+use Rattle.vt_isect.specs.Writeback.{Advances, BeginsBehind, BeginsGroup, BeginsHead, GoesOn, NextPhase, SameGroup, calls_left, later, most_calls}
 
 -- what is left where this is done next
 left_as : {D : Type 0} (t : SectionState D) (q : Phase) → t.phase ≡ q → calls_left t ≡ most_calls q t
@@ -114,32 +35,29 @@ pub head_made : (p : Phase) (head bucket : TwinState) (a b : Option (List ℕ))
 head_made p head bucket a b frames is =
     lent_made head (subst (λ (q : Phase). HasFrames q head bucket a b) is frames).0
 
--- the same entries are left in the buckets behind it
-same_later : {D : Type 0} (old new : SectionState D) → GoesOn old new → new.bucket ≡ old.bucket
-    → later new.head.total new.bucket (entries_of new)
-    ≡ later old.head.total old.bucket (entries_of old)
+-- as many entries stand behind it
+same_later : {D : Type 0} (old new : SectionState D) → GoesOn old new → SameGroup old new
+    → later new ≡ later old
 same_later old new goes same =
-    λ i. later (goes.head_is i).total (same i) (option_map_or (λ entries. entries.items) (goes.section.entries i) [])
+    λ i. length (option_map_or (λ entries. entries.items) (goes.section.entries i) [])
+    - same.begun i
 
--- behind a bucket that is done there are fewer, or the head is left
+-- behind a group that is written there are fewer, or the head is left
 begins_lower : {D : Type 0} (old new : SectionState D) → GoesOn old new
-    → BeginsFrom (old.bucket + 1) new
-    → calls_left new + 2 ≤ 6 * later old.head.total old.bucket (entries_of old) + 6
-begins_lower old new goes begins = ⊎_elim
-    (λ here.
-    let total = ap (λ (h : Head). h.total) goes.head_is in
-    let list = ap (λ (o : Option EntriesState). option_map_or (λ entries. entries.items) o []) goes.section.entries in
-    let x = here.2.0 in
-    let has = subst (λ (l : List Entry). Contains l x) list here.2.1 in
-    let is = sym (ap (λ (n : ℕ). of_entry n x) total) ∙ here.2.2 in
-    let less = later_fewer old.head.total old.bucket new.bucket (entries_of old) x has is (omega (arith, here.1)) in
-    let same : later new.head.total new.bucket (entries_of new) ≡ later old.head.total new.bucket (entries_of old) =
-    λ i. later (total i) new.bucket (list i) in
+    → BeginsBehind old.begun new → calls_left new + 2 ≤ 6 * later old + 6
+begins_lower old new goes begins =
+    let list = ap (λ (o : Option EntriesState). length (option_map_or (λ entries. entries.items) o []))
+    goes.section.entries in
+    ⊎_elim
+    (λ (here : BeginsGroup old.begun new).
     let left = left_as new ReadSelector here.0 in
-    omega (arith, left, same, less))
-    (λ there.
+    let from = here.1 in
+    let some = here.2 in
+    let within = here.3.within in
+    omega (arith, left, list, from, some, within))
+    (λ (there : BeginsHead old.begun new).
     let left = left_as new ChangeHead there.0 in
-    let none = there.1 in
+    let none = there.4 in
     omega (arith, left, none))
     begins
 
@@ -189,20 +107,21 @@ advance_lower (Ok Done) old new step bucket head =
 advance_lower (Err bad) old new step bucket head = tt
 
 -- what begins
-pub begun_left : {D : Type 0} (t : SectionState D) (entries : EntriesState) → BeginsFrom 0 t
+pub begun_left : {D : Type 0} (t : SectionState D) (entries : EntriesState) → BeginsBehind 0 t
     → t.entries ≡ Some entries → calls_left t ≤ 6 * length entries.items + 4
 begun_left t entries begins is =
-    let list = ap (λ (o : Option EntriesState). option_map_or (λ entries. entries.items) o []) is in
+    let list = ap (λ (o : Option EntriesState). length (option_map_or (λ entries. entries.items) o []))
+    is in
     ⊎_elim
-    (λ here.
-    let x = here.2.0 in
-    let some = later_of_some t.head.total t.bucket (entries_of t) x here.2.1 here.2.2 in
+    (λ (here : BeginsGroup 0 t).
     let left = left_as t ReadSelector here.0 in
-    let len = ap (λ (l : List Entry). length l) list in
-    omega (arith, some, left, len))
-    (λ there.
+    let from = here.1 in
+    let some = here.2 in
+    let within = here.3.within in
+    omega (arith, left, list, from, some, within))
+    (λ (there : BeginsHead 0 t).
     let left = left_as t ChangeHead there.0 in
-    let none = there.1 in
+    let none = there.4 in
     omega (arith, left, none))
     begins
 

@@ -7,9 +7,12 @@ use Rattle.std.proofs.lemmas.Bool.Decides.{Decides-ltb}
 use Rattle.vt_base.specs.declared.place.Entry.{Entry}
 use Rattle.vt_bucket.specs.Frame.{IsFrame}
 use Rattle.vt_disk.specs.declared.region.Region.{Region}
-use Rattle.vt_disk.specs.Disk.{AreAmong, SameBut, ChangesAt, Only}
-use Rattle.vt_disk.specs.Region.{Inside, ChangesWithin}
-use Rattle.vt_disk.proofs.Bytes.{part_same, same_refl, same_then, same_wider}
+use Rattle.vt_disk.specs.Calls.{OnlyReads, WritesAt, MadeCalls}
+use Rattle.vt_disk.specs.Disk.{AreAmong, IsOneMore, SameBut, Only}
+use Rattle.vt_disk.specs.Members.{DiskOf}
+use Rattle.vt_disk.specs.Region.{Inside}
+use Rattle.vt_disk.proofs.Bytes.{part_same, same_refl}
+use Rattle.vt_disk.proofs.Calls.{reads_as_writes, writes_then, writes_wider}
 use Rattle.vt_model.specs.History.{History}
 use Rattle.vt_model.specs.Places.{Setup, bucket_of, bucket_count}
 use Rattle.vt_twin.specs.Frames.{HasRoom, frame_of, named_number, current_frame, selector_start, selector_len}
@@ -17,18 +20,24 @@ use Rattle.vt_twin.proofs.Places.{InFrame, frame_inside, selector_inside, frame_
 use Rattle.vt_isect.specs.declared.head.Head.{Head}
 use Rattle.vt_isect.specs.declared.phase.Phase.TheVariants.{Rest, ChangeBucket}
 use Rattle.vt_isect.specs.Agreement.{KnownAgrees, IsOfBlock}
-use Rattle.vt_isect.specs.Filling.{Fills, InBuckets, IsAmong, Reads, with_buckets}
+use Rattle.vt_isect.specs.Filling.{AreCleared, Fills, InBuckets, IsAmong, Reads, with_buckets}
 use Rattle.vt_isect.specs.Layout.{head_place, IsPlaceOf, InRange}
 use Rattle.vt_isect.specs.Section.{SectionState, IsChanging}
-use Rattle.vt_isect.specs.Sound.{Known, HoldsBucket, IsReadFrom, IsSoundSection, with_bucket, nothing_known}
+use Rattle.vt_isect.specs.Sound.{Known, DiskHolds, IsReadFrom, IsSoundSection, with_bucket, nothing_known}
 use Rattle.vt_isect.proofs.WithBucket.{settled_holds, with_here, with_there}
 use Rattle.vt_isect.proofs.Places.{one_place, head_apart, places_apart}
 use Rattle.vt_isect.proofs.IsSoundSection.{twin_reads_only}
 use Rattle.vt_isect.proofs.IsReadFrom.{reads_known}
-use Rattle.vt_isect.proofs.Follows.{images_wider}
 
 some_same : (a b : List Entry) → Some a ≡ Some b → a ≡ b
 some_same a b e = cc
+
+-- a read that gives this gives what is known
+abbrev pub ReadsAt : {D : Type 0} → SectionState D → Known → (read : List ℕ) → Type 0
+ReadsAt t known read = (n : ℕ) (entries : List Entry) → InRange t.head t.buckets n
+    → known n ≡ Some entries
+    → (region : Region) × IsPlaceOf (n - t.head.first) region
+    × IsFrame n entries (current_frame region 8192 read)
 
 -- ---- places
 
@@ -135,7 +144,7 @@ less_sound t known knows read images less sound = record {
 
 pub less_reads : {D : Type 0} (t : SectionState D) (known knows : Known) (read : List ℕ)
     → ((n : ℕ) (entries : List Entry) → knows n ≡ Some entries → known n ≡ Some entries)
-    → Reads t known read → Reads t knows read
+    → ReadsAt t known read → ReadsAt t knows read
 less_reads t known knows read less reads n entries within is = reads n entries within (less n entries is)
 
 -- ---- reads and syncs
@@ -168,7 +177,7 @@ synced_sound t d known read reads images after same among sound = record {
 
 -- what is known is read
 pub known_reads : {D : Type 0} (t : SectionState D) (known : Known) (read : List ℕ) (images : List ℕ → Type 0)
-    → t.phase ≢ ChangeBucket → images read → IsSoundSection t known read images → Reads t known read
+    → t.phase ≢ ChangeBucket → images read → IsSoundSection t known read images → ReadsAt t known read
 known_reads t known read images still is_image sound n entries within is =
     let it = sound.bucket n entries within is in (
       it.region,
@@ -182,7 +191,7 @@ known_reads t known read images still is_image sound n entries within is =
 
 -- behind a sync, what is read is known
 pub settled_sound : {D : Type 0} (t : SectionState D) (known knows : Known) (read : List ℕ) (images : List ℕ → Type 0)
-    → t.phase ≢ ChangeBucket → Only read images → IsSoundSection t known read images → Reads t knows read
+    → t.phase ≢ ChangeBucket → Only read images → IsSoundSection t known read images → ReadsAt t knows read
     → IsSoundSection t knows read images
 settled_sound t known knows read images still only sound reads = record {
   head_frame = sound.head_frame;
@@ -199,7 +208,7 @@ settled_sound t known knows read images still only sound reads = record {
 
 -- what is written at the head's place
 pub reads_beside : {D : Type 0} (t : SectionState D) (known : Known) (read reads : List ℕ)
-    → SameBut (Inside head_place) read reads → Reads t known read → Reads t known reads
+    → SameBut (Inside head_place) read reads → ReadsAt t known read → ReadsAt t known reads
 reads_beside t known read reads same were n entries within is =
     let it = were n entries within is in (
       it.0,
@@ -212,8 +221,8 @@ reads_beside t known read reads same were n entries within is =
 -- a bucket is written
 pub reads_filled : {D : Type 0} (t : SectionState D) (d : D) (n : ℕ) (region : Region) (entries : List Entry) (known : Known) (read reads : List ℕ)
     → InRange t.head t.buckets n → IsPlaceOf (n - t.head.first) region → SameBut (Inside region) read reads
-    → IsFrame n entries (current_frame region 8192 reads) → Reads t known read
-    → Reads (record t { disk = d }) (with_bucket n (Some entries) known) reads
+    → IsFrame n entries (current_frame region 8192 reads) → ReadsAt t known read
+    → ReadsAt (record t { disk = d }) (with_bucket n (Some entries) known) reads
 reads_filled t d n region entries known read reads in_it place same spelled were k list within is = ⊎_elim
     (λ (here : k ≡ n).
     let e : entries ≡ list = some_same entries list (sym (ap (with_bucket n (Some entries) known) here ∙ with_here known n (Some entries)) ∙ is) in (
@@ -318,100 +327,83 @@ fills_later n entries P j region place apart old mid new same it = record {
 }
 
 -- so many buckets of a section were cleared, in order, and nothing else was done
-pub record HasCleared {D : Type 0} (tells : Bool) (bytes : D → List ℕ) (images : D → List ℕ → Type 0) (size calls faults : D → ℕ)
-    (t u : SectionState D) (first count : ℕ) : Type 0 where
+pub record HasCleared {D : Type 0} (disk : DiskOf D) (t u : SectionState D) (first count : ℕ) : Type 0 where
   pub same : u ≡ record t { disk = u.disk }
-  pub written : IsTrue tells → (n : ℕ) (region : Region) → IsAmong first count n → IsPlaceOf (n - t.head.first) region
-      → Fills n [] region (bytes t.disk) (bytes u.disk)
-  pub read : (known : Known) → IsTrue tells → Reads t known (bytes t.disk) → Reads u (with_buckets first count (Some []) known) (bytes u.disk)
-  pub others : (known : Known) → IsTrue tells → IsSoundSection t known (bytes t.disk) (images t.disk)
-      → IsSoundSection u (with_buckets first count None known) (bytes u.disk) (images u.disk)
-  pub images_are : ChangesAt (InBuckets (first - t.head.first) count) (images t.disk) (images u.disk)
-  pub bytes_are : IsTrue tells → SameBut (InBuckets (first - t.head.first) count) (bytes t.disk) (bytes u.disk)
-  pub size_is : size u.disk ≡ size t.disk
-  pub calls_are : IsTrue tells → min (calls u.disk + 1) (2 ^ 64 - 1) ≡ min (calls t.disk + 2 * count + 1) (2 ^ 64 - 1)
-  pub most_calls : IsTrue tells → calls u.disk ≤ calls t.disk + 2 * count
-  pub faults_are : faults u.disk ≡ faults t.disk
+  pub written : IsTrue disk.tells → AreCleared disk first count t u
+  pub read : (known : Known) → IsTrue disk.tells → Reads disk t known → Reads disk u (with_buckets first count (Some []) known)
+  pub others : (known : Known) → IsTrue disk.tells → DiskHolds disk t known → DiskHolds disk u (with_buckets first count None known)
+  pub writes : WritesAt disk (InBuckets (first - t.head.first) count) (2 * count) t.disk u.disk
+  pub calls_are : IsTrue disk.tells → min (disk.calls u.disk + 1) (2 ^ 64 - 1) ≡ min (disk.calls t.disk + 2 * count + 1) (2 ^ 64 - 1)
+  pub faults_are : disk.faults u.disk ≡ disk.faults t.disk
 
-module _ {D : Type 0} (tells : Bool) (bytes : D → List ℕ) (images : D → List ℕ → Type 0) (size calls faults : D → ℕ) (t : SectionState D) (first : ℕ) where
-  pub cleared_none : HasCleared tells bytes images size calls faults t t first 0
+module _ {D : Type 0} (disk : DiskOf D) (t : SectionState D) (first : ℕ) where
+  pub cleared_none : HasCleared disk t t first 0
   cleared_none = record {
     same = refl;
     written = λ told n region it place. absurd (omega (arith, it.0, it.1));
-    read = λ known told reads. less_reads t known (with_buckets first 0 (Some []) known) (bytes t.disk)
+    read = λ known told reads. less_reads t known (with_buckets first 0 (Some []) known) (disk.bytes t.disk)
         (λ n entries is. sym (none_known first (Some []) known n) ∙ is) reads;
-    others = λ known told sound. less_sound t known (with_buckets first 0 None known) (bytes t.disk) (images t.disk)
+    others = λ known told sound. less_sound t known (with_buckets first 0 None known) (disk.bytes t.disk) (disk.images t.disk)
         (λ n entries is. sym (none_known first None known n) ∙ is) sound;
-    images_are = λ c left. (c, left, same_refl (InBuckets (first - t.head.first) 0) c);
-    bytes_are = λ told. same_refl (InBuckets (first - t.head.first) 0) (bytes t.disk);
-    size_is = refl;
+    writes = record {
+      bytes = λ told. same_refl (InBuckets (first - t.head.first) 0) (disk.bytes t.disk);
+      images = λ c left. (c, left, same_refl (InBuckets (first - t.head.first) 0) c);
+      size = refl;
+      calls = λ told. omega arith;
+    };
     calls_are = λ told. omega arith;
-    most_calls = λ told. omega arith;
     faults_are = refl;
   }
 
-  -- the same of what more buckets may leave
-  wider : (k m : ℕ) → k ≤ m → (i : ℕ) → InBuckets (first - t.head.first) k i → InBuckets (first - t.head.first) m i
-  wider k m le i it = (it.0, omega (arith, it.1, le))
+  -- what more buckets may change
+  pub more_buckets : (k m : ℕ) → k ≤ m → (i : ℕ) → InBuckets (first - t.head.first) k i → InBuckets (first - t.head.first) m i
+  more_buckets k m le i it = (it.0, omega (arith, it.1, le))
 
   next_wider : (k : ℕ) → t.head.first ≤ first → (i : ℕ) → InBuckets (first + k - t.head.first) 1 i → InBuckets (first - t.head.first) (k + 1) i
   next_wider k from i it = (omega (arith, it.0, from), omega (arith, it.1, from))
 
-  module _ (u v : SectionState D) (k : ℕ) (from : t.head.first ≤ first) (it : HasCleared tells bytes images size calls faults t u first k)
-      (step_bytes : IsTrue tells → SameBut (InBuckets (first + k - t.head.first) 1) (bytes u.disk) (bytes v.disk))
-      (step_images : ChangesAt (InBuckets (first + k - t.head.first) 1) (images u.disk) (images v.disk)) where
-    pub next_bytes : IsTrue tells → SameBut (InBuckets (first - t.head.first) (k + 1)) (bytes t.disk) (bytes v.disk)
-    next_bytes told = same_then (InBuckets (first - t.head.first) (k + 1)) (bytes t.disk) (bytes u.disk) (bytes v.disk)
-        (same_wider (InBuckets (first - t.head.first) k) (InBuckets (first - t.head.first) (k + 1)) (wider k (k + 1) (omega arith)) (bytes t.disk) (bytes u.disk) (it.bytes_are told))
-        (same_wider (InBuckets (first + k - t.head.first) 1) (InBuckets (first - t.head.first) (k + 1)) (next_wider k from) (bytes u.disk) (bytes v.disk) (step_bytes told))
+  module _ (u v : SectionState D) (k : ℕ) (from : t.head.first ≤ first) (it : HasCleared disk t u first k)
+      (step : WritesAt disk (InBuckets (first + k - t.head.first) 1) 2 u.disk v.disk) where
+    pub next_writes : WritesAt disk (InBuckets (first - t.head.first) (k + 1)) (2 * k + 2) t.disk v.disk
+    next_writes = writes_then disk (InBuckets (first - t.head.first) (k + 1)) (2 * k) 2 t.disk u.disk v.disk
+        (writes_wider disk (InBuckets (first - t.head.first) k) (InBuckets (first - t.head.first) (k + 1)) (more_buckets k (k + 1) (omega arith)) (2 * k) (2 * k) (omega arith) t.disk u.disk it.writes)
+        (writes_wider disk (InBuckets (first + k - t.head.first) 1) (InBuckets (first - t.head.first) (k + 1)) (next_wider k from) 2 2 (omega arith) u.disk v.disk step)
 
-    pub next_images : ChangesAt (InBuckets (first - t.head.first) (k + 1)) (images t.disk) (images v.disk)
-    next_images c left =
-        let back = images_wider (InBuckets (first + k - t.head.first) 1) (InBuckets (first - t.head.first) (k + 1)) (next_wider k from) (images u.disk) (images v.disk) step_images c left in
-        let was = images_wider (InBuckets (first - t.head.first) k) (InBuckets (first - t.head.first) (k + 1)) (wider k (k + 1) (omega arith)) (images t.disk) (images u.disk) it.images_are back.0 back.1 in
-        (was.0, was.1, same_then (InBuckets (first - t.head.first) (k + 1)) was.0 back.0 c was.2 back.2)
-
-    pub next_written : IsTrue tells → (n : ℕ) (region : Region) → IsAmong first k n → IsPlaceOf (n - t.head.first) region
-        → Fills n [] region (bytes t.disk) (bytes v.disk)
+    pub next_written : IsTrue disk.tells → AreCleared disk first k t v
     next_written told n region among place =
         fills_stay n [] (InBuckets (first + k - t.head.first) 1) (n - t.head.first) region place
-        (λ i changed here. omega (arith, changed.0, here.1, place.start, place.len, among.0, among.1, from)) (bytes t.disk) (bytes u.disk) (bytes v.disk)
-        (step_bytes told) (it.written told n region among place)
+        (λ i changed here. omega (arith, changed.0, here.1, place.start, place.len, among.0, among.1, from)) (disk.bytes t.disk) (disk.bytes u.disk) (disk.bytes v.disk)
+        (step.bytes told) (it.written told n region among place)
 
     -- where the next one is cleared, too
     module _ (step_same : v ≡ record u { disk = v.disk })
-        (step_written : IsTrue tells → (region : Region) → IsPlaceOf (first + k - t.head.first) region → Fills (first + k) [] region (bytes u.disk) (bytes v.disk))
-        (step_read : (known : Known) → IsTrue tells → Reads u known (bytes u.disk) → Reads v (with_bucket (first + k) (Some []) known) (bytes v.disk))
-        (step_others : (known : Known) → IsTrue tells → IsSoundSection u known (bytes u.disk) (images u.disk)
-        → IsSoundSection v (with_bucket (first + k) None known) (bytes v.disk) (images v.disk))
-        (step_size : size v.disk ≡ size u.disk) (step_calls : IsTrue tells → calls v.disk ≡ min (calls u.disk + 2) (2 ^ 64 - 1))
-        (step_faults : faults v.disk ≡ faults u.disk) where
-      here_written : IsTrue tells → (n : ℕ) (region : Region) → n ≡ first + k → IsPlaceOf (n - t.head.first) region → Fills n [] region (bytes t.disk) (bytes v.disk)
+        (step_written : IsTrue disk.tells → (region : Region) → IsPlaceOf (first + k - t.head.first) region → Fills (first + k) [] region (disk.bytes u.disk) (disk.bytes v.disk))
+        (step_read : (known : Known) → IsTrue disk.tells → Reads disk u known → Reads disk v (with_bucket (first + k) (Some []) known))
+        (step_others : (known : Known) → IsTrue disk.tells → DiskHolds disk u known → DiskHolds disk v (with_bucket (first + k) None known))
+        (step_calls : MadeCalls disk 2 u.disk v.disk) (step_faults : disk.faults v.disk ≡ disk.faults u.disk) where
+      here_written : IsTrue disk.tells → (n : ℕ) (region : Region) → n ≡ first + k → IsPlaceOf (n - t.head.first) region → Fills n [] region (disk.bytes t.disk) (disk.bytes v.disk)
       here_written told n region is place =
           let at : IsPlaceOf (first + k - t.head.first) region = subst (λ (m : ℕ). IsPlaceOf (m - t.head.first) region) is place in
-          subst (λ (m : ℕ). Fills m [] region (bytes t.disk) (bytes v.disk)) (sym is)
+          subst (λ (m : ℕ). Fills m [] region (disk.bytes t.disk) (disk.bytes v.disk)) (sym is)
           (fills_later (first + k) [] (InBuckets (first - t.head.first) k) (first + k - t.head.first) region at
-          (λ i changed own. omega (arith, changed.1, own.0, at.start, from)) (bytes t.disk) (bytes u.disk) (bytes v.disk)
-          (it.bytes_are told) (step_written told region at))
+          (λ i changed own. omega (arith, changed.1, own.0, at.start, from)) (disk.bytes t.disk) (disk.bytes u.disk) (disk.bytes v.disk)
+          (it.writes.bytes told) (step_written told region at))
 
-      pub cleared_more : HasCleared tells bytes images size calls faults t v first (k + 1)
+      pub cleared_more : HasCleared disk t v first (k + 1)
       cleared_more = record {
         same = step_same ∙ ap {A = SectionState D} {B = SectionState D} (λ x. record x { disk = v.disk }) it.same;
         written = λ told n region among place. ⊎_elim
             (λ (here : n ≡ first + k). here_written told n region here place)
             (λ (there : n ≢ first + k). next_written told n region (among.0, omega (arith, among.1, there)) place)
             (cases_eq n (first + k));
-        read = λ known told reads. less_reads v (with_bucket (first + k) (Some []) (with_buckets first k (Some []) known)) (with_buckets first (k + 1) (Some []) known) (bytes v.disk)
+        read = λ known told reads. less_reads v (with_bucket (first + k) (Some []) (with_buckets first k (Some []) known)) (with_buckets first (k + 1) (Some []) known) (disk.bytes v.disk)
             (λ n entries is. sym (next_known first k (Some []) known n) ∙ is)
             (step_read (with_buckets first k (Some []) known) told (it.read known told reads));
-        others = λ known told sound. less_sound v (with_bucket (first + k) None (with_buckets first k None known)) (with_buckets first (k + 1) None known) (bytes v.disk) (images v.disk)
+        others = λ known told sound. less_sound v (with_bucket (first + k) None (with_buckets first k None known)) (with_buckets first (k + 1) None known) (disk.bytes v.disk) (disk.images v.disk)
             (λ n entries is. sym (next_known first k None known n) ∙ is)
             (step_others (with_buckets first k None known) told (it.others known told sound));
-        images_are = next_images;
-        bytes_are = next_bytes;
-        size_is = step_size ∙ it.size_is;
+        writes = writes_wider disk (InBuckets (first - t.head.first) (k + 1)) (InBuckets (first - t.head.first) (k + 1)) (λ i here. here) (2 * k + 2) (2 * (k + 1)) (omega arith) t.disk v.disk next_writes;
         calls_are = λ told. let a = it.calls_are told in let b = step_calls told in omega (arith, a, b);
-        most_calls = λ told. let a = it.most_calls told in let b = step_calls told in omega (arith, a, b);
         faults_are = step_faults ∙ it.faults_are;
       }
 
@@ -419,13 +411,11 @@ module _ {D : Type 0} (tells : Bool) (bytes : D → List ℕ) (images : D → Li
   none_some entries e = cc
 
   -- where it fails, no more is known of any of them
-  pub stopped_others : (u v : SectionState D) (k count : ℕ) → k < count → HasCleared tells bytes images size calls faults t u first k
-      → ((known : Known) → IsTrue tells → IsSoundSection u known (bytes u.disk) (images u.disk)
-      → IsSoundSection v (with_bucket (first + k) None known) (bytes v.disk) (images v.disk))
-      → (known : Known) → IsTrue tells → IsSoundSection t known (bytes t.disk) (images t.disk)
-      → IsSoundSection v (with_buckets first count None known) (bytes v.disk) (images v.disk)
+  pub stopped_others : (u v : SectionState D) (k count : ℕ) → k < count → HasCleared disk t u first k
+      → ((known : Known) → IsTrue disk.tells → DiskHolds disk u known → DiskHolds disk v (with_bucket (first + k) None known))
+      → (known : Known) → IsTrue disk.tells → DiskHolds disk t known → DiskHolds disk v (with_buckets first count None known)
   stopped_others u v k count low it step known told sound =
-      less_sound v (with_bucket (first + k) None (with_buckets first k None known)) (with_buckets first count None known) (bytes v.disk) (images v.disk)
+      less_sound v (with_bucket (first + k) None (with_buckets first k None known)) (with_buckets first count None known) (disk.bytes v.disk) (disk.images v.disk)
       (λ n entries is.
       let apart : ¬ IsAmong first count n = λ among. none_some entries (sym (among_here first count None known n among) ∙ is) in
       with_there (with_buckets first k None known) (first + k) n None (λ e. apart (omega (arith, e), omega (arith, e, low)))
@@ -433,18 +423,37 @@ module _ {D : Type 0} (tells : Bool) (bytes : D → List ℕ) (images : D → Li
       ∙ sym (among_there first count None known n apart) ∙ is)
       (step (with_buckets first k None known) told (it.others known told sound))
 
+-- ---- the sync behind them
+
+-- the section that the sync is of is the one that was written
+pub sync_reads : {D : Type 0} (disk : DiskOf D) (s u : SectionState D) (d : D) → s ≡ u → disk.bytes d ≡ disk.bytes s.disk → AreAmong (disk.images d) (disk.images s.disk)
+    → disk.size d ≡ disk.size s.disk → (IsTrue disk.tells → IsOneMore (disk.calls s.disk) (disk.calls d)) → OnlyReads disk 1 u.disk d
+sync_reads disk s u d same bytes images size calls = subst (λ x. OnlyReads disk 1 x.disk d) same (record {
+  bytes = bytes;
+  images = images;
+  size = size;
+  calls = λ told. omega (arith, calls told);
+})
+
+pub synced_writes : {D : Type 0} (disk : DiskOf D) (t u : SectionState D) (d : D) (first count : ℕ)
+    → WritesAt disk (InBuckets (first - t.head.first) count) (2 * count) t.disk u.disk → OnlyReads disk 1 u.disk d
+    → WritesAt disk (InBuckets (first - t.head.first) count) (2 * count + 1) t.disk d
+synced_writes disk t u d first count writes reads =
+    writes_then disk (InBuckets (first - t.head.first) count) (2 * count) 1 t.disk u.disk d writes
+    (reads_as_writes disk (InBuckets (first - t.head.first) count) 1 u.disk d reads)
+
 -- buckets that were cleared, behind a sync
 module _ {D : Type 0} (t u : SectionState D) (d : D) (first count : ℕ) (read mid reads : List ℕ) (images between after : List ℕ → Type 0)
     (same : u ≡ record t { disk = u.disk }) (rest : t.phase ≡ Rest) (bytes_are : reads ≡ mid) (among : AreAmong after between) where
   still : u.phase ≢ ChangeBucket
   still way = let e : u.phase ≡ Rest = ap (λ x. x.phase) same ∙ rest in cc
 
-  pub synced_reads : (known : Known) → Reads u known mid → Reads (record u { disk = d }) known reads
+  pub synced_reads : (known : Known) → ReadsAt u known mid → ReadsAt (record u { disk = d }) known reads
   synced_reads known it = rw bytes_are it
 
   pub synced_cleared : Only reads after → (known : Known) → images read
       → (IsSoundSection t known read images → IsSoundSection u (with_buckets first count None known) mid between)
-      → (Reads t known read → Reads u (with_buckets first count (Some []) known) mid)
+      → (ReadsAt t known read → ReadsAt u (with_buckets first count (Some []) known) mid)
       → IsSoundSection t known read images → IsSoundSection (record u { disk = d }) (with_buckets first count (Some []) known) reads after
   synced_cleared only known is_image others cleared sound =
       settled_sound (record u { disk = d }) (with_buckets first count None known) (with_buckets first count (Some []) known) reads after still only
@@ -452,7 +461,7 @@ module _ {D : Type 0} (t u : SectionState D) (d : D) (first count : ℕ) (read m
       (synced_reads (with_buckets first count (Some []) known)
       (cleared (known_reads t known read images (λ e. let q = rest in cc) is_image sound)))
 
-  pub synced_empty : Only reads after → (Reads t nothing_known read → Reads u (with_buckets first count (Some []) nothing_known) mid)
+  pub synced_empty : Only reads after → (ReadsAt t nothing_known read → ReadsAt u (with_buckets first count (Some []) nothing_known) mid)
       → t.head.first ≤ first → first + count ≤ t.head.first + t.buckets
       → (c : List ℕ) (n : ℕ) (region : Region) → after c → IsAmong first count n → IsPlaceOf (n - t.head.first) region
       → IsFrame n [] (current_frame region 8192 c)

@@ -20,14 +20,23 @@ use Rattle.vt_isect.specs.Agreement.{IsCovered, NoOthers, KnownAgrees}
 use Rattle.vt_isect.specs.Layout.{head_place, InRange, IsPlaceOf}
 use Rattle.vt_isect.specs.Section.{SectionState, IsTodo}
 use Rattle.vt_isect.specs.Sound.{Known, IsSoundSection}
-use Rattle.vt_isect.specs.Writeback.{Completes, Keeps, MayWrite, NextPhase}
+use Rattle.vt_isect.specs.Writeback.{Completes, Follows, MayWrite, NextPhase}
+
+-- a step keeps what is known, by what a read gives and what a crash may leave before it and after it
+abbrev pub KeepsAt : {D : Type 0} → Result Step ShardErr → (t u : SectionState D)
+    → (read : List ℕ) → (images : List ℕ → Type 0)
+    → (reads : List ℕ) → (after : List ℕ → Type 0) → Type 0
+KeepsAt result t u read images reads after = (known : Known) → IsSoundSection t known read images
+    → (knows : Known) × Follows result t u known knows × IsSoundSection u knows reads after
+    × ((score : List ℕ → List ℕ) (c : Setup) (h : History)
+    → KnownAgrees score c h t known → KnownAgrees score c h u knows)
 
 -- a step that completes no bucket
 pub keeps_quiet : {D : Type 0} (result : Result Step ShardErr) (t u : SectionState D) (read reads : List ℕ) (images after : List ℕ → Type 0)
     → ((n : ℕ) → ¬ Completes result t n)
     → ((known : Known) → IsSoundSection t known read images → IsSoundSection u known reads after)
     → ((score : List ℕ → List ℕ) (c : Setup) (h : History) (known : Known) → KnownAgrees score c h t known → KnownAgrees score c h u known)
-    → Keeps result t u read images reads after
+    → KeepsAt result t u read images reads after
 keeps_quiet result t u read reads images after none sound agree known is = (
   known,
   record { kept = λ n first no. refl; merged = λ n entries first done. absurd (none n done) },

@@ -1,8 +1,9 @@
 -- Marks that are covered stay so.
-use Rattle.std.proofs.Common.{◌≡◌, ◌⊎◌, inl, inr, ⊎_elim, ℕ, ◌+◌, ◌<◌, ◌≤◌, List, Option, Some, None, Result, Ok, Err, refl, sym, ◌∙◌, ap, subst, arith}
+use Rattle.std.proofs.Common.{◌≡◌, ◌⊎◌, inl, inr, ⊎_elim, ℕ, ◌+◌, ◌<◌, ◌≤◌, List, [], drop, Option, Some, None, Result, Ok, Err, refl, sym, ◌∙◌, ap, subst, arith}
 use Rattle.std.specs.Prelude.{IsSome, OnOk}
 use Rattle.std.specs.List.{Contains}
-use Rattle.std.proofs.lemmas.Bool.{cases_lt, false≢true}
+use Rattle.std.specs.Option.{option_map_or}
+use Rattle.std.proofs.lemmas.Bool.{false≢true}
 use Rattle.vt_base.specs.declared.place.Entry.{Entry}
 use Rattle.vt_model.specs.History.{History, Accepted}
 use Rattle.vt_model.specs.Places.{Setup, bucket_of, bucket_count}
@@ -17,18 +18,20 @@ use Rattle.vt_isect.specs.Agreement.{IsEntryOf, HasBlock, IsInBucket, IsCovered,
 use Rattle.vt_isect.specs.Entries.{EntriesState}
 use Rattle.vt_isect.specs.Head.{encoded}
 use Rattle.vt_isect.specs.Layout.{InRange}
-use Rattle.vt_isect.specs.Section.{SectionState, HasBucket, IsOfGroup, IsTodo, entries_of, bucket_number}
+use Rattle.vt_isect.specs.Section.{SectionState, AreNext, HasBucket, IsOfGroup, IsTodo, entries_of, group_of, bucket_number}
 use Rattle.vt_isect.specs.Sound.{Known}
-use Rattle.vt_isect.specs.Writeback.{Advances, BeginsFrom, Completes, Follows, GoesOn, KeepsCovered, NextPhase}
+use Rattle.vt_isect.specs.Writeback.{Advances, BeginsBehind, BeginsGroup, BeginsHead, Completes, Follows, GoesOn, KeepsCovered, NextPhase, SameGroup}
 use Rattle.vt_isect.proofs.AgreesWith.{merged_has}
-use Rattle.vt_isect.proofs.BeginsFrom.{Begins}
+use Rattle.vt_isect.proofs.AreNext.{HasGroup, group_or_behind, none_behind}
+use Rattle.vt_isect.proofs.BeginsBehind.{Begins, no_entries}
 use Rattle.vt_isect.proofs.Follows.{covers_more}
 use Rattle.vt_isect.proofs.WithinCall.{Stands, stands, completes_or}
 
 -- ---- a step
 
 module _ {D : Type 0} (score : List ℕ → List ℕ) (c : Setup) (h : History) (t u : SectionState D)
-    (known knows : Known) (agrees : KnownAgrees score c h t known) where
+    (known knows : Known) (agrees : KnownAgrees score c h t known)
+    (group : HasGroup t) where
   some_same : (a b : List Entry) → Some a ≡ Some b → a ≡ b
   some_same a b e = cc
 
@@ -112,36 +115,36 @@ module _ {D : Type 0} (score : List ℕ → List ℕ) (c : Setup) (h : History) 
                 it.1
 
   -- the entries stay
-  has_still : GoesOn t u → (entry : Entry) → Contains (entries_of t) entry
-      → Contains (entries_of u) entry
-  has_still goes entry has =
-      subst (λ e. Contains (entries_of (record t { entries = e })) entry)
-      (sym goes.section.entries) has
+  listed : GoesOn t u → entries_of u ≡ entries_of t
+  listed goes = ap (λ (o : Option EntriesState). option_map_or (λ entries. entries.items) o [])
+      goes.section.entries
 
   -- what is still to be put is so after a step, or the step completes its bucket
-  still : GoesOn t u → HasBucket u.phase → u.bucket ≡ t.bucket → (entry : Entry) → IsTodo t entry
+  still : GoesOn t u → HasBucket u.phase → SameGroup t u → (entry : Entry) → IsTodo t entry
       → IsTodo u entry
   still goes has same entry way = (
     has,
-    has_still goes entry way.1,
-    let e : bucket_number u entry ≡ bucket_number t entry =
-        ap (λ (x : Head). bucket_of x.total entry.key.score.0) goes.head_is in
-        omega (arith, e, same, way.2),
+    subst (λ (k : ℕ). Contains (drop k (entries_of u)) entry) (sym same.written)
+        (subst (λ (l : List Entry). Contains (drop t.written l) entry) (sym (listed goes)) way.1),
   )
 
-  behind : GoesOn t u → BeginsFrom (t.bucket + 1) u → (entry : Entry) → IsTodo t entry
-      → (bucket_number t entry ≡ t.bucket) ⊎ IsTodo u entry
-  behind goes begins entry way = ⊎_elim
-      (λ (low : bucket_number t entry < t.bucket + 1). inl (omega (arith, low, way.2)))
-      (λ (up : t.bucket + 1 ≤ bucket_number t entry).
-      let e : bucket_number u entry ≡ bucket_number t entry =
-      ap (λ (x : Head). bucket_of x.total entry.key.score.0) goes.head_is in
-      let has = has_still goes entry way.1 in
+  behind_todo : AreNext t.head.total t.bucket t.written t.begun (entries_of t) → GoesOn t u → BeginsBehind t.begun u → (entry : Entry)
+      → IsTodo t entry → Contains (group_of t) entry ⊎ IsTodo u entry
+  behind_todo next goes begins entry way = ⊎_elim
+      (λ (of : Contains (group_of t) entry). inl of)
+      (λ (rest : Contains (drop t.begun (entries_of t)) entry).
+      let has : Contains (drop t.begun (entries_of u)) entry =
+      subst (λ (l : List Entry). Contains (drop t.begun l) entry) (sym (listed goes))
+      rest in
       ⊎_elim
-      (λ here. inr (subst HasBucket (sym here.0) tt, has, here.3 entry has (omega (arith, e, up))))
-      (λ there. absurd (let low = there.2 entry has in omega (arith, e, up, low)))
+      (λ (here : BeginsGroup t.begun u). inr (
+        subst HasBucket (sym here.0) tt,
+        subst (λ (k : ℕ). Contains (drop k (entries_of u)) entry) (sym here.1) has,
+      ))
+      (λ (there : BeginsHead t.begun u).
+      absurd (none_behind t.begun (entries_of u) (omega (arith, there.3)) entry has))
       begins)
-      (cases_lt (bucket_number t entry) (t.bucket + 1))
+      (group_or_behind t.written t.begun (entries_of t) next.order next.within entry way.1)
 
   split_more : (q : Phase) → t.phase ≡ q → GoesOn t u → NextPhase q t u → (n i : ℕ) (entry : Entry)
       → IsInBucket score c h n i → IsEntryOf score c h i entry → IsTodo t entry
@@ -154,10 +157,11 @@ module _ {D : Type 0} (score : List ℕ → List ℕ) (c : Setup) (h : History) 
   split_more ChangeBucket is goes next n i entry at of way = ⊎_elim
       (λ on. inr (still goes (subst HasBucket (sym on.1) tt) on.3 entry way))
       (λ last. ⊎_elim
-      (λ (own : bucket_number t entry ≡ t.bucket).
-      inl ((refl, is, last.0, sym (its_bucket n i entry of at) ∙ own), (way.1, own)))
+      (λ (has : Contains (group_of t) entry).
+      let here = (group (subst HasBucket (sym is) tt)).own entry has in
+      inl ((refl, is, last.0, sym (its_bucket n i entry of at) ∙ here), (has, here)))
       (λ (todo : IsTodo u entry). inr todo)
-      (behind goes last.1 entry way))
+      (behind_todo (group (subst HasBucket (sym is) tt)) goes last.1 entry way))
       next
   split_more ChangeHead is goes next n i entry at of way = absurd (subst HasBucket is way.0)
 
@@ -183,44 +187,34 @@ module _ {D : Type 0} (score : List ℕ → List ℕ) (c : Setup) (h : History) 
 
 pub file_covers : {D : Type 0} (score : List ℕ → List ℕ) (c : Setup) (h : History)
     (t : SectionState D) (mark : ℕ) (es : EntriesState) (v : SectionState D) (known : Known)
-    (covered : ℕ) → BeginsFrom 0 v → Begins t mark es v
+    (covered : ℕ) → BeginsBehind 0 v → Begins t mark es v
     → IsCovered score c h t known (Contains es.items) covered
     → IsCovered score c h v known (IsTodo v) covered
 file_covers score c h t mark es v known covered begins (inl e) cover =
-    let at = subst (λ x. BeginsFrom 0 x) e begins in
     let w = record t {
       next = record t.head { mark = mark };
       phase = ReadSelector;
       entries = Some es;
+      written = 0;
+      begun = v.begun;
       bucket = v.bucket;
     } in
     subst (λ x. IsCovered score c h x known (IsTodo x) covered) (sym e)
     (covers_more score c h t w known (Contains es.items) (IsTodo w) covered refl refl
-    (λ entry has. (
-      tt,
-      has,
-      ⊎_elim
-          (λ here. here.3 entry has (omega arith))
-          (λ there. absurd (let q = there.0 in cc))
-          at,
-    ))
-    cover)
+    (λ entry has. (tt, has)) cover)
 file_covers score c h t mark es v known covered begins (inr e) cover =
-    let at = subst (λ x. BeginsFrom 0 x) e begins in
     let next : Head = record t.head { mark = mark } in
     let w = record t {
       next = next;
       phase = ChangeHead;
       entries = Some es;
+      written = 0;
+      begun = 0;
       head_twin = with_change (encoded t.name next) t.head_twin;
     } in
     subst (λ x. IsCovered score c h x known (IsTodo x) covered) (sym e)
     (covers_more score c h t w known (Contains es.items) (IsTodo w) covered refl refl
-    (λ entry has. absurd (⊎_elim
-    (λ here. let q = here.0 in cc)
-    (λ there. let low = there.2 entry has in omega (arith, low))
-    at))
-    cover)
+    (λ entry has. absurd (no_entries t mark es v begins e entry has)) cover)
 
 -- ---- at rest
 

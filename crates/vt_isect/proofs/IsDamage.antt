@@ -17,15 +17,17 @@ use Rattle.vt_isect.specs.declared.bad.ShardErr.TheVariants.{Fault, Damaged, Sto
 use Rattle.vt_isect.specs.declared.phase.Phase.TheVariants.{ReadFrame}
 use Rattle.vt_isect.specs.Agreement.{IsOfBlock, KnownAgrees}
 use Rattle.vt_isect.specs.Layout.{IsPlaceOf, InRange}
-use Rattle.vt_isect.specs.Merging.{IsDamage, IsFaulty, IsOf, IsOverfull, Joined}
-use Rattle.vt_isect.specs.Section.{SectionState, HasBucket, entries_of}
+use Rattle.vt_isect.specs.Merging.{IsDamage, IsFaulty, IsOverfull, Joined}
+use Rattle.vt_isect.specs.Section.{SectionState, HasBucket, bucket_number, entries_of, group_of}
 use Rattle.vt_isect.specs.Sound.{Known, IsSoundSection}
+use Rattle.vt_isect.proofs.AreNext.{of_group}
 use Rattle.vt_isect.proofs.Crowd.{blocks_most}
 use Rattle.vt_isect.proofs.IsSoundSection.{begun_bound, none_made, rests_fresh}
 
 module _ {D : Type 0} (score : List ℕ → List ℕ) (c : Setup) (h : History) (t : SectionState D)
     (known : Known) (agrees : KnownAgrees score c h t known) (s : ℕ) (phase : t.phase ≡ ReadFrame s)
-    (within : InRange t.head t.buckets t.bucket) where
+    (within : InRange t.head t.buckets t.bucket)
+    (own : (entry : Entry) → Contains (group_of t) entry → bucket_number t entry ≡ t.bucket) where
   -- the frame that the selector names has what is known of the bucket
   frame_known : (entries : List Entry) (read : List ℕ) (images : List ℕ → Type 0)
       → images read → IsSoundSection t known read images → known t.bucket ≡ Some entries
@@ -53,24 +55,24 @@ module _ {D : Type 0} (score : List ℕ → List ℕ) (c : Setup) (h : History) 
 
   -- what the bucket has and gets are blocks of it
   joined_blocks : (entries : List Entry) → known t.bucket ≡ Some entries → (entry : Entry)
-      → Joined entries (IsOf t.head.total t.bucket (entries_of t)) entry
+      → Joined entries (Contains (group_of t)) entry
       → IsOfBlock score c h entry × (bucket_of (bucket_count c) entry.key.score.0 ≡ t.bucket)
   joined_blocks entries is entry joined = ⊎_elim
       (λ (has : Contains entries entry). agrees.blocks t.bucket entries entry within is has)
-      (λ (of : IsOf t.head.total t.bucket (entries_of t) entry). (
-        agrees.todo entry (subst HasBucket (sym phase) tt, of.0, omega (arith, of.1)),
-        ap (λ (k : ℕ). bucket_of k entry.key.score.0) (sym agrees.total) ∙ of.1,
+      (λ (of : Contains (group_of t) entry). (
+        agrees.todo entry (subst HasBucket (sym phase) tt, of_group t.written t.begun (entries_of t) entry of),
+        ap (λ (k : ℕ). bucket_of k entry.key.score.0) (sym agrees.total) ∙ own entry of,
       ))
       joined
 
   not_damaged : (frame : List ℕ) (bad : ShardErr) (entries : List Entry)
       → known t.bucket ≡ Some entries → IsFrame t.bucket entries frame
       → crowd score (bucket_count c) h t.bucket ≤ 263
-      → ¬ IsDamage t.head.total t.bucket (entries_of t) frame bad
+      → ¬ IsDamage t.bucket (group_of t) frame bad
   not_damaged frame bad entries is spelled room damage = ⊎_elim
       (λ (faulty : IsFaulty t.bucket frame bad).
       accepted faulty.0 t.bucket entries frame spelled faulty.1)
-      (λ (full : IsOverfull t.head.total t.bucket (entries_of t) frame bad).
+      (λ (full : IsOverfull t.bucket (group_of t) frame bad).
       let same : full.0 ≡ entries =
       (one_frame t.bucket t.bucket full.0 entries frame full.1 spelled).1 in
       let keys = full.3 in
@@ -83,7 +85,7 @@ module _ {D : Type 0} (score : List ℕ → List ℕ) (c : Setup) (h : History) 
   pub no_damage : (read : List ℕ) (images : List ℕ → Type 0) → images read
       → IsSoundSection t known read images
       → ((n : ℕ) → crowd score (bucket_count c) h n ≤ 263) → (bad : ShardErr)
-      → (bad ≢ Fault → (frame : List ℕ) × IsDamage t.head.total t.bucket (entries_of t) frame bad
+      → (bad ≢ Fault → (frame : List ℕ) × IsDamage t.bucket (group_of t) frame bad
       × ((region : Region) → IsPlaceOf (t.bucket - t.head.first) region
       → frame ≡ frame_of region 8192 (s % 2) read))
       → (bad ≡ Fault) ⊎ ((n : ℕ) × (bad ≡ Stopped n))

@@ -10,7 +10,7 @@ use Rattle.vt_twin.specs.Twin.{Change, TwinState, fresh, with_change, without_sp
 use Rattle.vt_twin.specs.Sound.{IsSound}
 use Rattle.vt_twin.specs.declared.step.TwinErr.{TwinErr}
 use Rattle.vt_twin.specs.declared.step.TwinErr.TheVariants.{Fault, Stopped}
-use Rattle.vt_twin.proofs.Elsewhere.{sound_elsewhere}
+use Rattle.vt_twin.proofs.Sound.{sound_elsewhere}
 use Rattle.vt_isect.specs.declared.head.Head.{Head}
 use Rattle.vt_isect.specs.declared.phase.Phase.{Phase}
 use Rattle.vt_isect.specs.declared.phase.Phase.TheVariants.{ReadFrame, ChangeBucket, ChangeHead}
@@ -117,14 +117,14 @@ bucket_passes t u n entries read reads images after still stays first pass it = 
 }
 
 -- a section that changes no bucket and not its head, before or after a call that writes nothing
-pub section_moves : {D : Type 0} (t : SectionState D) (d : D) (next : Head) (phase : Phase) (entries : Option EntriesState) (bucket calls : ℕ) (twin : TwinState) (stopped : Option ℕ)
+pub section_moves : {D : Type 0} (t : SectionState D) (d : D) (next : Head) (phase : Phase) (entries : Option EntriesState) (written begun bucket calls : ℕ) (twin : TwinState) (stopped : Option ℕ)
     (known : Known) (read reads : List ℕ) (images after : List ℕ → Type 0)
     → t.phase ≢ ChangeBucket → t.phase ≢ ChangeHead → phase ≢ ChangeBucket → phase ≢ ChangeHead
     → reads ≡ read → AreAmong after images
     → ((s : ℕ) (region : Region) → phase ≡ ReadFrame s → IsPlaceOf (bucket - t.head.first) region → named_number region 8192 reads ≡ s % 2)
     → IsSoundSection t known read images
-    → IsSoundSection (record t { disk = d; next = next; phase = phase; entries = entries; bucket = bucket; bucket_twin = twin; calls = calls; stopped = stopped }) known reads after
-section_moves t d next phase entries bucket calls twin stopped known read reads images after no_bucket no_head not_bucket not_head same among selector sound = record {
+    → IsSoundSection (record t { disk = d; next = next; phase = phase; entries = entries; written = written; begun = begun; bucket = bucket; bucket_twin = twin; calls = calls; stopped = stopped }) known reads after
+section_moves t d next phase entries written begun bucket calls twin stopped known read reads images after no_bucket no_head not_bucket not_head same among selector sound = record {
   head_frame = sound.head_frame;
   head_len = sound.head_len;
   head_twin = reads_pass head_place read reads images after same among t.head_twin sound.head_frame sound.head_len sound.head_twin;
@@ -133,18 +133,18 @@ section_moves t d next phase entries bucket calls twin stopped known read reads 
   head_changing = λ way. absurd (not_head way);
   selector = selector;
   bucket = λ n known_entries within is.
-      bucket_passes t (record t { disk = d; next = next; phase = phase; entries = entries; bucket = bucket; bucket_twin = twin; calls = calls; stopped = stopped })
+      bucket_passes t (record t { disk = d; next = next; phase = phase; entries = entries; written = written; begun = begun; bucket = bucket; bucket_twin = twin; calls = calls; stopped = stopped })
       n known_entries read reads images after
       (λ way. no_bucket way.0) (λ way. not_bucket way.0) refl (λ region place. reads_pass region read reads images after same among)
       (sound.bucket n known_entries within is);
 }
 
 -- the change to a next head begins
-pub head_begins : {D : Type 0} (t : SectionState D) (next : Head) (entries : Option EntriesState) (frame : List ℕ) (known : Known) (read : List ℕ) (images : List ℕ → Type 0)
+pub head_begins : {D : Type 0} (t : SectionState D) (next : Head) (entries : Option EntriesState) (written begun : ℕ) (frame : List ℕ) (known : Known) (read : List ℕ) (images : List ℕ → Type 0)
     → t.phase ≢ ChangeBucket → t.phase ≢ ChangeHead → IsHeadFrame t.name next frame
     → IsSoundSection t known read images
-    → IsSoundSection (record t { next = next; phase = ChangeHead; entries = entries; head_twin = with_change frame t.head_twin }) known read images
-head_begins t next entries frame known read images no_bucket no_head spelled sound =
+    → IsSoundSection (record t { next = next; phase = ChangeHead; entries = entries; written = written; begun = begun; head_twin = with_change frame t.head_twin }) known read images
+head_begins t next entries written begun frame known read images no_bucket no_head spelled sound =
     let none = sound.head_rest no_head in
     record {
       head_frame = sound.head_frame;
@@ -155,7 +155,7 @@ head_begins t next entries frame known read images no_bucket no_head spelled sou
       head_changing = λ way. spelled;
       selector = λ s region way. absurd (not_both s way);
       bucket = λ n known_entries within is.
-          bucket_passes t (record t { next = next; phase = ChangeHead; entries = entries; head_twin = with_change frame t.head_twin })
+          bucket_passes t (record t { next = next; phase = ChangeHead; entries = entries; written = written; begun = begun; head_twin = with_change frame t.head_twin })
           n known_entries read read images images
           (λ way. no_bucket way.0) (λ way. other way.0) refl (λ region place u old len it. it)
           (sound.bucket n known_entries within is);

@@ -1,5 +1,5 @@
 -- The changes of a bucket and of the head, step by step.
-use Rattle.std.proofs.Common.{◌≡◌, ◌≢◌, ◌⊎◌, inl, inr, ⊎_elim, ℕ, ◌+◌, ◌-◌, ◌*◌, ◌%◌, ◌<◌, ◌≤◌, Bool, true, false, List, length, Option, Some, None, Ok, refl, sym, ◌∙◌, ap, subst, arith, cond, eqb}
+use Rattle.std.proofs.Common.{◌≡◌, ◌≢◌, ◌⊎◌, inl, inr, ⊎_elim, ℕ, ◌+◌, ◌-◌, ◌*◌, ◌%◌, ◌<◌, ◌≤◌, Bool, true, false, List, length, drop, Option, Some, None, Ok, refl, sym, ◌∙◌, ap, subst, arith, cond, eqb}
 use Rattle.std.specs.Prelude.{IsSome}
 use Rattle.std.specs.List.{Contains}
 use Rattle.std.proofs.lemmas.Bool.{cases_eq, cases_lt, cases_Bool, false≢true}
@@ -22,14 +22,15 @@ use Rattle.vt_isect.specs.Agreement.{IsEntryOf, HasBlock, IsInBucket, IsCovered,
 use Rattle.vt_isect.specs.Head.{IsHeadFrame, encoded, IsHead}
 use Rattle.vt_isect.proofs.Heads.{frame_has}
 use Rattle.vt_isect.specs.Layout.{head_place, IsPlaceOf, InRange}
-use Rattle.vt_isect.specs.Merging.{Merges, IsOf}
-use Rattle.vt_isect.specs.Section.{SectionState, HasBucket, IsChanging, IsOfGroup, IsTodo, entries_of, bucket_number}
+use Rattle.vt_isect.specs.Merging.{Merges}
+use Rattle.vt_isect.specs.Section.{SectionState, AreNext, HasBucket, IsChanging, IsOfGroup, IsTodo, entries_of, group_of, bucket_number}
 use Rattle.vt_isect.specs.Sound.{Known, HoldsBucket, IsSoundSection, with_bucket, nothing_known}
 use Rattle.vt_isect.proofs.AgreesWith.{merged_blocks, merged_has}
 use Rattle.vt_isect.proofs.IsSoundSection.{section_moves, head_begins, Passes, reads_pass, others_pass, bucket_passes, twin_reads_only, rests_fresh, begins_sound, begun_bound, none_made}
 use Rattle.vt_isect.proofs.Places.{one_place, head_room, place_room, head_apart, apart_from_head, places_apart}
-use Rattle.vt_isect.specs.Writeback.{BeginsFrom, Follows, GoesOn, Keeps, NextPhase}
-use Rattle.vt_isect.proofs.Follows.{next_of}
+use Rattle.vt_isect.specs.Writeback.{BeginsBehind, Follows, GoesOn, NextPhase}
+use Rattle.vt_isect.proofs.AreNext.{behind, group_or_behind, none_behind}
+use Rattle.vt_isect.proofs.Follows.{KeepsAt, next_of}
 
 -- ---- a bucket
 
@@ -43,13 +44,19 @@ gone t d w calls stopped = record t { disk = d; bucket_twin = w; calls = calls; 
 abbrev ended : {D : Type 0} → SectionState D → D → TwinState → (calls : ℕ) → SectionState D
 ended t d w calls = record t { disk = d; phase = Rest; bucket_twin = w; calls = calls }
 
-abbrev next_state : {D : Type 0} → SectionState D → D → Phase → (bucket : ℕ) → (head_twin bucket_twin : TwinState) → (calls : ℕ) → SectionState D
-next_state t d p b hw w calls = record t { disk = d; phase = p; bucket = b; head_twin = hw; bucket_twin = w; calls = calls }
+abbrev next_state : {D : Type 0} → SectionState D → D → Phase → (written begun bucket : ℕ) → (head_twin bucket_twin : TwinState) → (calls : ℕ) → SectionState D
+next_state t d p n g b hw w calls = record t { disk = d; phase = p; written = n; begun = g; bucket = b; head_twin = hw; bucket_twin = w; calls = calls }
+
+-- what is under way behind the last call of a bucket's change: the next group, or the head
+abbrev pub GoesTo : {D : Type 0} → SectionState D → D → TwinState → (calls from : ℕ) → SectionState D → Type 0
+GoesTo t d w calls from v =
+    (v ≡ record (ended t d w calls) { phase = ReadSelector; written = from; begun = v.begun; bucket = v.bucket })
+    ⊎ (v ≡ record (ended t d w calls) { phase = ChangeHead; written = from; begun = from; head_twin = with_change (encoded t.name t.next) t.head_twin })
 
 -- its change begins, from its current frame
 pub bucket_begins : {D : Type 0} (t : SectionState D) (d : D) (calls s : ℕ) (frame : List ℕ) (region : Region) (known : Known) (read reads : List ℕ) (images after : List ℕ → Type 0)
     → t.phase ≡ ReadFrame s → reads ≡ read → AreAmong after images → images read → IsPlaceOf (t.bucket - t.head.first) region
-    → (x : List Entry) × (y : List Entry) × IsFrame t.bucket x (frame_of region 8192 (s % 2) read) × IsFrame t.bucket y frame × Merges x (IsOf t.head.total t.bucket (entries_of t)) y
+    → (x : List Entry) × (y : List Entry) × IsFrame t.bucket x (frame_of region 8192 (s % 2) read) × IsFrame t.bucket y frame × Merges x (IsOfGroup t) y
     → IsSoundSection t known read images
     → IsSoundSection (record t { disk = d; phase = ChangeBucket; bucket_twin = with_change frame (fresh 8192 (s % 2)); calls = calls }) known reads after
 bucket_begins t d calls s frame region known read reads images after phase same among is_image place merged sound = record {
@@ -99,7 +106,7 @@ bucket_begins t d calls s frame region known read reads images after phase same 
             refl,
             merged.1,
             subst (λ (k : ℕ). IsFrame k merged.1 frame) (sym here) merged.3,
-            subst (λ (l : List Entry). Merges l (IsOf t.head.total t.bucket (entries_of t)) merged.1) same_entries merged.4,
+            subst (λ (l : List Entry). Merges l (IsOfGroup t) merged.1) same_entries merged.4,
           );
         }
 
@@ -216,13 +223,13 @@ module _ {D : Type 0} (t : SectionState D) (region : Region) (size : ℕ) (read 
       (cases_Bool (eqb n t.bucket))
 
   -- and what is known goes on to agree
-  agrees_done : (d : D) (w hw : TwinState) (p : Phase) (b calls : ℕ) (score : List ℕ → List ℕ) (c : Setup) (h : History) (known : Known) (old new : List Entry)
+  agrees_done : (d : D) (w hw : TwinState) (p : Phase) (from g b calls : ℕ) (score : List ℕ → List ℕ) (c : Setup) (h : History) (known : Known) (old new : List Entry)
       → known t.bucket ≡ Some old → Merges old (IsOfGroup t) new
-      → ((entry : Entry) → IsTodo (next_state t d p b hw w calls) entry → IsTodo t entry)
-      → ((entry : Entry) → IsTodo t entry → (bucket_number t entry ≡ t.bucket) ⊎ IsTodo (next_state t d p b hw w calls) entry)
+      → ((entry : Entry) → IsTodo (next_state t d p from g b hw w calls) entry → IsTodo t entry)
+      → ((entry : Entry) → IsTodo t entry → IsOfGroup t entry ⊎ IsTodo (next_state t d p from g b hw w calls) entry)
       → KnownAgrees score c h t known
-      → KnownAgrees score c h (next_state t d p b hw w calls) (with_bucket t.bucket (Some new) known)
-  agrees_done d w hw p b calls score c h known old new is merges back forth agrees = record {
+      → KnownAgrees score c h (next_state t d p from g b hw w calls) (with_bucket t.bucket (Some new) known)
+  agrees_done d w hw p from g b calls score c h known old new is merges back forth agrees = record {
     keys = agrees.keys;
     total = agrees.total;
     same_first = agrees.same_first;
@@ -238,8 +245,7 @@ module _ {D : Type 0} (t : SectionState D) (region : Region) (size : ℕ) (read 
         (cases_eq n t.bucket);
     todo = λ entry way. agrees.todo entry (back entry way);
     filed = λ live. covered NoOthers NoOthers t.head.mark (λ n i entry at of no. absurd no) (agrees.filed live);
-    coming = λ live. covered (IsTodo t) (IsTodo (next_state t d p b hw w calls)) t.next.mark (λ n i entry at of way. ⊎_elim
-        (λ (same_b : bucket_number t entry ≡ t.bucket). inl (way.1, same_b)) (λ (still : IsTodo (next_state t d p b hw w calls) entry). inr still) (forth entry way)) (agrees.coming live);
+    coming = λ live. covered (IsTodo t) (IsTodo (next_state t d p from g b hw w calls)) t.next.mark (λ n i entry at of way. forth entry way) (agrees.coming live);
   }
     where
       has_bucket : HasBucket t.phase
@@ -263,7 +269,7 @@ module _ {D : Type 0} (t : SectionState D) (region : Region) (size : ℕ) (read 
       covered : (others more : Entry → Type 0) (mark : ℕ)
           → ((n i : ℕ) (entry : Entry) → IsInBucket score c h n i → IsEntryOf score c h i entry → others entry → IsOfGroup t entry ⊎ more entry)
           → IsCovered score c h t known others mark
-          → IsCovered score c h (next_state t d p b hw w calls) (with_bucket t.bucket (Some new) known) more mark
+          → IsCovered score c h (next_state t d p from g b hw w calls) (with_bucket t.bucket (Some new) known) more mark
       covered others more mark split cover = record {
         fits = cover.fits;
         has = λ n i entries within holds below at. ⊎_elim
@@ -289,18 +295,18 @@ module _ {D : Type 0} (t : SectionState D) (region : Region) (size : ℕ) (read 
       }
 
   -- the step that completes a bucket
-  pub keeps_done : (d : D) (w hw : TwinState) (p : Phase) (b calls : ℕ) → w.frame_len ≡ 8192 → w.change ≡ None
+  pub keeps_done : (d : D) (w hw : TwinState) (p : Phase) (from g b calls : ℕ) → w.frame_len ≡ 8192 → w.change ≡ None
       → ((f : List ℕ) → IsSound t.bucket_twin region f read images → IsSound w region (next_frame t.bucket_twin) reads after)
       → calls_made t.bucket_twin ≡ 3
-      → ((known : Known) → IsSoundSection (ended t d w calls) known reads after → IsSoundSection (next_state t d p b hw w calls) known reads after)
-      → ((entry : Entry) → IsTodo (next_state t d p b hw w calls) entry → IsTodo t entry)
-      → ((entry : Entry) → IsTodo t entry → (bucket_number t entry ≡ t.bucket) ⊎ IsTodo (next_state t d p b hw w calls) entry)
-      → Keeps (Ok More) t (next_state t d p b hw w calls) read images reads after
-  keeps_done d w hw p b calls len none step made moves back forth known sound = by (known t.bucket) refl
+      → ((known : Known) → IsSoundSection (ended t d w calls) known reads after → IsSoundSection (next_state t d p from g b hw w calls) known reads after)
+      → ((entry : Entry) → IsTodo (next_state t d p from g b hw w calls) entry → IsTodo t entry)
+      → ((entry : Entry) → IsTodo t entry → IsOfGroup t entry ⊎ IsTodo (next_state t d p from g b hw w calls) entry)
+      → KeepsAt (Ok More) t (next_state t d p from g b hw w calls) read images reads after
+  keeps_done d w hw p from g b calls len none step made moves back forth known sound = by (known t.bucket) refl
     where
       by : (o : Option (List Entry)) → known t.bucket ≡ o
-          → (knows : Known) × Follows (Ok More) t (next_state t d p b hw w calls) known knows × IsSoundSection (next_state t d p b hw w calls) knows reads after
-          × ((score : List ℕ → List ℕ) (c : Setup) (h : History) → KnownAgrees score c h t known → KnownAgrees score c h (next_state t d p b hw w calls) knows)
+          → (knows : Known) × Follows (Ok More) t (next_state t d p from g b hw w calls) known knows × IsSoundSection (next_state t d p from g b hw w calls) knows reads after
+          × ((score : List ℕ → List ℕ) (c : Setup) (h : History) → KnownAgrees score c h t known → KnownAgrees score c h (next_state t d p from g b hw w calls) knows)
       by None is = (
         known,
         record {
@@ -323,63 +329,66 @@ module _ {D : Type 0} (t : SectionState D) (region : Region) (size : ℕ) (read 
             },
             moves (with_bucket t.bucket (Some it.0) known) (done_sound d w calls known (with_bucket t.bucket (Some it.0) known) (known_there known it.0)
                 (λ entries holds. subst (λ (l : List Entry). HoldsBucket (ended t d w calls) t.bucket l reads after) (some_same it.0 entries (sym (known_here known it.0) ∙ holds)) it.2) sound),
-            λ score c h agrees. agrees_done d w hw p b calls score c h known old it.0 is it.1 back forth agrees,
+            λ score c h agrees. agrees_done d w hw p from g b calls score c h known old it.0 is it.1 back forth agrees,
           )
 
   -- whatever is under way behind it
-  pub keeps_next : (d : D) (w : TwinState) (calls from : ℕ) (v : SectionState D) → w.frame_len ≡ 8192 → w.change ≡ None
-      → ((f : List ℕ) → IsSound t.bucket_twin region f read images → IsSound w region (next_frame t.bucket_twin) reads after)
-      → calls_made t.bucket_twin ≡ 3 → from ≡ t.bucket + 1 → (v.phase ≡ ChangeHead → IsHead t.next) → length t.name ≡ 64 → BeginsFrom from v
-      → (v ≡ record (ended t d w calls) { phase = ReadSelector; bucket = v.bucket })
-      ⊎ (v ≡ record (ended t d w calls) { phase = ChangeHead; head_twin = with_change (encoded t.name t.next) t.head_twin })
-      → Keeps (Ok More) t v read images reads after
-  keeps_next d w calls from v len none step made from_is fits name_len begins (inl e) =
-      let at = subst (λ (x : SectionState D). BeginsFrom from x) e begins in
-      subst (λ (x : SectionState D). Keeps (Ok More) t x read images reads after) (sym e)
-      (keeps_done d w t.head_twin ReadSelector v.bucket calls len none step made
-      (λ known it. section_moves (ended t d w calls) d t.next ReadSelector t.entries v.bucket calls w t.stopped known reads reads after after
-      (λ q. cc) (λ q. cc) (λ q. cc) (λ q. cc) refl (λ c left. left) (λ k r way. absurd (cc)) it)
-      (λ entry way. (subst HasBucket (sym phase) tt, way.1, ⊎_elim (λ here. omega (arith, here.1, from_is, way.2)) (λ there. absurd (let q = there.0 in cc)) at))
-      (λ entry way. ⊎_elim
-      (λ (low : bucket_number t entry < from). inl (omega (arith, low, from_is, way.2)))
-      (λ (up : from ≤ bucket_number t entry). inr (tt, way.1, ⊎_elim (λ here. here.3 entry way.1 up) (λ there. absurd (let q = there.0 in cc)) at))
-      (cases_lt (bucket_number t entry) from)))
-  keeps_next d w calls from v len none step made from_is fits name_len begins (inr e) =
-      let at = subst (λ (x : SectionState D). BeginsFrom from x) e begins in
-      subst (λ (x : SectionState D). Keeps (Ok More) t x read images reads after) (sym e)
-      (keeps_done d w (with_change (encoded t.name t.next) t.head_twin) ChangeHead t.bucket calls len none step made
-      (λ known it. head_begins (ended t d w calls) t.next t.entries (encoded t.name t.next) known reads after (λ q. cc) (λ q. cc) (frame_has t.name t.next (fits (ap (λ (x : SectionState D). x.phase) e)) name_len) it)
-      (λ entry way. absurd way.0)
-      (λ entry way. ⊎_elim
-      (λ (low : bucket_number t entry < from). inl (omega (arith, low, from_is, way.2)))
-      (λ (up : from ≤ bucket_number t entry). absurd (⊎_elim (λ here. let q = here.0 in cc) (λ there. let low = there.2 entry way.1 in omega (arith, low, up)) at))
-      (cases_lt (bucket_number t entry) from)))
+  module _ (next : AreNext t.head.total t.bucket t.written t.begun (entries_of t)) where
+    -- an entry that was to be put is put, or stands behind those
+    split : (entry : Entry) → IsTodo t entry → IsOfGroup t entry ⊎ Contains (drop t.begun (entries_of t)) entry
+    split entry way = ⊎_elim
+        (λ (of : Contains (group_of t) entry). inl (of, next.own entry of))
+        (λ (rest : Contains (drop t.begun (entries_of t)) entry). inr rest)
+        (group_or_behind t.written t.begun (entries_of t) next.order next.within entry way.1)
+
+    pub keeps_next : (d : D) (w : TwinState) (calls from : ℕ) (v : SectionState D) → w.frame_len ≡ 8192 → w.change ≡ None
+        → ((f : List ℕ) → IsSound t.bucket_twin region f read images → IsSound w region (next_frame t.bucket_twin) reads after)
+        → calls_made t.bucket_twin ≡ 3 → from ≡ t.begun → (v.phase ≡ ChangeHead → IsHead t.next) → length t.name ≡ 64 → BeginsBehind from v
+        → GoesTo t d w calls from v → KeepsAt (Ok More) t v read images reads after
+    keeps_next d w calls from v len none step made from_is fits name_len begins (inl e) =
+        subst (λ (x : SectionState D). KeepsAt (Ok More) t x read images reads after) (sym e)
+        (keeps_done d w t.head_twin ReadSelector from v.begun v.bucket calls len none step made
+        (λ known it. section_moves (ended t d w calls) d t.next ReadSelector t.entries from v.begun v.bucket calls w t.stopped known reads reads after after
+        (λ q. cc) (λ q. cc) (λ q. cc) (λ q. cc) refl (λ c left. left) (λ k r way. absurd (cc)) it)
+        (λ entry way. (
+          subst HasBucket (sym phase) tt,
+          behind t.written t.begun (entries_of t) next.order next.within entry (subst (λ (k : ℕ). Contains (drop k (entries_of t)) entry) from_is way.1),
+        ))
+        (λ entry way. ⊎_elim
+        (λ (of : IsOfGroup t entry). inl of)
+        (λ (rest : Contains (drop t.begun (entries_of t)) entry).
+        inr (tt, subst (λ (k : ℕ). Contains (drop k (entries_of t)) entry) (sym from_is) rest))
+        (split entry way)))
+    keeps_next d w calls from v len none step made from_is fits name_len begins (inr e) =
+        let at = subst (λ (x : SectionState D). BeginsBehind from x) e begins in
+        subst (λ (x : SectionState D). KeepsAt (Ok More) t x read images reads after) (sym e)
+        (keeps_done d w (with_change (encoded t.name t.next) t.head_twin) ChangeHead from from t.bucket calls len none step made
+        (λ known it. head_begins (ended t d w calls) t.next t.entries from from (encoded t.name t.next) known reads after (λ q. cc) (λ q. cc) (frame_has t.name t.next (fits (ap (λ (x : SectionState D). x.phase) e)) name_len) it)
+        (λ entry way. absurd way.0)
+        (λ entry way. ⊎_elim
+        (λ (of : IsOfGroup t entry). inl of)
+        (λ (rest : Contains (drop t.begun (entries_of t)) entry).
+        absurd (⊎_elim (λ here. let q = here.0 in cc)
+        (λ there. none_behind t.begun (entries_of t) (omega (arith, there.3, from_is)) entry rest) at))
+        (split entry way)))
 
 -- what the step that completes a bucket makes of the section
-pub goes_next : {D : Type 0} (t : SectionState D) (d : D) (w : TwinState) (calls from : ℕ) (v : SectionState D) → t.phase ≡ ChangeBucket → calls_made t.bucket_twin ≡ 3 → from ≡ t.bucket + 1
-    → calls ≡ one_more t.calls → t.stopped ≡ None → BeginsFrom from v
-    → (v ≡ record (ended t d w calls) { phase = ReadSelector; bucket = v.bucket })
-    ⊎ (v ≡ record (ended t d w calls) { phase = ChangeHead; head_twin = with_change (encoded t.name t.next) t.head_twin })
+pub goes_next : {D : Type 0} (t : SectionState D) (d : D) (w : TwinState) (calls from : ℕ) (v : SectionState D) → t.phase ≡ ChangeBucket → calls_made t.bucket_twin ≡ 3 → from ≡ t.begun
+    → calls ≡ one_more t.calls → t.stopped ≡ None → BeginsBehind from v → GoesTo t d w calls from v
     → GoesOn t v × (v.stopped ≡ None) × NextPhase t.phase t v
-goes_next t d w calls from v phase made from_is counted goes begins (inl e) = (
+goes_next t d w calls from v phase made from_is counted goes begins to = (
   record {
-    section = record { buckets = ap (λ x. x.buckets) e; name = ap (λ x. x.name) e; entries = ap (λ x. x.entries) e };
-    head_is = ap (λ x. x.head) e;
-    next_is = ap (λ x. x.next) e;
-    calls = ap (λ x. x.calls) e ∙ counted;
+    section = record {
+      buckets = ⊎_elim (λ e. ap (λ x. x.buckets) e) (λ e. ap (λ x. x.buckets) e) to;
+      name = ⊎_elim (λ e. ap (λ x. x.name) e) (λ e. ap (λ x. x.name) e) to;
+      entries = ⊎_elim (λ e. ap (λ x. x.entries) e) (λ e. ap (λ x. x.entries) e) to;
+    };
+    head_is = ⊎_elim (λ e. ap (λ x. x.head) e) (λ e. ap (λ x. x.head) e) to;
+    next_is = ⊎_elim (λ e. ap (λ x. x.next) e) (λ e. ap (λ x. x.next) e) to;
+    calls = ⊎_elim (λ e. ap (λ x. x.calls) e ∙ counted) (λ e. ap (λ x. x.calls) e ∙ counted) to;
   },
-  ap (λ x. x.stopped) e ∙ goes,
-  next_of ChangeBucket t v phase (inr (made, subst (λ (k : ℕ). BeginsFrom k v) from_is begins)),
-)
-goes_next t d w calls from v phase made from_is counted goes begins (inr e) = (
-  record {
-    section = record { buckets = ap (λ x. x.buckets) e; name = ap (λ x. x.name) e; entries = ap (λ x. x.entries) e };
-    head_is = ap (λ x. x.head) e;
-    next_is = ap (λ x. x.next) e;
-    calls = ap (λ x. x.calls) e ∙ counted;
-  },
-  ap (λ x. x.stopped) e ∙ goes,
-  next_of ChangeBucket t v phase (inr (made, subst (λ (k : ℕ). BeginsFrom k v) from_is begins)),
+  ⊎_elim (λ e. ap (λ x. x.stopped) e ∙ goes) (λ e. ap (λ x. x.stopped) e ∙ goes) to,
+  next_of ChangeBucket t v phase (inr (made, subst (λ (k : ℕ). BeginsBehind k v) from_is begins)),
 )
 
 -- ---- the head
@@ -466,7 +475,7 @@ module _ {D : Type 0} (t : SectionState D) (size : ℕ) (read reads : List ℕ) 
   -- the step that completes the head
   pub keeps_head : (d : D) (w : TwinState) (calls : ℕ) → w.frame_len ≡ 8192 → w.change ≡ None
       → ((old : List ℕ) → IsSound t.head_twin head_place old read images → IsSound w head_place (next_frame t.head_twin) reads after)
-      → Keeps (Ok Done) t (record t { disk = d; head = t.next; phase = Rest; head_twin = w; calls = calls }) read images reads after
+      → KeepsAt (Ok Done) t (record t { disk = d; head = t.next; phase = Rest; head_twin = w; calls = calls }) read images reads after
   keeps_head d w calls len none step known sound = ⊎_elim
       (λ (same_first : t.next.first ≡ t.head.first). (
         known,

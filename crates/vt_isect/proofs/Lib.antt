@@ -1,5 +1,4 @@
 pub mod Places
-pub mod Regions
 pub mod IsSoundSection
 pub mod LeavesSection
 pub mod AgreesWith
@@ -10,7 +9,7 @@ pub mod Follows
 pub mod Keeps
 pub mod WithinCall
 pub mod IsReadFrom
-pub mod BeginsFrom
+pub mod BeginsBehind
 pub mod WithBucket
 pub mod Mounts
 pub mod KnownAgrees
@@ -22,7 +21,8 @@ pub mod Crowd
 pub mod RefusesMount
 pub mod IsCovered
 pub mod IsDamage
-pub mod IsOrdered
-pub mod DiffersIn
+pub mod AreNext
+pub mod WritesBack
+pub mod NamesDamage
 pub mod Fills
 pub mod WriteBucket

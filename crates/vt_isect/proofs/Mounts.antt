@@ -31,7 +31,7 @@ module _ {D : Type 0} (d : D) (buckets : ℕ) (name : List ℕ) (head : Head) (n
 
   place_of : (n : ℕ) → InRange head buckets n → (region : Region) × IsPlaceOf (n - head.first) region
   place_of n within = (
-    record { start = 24576 + 16896 * (n - head.first); len = 16896; in_range = omega (arith, room, fits, within.0, within.1) },
+    record { start = 24576 + 16896 * (n - head.first); len = 16896 },
     record { start = refl; len = refl },
   )
 

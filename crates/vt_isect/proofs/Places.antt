@@ -6,7 +6,9 @@ use Rattle.vt_disk.specs.Region.{Inside}
 use Rattle.vt_twin.specs.Frames.{HasRoom}
 use Rattle.vt_isect.specs.declared.head.Head.{Head}
 use Rattle.vt_isect.specs.Layout.{head_place, IsPlaceOf, InRange}
-use Rattle.vt_isect.proofs.Regions.{one_region}
+
+one_region : (a b : Region) → a.start ≡ b.start → a.len ≡ b.len → a ≡ b
+one_region a b start len i = record { start = start i; len = len i }
 
 pub one_place : (j : ℕ) (a b : Region) → IsPlaceOf j a → IsPlaceOf j b → a ≡ b
 one_place j a b here there = one_region a b (here.start ∙ sym there.start) (here.len ∙ sym there.len)

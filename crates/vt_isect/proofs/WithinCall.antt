@@ -17,8 +17,9 @@ use Rattle.vt_isect.specs.Agreement.{KnownAgrees, LeavesAgreeing}
 use Rattle.vt_isect.specs.Layout.{InRange}
 use Rattle.vt_isect.specs.Section.{SectionState}
 use Rattle.vt_isect.specs.Sound.{Known, IsWhole, IsSoundSection, LeavesSection}
-use Rattle.vt_isect.specs.Writeback.{Advances, Completes, EndsWith, Follows, GoesOn, Keeps}
+use Rattle.vt_isect.specs.Writeback.{Advances, Completes, EndsWith, Follows, GoesOn}
 use Rattle.vt_isect.proofs.AgreesWith.{leaves_agree}
+use Rattle.vt_isect.proofs.Follows.{KeepsAt}
 use Rattle.vt_isect.proofs.LeavesSection.{leaves, is_changing_phase}
 
 -- what a step leaves of where the section stands
@@ -71,7 +72,7 @@ completes_or result t n = ⊎_elim
     (λ (a : result ≢ Ok More). inr (λ it. a it.0)) (is_more result)
 
 module _ {D : Type 0} (result : Result Step ShardErr) (t u : SectionState D) (read reads : List ℕ) (images after : List ℕ → Type 0)
-    (keeps : Keeps result t u read images reads after) (steps : Advances result t u) where
+    (keeps : KeepsAt result t u read images reads after) (steps : Advances result t u) where
   still_whole : (known knows : Known) → Stands t u → Follows result t u known knows → IsWhole t known → IsWhole u knows
   still_whole known knows at follows whole n within =
       let here : InRange t.head t.buckets n = subst (λ (b : ℕ). (t.head.first ≤ n) × (n < t.head.first + b)) at.buckets

@@ -1,15 +1,15 @@
 -- The bytes of a bucket's place behind the two writes of its frame and its selector.
 use Rattle.std.proofs.Common.{◌≡◌, ℕ, ◌+◌, ◌-◌, ◌*◌, ◌<◌, List, length, replicate, refl, sym, ◌∙◌, ap, subst, arith}
 use Rattle.vt_disk.specs.declared.region.Region.{Region}
-use Rattle.vt_disk.specs.Disk.{Touches, SameBut, ChangesAt, with_bytes, part}
-use Rattle.vt_disk.specs.Region.{Inside, ChangesWithin}
+use Rattle.vt_disk.specs.Calls.{WritesAt, WritesWithin}
+use Rattle.vt_disk.specs.Disk.{Touches, SameBut, with_bytes, part}
+use Rattle.vt_disk.specs.Members.{DiskOf}
 use Rattle.std.proofs.lemmas.List.{length-replicate}
 use Rattle.vt_disk.proofs.Bytes.{part-with_bytes, length-with_bytes}
-use Rattle.vt_twin.specs.declared.calls.Call.TheVariants.{WriteSelector}
+use Rattle.vt_twin.specs.Formatting.{TouchedByFirst}
 use Rattle.vt_twin.specs.Frames.{HasRoom, frame_of, selector_of, selector_start, selector_len, selector_bytes, current_frame}
 use Rattle.vt_twin.specs.Calls.{TouchedBy}
-use Rattle.vt_twin.proofs.Places.{current_free, frame_same}
-use Rattle.vt_twin.proofs.Formatting.{frame_bytes, frame_images, both_bytes, both_images, framed, formatted, formatted_frame, formatted_idle, formatted_current}
+use Rattle.vt_twin.proofs.EndsFormat.{frame_writes, both_write, first_writes_within, framed, formatted, formatted_frame, formatted_idle, formatted_current, frame_is_whole}
 
 -- a frame of 8,192 bytes in the place of a bucket
 module _ (place : Region) (frame : List ℕ) (size : ℕ) (len : length frame ≡ 8192) (place_len : place.len ≡ 16896) (room : HasRoom place 8192 size) where
@@ -22,53 +22,35 @@ module _ (place : Region) (frame : List ℕ) (size : ℕ) (len : length frame �
   len_is : 512 ≡ selector_len place (length frame)
   len_is = omega (arith, len, place_len)
 
-  pub first_bytes : (old new : List ℕ) → SameBut (Touches (place.start + 0) (length frame)) old new → SameBut (Inside place) old new
-  first_bytes = frame_bytes place (length frame) size own
+  -- the writes, one after the other
+  module _ {D : Type 0} (disk : DiskOf D) (old mid : D) (first : WritesAt disk (Touches (place.start + 0) (length frame)) 1 old mid) where
+    pub frame_written : WritesAt disk (TouchedByFirst 1 place (length frame)) 1 old mid
+    frame_written = frame_writes place (length frame) size own disk old mid first 1 (omega arith)
 
-  pub first_images : (before after : List ℕ → Type 0) → ChangesAt (Touches (place.start + 0) (length frame)) before after → ChangesWithin place before after
-  first_images = frame_images place (length frame) size own
+    pub first_within : WritesWithin disk place 2 old mid
+    first_within =
+        let it = first_writes_within place (length frame) size own disk 1 1 (omega arith) old mid frame_written in
+        record { bytes = it.bytes; images = it.images; size = it.size; calls = λ told. omega (arith, frame_written.calls told) }
 
-  pub then_bytes : (old mid new : List ℕ) → SameBut (Touches (place.start + 0) (length frame)) old mid → SameBut (Touches (place.start + 16384) 512) mid new
-      → SameBut (Inside place) old new
-  then_bytes old mid new first second = both_bytes place (length frame) size own old mid new first
-      (subst (λ (s : ℕ). SameBut (Touches s (selector_len place (length frame))) mid new) start_is
-      (subst (λ (k : ℕ). SameBut (Touches (place.start + 16384) k) mid new) len_is second))
+    module _ (new : D) (second : WritesAt disk (Touches (place.start + 16384) 512) 1 mid new) where
+      pub selector_written : WritesAt disk (TouchedBy 2 place (length frame) 1) 1 mid new
+      selector_written =
+          subst (λ (s : ℕ). WritesAt disk (Touches s (selector_len place (length frame))) 1 mid new) start_is
+          (subst (λ (k : ℕ). WritesAt disk (Touches (place.start + 16384) k) 1 mid new) len_is second)
 
-  pub then_images : (before mid after : List ℕ → Type 0) → ChangesAt (Touches (place.start + 0) (length frame)) before mid
-      → ChangesAt (Touches (place.start + 16384) 512) mid after → ChangesWithin place before after
-  then_images before mid after first second = both_images place (length frame) size own before mid after first
-      (subst (λ (s : ℕ). ChangesAt (Touches s (selector_len place (length frame))) mid after) start_is
-      (subst (λ (k : ℕ). ChangesAt (Touches (place.start + 16384) k) mid after) len_is second))
+      pub both_written : WritesAt disk (TouchedByFirst 2 place (length frame)) 2 old new
+      both_written = both_write place (length frame) size own disk old mid first new selector_written 2 (omega arith)
 
-  -- only the frame's bytes
-  pub only_frame : (old new : List ℕ) → SameBut (Touches (place.start + 0) (length frame)) old new → SameBut (Touches place.start 8192) old new
-  only_frame old new same = subst (λ (s : ℕ). SameBut (Touches s 8192) old new) start
-      (subst (λ (n : ℕ). SameBut (Touches (place.start + 0) n) old new) len same)
-    where
-      start : place.start + 0 ≡ place.start
-      start = omega arith
+      pub both_within : WritesWithin disk place 2 old new
+      both_within =
+          let it = first_writes_within place (length frame) size own disk 2 2 (omega arith) old new both_written in
+          record { bytes = it.bytes; images = it.images; size = it.size; calls = both_written.calls }
 
   module _ (file : List ℕ) (fits : length file ≡ size) where
-    frame_stands : frame_of place 8192 0 (framed place frame file) ≡ frame
-    frame_stands =
-        ap (λ (n : ℕ). part (place.start + n * 0) n (framed place frame file)) (sym len)
-        ∙ ap (λ (s : ℕ). part s (length frame) (framed place frame file)) zeroth
-        ∙ part-with_bytes (place.start + 0) frame file (omega (arith, fits, own.within, own.least))
-      where
-        zeroth : place.start + length frame * 0 ≡ place.start + 0
-        zeroth = omega arith
-
     -- the frame stands, whatever becomes of the selector
-    pub frame_left : (new : List ℕ) → SameBut (Touches (place.start + 16384) 512) (framed place frame file) new
-        → frame_of place 8192 0 new ≡ frame
-    frame_left new same =
-        frame_same (TouchedBy WriteSelector place 8192 0) place 8192 0
-        (current_free place 8192 size room 0 (omega arith) WriteSelector) (framed place frame file) new
-        (subst (λ (k : ℕ). SameBut (Touches (place.start + 16384) k) (framed place frame file) new) rest same)
-        ∙ frame_stands
-      where
-        rest : 512 ≡ selector_len place 8192
-        rest = omega (arith, place_len)
+    pub frame_left : (new : List ℕ) → SameBut (TouchedBy 2 place (length frame) 1) (framed place frame file) new
+        → frame_of place (length frame) 0 new ≡ frame
+    frame_left new same = frame_is_whole place frame file size own fits new same
 
     written_is : with_bytes (place.start + 16384) (replicate 512 0) (framed place frame file) ≡ formatted place frame file
     written_is =

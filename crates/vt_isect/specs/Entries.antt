@@ -1,5 +1,5 @@
 -- A list of entries as its calls see it.
-use Rattle.std.specs.Prelude.{◌≡◌, ℕ, List}
+use Rattle.std.specs.Prelude.{◌≡◌, ℕ, ◌+◌, ◌^◌, nat_le, if◌then◌else◌, Option, Some, None, List}
 use Rattle.std.specs.List.Sorted.{IsNonDecreasingBy, IsPermutation}
 use Rattle.vt_base.specs.declared.place.Entry.{Entry}
 use Rattle.vt_model.specs.Places.{bucket_of}
@@ -9,13 +9,19 @@ pub record EntriesState : Type 0 where
   pub items : List Entry
   pub room : ℕ
 
--- The entries stand in the order of their buckets, of so many: none belongs to a lower bucket than
--- one before it.
-abbrev pub IsOrdered : (total : ℕ) → List Entry → Type 0
-IsOrdered total entries = IsNonDecreasingBy (λ entry. bucket_of total entry.key.score.0) entries
+-- When a bucket has its turn in a writeback that begins behind one: those of higher numbers come
+-- first, in the order of their numbers, and then the others.
+abbrev pub turn : (behind : Option ℕ) → (n : ℕ) → ℕ
+turn None n = n
+turn (Some last) n = if nat_le n last then n + 2 ^ 32 else n
 
--- the same entries, in the same memory, in the order of their buckets
-pub record Orders (total : ℕ) (old new : EntriesState) : Type 0 where
+-- the entries stand in the order of their buckets' turns, where there are so many buckets
+abbrev pub IsOrdered : (total : ℕ) → (behind : Option ℕ) → List Entry → Type 0
+IsOrdered total behind entries =
+    IsNonDecreasingBy (λ entry. turn behind (bucket_of total entry.key.score.0)) entries
+
+-- the same entries, in the same memory, in that order
+pub record Orders (total : ℕ) (behind : Option ℕ) (old new : EntriesState) : Type 0 where
   pub same : IsPermutation old.items new.items
   pub room : new.room ≡ old.room
-  pub ordered : IsOrdered total new.items
+  pub ordered : IsOrdered total behind new.items

@@ -1,17 +1,21 @@
 -- Buckets that are written while the mark doesn't count, with one sync behind many of them.
-use Rattle.std.specs.Prelude.{◌≡◌, ℕ, ◌+◌, ◌-◌, ◌*◌, ◌^◌, ◌<◌, ◌≤◌, ◌⊎◌, min, nat_le, nat_lt, ◌&&◌, List, [], Option, Some, if◌then◌else◌}
+use Rattle.std.specs.Prelude.{◌≡◌, ℕ, ◌+◌, ◌-◌, ◌*◌, ◌<◌, ◌≤◌, nat_le, nat_lt, ◌&&◌, IsTrue, List, [], Option, Some, if◌then◌else◌}
 use Rattle.vt_base.specs.declared.place.Entry.{Entry}
 use Rattle.vt_bucket.specs.Frame.{IsFrame, frame_of as bucket_frame}
-use Rattle.vt_disk.specs.Disk.{Touches, SameBut}
+use Rattle.vt_disk.specs.declared.TheConstants.{SECTOR_LEN}
+use Rattle.vt_disk.specs.Calls.{WritesAt}
+use Rattle.vt_disk.specs.Members.{DiskOf}
 use Rattle.vt_disk.specs.declared.region.Region.{Region}
 use Rattle.vt_twin.specs.Frames.{current_frame, frame_of, selector_of, selector_bytes}
+use Rattle.vt_isect.specs.declared.TheConstants.{FRAME_LEN, HEAD_PLACE_LEN, BUCKET_PLACE_LEN}
 use Rattle.vt_isect.specs.Layout.{IsPlaceOf, InRange}
 use Rattle.vt_isect.specs.Section.{SectionState}
 use Rattle.vt_isect.specs.Sound.{Known}
 
 -- the bytes of so many buckets of a section, from its bucket j on
 abbrev pub InBuckets : (j count : ℕ) → ℕ → Type 0
-InBuckets j count i = (24576 + 16896 * j ≤ i) × (i < 24576 + 16896 * (j + count))
+InBuckets j count i = (HEAD_PLACE_LEN + BUCKET_PLACE_LEN * j ≤ i)
+    × (i < HEAD_PLACE_LEN + BUCKET_PLACE_LEN * (j + count))
 
 -- n is one of so many numbers, from this one on
 abbrev pub IsAmong : (first count n : ℕ) → Type 0
@@ -26,21 +30,31 @@ with_buckets first count entries known n =
 -- names it is zeros, and frame 1 stays as it was.
 pub record Fills (n : ℕ) (entries : List Entry) (region : Region) (old new : List ℕ)
     : Type 0 where
-  pub frame : frame_of region 8192 0 new ≡ bucket_frame n entries
-  pub selector : selector_of region 8192 new ≡ selector_bytes 0 512
-  pub idle : frame_of region 8192 1 new ≡ frame_of region 8192 1 old
+  pub frame : frame_of region FRAME_LEN 0 new ≡ bucket_frame n entries
+  pub selector : selector_of region FRAME_LEN new ≡ selector_bytes 0 SECTOR_LEN
+  pub idle : frame_of region FRAME_LEN 1 new ≡ frame_of region FRAME_LEN 1 old
 
 -- A read gives what is known: the current frame of each bucket spells its entries. Behind a sync
 -- each image has them, too.
-abbrev pub Reads : {D : Type 0} → SectionState D → Known → (read : List ℕ) → Type 0
-Reads t known read = (n : ℕ) (entries : List Entry) → InRange t.head t.buckets n
+abbrev pub Reads : {D : Type 0} → DiskOf D → SectionState D → Known → Type 0
+Reads disk t known = (n : ℕ) (entries : List Entry) → InRange t.head t.buckets n
     → known n ≡ Some entries
     → (region : Region) × IsPlaceOf (n - t.head.first) region
-    × IsFrame n entries (current_frame region 8192 read)
+    × IsFrame n entries (current_frame region FRAME_LEN (disk.bytes t.disk))
 
--- Of the two calls that write a bucket's frame and its selector, the one that failed was the last:
--- the first, so that only the frame's bytes may have changed, or the second, behind the frame.
-abbrev pub StopsAt : Region → (frame old new : List ℕ) → (calls called : ℕ) → Type 0
-StopsAt region frame old new calls called =
-    ((called ≡ min (calls + 1) (2 ^ 64 - 1)) × SameBut (Touches region.start 8192) old new)
-    ⊎ ((called ≡ min (calls + 2) (2 ^ 64 - 1)) × (frame_of region 8192 0 new ≡ frame))
+-- each of so many buckets, from this number on, is written without entries
+abbrev pub AreCleared : {D : Type 0} → DiskOf D → (first count : ℕ) → (old new : SectionState D)
+    → Type 0
+AreCleared disk first count old new = (n : ℕ) (region : Region) → IsAmong first count n
+    → IsPlaceOf (n - old.head.first) region
+    → Fills n [] region (disk.bytes old.disk) (disk.bytes new.disk)
+
+-- Clearing so many buckets, from this number on, ended at a call that failed: those before it are
+-- written, and nothing is behind the next one.
+pub record StopsClearing {D : Type 0} (disk : DiskOf D) (first count : ℕ) (old new : SectionState D)
+    : Type 0 where
+  pub done : ℕ
+  pub few : done ≤ count
+  pub cleared : IsTrue disk.tells → AreCleared disk first done old new
+  pub writes : WritesAt disk (InBuckets (first - old.head.first) (done + 1)) (2 * done + 2)
+      old.disk new.disk

@@ -4,6 +4,7 @@
 -- isn't read, and is written as zero.
 use Rattle.std.specs.Prelude.{◌≡◌, ℕ, ◌-◌, ◌^◌, ◌<◌, List, ◌∷◌, ◌++◌, codes, length, take, replicate}
 use Rattle.byteorder.specs.Endian.{big_bytes}
+use Rattle.vt_isect.specs.declared.TheConstants.{FRAME_LEN, NAME_LEN, FIELDS_LEN}
 use Rattle.vt_isect.specs.declared.head.Head.{Head}
 
 -- the bytes of a head with this field of a name
@@ -14,7 +15,7 @@ spelled name head = codes "VSEC" ++ (big_bytes 2 1 ++ (head.state ∷ (name
 
 -- the bytes of a frame that the head stands in
 abbrev pub head_of : (frame : List ℕ) → List ℕ
-head_of frame = take 91 frame
+head_of frame = take FIELDS_LEN frame
 
 -- each number of a head fits its field
 pub record IsHead (head : Head) : Type 0 where
@@ -27,7 +28,7 @@ pub record IsHead (head : Head) : Type 0 where
 -- the frame has this head, with this field of a name
 pub record IsHeadFrame (name : List ℕ) (head : Head) (frame : List ℕ) : Type 0 where
   pub fits : IsHead head
-  pub name_len : length name ≡ 64
+  pub name_len : length name ≡ NAME_LEN
   pub spelling : head_of frame ≡ spelled name head
 
 -- bytes, and zeros that fill them up to this length
@@ -36,4 +37,4 @@ filled len bytes = bytes ++ replicate (len - length bytes) 0
 
 -- the frame that is written
 abbrev pub encoded : (name : List ℕ) → Head → List ℕ
-encoded name head = filled 8192 (spelled name head)
+encoded name head = filled FRAME_LEN (spelled name head)

@@ -7,4 +7,5 @@ pub mod Layout
 pub mod Merging
 pub mod Section
 pub mod Sound
+pub mod View
 pub mod Writeback

@@ -7,7 +7,7 @@ use Rattle.vt_base.specs.declared.why.FieldValue.TheVariants.{Number}
 use Rattle.vt_bucket.specs.declared.decoding.BucketBad.{BucketBad}
 use Rattle.vt_bucket.specs.Faults.{FaultIs}
 use Rattle.vt_bucket.specs.Frame.{IsFrame, frame_of}
-use Rattle.vt_model.specs.Places.{bucket_of}
+use Rattle.vt_model.specs.declared.TheConstants.{BUCKET_ROOM}
 use Rattle.vt_isect.specs.declared.bad.ShardErr.{ShardErr}
 use Rattle.vt_isect.specs.declared.bad.ShardErr.TheVariants.{Damaged}
 use Rattle.vt_isect.specs.Faults.{damage_of}
@@ -21,10 +21,6 @@ pub record Merges (old : List Entry) (group : Entry → Type 0) (new : List Entr
   pub from : (entry : Entry) → Contains new entry
       → group entry ⊎ (Contains old entry × ¬ HasKey group entry.key)
   pub keeps : (entry : Entry) → Contains old entry ⊎ group entry → HasKey (Contains new) entry.key
-
--- those of the entries that belong to bucket n, of so many
-abbrev pub IsOf : (total n : ℕ) → List Entry → Entry → Type 0
-IsOf total n entries entry = Contains entries entry × (bucket_of total entry.key.score.0 ≡ n)
 
 -- the frame has a fault
 abbrev pub IsFaulty : (n : ℕ) → (frame : List ℕ) → ShardErr → Type 0
@@ -47,24 +43,23 @@ Joined old group entry = Contains old entry ⊎ group entry
 abbrev pub IsAbsent : (old : List Entry) → (group : Entry → Type 0) → Entry → Type 0
 IsAbsent old group entry = group entry × ¬ HasKey (Contains old) entry.key
 
--- The bucket of the frame has no room for the entries that belong to it: with them it would have
--- as many as are found.
-abbrev pub IsOverfull : (total n : ℕ) → List Entry → (frame : List ℕ) → ShardErr → Type 0
-IsOverfull total n entries frame bad = (old : List Entry) × IsFrame n old frame
-    × (found : ℕ) × HasKeys (Joined old (IsOf total n entries)) found
-    × (263 < found) × (bad ≡ Damaged n (Number 263) (Number found))
+-- The bucket of the frame has no room for a group of entries: with them it would have as many as
+-- are found.
+abbrev pub IsOverfull : (n : ℕ) → (group : List Entry) → (frame : List ℕ) → ShardErr → Type 0
+IsOverfull n group frame bad = (old : List Entry) × IsFrame n old frame
+    × (found : ℕ) × HasKeys (Joined old (Contains group)) found
+    × (BUCKET_ROOM < found) × (bad ≡ Damaged n (Number BUCKET_ROOM) (Number found))
 
--- why the entries aren't put into the bucket of this frame
-abbrev pub IsDamage : (total n : ℕ) → List Entry → (frame : List ℕ) → ShardErr → Type 0
-IsDamage total n entries frame bad =
-    IsFaulty n frame bad ⊎ IsOverfull total n entries frame bad
+-- why a group of entries isn't put into the bucket of this frame
+abbrev pub IsDamage : (n : ℕ) → (group : List Entry) → (frame : List ℕ) → ShardErr → Type 0
+IsDamage n group frame bad = IsFaulty n frame bad ⊎ IsOverfull n group frame bad
 
--- The new frame is that of the bucket of the frame that was read, with those of the entries in it,
--- too, that belong to it.
-pub record IsMerged (total n : ℕ) (entries : List Entry) (read frame : List ℕ) : Type 0 where
+-- The new frame is that of the bucket of the frame that was read, with a group of entries in it,
+-- too.
+pub record IsMerged (n : ℕ) (group : List Entry) (read frame : List ℕ) : Type 0 where
   pub old : List Entry
   pub new : List Entry
   pub was : IsFrame n old read
   pub is : IsFrame n new frame
   pub bytes : frame ≡ frame_of n new
-  pub merges : Merges old (IsOf total n entries) new
+  pub merges : Merges old (Contains group) new

@@ -3,9 +3,11 @@ use Rattle.std.specs.Prelude.{◌≡◌, ◌≢◌, ◌⊎◌, ◌==◌, ℕ, �
 use Rattle.vt_base.specs.declared.place.Entry.{Entry}
 use Rattle.vt_bucket.specs.Frame.{IsFrame}
 use Rattle.vt_disk.specs.declared.region.Region.{Region}
+use Rattle.vt_disk.specs.Members.{DiskOf}
 use Rattle.vt_twin.specs.Frames.{frame_of, named_number, current_frame}
 use Rattle.vt_twin.specs.Twin.{TwinState, next_frame}
 use Rattle.vt_twin.specs.Sound.{IsSound, HasBegunSelector}
+use Rattle.vt_isect.specs.declared.TheConstants.{FRAME_LEN}
 use Rattle.vt_isect.specs.declared.head.Head.{Head}
 use Rattle.vt_isect.specs.declared.phase.Phase.TheVariants.{ReadFrame, ChangeHead}
 use Rattle.vt_isect.specs.Head.{IsHeadFrame}
@@ -39,7 +41,7 @@ pub record HoldsBucket {D : Type 0} (t : SectionState D) (n : ℕ) (entries : Li
   pub place : IsPlaceOf (n - t.head.first) region
   pub twin : TwinState
   pub frame : List ℕ
-  pub frame_len : twin.frame_len ≡ 8192
+  pub frame_len : twin.frame_len ≡ FRAME_LEN
   pub sound : IsSound twin region frame read images
   pub spelled : IsFrame n entries frame
   pub rest : ¬ IsChanging t n → twin.change ≡ None
@@ -50,23 +52,27 @@ pub record HoldsBucket {D : Type 0} (t : SectionState D) (n : ℕ) (entries : Li
 -- the one that was current before.
 pub record IsReadFrom {D : Type 0} (t : SectionState D) (n : ℕ) (region : Region)
     (file frame : List ℕ) : Type 0 where
-  pub rest : ¬ IsChanging t n → frame ≡ current_frame region 8192 file
-  pub changing : IsChanging t n → frame ≡ frame_of region 8192 t.bucket_twin.current file
+  pub rest : ¬ IsChanging t n → frame ≡ current_frame region FRAME_LEN file
+  pub changing : IsChanging t n → frame ≡ frame_of region FRAME_LEN t.bucket_twin.current file
 
 -- A disk, by what it reads as and by its images, is sound for a section of which so much is known.
 pub record IsSoundSection {D : Type 0} (t : SectionState D) (known : Known) (read : List ℕ)
     (images : List ℕ → Type 0) : Type 0 where
   pub head_frame : List ℕ
-  pub head_len : t.head_twin.frame_len ≡ 8192
+  pub head_len : t.head_twin.frame_len ≡ FRAME_LEN
   pub head_twin : IsSound t.head_twin head_place head_frame read images
   pub head : IsHeadFrame t.name t.head head_frame
   pub head_rest : t.phase ≢ ChangeHead → t.head_twin.change ≡ None
   pub head_changing : t.phase ≡ ChangeHead → IsHeadFrame t.name t.next (next_frame t.head_twin)
   -- the selector that was read is still the one that stands there
   pub selector : (s : ℕ) (region : Region) → t.phase ≡ ReadFrame s
-      → IsPlaceOf (t.bucket - t.head.first) region → named_number region 8192 read ≡ s % 2
+      → IsPlaceOf (t.bucket - t.head.first) region → named_number region FRAME_LEN read ≡ s % 2
   pub bucket : (n : ℕ) (entries : List Entry) → InRange t.head t.buckets n
       → known n ≡ Some entries → HoldsBucket t n entries read images
+
+-- the section's disk holds what is known of it, and each image does
+abbrev pub DiskHolds : {D : Type 0} → DiskOf D → SectionState D → Known → Type 0
+DiskHolds disk t known = IsSoundSection t known (disk.bytes t.disk) (disk.images t.disk)
 
 -- The head that a crash leaves: the section's own or, once its change begins to write the selector,
 -- the next one. That is behind the change's first sync.

@@ -1,41 +1,40 @@
 -- The steps of a writeback and of a change of the head.
-use Rattle.std.specs.Prelude.{◌≡◌, ◌≢◌, ◌⊎◌, ◌+◌, ◌-◌, ◌*◌, ◌%◌, ◌<◌, ◌≤◌, nat_lt, ℕ, List, Some, None, Result, Ok, Err, OnOk}
-use Rattle.std.specs.List.{Contains, count_by}
-use Rattle.vt_base.specs.Faults.{HasRisen}
+use Rattle.std.specs.Prelude.{◌≡◌, ◌≢◌, ◌⊎◌, ⊤, ◌+◌, ◌-◌, ◌*◌, ◌%◌, ◌<◌, ℕ, List, length, take, drop, Some, None, Result, Ok, Err, OnOk}
+use Rattle.std.specs.List.{Contains}
 use Rattle.vt_base.specs.declared.place.Entry.{Entry}
 use Rattle.vt_twin.specs.Calls.{bytes_after, IsSync}
 use Rattle.vt_twin.specs.Twin.{TwinState, calls_made, next_frame, after_call, one_more}
 use Rattle.vt_twin.specs.declared.step.Step.{Step}
 use Rattle.vt_twin.specs.declared.step.Step.TheVariants.{More, Done}
+use Rattle.vt_isect.specs.declared.TheConstants.{FRAME_LEN}
 use Rattle.vt_isect.specs.declared.bad.ShardErr.{ShardErr}
 use Rattle.vt_isect.specs.declared.bad.ShardErr.TheVariants.{Fault, Damaged, Stopped}
 use Rattle.vt_isect.specs.declared.head.Head.{Head}
 use Rattle.vt_isect.specs.declared.phase.Phase.{Phase}
 use Rattle.vt_isect.specs.declared.phase.Phase.TheVariants.{Rest, ReadSelector, ReadFrame, ChangeBucket, ChangeHead}
 use Rattle.vt_isect.specs.Head.{encoded}
-use Rattle.vt_isect.specs.Section.{SectionState, IsOfGroup, IsTodo, entries_of, bucket_number}
+use Rattle.vt_isect.specs.Section.{SectionState, AreNext, IsOfGroup, IsTodo, entries_of}
 use Rattle.vt_disk.specs.declared.region.Region.{Region}
+use Rattle.vt_disk.specs.Members.{DiskOf}
 use Rattle.vt_disk.specs.Region.{Inside}
 use Rattle.vt_isect.specs.Layout.{head_place, IsPlaceOf}
 use Rattle.vt_isect.specs.Merging.{Merges}
-use Rattle.vt_isect.specs.Sound.{Known, IsSoundSection}
+use Rattle.vt_isect.specs.Sound.{Known, DiskHolds}
 use Rattle.vt_isect.specs.Agreement.{IsCovered, KnownAgrees}
 use Rattle.vt_model.specs.History.{History}
-use Rattle.vt_model.specs.Places.{Setup, bucket_of}
+use Rattle.vt_model.specs.Places.{Setup}
 
--- of these entries, how many belong to buckets behind this one
-abbrev pub later : (total bucket : ℕ) → List Entry → ℕ
-later total bucket entries =
-    count_by (λ entry. nat_lt bucket (bucket_of total entry.key.score.0)) entries
+-- how many entries stand behind those of the bucket under way
+abbrev pub later : {D : Type 0} → SectionState D → ℕ
+later t = length (entries_of t) - t.begun
 
 -- How many device calls what is under way makes at most: six for each bucket and four for the head,
 -- and no more buckets come than there are entries for them.
 abbrev pub most_calls : {D : Type 0} → Phase → SectionState D → ℕ
 most_calls Rest t = 0
-most_calls ReadSelector t = 6 * later t.head.total t.bucket (entries_of t) + 10
-most_calls (ReadFrame s) t = 6 * later t.head.total t.bucket (entries_of t) + 9
-most_calls ChangeBucket t =
-    6 * later t.head.total t.bucket (entries_of t) + 8 - calls_made t.bucket_twin
+most_calls ReadSelector t = 6 * later t + 10
+most_calls (ReadFrame s) t = 6 * later t + 9
+most_calls ChangeBucket t = 6 * later t + 8 - calls_made t.bucket_twin
 most_calls ChangeHead t = 4 - calls_made t.head_twin
 
 abbrev pub calls_left : {D : Type 0} → SectionState D → ℕ
@@ -47,9 +46,16 @@ pub record IsOfSection {D : Type 0} (old new : SectionState D) : Type 0 where
   pub name : new.name ≡ old.name
   pub entries : new.entries ≡ old.entries
 
+-- as many entries are written, and the same bucket is or was under way
+pub record SameGroup {D : Type 0} (old new : SectionState D) : Type 0 where
+  pub written : new.written ≡ old.written
+  pub begun : new.begun ≡ old.begun
+  pub bucket : new.bucket ≡ old.bucket
+
 -- nothing is under way any more, and this is the head
 pub record EndsWith {D : Type 0} (head : Head) (old new : SectionState D) : Type 0 where
   pub section : IsOfSection old new
+  pub group : SameGroup old new
   pub head_is : new.head ≡ head
   pub next_is : new.next ≡ head
   pub phase : new.phase ≡ Rest
@@ -63,41 +69,46 @@ pub record GoesOn {D : Type 0} (old new : SectionState D) : Type 0 where
   pub next_is : new.next ≡ old.next
   pub calls : new.calls ≡ one_more old.calls
 
--- Of the buckets of these entries, the next one from this number on is under way or, where there
--- is none, the head: its change to the frame that is written of the next one.
-abbrev pub BeginsFrom : {D : Type 0} → (from : ℕ) → SectionState D → Type 0
-BeginsFrom from t =
-    ((t.phase ≡ ReadSelector) × (from ≤ t.bucket)
-    × ((entry : Entry) × Contains (entries_of t) entry × (bucket_number t entry ≡ t.bucket))
-    × ((entry : Entry) → Contains (entries_of t) entry → from ≤ bucket_number t entry
-    → t.bucket ≤ bucket_number t entry))
-    ⊎ ((t.phase ≡ ChangeHead) × (calls_made t.head_twin ≡ 0)
-    × ((entry : Entry) → Contains (entries_of t) entry → bucket_number t entry < from)
-    × (next_frame t.head_twin ≡ encoded t.name t.next))
+-- Behind the first so many entries, which are written, the bucket of the next ones is under way. It
+-- takes some, and all that stand next to each other.
+abbrev pub BeginsGroup : {D : Type 0} → (from : ℕ) → SectionState D → Type 0
+BeginsGroup from t = (t.phase ≡ ReadSelector) × (t.written ≡ from) × (from < t.begun)
+    × AreNext t.head.total t.bucket t.written t.begun (entries_of t)
+
+-- So many entries are written, which are all, and the head is under way: its change to the frame
+-- that is written of the next one.
+abbrev pub BeginsHead : {D : Type 0} → (from : ℕ) → SectionState D → Type 0
+BeginsHead from t = (t.phase ≡ ChangeHead) × (t.written ≡ from) × (t.begun ≡ from)
+    × (length (entries_of t) ≡ from) × (calls_made t.head_twin ≡ 0)
+    × (next_frame t.head_twin ≡ encoded t.name t.next)
+
+-- behind the first so many entries the next ones are under way or, where there are none, the head
+abbrev pub BeginsBehind : {D : Type 0} → (from : ℕ) → SectionState D → Type 0
+BeginsBehind from t = BeginsGroup from t ⊎ BeginsHead from t
 
 -- What the next call does after this one: a bucket's selector is read, then the frame that it
--- names, and the four calls of the change from that to the new one follow; behind the last bucket
--- come those of the head.
+-- names, and the four calls of the change from that to the new one follow; behind the last of the
+-- entries come those of the head.
 abbrev pub NextPhase : {D : Type 0} → Phase → (old new : SectionState D) → Type 0
 NextPhase Rest old new = ⊥
 NextPhase ReadSelector old new =
-    ((s : ℕ) × (new.phase ≡ ReadFrame s)) × (new.bucket ≡ old.bucket)
+    ((s : ℕ) × (new.phase ≡ ReadFrame s)) × SameGroup old new
 NextPhase (ReadFrame s) old new =
-    (new.phase ≡ ChangeBucket) × (calls_made new.bucket_twin ≡ 0) × (new.bucket ≡ old.bucket)
+    (new.phase ≡ ChangeBucket) × (calls_made new.bucket_twin ≡ 0) × SameGroup old new
     × (new.bucket_twin.current ≡ s % 2)
 NextPhase ChangeBucket old new =
     ((calls_made old.bucket_twin ≢ 3) × (new.phase ≡ ChangeBucket)
-    × (new.bucket_twin ≡ after_call old.bucket_twin) × (new.bucket ≡ old.bucket))
-    ⊎ ((calls_made old.bucket_twin ≡ 3) × BeginsFrom (old.bucket + 1) new)
+    × (new.bucket_twin ≡ after_call old.bucket_twin) × SameGroup old new)
+    ⊎ ((calls_made old.bucket_twin ≡ 3) × BeginsBehind old.begun new)
 NextPhase ChangeHead old new =
     (calls_made old.head_twin ≢ 3) × (new.phase ≡ ChangeHead)
-    × (new.head_twin ≡ after_call old.head_twin)
+    × (new.head_twin ≡ after_call old.head_twin) × SameGroup old new
 
 -- the next call reads
 abbrev pub IsRead : Phase → Type 0
 IsRead Rest = ⊥
-IsRead ReadSelector = Unit {0}
-IsRead (ReadFrame s) = Unit {0}
+IsRead ReadSelector = ⊤
+IsRead (ReadFrame s) = ⊤
 IsRead ChangeBucket = ⊥
 IsRead ChangeHead = ⊥
 
@@ -113,7 +124,7 @@ MayWrite ChangeHead t i = Inside head_place i
 -- what a read gives after the next call of the change under way in this region
 abbrev pub read_after : TwinState → Region → (read : List ℕ) → List ℕ
 read_after twin region read =
-    bytes_after (calls_made twin) region 8192 twin.current (next_frame twin) read
+    bytes_after (calls_made twin) region FRAME_LEN twin.current (next_frame twin) read
 
 -- What the next call writes, where it succeeds: the first call of a change writes its frame, the
 -- third the selector that names it, and no other call writes.
@@ -138,7 +149,7 @@ abbrev pub EndsOrStops : {D : Type 0} → (old new : SectionState D) → Type 0
 EndsOrStops old new =
     (IsRead old.phase × EndsWith old.head old new)
     ⊎ (¬ IsRead old.phase × GoesOn old new × (new.phase ≡ old.phase)
-    × (new.bucket ≡ old.bucket) × (new.stopped ≡ Some old.calls))
+    × SameGroup old new × (new.stopped ≡ Some old.calls))
 
 -- what `advance` makes of a section
 abbrev pub Advances : {D : Type 0} → Result Step ShardErr → (old new : SectionState D) → Type 0
@@ -150,17 +161,14 @@ Advances (Err (Damaged bucket want found)) old new =
     ((s : ℕ) × (old.phase ≡ ReadFrame s)) × EndsWith old.head old new
 Advances (Err (Stopped n)) old new = (old.stopped ≡ Some n) × (new ≡ old)
 
--- a fault comes only where the count of faults rises, and it rises only then
-abbrev pub CountsFaultOf : {T : Type 0} → Result T ShardErr → (old new : ℕ) → Type 0
-CountsFaultOf (Ok value) old new = new ≡ old
-CountsFaultOf (Err Fault) old new = HasRisen old new
-CountsFaultOf (Err (Damaged bucket want found)) old new = new ≡ old
-CountsFaultOf (Err (Stopped n)) old new = new ≡ old
-
 -- the last call of the change of bucket n, where it succeeds
 abbrev pub Completes : {D : Type 0} → Result Step ShardErr → SectionState D → (n : ℕ) → Type 0
 Completes result old n = (result ≡ Ok More) × (old.phase ≡ ChangeBucket)
     × (calls_made old.bucket_twin ≡ 3) × (n ≡ old.bucket)
+
+-- the step put this entry into its bucket, where it is whatever a crash leaves
+abbrev pub WritesBack : {D : Type 0} → (old new : SectionState D) → Entry → Type 0
+WritesBack old new entry = Contains (drop old.written (take new.written (entries_of old))) entry
 
 -- What is known after a step, while the section has the same buckets: the bucket that it completed
 -- has the group in it, and each other one what it had.
@@ -174,12 +182,10 @@ pub record Follows {D : Type 0} (result : Result Step ShardErr) (old new : Secti
 
 -- The disk stays sound for the section, and what is known goes on to agree with each history that
 -- it agreed with.
-abbrev pub Keeps : {D : Type 0} → Result Step ShardErr → (old new : SectionState D)
-    → (read : List ℕ) → (images : List ℕ → Type 0)
-    → (reads : List ℕ) → (after : List ℕ → Type 0) → Type 0
-Keeps result old new read images reads after = (known : Known)
-    → IsSoundSection old known read images
-    → (knows : Known) × Follows result old new known knows × IsSoundSection new knows reads after
+abbrev pub Keeps : {D : Type 0} → DiskOf D → Result Step ShardErr → (old new : SectionState D)
+    → Type 0
+Keeps disk result old new = (known : Known) → DiskHolds disk old known
+    → (knows : Known) × Follows result old new known knows × DiskHolds disk new knows
     × ((score : List ℕ → List ℕ) (c : Setup) (h : History)
     → KnownAgrees score c h old known → KnownAgrees score c h new knows)
 

@@ -2,6 +2,7 @@
 
 ghost use Rattle.std.specs.Prelude.{◌≡◌, [], vec_capacity};
 ghost use Rattle.std.specs.Option.{option_map_or};
+ghost use Rattle.vt_isect.specs.Entries.{turn};
 
 use crate::place::bucket_number;
 use std::marker::Model;
@@ -41,12 +42,15 @@ impl Entries {
         self.items
     }
 
-    /// Puts them into the order of their buckets, of so many, in the memory that they are in.
-    pub(crate) fn order(&mut self, total: u32)
-        ensures { Orders total self.old self.new }
+    /// Puts them into the order of their buckets, of so many, in the memory that they are in: first
+    /// those behind this one, and then the others.
+    pub(crate) fn order(&mut self, total: u32, behind: Option<u32>)
+        ensures { Orders total behind self.old self.new }
     {
-        self.items
-            .sort_unstable_by_key(|entry| bucket_number(total, &entry.key.score));
+        self.items.sort_unstable_by_key(|entry| turn(
+            behind,
+            bucket_number(total, &entry.key.score),
+        ));
     }
 
     /// The entries: in the order in which they were given, or behind a writeback in that of their
@@ -55,6 +59,16 @@ impl Entries {
         ensures { result.now ≡ self.now.items }
     {
         &self.items
+    }
+}
+
+/// When a bucket has its turn in a writeback that begins behind this one.
+fn turn(behind: Option<u32>, bucket: u32) -> u64
+    ensures { result ≡ turn behind bucket }
+{
+    match behind {
+        Some(last) if bucket <= last => u64::from(bucket) + (1 << 32),
+        _ => u64::from(bucket),
     }
 }
 

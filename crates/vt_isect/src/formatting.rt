@@ -1,19 +1,20 @@
 //! Making a disk a section.
 
-ghost use Rattle.std.specs.Prelude.{◌≡◌, ◌+◌, ◌-◌, ◌^◌, ◌<◌, ◌≤◌, min, ℕ, List, length, IsTrue, IfOk, IfErr, OnOk, MatchResult};
-ghost use Rattle.vt_disk.specs.Disk.{SameBut, Only};
-ghost use Rattle.vt_disk.specs.Region.{Inside, ChangesWithin};
+ghost use Rattle.std.specs.Prelude.{◌≡◌, ◌+◌, ◌-◌, ◌<◌, ◌≤◌, ℕ, List, length, IsTrue, IfOk, IfErr, OnOk, Err};
+ghost use Rattle.vt_base.specs.Faults.{CountsFault};
+ghost use Rattle.vt_disk.specs.Calls.{WritesWithin, MadeCalls, IsSynced};
+ghost use Rattle.vt_twin.specs.Formatting.{EndsFormat};
 ghost use Rattle.vt_twin.specs.Frames.{selector_of, selector_bytes, current_frame};
-ghost use Rattle.vt_isect.specs.Faults.{RefusesFormat, CountsFault};
+ghost use Rattle.vt_isect.specs.Faults.{RefusesFormat, refuses_by_fault};
 ghost use Rattle.vt_isect.specs.Head.{encoded, filled, IsHeadFrame};
-ghost use Rattle.vt_isect.specs.Layout.{head_place, buckets_in};
+ghost use Rattle.vt_isect.specs.Layout.{head_place, buckets_in, formatted};
 
 use crate::bad::SectBad;
-use crate::head::{Head, NAME_LEN, encode_head};
+use crate::head::{Head, encode_head};
 use crate::place::{buckets_in, head_place};
-use crate::{FRAME_LEN, LEAST_LEN};
+use crate::{FRAME_LEN, LEAST_LEN, NAME_LEN};
 use vt_base::Text;
-use vt_disk::Disk;
+use vt_disk::{BLOCK_LEN, Disk};
 use vt_fields::put;
 
 /// Makes the disk a section in state 0, with mark 0 and without a place among others: writes its
@@ -22,36 +23,32 @@ use vt_fields::put;
 /// It leaves the buckets as they are: their numbers aren't known before the section has its place.
 /// Whoever puts it to use clears each. The name has at most 64 bytes, which aren't tested.
 pub fn format<D: Disk>(disk: &mut D, name: &Text) -> Result<u32, SectBad>
-    requires { length name.now ≤ 64 }
+    requires { length name.now ≤ NAME_LEN }
 
     ensures count { IfOk result (λ count. count ≡ buckets_in (D.size disk.old)) }
 
     // Whatever a crash leaves from then on, it leaves that head.
     ensures head { IfOk result (λ count. IsTrue D.tells → (c : List ℕ) → D.images disk.new c
-        → current_frame head_place 8192 c ≡ encoded (filled 64 name.now)
-        (record { state = 0; first = 0; count = count; total = 0; mark = 0 })) }
+        → current_frame head_place FRAME_LEN c
+        ≡ encoded (filled NAME_LEN name.now) (formatted count)) }
     ensures head_frame { IfOk result (λ count. IsTrue D.tells
-        → (c : List ℕ) → D.images disk.new c → IsHeadFrame (filled 64 name.now)
-        (record { state = 0; first = 0; count = count; total = 0; mark = 0 })
-        (current_frame head_place 8192 c)) }
+        → (c : List ℕ) → D.images disk.new c → IsHeadFrame (filled NAME_LEN name.now)
+        (formatted count) (current_frame head_place FRAME_LEN c)) }
     ensures selector { OnOk result (IsTrue D.tells
-        → selector_of head_place 8192 (D.bytes disk.new) ≡ selector_bytes 0 8192) }
-    ensures settled { OnOk result (IsTrue D.tells → Only (D.bytes disk.new) (D.images disk.new)) }
+        → selector_of head_place FRAME_LEN (D.bytes disk.new) ≡ selector_bytes 0 BLOCK_LEN) }
+    ensures settled { OnOk result (IsSynced D.Disk disk.new) }
 
-    ensures room { OnOk result (41472 ≤ D.size disk.old) }
+    ensures room { OnOk result (LEAST_LEN ≤ D.size disk.old) }
     ensures refused { IfErr result (RefusesFormat (D.size disk.old)) }
-    ensures untouched { D.size disk.old < 41472 → disk.new ≡ disk.old }
+    ensures untouched { D.size disk.old < LEAST_LEN → disk.new ≡ disk.old }
 
-    // Nothing behind the head changes, whatever the answer.
-    ensures images { ChangesWithin head_place (D.images disk.old) (D.images disk.new) }
-    ensures bytes { IsTrue D.tells
-        → SameBut (Inside head_place) (D.bytes disk.old) (D.bytes disk.new) }
-    ensures size { D.size disk.new ≡ D.size disk.old }
-    ensures calls { IsTrue D.tells
-        → OnOk result (D.calls disk.new ≡ min (D.calls disk.old + 3) (2 ^ 64 - 1)) }
-    ensures most_calls { IsTrue D.tells → D.calls disk.new ≤ D.calls disk.old + 3 }
-    ensures cause { MatchResult result (λ _. D.faults disk.new ≡ D.faults disk.old)
-        (λ bad. CountsFault bad (D.faults disk.old) (D.faults disk.new)) }
+    // Nothing behind the head changes, and nothing is written behind a call that fails.
+    ensures writes { WritesWithin D.Disk head_place 3 disk.old disk.new }
+    ensures calls { OnOk result (MadeCalls D.Disk 3 disk.old disk.new) }
+    ensures failed { result ≡ Err SectBad.Fault → (made : ℕ) × EndsFormat D.Disk head_place
+        (encoded (filled NAME_LEN name.now) (formatted (buckets_in (D.size disk.old)))) made
+        disk.old disk.new }
+    ensures cause { CountsFault refuses_by_fault result (D.faults disk.old) (D.faults disk.new) }
 {
     let len = disk.len();
     if len < LEAST_LEN {
@@ -76,9 +73,9 @@ pub fn format<D: Disk>(disk: &mut D, name: &Text) -> Result<u32, SectBad>
 
 /// A name, and zeros that fill it up.
 fn filled(name: &[u8]) -> [u8; NAME_LEN]
-    requires { length name.now ≤ 64 }
-    ensures bytes { result ≡ filled 64 name.now }
-    ensures len { length result ≡ 64 }
+    requires { length name.now ≤ NAME_LEN }
+    ensures bytes { result ≡ filled NAME_LEN name.now }
+    ensures len { length result ≡ NAME_LEN }
 {
     let mut field = [0; NAME_LEN];
     put(&mut field, 0, name);

@@ -2,15 +2,13 @@
 
 ghost use Rattle.std.specs.Prelude.{◌≡◌, ◌≢◌, ◌+◌, ◌++◌, ◌≤◌, ℕ, None, Some, codes, length, take, IfOk, IfErr, MatchResult};
 ghost use Rattle.byteorder.specs.Endian.{big_bytes};
-ghost use Rattle.vt_isect.specs.Faults.{first_bad, CountsFault, NamesItsCause};
+ghost use Rattle.vt_base.specs.Faults.{CountsFault};
+ghost use Rattle.vt_isect.specs.Faults.{first_bad, NamesItsCause, TellsOfHead, refuses_by_fault};
 ghost use Rattle.vt_isect.specs.Head.{IsHead, IsHeadFrame, encoded, spelled};
 
-use crate::FRAME_LEN;
 use crate::bad::{Field, SectBad};
+use crate::{FIELDS_LEN, FRAME_LEN, LEAST_LEN, NAME_LEN};
 use vt_fields::{put, put_u8, put_u16, put_u32, put_u64, u16_at, u32_at, u64_at};
-
-/// How many bytes a name has, with the zeros that fill it up.
-pub const NAME_LEN: usize = 64;
 
 /// What a section's head says.
 #[derive(Clone, Copy, Debug, PartialEq, Eq)]
@@ -30,15 +28,15 @@ pub struct Head {
 
 /// The name and the head of a frame of 8,192 bytes, on a disk of this length.
 pub fn decode_head(frame: &[u8], len: u64) -> Result<([u8; NAME_LEN], Head), SectBad>
-    requires whole { length frame.now ≡ 8192 }
-    requires room { 41472 ≤ len }
+    requires whole { length frame.now ≡ FRAME_LEN }
+    requires room { LEAST_LEN ≤ len }
     ensures spelling { IfOk result (λ it. IsHeadFrame it.0 it.1 frame.now) }
-    ensures name { IfOk result (λ it. length it.0 ≡ 64) }
+    ensures name { IfOk result (λ it. length it.0 ≡ NAME_LEN) }
     ensures refused { MatchResult result (λ _. first_bad len frame.now ≡ None)
         (λ bad. first_bad len frame.now ≡ Some bad) }
     ensures differs { IfErr result (NamesItsCause len) }
-    ensures memory { IfErr result (λ bad. bad ≢ SectBad.NoMemory) }
-    ensures cause { (faults : ℕ) → IfErr result (λ bad. CountsFault bad faults faults) }
+    ensures told { IfErr result TellsOfHead }
+    ensures cause { (faults : ℕ) → CountsFault refuses_by_fault result faults faults }
 {
     if frame[..4] != b"VSEC"[..] {
         return Err(SectBad::NotFormatted);
@@ -65,8 +63,8 @@ pub fn decode_head(frame: &[u8], len: u64) -> Result<([u8; NAME_LEN], Head), Sec
 
 /// Writes the frame of this name and head.
 pub fn encode_head(name: &[u8; NAME_LEN], head: &Head, frame: &mut [u8])
-    requires whole { length frame.old ≡ 8192 }
-    requires name { length name.now ≡ 64 }
+    requires whole { length frame.old ≡ FRAME_LEN }
+    requires name { length name.now ≡ NAME_LEN }
     ensures written { frame.new ≡ encoded name.now head.now }
     ensures fits { IsHead head.now }
 {
@@ -76,10 +74,10 @@ pub fn encode_head(name: &[u8; NAME_LEN], head: &Head, frame: &mut [u8])
 
 /// Writes the fields of a head, and gives the place behind them.
 fn put_fields(name: &[u8; NAME_LEN], head: &Head, frame: &mut [u8]) -> usize
-    requires whole { length frame.old ≡ 8192 }
-    requires name { length name.now ≡ 64 }
-    ensures written { take 91 frame.new ≡ spelled name.now head.now }
-    ensures end { result ≡ 91 }
+    requires whole { length frame.old ≡ FRAME_LEN }
+    requires name { length name.now ≡ NAME_LEN }
+    ensures written { take FIELDS_LEN frame.new ≡ spelled name.now head.now }
+    ensures end { result ≡ FIELDS_LEN }
     ensures fits { IsHead head.now }
 {
     let at = put(frame, 0, b"VSEC");

@@ -2,7 +2,8 @@
 
 ghost use Rattle.std.specs.Prelude.{◌≡◌, ◌≢◌, ◌⊎◌, ◌<◌, ◌≤◌, ℕ, List, [], ◌++◌, length, IsTrue, None, Some};
 ghost use Rattle.std.specs.List.{AllPairs, Contains};
-ghost use Rattle.vt_disk.specs.Disk.{AreAmong, Only, SameBut};
+ghost use Rattle.vt_disk.specs.Calls.{OnlyReads, IsSynced};
+ghost use Rattle.vt_disk.specs.Disk.{SameBut};
 ghost use Rattle.vt_disk.specs.Region.{Inside};
 ghost use Rattle.vt_model.specs.History.{History};
 ghost use Rattle.vt_model.specs.Legal.{HasOtherKey};
@@ -15,9 +16,10 @@ ghost use Rattle.vt_isect.specs.Filling.{Reads};
 ghost use Rattle.vt_isect.specs.Head.{IsHeadFrame};
 ghost use Rattle.vt_isect.specs.Layout.{head_place, InRange, IsSection};
 ghost use Rattle.vt_isect.specs.Section.{SectionState, IsAtRest, IsTodo};
-ghost use Rattle.vt_isect.specs.Sound.{Known, IsWhole, IsSoundSection, LeavesHead, LeavesSection, nothing_known};
+ghost use Rattle.vt_isect.specs.Sound.{Known, IsWhole, DiskHolds, LeavesHead, LeavesSection};
 ghost use Rattle.vt_base.specs.declared.place.Entry.{Entry};
 
+use crate::FRAME_LEN;
 use vt_disk::Disk;
 
 /// Between two calls a crash leaves a section: with the head or, while that changes, the next one,
@@ -26,35 +28,34 @@ use vt_disk::Disk;
 /// is one of the two, and the next one only behind a sync.
 pub fn images_agree<D: Disk>()
     ensures crash { (t : SectionState D) (known : Known)
-        → IsSoundSection t known (D.bytes t.disk) (D.images t.disk)
+        → DiskHolds D.Disk t known
         → IsWhole t known → t.next.first ≡ t.head.first
         → (file : List ℕ) → D.images t.disk file → LeavesSection t known file }
     ensures agrees { (score : List ℕ → List ℕ) (c : Setup) (h : History)
         (t : SectionState D) (known : Known)
-        → IsSoundSection t known (D.bytes t.disk) (D.images t.disk)
+        → DiskHolds D.Disk t known
         → KnownAgrees score c h t known → (file : List ℕ) → D.images t.disk file
         → LeavesAgreeing score c h t known file }
     ensures head { (t : SectionState D) (known : Known)
-        → IsSoundSection t known (D.bytes t.disk) (D.images t.disk)
+        → DiskHolds D.Disk t known
         → (file : List ℕ) → D.images t.disk file → (head : Head)
         × LeavesHead t head
-        × IsHeadFrame t.name head (current_frame head_place 8192 file) }
+        × IsHeadFrame t.name head (current_frame head_place FRAME_LEN file) }
 {}
 
 /// A disk stays sound for a section by a read or a sync, and where less is known. Where each bucket
 /// was cleared while the mark doesn't count, what is known agrees with any history.
 pub fn soundness_is_kept<D: Disk>()
-    ensures read_or_sync { (t : SectionState D) (known : Known) (before after : D)
-        → D.bytes after ≡ D.bytes before → AreAmong (D.images after) (D.images before)
-        → IsSoundSection t known (D.bytes before) (D.images before)
-        → IsSoundSection (record t { disk = after }) known (D.bytes after) (D.images after) }
+    ensures read_or_sync { (t : SectionState D) (known : Known) (after : D) (most : ℕ)
+        → OnlyReads D.Disk most t.disk after → DiskHolds D.Disk t known
+        → DiskHolds D.Disk (record t { disk = after }) known }
     ensures idle { (t : SectionState D) (known : Known) → IsAtRest t
-        → IsSoundSection t known (D.bytes t.disk) (D.images t.disk)
-        → IsSoundSection (record t { entries = None }) known (D.bytes t.disk) (D.images t.disk) }
+        → DiskHolds D.Disk t known
+        → DiskHolds D.Disk (record t { entries = None }) known }
     ensures forget { (t : SectionState D) (known knows : Known)
         → ((n : ℕ) (entries : List Entry) → knows n ≡ Some entries → known n ≡ Some entries)
-        → IsSoundSection t known (D.bytes t.disk) (D.images t.disk)
-        → IsSoundSection t knows (D.bytes t.disk) (D.images t.disk) }
+        → DiskHolds D.Disk t known
+        → DiskHolds D.Disk t knows }
     ensures cleared { (score : List ℕ → List ℕ) (c : Setup) (h : History)
         (t : SectionState D) (known : Known)
         → AllPairs (HasOtherKey score) h → t.head.total ≡ bucket_count c
@@ -68,17 +69,17 @@ pub fn soundness_is_kept<D: Disk>()
 /// that were filled before it.
 pub fn what_is_read_is_settled<D: Disk>()
     ensures read { (t : SectionState D) (known : Known) → IsTrue D.tells → t.phase ≢ ChangeBucket
-        → IsSoundSection t known (D.bytes t.disk) (D.images t.disk)
-        → Reads t known (D.bytes t.disk) }
+        → DiskHolds D.Disk t known
+        → Reads D.Disk t known }
     ensures settled { (t : SectionState D) (known knows : Known) → t.phase ≢ ChangeBucket
-        → Only (D.bytes t.disk) (D.images t.disk)
-        → IsSoundSection t known (D.bytes t.disk) (D.images t.disk)
-        → Reads t knows (D.bytes t.disk)
-        → IsSoundSection t knows (D.bytes t.disk) (D.images t.disk) }
+        → IsTrue D.tells → IsSynced D.Disk t.disk
+        → DiskHolds D.Disk t known
+        → Reads D.Disk t knows
+        → DiskHolds D.Disk t knows }
     ensures head { (t u : SectionState D) (known : Known)
         → u.head ≡ t.head → u.buckets ≡ t.buckets
         → SameBut (Inside head_place) (D.bytes t.disk) (D.bytes u.disk)
-        → Reads t known (D.bytes t.disk) → Reads u known (D.bytes u.disk) }
+        → Reads D.Disk t known → Reads D.Disk u known }
 {}
 
 /// What is known goes on to agree with a history whatever becomes of the disk, and when the entries

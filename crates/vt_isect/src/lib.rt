@@ -28,12 +28,38 @@ pub use laws::{
 pub use mounting::mount;
 pub use place::bucket_number;
 pub use section::Section;
+use vt_disk::{BLOCK_LEN, SECTOR_LEN};
 
 /// How many bytes a frame has, that of the head and that of a bucket.
-pub const FRAME_LEN: usize = 8192;
+pub const FRAME_LEN: usize = BLOCK_LEN;
+
+const _: () = prove!(FRAME_LEN == 8192);
+
+/// How many bytes the place of the head has: two frames and a block.
+pub const HEAD_PLACE_LEN: u64 = 2 * FRAME_LEN as u64 + BLOCK_LEN as u64;
+
+const _: () = prove!(HEAD_PLACE_LEN == 24_576);
+
+/// How many bytes the place of a bucket has: two frames and a sector.
+pub const BUCKET_PLACE_LEN: u64 = 2 * FRAME_LEN as u64 + SECTOR_LEN as u64;
+
+const _: () = prove!(BUCKET_PLACE_LEN == 16_896);
 
 /// How many bytes the least section has: a head and one bucket.
-pub const LEAST_LEN: u64 = 41_472;
+pub const LEAST_LEN: u64 = HEAD_PLACE_LEN + BUCKET_PLACE_LEN;
+
+const _: () = prove!(LEAST_LEN == 41_472);
+
+/// How many bytes a section's name has, with the zeros that fill it up.
+pub const NAME_LEN: usize = 64;
+
+const _: () = prove!(NAME_LEN == 64);
+
+/// How many bytes of a frame the head's fields are: magic, version, state, name, first, count,
+/// total and mark.
+pub const FIELDS_LEN: usize = 4 + 2 + 1 + NAME_LEN + 4 + 4 + 4 + 8;
+
+const _: () = prove!(FIELDS_LEN == 91);
 
 #[cfg(test)]
 mod tests;

@@ -6,22 +6,22 @@ ghost use Rattle.vt_base.specs.declared.place.Entry.{Entry};
 ghost use Rattle.vt_bucket.specs.Buckets.{number_of, entries_of};
 ghost use Rattle.vt_bucket.specs.Frame.{IsFrame};
 ghost use Rattle.vt_bucket.specs.Faults.{FaultIs};
-ghost use Rattle.vt_disk.specs.Disk.{AreAmong, IsOneMore};
+ghost use Rattle.vt_base.specs.Faults.{CountsFault};
+ghost use Rattle.vt_disk.specs.Calls.{OnlyReads, MadeCalls};
 ghost use Rattle.vt_twin.specs.Frames.{HasRoom, frame_of};
-ghost use Rattle.vt_isect.specs.Entries.{IsOrdered};
-ghost use Rattle.vt_isect.specs.Faults.{damage_of};
-ghost use Rattle.vt_isect.specs.Merging.{Merges, IsOf, HasKey, HasKeys, IsAbsent, Joined, IsMerged, IsFaulty, IsDamage};
-ghost use Rattle.vt_isect.specs.Writeback.{CountsFaultOf};
+ghost use Rattle.vt_isect.specs.Faults.{damage_of, is_fault};
+ghost use Rattle.vt_isect.specs.Merging.{Merges, HasKey, HasKeys, IsAbsent, Joined, IsMerged, IsFaulty, IsDamage};
 
+use crate::FRAME_LEN;
 use crate::bad::ShardErr;
-use crate::groups::group;
 use vt_base::{Entry, FieldValue, Key};
-use vt_bucket::{Bucket, BucketBad, Full, ROOM, decode};
+use vt_bucket::{Bucket, BucketBad, Full, decode};
 use vt_disk::{Disk, Region};
+use vt_model::BUCKET_ROOM;
 
 /// The bucket of a frame.
 pub fn decode_bucket(frame: &[u8], number: u32) -> Result<Bucket, ShardErr>
-    requires { length frame.now ≡ 8192 }
+    requires { length frame.now ≡ FRAME_LEN }
     ensures number { IfOk result (λ bucket. number_of bucket ≡ number) }
     ensures found { IfOk result (λ bucket. IsFrame number (entries_of bucket) frame.now) }
     ensures all_are_read { (entries : List Entry) → IsFrame number entries frame.now
@@ -41,7 +41,7 @@ fn damage(bucket: u32, bad: BucketBad) -> ShardErr
     let (want, found) = match bad {
         BucketBad::Magic(found) => (FieldValue::Magic(*b"VBKT"), FieldValue::Magic(found)),
         BucketBad::Number(found) => (number(bucket), number(found)),
-        BucketBad::Count(found) => (number(ROOM as u32), number(u32::from(found))),
+        BucketBad::Count(found) => (number(BUCKET_ROOM as u32), number(u32::from(found))),
         BucketBad::Order { entry, count } => (number(u32::from(count)), number(u32::from(entry))),
     };
     ShardErr::Damaged {
@@ -58,52 +58,46 @@ fn number(value: u32) -> FieldValue
 }
 
 /// Reads the current frame of a bucket, which a selector with this first byte names, and makes of
-/// it one with those of the entries, too, that belong to the bucket.
+/// it one with a group of entries, too, which belong to it.
 pub fn read_merged<D: Disk>(
     disk: &mut D,
     place: Region,
     selector: u8,
     number: u32,
-    total: u32,
-    entries: &[Entry],
+    group: &[Entry],
     frame: &mut [u8],
 ) -> Result<(), ShardErr>
-    requires whole { length frame.old ≡ 8192 }
-    requires room { HasRoom place 8192 (D.size disk.old) }
-    requires ordered { IsOrdered total entries.now }
-    ensures merged { OnOk result ((read : List ℕ)
-        × IsMerged total number entries.now read frame.new
-        × (IsTrue D.tells → read ≡ frame_of place 8192 (selector % 2) (D.bytes disk.old))) }
+    requires whole { length frame.old ≡ FRAME_LEN }
+    requires room { HasRoom place FRAME_LEN (D.size disk.old) }
+    ensures merged { OnOk result ((read : List ℕ) × IsMerged number group.now read frame.new
+        × (IsTrue D.tells → read ≡ frame_of place FRAME_LEN (selector % 2) (D.bytes disk.old))) }
     ensures damaged { IfErr result (λ bad. bad ≢ ShardErr.Fault → (read : List ℕ)
-        × IsDamage total number entries.now read bad
-        × (IsTrue D.tells → read ≡ frame_of place 8192 (selector % 2) (D.bytes disk.old))) }
-    ensures bytes { D.bytes disk.new ≡ D.bytes disk.old }
-    ensures images { AreAmong (D.images disk.new) (D.images disk.old) }
-    ensures size { D.size disk.new ≡ D.size disk.old }
-    ensures calls { IsTrue D.tells → IsOneMore (D.calls disk.old) (D.calls disk.new) }
-    ensures faults { CountsFaultOf result (D.faults disk.old) (D.faults disk.new) }
+        × IsDamage number group.now read bad
+        × (IsTrue D.tells → read ≡ frame_of place FRAME_LEN (selector % 2) (D.bytes disk.old))) }
+    ensures reads { OnlyReads D.Disk 1 disk.old disk.new }
+    ensures calls { MadeCalls D.Disk 1 disk.old disk.new }
+    ensures faults { CountsFault is_fault result (D.faults disk.old) (D.faults disk.new) }
     ensures stopped { (n : ℕ) → ¬ (result ≡ Err (ShardErr.Stopped n)) }
 {
-    place.read_at(disk, 8192 * u64::from(selector % 2), frame)?;
-    merge_frame(frame, number, total, entries)
+    place.read_at(disk, FRAME_LEN as u64 * u64::from(selector % 2), frame)?;
+    merge_frame(frame, number, group)
 }
 
-/// Makes of a bucket's frame one with those of the entries, too, that belong to the bucket.
-fn merge_frame(frame: &mut [u8], number: u32, total: u32, entries: &[Entry]) -> Result<(), ShardErr>
-    requires whole { length frame.old ≡ 8192 }
-    requires ordered { IsOrdered total entries.now }
-    ensures merged { OnOk result (IsMerged total number entries.now frame.old frame.new) }
-    ensures damaged { IfErr result (IsDamage total number entries.now frame.old) }
+/// Makes of a bucket's frame one with a group of entries, too.
+fn merge_frame(frame: &mut [u8], number: u32, group: &[Entry]) -> Result<(), ShardErr>
+    requires { length frame.old ≡ FRAME_LEN }
+    ensures merged { OnOk result (IsMerged number group.now frame.old frame.new) }
+    ensures damaged { IfErr result (IsDamage number group.now frame.old) }
 {
     let mut bucket = decode_bucket(frame, number)?;
-    match merge(&mut bucket, group(entries, total, number)) {
+    match merge(&mut bucket, group) {
         Ok(()) => {
             bucket.encode(frame);
             Ok(())
         }
         Err(found) => Err(ShardErr::Damaged {
             bucket: number,
-            want: FieldValue::Number(ROOM as u128),
+            want: FieldValue::Number(BUCKET_ROOM as u128),
             found: FieldValue::Number(found),
         }),
     }
@@ -115,12 +109,12 @@ fn merge(bucket: &mut Bucket, group: &[Entry]) -> Result<(), u128>
     ensures merged { OnOk result
         (Merges (entries_of bucket.old) (Contains group.now) (entries_of bucket.new)) }
     ensures number { number_of bucket.new ≡ number_of bucket.old }
-    ensures full { IfErr result (λ found. (263 < found)
+    ensures full { IfErr result (λ found. (BUCKET_ROOM < found)
         × HasKeys (Joined (entries_of bucket.old) (Contains group.now)) found) }
 {
     for i in 0..group.len() {
         if let Err(Full) = bucket.with(group[i]) {
-            return Err(ROOM as u128 + count_absent(bucket, &group[i..]));
+            return Err(BUCKET_ROOM as u128 + count_absent(bucket, &group[i..]));
         }
     }
     Ok(())

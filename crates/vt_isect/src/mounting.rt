@@ -1,10 +1,10 @@
 //! Finding the section of a disk.
 
-ghost use Rattle.std.specs.Prelude.{◌≡◌, ◌≢◌, ◌⊎◌, ◌+◌, ◌-◌, ◌^◌, ◌<◌, ◌≤◌, min, ℕ, List, None, IsTrue, IfOk, IfErr, OnOk, MatchResult, length};
-ghost use Rattle.vt_base.specs.Faults.{HasCause};
+ghost use Rattle.std.specs.Prelude.{◌≡◌, ◌⊎◌, ⊤, ◌+◌, ◌-◌, ◌*◌, ◌<◌, ◌≤◌, ℕ, List, None, Some, IsTrue, IfOk, IfErr, OnOk, MatchResult, length};
+ghost use Rattle.vt_base.specs.Faults.{HasCause, CountsFault};
 ghost use Rattle.vt_base.specs.declared.place.Entry.{Entry};
 ghost use Rattle.vt_bucket.specs.Frame.{IsFrame};
-ghost use Rattle.vt_disk.specs.Disk.{AreAmong, Only};
+ghost use Rattle.vt_disk.specs.Calls.{OnlyReads, MadeCalls, IsSynced};
 ghost use Rattle.vt_disk.specs.declared.region.Region.{Region};
 ghost use Rattle.vt_model.specs.History.{History};
 ghost use Rattle.vt_model.specs.Places.{Setup};
@@ -13,18 +13,18 @@ ghost use Rattle.vt_twin.specs.Sound.{IsSound};
 ghost use Rattle.vt_twin.specs.Twin.{fresh};
 ghost use Rattle.vt_isect.specs.Agreement.{AgreesWith, KnownAgrees};
 ghost use Rattle.vt_isect.specs.declared.head.Head.{Head};
-ghost use Rattle.vt_isect.specs.Faults.{first_bad, RefusesMount, NamesItsCause, CountsFault};
+ghost use Rattle.vt_isect.specs.Faults.{first_bad, RefusesMount, NamesItsCause, TellsOfHead, refuses_by_fault};
 ghost use Rattle.vt_isect.specs.Head.{IsHeadFrame};
 ghost use Rattle.vt_isect.specs.Layout.{head_place, IsPlaceOf, InRange, IsSection, buckets_in};
 ghost use Rattle.vt_isect.specs.Section.{mounted, disk_after};
-ghost use Rattle.vt_isect.specs.Sound.{Known, all_known, IsSoundSection};
+ghost use Rattle.vt_isect.specs.Sound.{Known, all_known, DiskHolds};
 
 use crate::bad::SectBad;
-use crate::head::{Head, NAME_LEN, decode_head};
+use crate::head::{Head, decode_head};
 use crate::phase::Phase;
 use crate::place::{buckets_in, head_place};
 use crate::section::Section;
-use crate::{FRAME_LEN, LEAST_LEN};
+use crate::{FRAME_LEN, LEAST_LEN, NAME_LEN};
 use std::alloc::Global;
 use vt_base::Failed;
 use vt_disk::Disk;
@@ -37,7 +37,7 @@ use vt_twin::Twin;
 pub fn mount<D: Disk>(alloc: Global, mut disk: D) -> Result<Section<D>, (SectBad, D)>
     // It finds the head that is there, and is at rest.
     ensures head { IfOk result (λ it. IsTrue D.tells
-        → IsHeadFrame it.name it.head (current_frame head_place 8192 (D.bytes disk))) }
+        → IsHeadFrame it.name it.head (current_frame head_place FRAME_LEN (D.bytes disk))) }
     ensures fresh { IfOk result (λ it. it
         ≡ mounted it.disk (buckets_in (D.size disk)) it.name it.head it.head_twin.current) }
 
@@ -45,31 +45,32 @@ pub fn mount<D: Disk>(alloc: Global, mut disk: D) -> Result<Section<D>, (SectBad
     ensures sound { (known : Known) → IfOk result (λ it. IsTrue D.tells
         → ((n : ℕ) (region : Region) (entries : List Entry) → InRange it.head it.buckets n
         → IsPlaceOf (n - it.head.first) region → known n ≡ Some entries
-        → IsFrame n entries (current_frame region 8192 (D.bytes disk)))
-        → IsSoundSection it known (D.bytes it.disk) (D.images it.disk)) }
+        → IsFrame n entries (current_frame region FRAME_LEN (D.bytes disk)))
+        → DiskHolds D.Disk it known) }
 
     // Where the bytes are a section that agrees with a history, so does what is known.
     ensures agrees { (score : List ℕ → List ℕ) (c : Setup) (h : History)
         (entries : ℕ → List Entry) → IfOk result (λ it. IsTrue D.tells
         → IsSection it.name it.head it.buckets entries (D.bytes disk)
         → AgreesWith score c h it.buckets it.head entries
-        → IsSoundSection it (all_known entries) (D.bytes it.disk) (D.images it.disk)
+        → DiskHolds D.Disk it (all_known entries)
         × KnownAgrees score c h it (all_known entries)) }
 
-    // What it tells of the head is told of a settled disk.
-    ensures settled { IfOk result (λ it. IsTrue D.tells
-        → Only (D.bytes it.disk) (D.images it.disk)) }
-    ensures settled_first { IfErr result (λ refusal. IsTrue D.tells → 41472 ≤ D.size disk
-        → refusal.0 ≢ SectBad.Fault → refusal.0 ≢ SectBad.NoMemory
-        → Only (D.bytes refusal.1) (D.images refusal.1)) }
+    // Nothing is read behind a sync that fails, so that what is told of the head is told of a
+    // settled disk.
+    ensures settled { MatchResult result (λ _. ⊤) (λ refusal. TellsOfHead refusal.0)
+        → IsSynced D.Disk (disk_after result) }
+    ensures failed { IfErr result (λ refusal. refusal.0 ≡ SectBad.Fault
+        → MadeCalls D.Disk 1 disk refusal.1 ⊎ IsSynced D.Disk refusal.1) }
     ensures refused { IfErr result (λ refusal. IsTrue D.tells
-        → RefusesMount (D.size disk) (current_frame head_place 8192 (D.bytes disk)) refusal.0) }
+        → RefusesMount (D.size disk)
+        (current_frame head_place FRAME_LEN (D.bytes disk)) refusal.0) }
     ensures accepted { IfOk result (λ _. IsTrue D.tells
-        → first_bad (D.size disk) (current_frame head_place 8192 (D.bytes disk)) ≡ None) }
+        → first_bad (D.size disk) (current_frame head_place FRAME_LEN (D.bytes disk)) ≡ None) }
 
     // Each section is found, unless a call of the disk fails or memory runs out.
-    ensures all_are_found { (name : List ℕ) (head : Head) → IsTrue D.tells → 41472 ≤ D.size disk
-        → IsHeadFrame name head (current_frame head_place 8192 (D.bytes disk))
+    ensures all_are_found { (name : List ℕ) (head : Head) → IsTrue D.tells → LEAST_LEN ≤ D.size disk
+        → IsHeadFrame name head (current_frame head_place FRAME_LEN (D.bytes disk))
         → MatchResult result (λ it. (it.name ≡ name) × (it.head ≡ head))
         (λ refusal. (refusal.0 ≡ SectBad.Fault) ⊎ (refusal.0 ≡ SectBad.NoMemory)) }
 
@@ -77,17 +78,14 @@ pub fn mount<D: Disk>(alloc: Global, mut disk: D) -> Result<Section<D>, (SectBad
     ensures differs { IfErr result (λ refusal. NamesItsCause (D.size disk) refusal.0) }
 
     // It takes its memory first, syncs, and makes two reads, and changes nothing.
-    ensures untouched { D.size disk < 41472 → disk_after result ≡ disk }
+    ensures untouched { D.size disk < LEAST_LEN → disk_after result ≡ disk }
     ensures memory_first { IfErr result (λ refusal. refusal.0 ≡ SectBad.NoMemory
         → refusal.1 ≡ disk) }
-    ensures calls { IfOk result (λ it. IsTrue D.tells
-        → D.calls it.disk ≡ min (D.calls disk + 3) (2 ^ 64 - 1)) }
-    ensures most_calls { IsTrue D.tells → D.calls (disk_after result) ≤ D.calls disk + 3 }
-    ensures bytes { D.bytes (disk_after result) ≡ D.bytes disk }
-    ensures images { AreAmong (D.images (disk_after result)) (D.images disk) }
-    ensures size { D.size (disk_after result) ≡ D.size disk }
-    ensures cause { MatchResult result (λ it. D.faults it.disk ≡ D.faults disk)
-        (λ refusal. CountsFault refusal.0 (D.faults disk) (D.faults refusal.1)) }
+    ensures calls { MatchResult result (λ _. ⊤) (λ refusal. TellsOfHead refusal.0)
+        → MadeCalls D.Disk 3 disk (disk_after result) }
+    ensures reads { OnlyReads D.Disk 3 disk (disk_after result) }
+    ensures cause { CountsFault (λ refusal. refuses_by_fault refusal.0) result
+        (D.faults disk) (D.faults (disk_after result)) }
 {
     match open(alloc, &mut disk) {
         Ok(opened) => {
@@ -113,34 +111,29 @@ pub struct Opened {
 /// Syncs, and reads the head.
 fn open<D: Disk>(alloc: Global, disk: &mut D) -> Result<Opened, SectBad>
     ensures head { IfOk result (λ it. IsTrue D.tells
-        → IsHeadFrame it.name it.head (current_frame head_place 8192 (D.bytes disk.old))) }
-    ensures twin { IfOk result (λ it. it.twin ≡ fresh 8192 it.twin.current) }
+        → IsHeadFrame it.name it.head (current_frame head_place FRAME_LEN (D.bytes disk.old))) }
+    ensures twin { IfOk result (λ it. it.twin ≡ fresh FRAME_LEN it.twin.current) }
     ensures sound { IfOk result (λ it. IsTrue D.tells
-        → IsSound it.twin head_place (current_frame head_place 8192 (D.bytes disk.old))
+        → IsSound it.twin head_place (current_frame head_place FRAME_LEN (D.bytes disk.old))
         (D.bytes disk.new) (D.images disk.new)) }
-    ensures frames { IfOk result (λ it. (length it.head_frame.items ≡ 8192)
-        × (length it.bucket_frame.items ≡ 8192)) }
-    ensures name { IfOk result (λ it. length it.name ≡ 64) }
-    ensures room { OnOk result (41472 ≤ D.size disk.old) }
-    ensures settled { OnOk result (IsTrue D.tells → Only (D.bytes disk.new) (D.images disk.new)) }
-    ensures settled_first { IfErr result (λ bad. IsTrue D.tells → 41472 ≤ D.size disk.old
-        → bad ≢ SectBad.Fault → bad ≢ SectBad.NoMemory
-        → Only (D.bytes disk.new) (D.images disk.new)) }
+    ensures frames { IfOk result (λ it. (length it.head_frame.items ≡ FRAME_LEN)
+        × (length it.bucket_frame.items ≡ FRAME_LEN)) }
+    ensures name { IfOk result (λ it. length it.name ≡ NAME_LEN) }
+    ensures room { OnOk result (LEAST_LEN ≤ D.size disk.old) }
+    ensures settled { MatchResult result (λ _. ⊤) TellsOfHead → IsSynced D.Disk disk.new }
+    ensures failed { IfErr result (λ bad. bad ≡ SectBad.Fault
+        → MadeCalls D.Disk 1 disk.old disk.new ⊎ IsSynced D.Disk disk.new) }
     ensures accepted { OnOk result (IsTrue D.tells
-        → first_bad (D.size disk.old) (current_frame head_place 8192 (D.bytes disk.old)) ≡ None) }
-    ensures refused { IfErr result (λ bad. IsTrue D.tells
-        → RefusesMount (D.size disk.old) (current_frame head_place 8192 (D.bytes disk.old)) bad) }
+        → first_bad (D.size disk.old) (current_frame head_place FRAME_LEN (D.bytes disk.old))
+        ≡ None) }
+    ensures refused { IfErr result (λ bad. IsTrue D.tells → RefusesMount (D.size disk.old)
+        (current_frame head_place FRAME_LEN (D.bytes disk.old)) bad) }
     ensures differs { IfErr result (NamesItsCause (D.size disk.old)) }
-    ensures untouched { D.size disk.old < 41472 → disk.new ≡ disk.old }
+    ensures untouched { D.size disk.old < LEAST_LEN → disk.new ≡ disk.old }
     ensures memory_first { IfErr result (λ bad. bad ≡ SectBad.NoMemory → disk.new ≡ disk.old) }
-    ensures calls { OnOk result (IsTrue D.tells
-        → D.calls disk.new ≡ min (D.calls disk.old + 3) (2 ^ 64 - 1)) }
-    ensures most_calls { IsTrue D.tells → D.calls disk.new ≤ D.calls disk.old + 3 }
-    ensures bytes { D.bytes disk.new ≡ D.bytes disk.old }
-    ensures images { AreAmong (D.images disk.new) (D.images disk.old) }
-    ensures size { D.size disk.new ≡ D.size disk.old }
-    ensures cause { MatchResult result (λ _. D.faults disk.new ≡ D.faults disk.old)
-        (λ bad. CountsFault bad (D.faults disk.old) (D.faults disk.new)) }
+    ensures calls { MatchResult result (λ _. ⊤) TellsOfHead → MadeCalls D.Disk 3 disk.old disk.new }
+    ensures reads { OnlyReads D.Disk 3 disk.old disk.new }
+    ensures cause { CountsFault refuses_by_fault result (D.faults disk.old) (D.faults disk.new) }
 {
     let len = disk.len();
     if len < LEAST_LEN {
@@ -169,21 +162,18 @@ fn open<D: Disk>(alloc: Global, disk: &mut D) -> Result<Opened, SectBad>
 
 /// Syncs, and reads the current frame of the head.
 fn read_head<D: Disk>(disk: &mut D, frame: &mut [u8]) -> Result<Twin, Failed>
-    requires room { 41472 ≤ D.size disk.old }
-    requires whole { length frame.old ≡ 8192 }
+    requires room { LEAST_LEN ≤ D.size disk.old }
+    requires whole { length frame.old ≡ FRAME_LEN }
     ensures read { OnOk result (IsTrue D.tells
-        → frame.new ≡ current_frame head_place 8192 (D.bytes disk.old)) }
-    ensures twin { IfOk result (λ twin. twin ≡ fresh 8192 twin.current) }
+        → frame.new ≡ current_frame head_place FRAME_LEN (D.bytes disk.old)) }
+    ensures twin { IfOk result (λ twin. twin ≡ fresh FRAME_LEN twin.current) }
     ensures sound { IfOk result (λ twin. IsTrue D.tells
-        → IsSound twin head_place (current_frame head_place 8192 (D.bytes disk.old))
+        → IsSound twin head_place (current_frame head_place FRAME_LEN (D.bytes disk.old))
         (D.bytes disk.new) (D.images disk.new)) }
-    ensures settled { OnOk result (IsTrue D.tells → Only (D.bytes disk.new) (D.images disk.new)) }
-    ensures bytes { D.bytes disk.new ≡ D.bytes disk.old }
-    ensures images { AreAmong (D.images disk.new) (D.images disk.old) }
-    ensures size { D.size disk.new ≡ D.size disk.old }
-    ensures calls { IsTrue D.tells
-        → OnOk result (D.calls disk.new ≡ min (D.calls disk.old + 3) (2 ^ 64 - 1)) }
-    ensures most_calls { IsTrue D.tells → D.calls disk.new ≤ D.calls disk.old + 3 }
+    ensures settled { MadeCalls D.Disk 1 disk.old disk.new ⊎ IsSynced D.Disk disk.new }
+    ensures synced { OnOk result (IsSynced D.Disk disk.new) }
+    ensures calls { OnOk result (MadeCalls D.Disk 3 disk.old disk.new) }
+    ensures reads { OnlyReads D.Disk 3 disk.old disk.new }
     ensures cause { HasCause result (D.faults disk.old) (D.faults disk.new) }
 {
     let place = head_place();

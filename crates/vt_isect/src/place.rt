@@ -5,22 +5,17 @@ ghost use Rattle.vt_model.specs.Places.{bucket_of};
 ghost use Rattle.vt_twin.specs.Frames.{HasRoom};
 ghost use Rattle.vt_isect.specs.Layout.{head_place, IsPlaceOf, buckets_in};
 
+use crate::{BUCKET_PLACE_LEN, FRAME_LEN, HEAD_PLACE_LEN};
 use vt_base::Score;
 use vt_disk::Region;
 use vt_model::bucket_of;
 
-/// How many bytes the head has: two frames and a block.
-const HEAD_LEN: u64 = 24_576;
-
-/// How many bytes a bucket has: two frames and a sector.
-const BUCKET_LEN: u64 = 16_896;
-
 /// How many buckets a section of this length has.
 pub fn buckets_in(len: u64) -> u32
     ensures count { result ≡ buckets_in len }
-    ensures room { 24576 ≤ len → 24576 + 16896 * result ≤ len }
+    ensures room { HEAD_PLACE_LEN ≤ len → HEAD_PLACE_LEN + BUCKET_PLACE_LEN * result ≤ len }
 {
-    let count = len.saturating_sub(HEAD_LEN) / BUCKET_LEN;
+    let count = len.saturating_sub(HEAD_PLACE_LEN) / BUCKET_PLACE_LEN;
     count.min(u64::from(u32::MAX)) as u32
 }
 
@@ -30,18 +25,19 @@ pub fn head_place() -> Region
 {
     Region {
         start: 0,
-        len: HEAD_LEN,
+        len: HEAD_PLACE_LEN,
     }
 }
 
 /// The place of a bucket, which is counted from 0 in its section.
 pub fn bucket_place(bucket: u32) -> Region
     ensures place { IsPlaceOf bucket result }
-    ensures room { (size : ℕ) → 24576 + 16896 * bucket + 16896 ≤ size → HasRoom result 8192 size }
+    ensures room { (size : ℕ) → HEAD_PLACE_LEN + BUCKET_PLACE_LEN * bucket + BUCKET_PLACE_LEN ≤ size
+        → HasRoom result FRAME_LEN size }
 {
     Region {
-        start: HEAD_LEN + BUCKET_LEN * u64::from(bucket),
-        len: BUCKET_LEN,
+        start: HEAD_PLACE_LEN + BUCKET_PLACE_LEN * u64::from(bucket),
+        len: BUCKET_PLACE_LEN,
     }
 }
 

@@ -1,13 +1,12 @@
 //! A section that is mounted.
 
-ghost use Rattle.std.specs.Prelude.{◌≡◌, ◌≢◌, ◌↔◌, ◌+◌, ◌-◌, ◌*◌, ◌^◌, ◌<◌, ◌≤◌, min, ℕ, List, [], length, IsTrue, IsSome, IfOk, IfErr, IfSome, IsOk, OnOk, None, Some, Ok, Err, is_some};
+ghost use Rattle.std.specs.Prelude.{◌≡◌, ◌≢◌, ◌↔◌, ◌+◌, ◌-◌, ◌*◌, ◌^◌, ◌<◌, ◌≤◌, ℕ, List, length, IsTrue, IfOk, IfErr, IfSome, IsOk, OnOk, None, Some};
 ghost use Rattle.std.specs.List.{Contains};
-ghost use Rattle.vt_base.specs.Faults.{HasCause};
+ghost use Rattle.vt_base.specs.Faults.{HasCause, CountsFault};
 ghost use Rattle.vt_base.specs.declared.place.Entry.{Entry};
 ghost use Rattle.vt_bucket.specs.Buckets.{number_of, entries_of as entries_in};
 ghost use Rattle.vt_bucket.specs.Frame.{IsFrame};
-ghost use Rattle.vt_disk.specs.Disk.{AreAmong, SameBut, Only, IsOneMore};
-ghost use Rattle.vt_disk.specs.Region.{ChangesWithin, Inside};
+ghost use Rattle.vt_disk.specs.Calls.{OnlyReads, MadeCalls};
 ghost use Rattle.vt_disk.specs.declared.region.Region.{Region};
 ghost use Rattle.vt_model.specs.History.{History};
 ghost use Rattle.vt_model.specs.Places.{Setup};
@@ -17,18 +16,17 @@ ghost use Rattle.vt_isect.specs.Agreement.{KnownAgrees, IsCovered, IsOfBlock, No
 ghost use Rattle.vt_isect.specs.Head.{IsHeadFrame, encoded};
 ghost use Rattle.vt_isect.specs.Layout.{IsPlaceOf, InRange};
 ghost use Rattle.vt_isect.specs.Entries.{EntriesState, Orders};
-ghost use Rattle.vt_isect.specs.Faults.{DiffersIn};
+ghost use Rattle.vt_isect.specs.Faults.{NamesDamage, is_fault};
 ghost use Rattle.vt_isect.specs.Merging.{IsFaulty};
 
-use crate::FRAME_LEN;
 use crate::bad::ShardErr;
 use crate::entries::{Entries, items};
-use crate::groups::later;
-use crate::head::{Head, NAME_LEN};
+use crate::head::Head;
 use crate::merging::decode_bucket;
 use crate::mounting::Opened;
 use crate::phase::Phase;
 use crate::place::{bucket_number, bucket_place};
+use crate::{BUCKET_PLACE_LEN, FRAME_LEN, HEAD_PLACE_LEN, NAME_LEN};
 use std::marker::Model;
 use std::sync::ledger::Ledger;
 use vt_base::{Entry, Failed};
@@ -51,6 +49,10 @@ pub struct Section<D: Disk> {
     pub(crate) next: Head,
     pub(crate) phase: Phase,
     pub(crate) entries: Option<Entries>,
+    /// How many of the entries are in their buckets: the first ones.
+    pub(crate) written: usize,
+    /// How many are there or on the way into the bucket under way.
+    pub(crate) begun: usize,
     /// The number of the bucket under way, over all sections.
     pub(crate) bucket: u32,
     pub(crate) head_twin: Twin,
@@ -68,36 +70,11 @@ impl<D: Disk> Model for Section<D> {
 
     ghost Value = { SectionState D };
 
-    ghost view = { λ s. record {
-      disk = s.disk;
-      buckets = s.buckets;
-      name = s.name;
-      head = s.head;
-      next = s.next;
-      phase = s.phase;
-      entries = s.entries;
-      bucket = s.bucket;
-      head_twin = s.head_twin;
-      bucket_twin = s.bucket_twin;
-      calls = s.calls;
-      stopped = s.stopped;
-    } };
+    ghost use Rattle.vt_isect.specs.View.{state_of};
 
-    ghost invariant = { λ s. IsWell (D.size s.disk)
-        (record {
-          disk = s.disk;
-          buckets = s.buckets;
-          name = s.name;
-          head = s.head;
-          next = s.next;
-          phase = s.phase;
-          entries = s.entries;
-          bucket = s.bucket;
-          head_twin = s.head_twin;
-          bucket_twin = s.bucket_twin;
-          calls = s.calls;
-          stopped = s.stopped;
-        })
+    ghost view = { state_of };
+
+    ghost invariant = { λ s. IsWell (D.size s.disk) (state_of s)
         (option_map (λ frame. frame.items) s.head_frame)
         (option_map (λ frame. frame.items) s.bucket_frame) };
 }
@@ -105,16 +82,16 @@ impl<D: Disk> Model for Section<D> {
 impl<D: Disk> Section<D> {
     ghost use Rattle.vt_isect.specs.declared.phase.Phase.TheVariants.{Rest, ReadSelector, ChangeBucket, ChangeHead};
     ghost use Rattle.vt_isect.specs.Section.{SectionState, AreInRange, IsAtRest, IsChanging, IsIdle, IsTodo, bucket_under_way, entries_of, mounted, HasBucket};
-    ghost use Rattle.vt_isect.specs.Sound.{Known, IsReadFrom, IsSoundSection, with_bucket};
-    ghost use Rattle.vt_isect.specs.Writeback.{CountsFaultOf, BeginsFrom, calls_left, later};
+    ghost use Rattle.vt_isect.specs.Sound.{Known, DiskHolds, IsReadFrom};
+    ghost use Rattle.vt_isect.specs.Writeback.{BeginsBehind, calls_left, later};
 
     /// A section as it was found.
     pub(crate) fn new(disk: D, buckets: u32, opened: Opened) -> Self
-        requires room { 24576 + 16896 * buckets ≤ D.size disk }
-        requires name { length opened.name ≡ 64 }
-        requires head_frame { length opened.head_frame.items ≡ 8192 }
-        requires bucket_frame { length opened.bucket_frame.items ≡ 8192 }
-        requires twin { opened.twin ≡ fresh 8192 opened.twin.current }
+        requires room { HEAD_PLACE_LEN + BUCKET_PLACE_LEN * buckets ≤ D.size disk }
+        requires name { length opened.name ≡ NAME_LEN }
+        requires head_frame { length opened.head_frame.items ≡ FRAME_LEN }
+        requires bucket_frame { length opened.bucket_frame.items ≡ FRAME_LEN }
+        requires twin { opened.twin ≡ fresh FRAME_LEN opened.twin.current }
         ensures { result ≡ mounted disk buckets opened.name opened.head opened.twin.current }
     {
         let Opened {
@@ -132,6 +109,8 @@ impl<D: Disk> Section<D> {
             next: head,
             phase: Phase::Rest,
             entries: None,
+            written: 0,
+            begun: 0,
             bucket: 0,
             head_twin: twin,
             bucket_twin: Twin::resume(FRAME_LEN as u64, 0),
@@ -193,8 +172,7 @@ impl<D: Disk> Section<D> {
         self.phase != Phase::Rest
     }
 
-    /// The number of the bucket that a writeback is putting entries into, if there is one. Those
-    /// of lower numbers have theirs.
+    /// The number of the bucket that a writeback is putting entries into, if there is one.
     pub fn bucket_under_way(&self) -> Option<u32>
         ensures bucket { result ≡ bucket_under_way self.now.phase self.now.bucket }
         ensures in_range { IfSome result (InRange self.now.head self.now.buckets) }
@@ -219,13 +197,30 @@ impl<D: Disk> Section<D> {
         }
     }
 
-    /// How many entries belong to buckets behind the one under way.
+    /// How many entries stand behind those of the bucket under way.
     fn later(&self) -> u64
         requires { HasBucket self.now.phase }
-        ensures later { result ≡ later self.now.head.total self.now.bucket (entries_of self.now) }
+        ensures later { result ≡ later self.now }
         ensures most { 6 * result + 10 < 2 ^ 64 }
     {
-        later(items(&self.entries), self.head.total, self.bucket) as u64
+        (items(&self.entries).len() - self.begun) as u64
+    }
+
+    /// The entries of the writeback that is under way or was the last, in the order in which they
+    /// are put into their buckets, until they are handed back.
+    pub fn entries(&self) -> &[Entry]
+        ensures { result.now ≡ entries_of self.now }
+    {
+        items(&self.entries)
+    }
+
+    /// How many of those entries, from the first on, are in their buckets. A step puts those into
+    /// theirs that stand between the count before it and the one behind it.
+    pub fn written(&self) -> usize
+        ensures count { result ≡ self.now.written }
+        ensures most { HasBucket self.now.phase → result ≤ length (entries_of self.now) }
+    {
+        self.written
     }
 
     /// The number of the device call that stopped it, if one did.
@@ -256,12 +251,11 @@ impl<D: Disk> Section<D> {
         // It gives exactly what is known of the bucket, and where something is known it finds no
         // damage.
         ensures found { (known : Known) (entries : List Entry) → IfOk result (λ bucket.
-            IsTrue D.tells
-            → IsSoundSection self.old known (D.bytes self.old.disk) (D.images self.old.disk)
+            IsTrue D.tells → DiskHolds D.Disk self.old known
             → known number ≡ Some entries → entries_in bucket ≡ entries) }
         ensures undamaged { (known : Known) (entries : List Entry) → IsTrue D.tells
-            → IsSoundSection self.old known (D.bytes self.old.disk) (D.images self.old.disk)
-            → known number ≡ Some entries → IfErr result (λ bad. bad ≡ ShardErr.Fault) }
+            → DiskHolds D.Disk self.old known → known number ≡ Some entries
+            → IfErr result (λ bad. bad ≡ ShardErr.Fault) }
 
         // Else too it gives what the frame that it reads spells, and damage is a fault of that.
         ensures number { IfOk result (λ bucket. number_of bucket ≡ number) }
@@ -270,19 +264,18 @@ impl<D: Disk> Section<D> {
             × ((region : Region) → IsTrue D.tells
             → IsPlaceOf (number - self.old.head.first) region
             → IsReadFrom self.old number region (D.bytes self.old.disk) frame)) }
-        ensures differs { IfErr result DiffersIn }
+        ensures differs { IfErr result NamesDamage }
         ensures damaged { IfErr result (λ bad. bad ≢ ShardErr.Fault → (frame : List ℕ)
             × IsFaulty number frame bad
             × ((region : Region) → IsTrue D.tells
             → IsPlaceOf (number - self.old.head.first) region
             → IsReadFrom self.old number region (D.bytes self.old.disk) frame)) }
-        ensures faults { CountsFaultOf result (D.faults self.old.disk) (D.faults self.new.disk) }
+        ensures faults { CountsFault is_fault result
+            (D.faults self.old.disk) (D.faults self.new.disk) }
 
         // It changes nothing, and reads one bucket frame at most.
         ensures same { self.new ≡ record self.old { disk = self.new.disk } }
-        ensures bytes { D.bytes self.new.disk ≡ D.bytes self.old.disk }
-        ensures images { AreAmong (D.images self.new.disk) (D.images self.old.disk) }
-        ensures size { D.size self.new.disk ≡ D.size self.old.disk }
+        ensures reads { OnlyReads D.Disk 2 self.old.disk self.new.disk }
         ensures cost { OnOk result (steps.new ≡ steps.old + 1) }
         ensures cost_of_damage { IfErr result (λ bad. bad ≢ ShardErr.Fault
             → steps.new ≡ steps.old + 1) }
@@ -291,13 +284,10 @@ impl<D: Disk> Section<D> {
 
         // It reads the selector, but of a bucket that is being changed, and counts a step exactly
         // where it reads a frame.
-        ensures calls { IsTrue D.tells → ¬ IsChanging self.old number → D.calls self.new.disk
-            ≡ min (D.calls self.old.disk + 1 + (steps.new - steps.old)) (2 ^ 64 - 1) }
-        ensures calls_of_change { IsTrue D.tells → IsChanging self.old number
-            → IsOneMore (D.calls self.old.disk) (D.calls self.new.disk)
-            × (steps.new ≡ steps.old + 1) }
-        ensures most_calls { IsTrue D.tells
-            → D.calls self.new.disk ≤ D.calls self.old.disk + 2 }
+        ensures calls { ¬ IsChanging self.old number
+            → MadeCalls D.Disk (1 + (steps.new - steps.old)) self.old.disk self.new.disk }
+        ensures calls_of_change { IsChanging self.old number
+            → MadeCalls D.Disk 1 self.old.disk self.new.disk × (steps.new ≡ steps.old + 1) }
     {
         let place = bucket_place(number - self.head.first);
         let current = self.current_number(number)?;
@@ -313,26 +303,28 @@ impl<D: Disk> Section<D> {
 
     /// Takes in entries that are to be written to their buckets, and the mark that the head gets
     /// behind them. It makes no device call. The entries need no order, and it puts them into that
-    /// of their buckets; of two with one key one is kept. Entries of an earlier writeback that
-    /// `idle` hasn't handed back are freed.
-    pub fn begin_file(&mut self, mut entries: Entries, mark: u64)
+    /// of their buckets, first those of the buckets behind this one and then the others; of two
+    /// with one key one is kept. Entries of an earlier writeback that `idle` hasn't handed back are
+    /// freed.
+    pub fn begin_file(&mut self, mut entries: Entries, mark: u64, behind: Option<u32>)
         requires rest { IsAtRest self.old }
         requires in_range { AreInRange self.old.head self.old.buckets entries.items }
-        ensures begins { BeginsFrom 0 self.new }
+        ensures begins { BeginsBehind 0 self.new }
         ensures left { calls_left self.new ≤ 6 * length entries.items + 4 }
         ensures entries { (ordered : EntriesState) × (self.new.entries ≡ Some ordered)
-            × Orders self.old.head.total entries ordered }
+            × Orders self.old.head.total behind entries ordered }
         ensures next { self.new.next ≡ record self.old.head { mark = mark } }
         ensures same { self.new ≡ record self.old {
           next = self.new.next;
           phase = self.new.phase;
           entries = self.new.entries;
+          written = self.new.written;
+          begun = self.new.begun;
           bucket = self.new.bucket;
           head_twin = self.new.head_twin;
         } }
-        ensures sound { (known : Known) → IsTrue D.tells
-            → IsSoundSection self.old known (D.bytes self.old.disk) (D.images self.old.disk)
-            → IsSoundSection self.new known (D.bytes self.old.disk) (D.images self.old.disk) }
+        ensures sound { (known : Known) → IsTrue D.tells → DiskHolds D.Disk self.old known
+            → DiskHolds D.Disk self.new known }
 
         // What is known goes on to agree with a history where each entry is that of a block, and
         // each block below the mark is in its bucket or among the entries.
@@ -349,7 +341,7 @@ impl<D: Disk> Section<D> {
             → IsCovered score c h self.new known (IsTodo self.new) covered }
     {
         let next = Head { mark, ..self.head };
-        entries.order(self.head.total);
+        entries.order(self.head.total, behind);
         self.entries = Some(entries);
         self.go_on(0, next);
     }
@@ -375,9 +367,8 @@ impl<D: Disk> Section<D> {
           phase = self.new.phase;
           head_twin = self.new.head_twin;
         } }
-        ensures sound { (known : Known) → IsTrue D.tells
-            → IsSoundSection self.old known (D.bytes self.old.disk) (D.images self.old.disk)
-            → IsSoundSection self.new known (D.bytes self.old.disk) (D.images self.old.disk) }
+        ensures sound { (known : Known) → IsTrue D.tells → DiskHolds D.Disk self.old known
+            → DiskHolds D.Disk self.new known }
         ensures agrees { (score : List ℕ → List ℕ) (c : Setup) (h : History) (known : Known)
             → KnownAgrees score c h self.old known
             → first ≡ self.old.head.first → total ≡ self.old.head.total
@@ -416,13 +407,11 @@ impl<D: Disk> Section<D> {
             → current ≡ self.old.bucket_twin.current) }
         ensures named { IfOk result (λ current. IsTrue D.tells → ¬ IsChanging self.old number
             → (region : Region) → IsPlaceOf (number - self.old.head.first) region
-            → current ≡ named_number region 8192 (D.bytes self.old.disk)) }
+            → current ≡ named_number region FRAME_LEN (D.bytes self.old.disk)) }
         ensures same { self.new ≡ record self.old { disk = self.new.disk } }
-        ensures bytes { D.bytes self.new.disk ≡ D.bytes self.old.disk }
-        ensures images { AreAmong (D.images self.new.disk) (D.images self.old.disk) }
-        ensures size { D.size self.new.disk ≡ D.size self.old.disk }
-        ensures calls { IsTrue D.tells → ¬ IsChanging self.old number
-            → IsOneMore (D.calls self.old.disk) (D.calls self.new.disk) }
+        ensures reads { OnlyReads D.Disk 1 self.old.disk self.new.disk }
+        ensures calls { ¬ IsChanging self.old number
+            → MadeCalls D.Disk 1 self.old.disk self.new.disk }
         ensures of_change { IsChanging self.old number
             → IsOk result × (self.new ≡ self.old) }
         ensures cause { HasCause result (D.faults self.old.disk) (D.faults self.new.disk) }

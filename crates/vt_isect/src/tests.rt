@@ -1,8 +1,7 @@
 //! Sections on disks in memory: formatted, mounted, written back, stopped, crashed and refused.
 
-ghost use Rattle.std.specs.Prelude.{◌≡◌, ◌<◌, length};
+ghost use Rattle.std.specs.Prelude.{◌≡◌, ◌<◌};
 ghost use Rattle.vt_isect.specs.Layout.{InRange};
-ghost use Rattle.vt_memdisk.specs.Memory.{memory_bytes};
 
 use super::*;
 use std::alloc::Global;
@@ -12,7 +11,7 @@ use std::test::Fail;
 use vt_base::{Entry, FieldValue, Key, Kind, Place, Score, Text};
 use vt_bucket::Bucket;
 use vt_disk::Disk;
-use vt_memdisk::{Listed, MemDisk};
+use vt_memdisk::{CrashMode, Listed, MemDisk};
 use vt_steps::Steps;
 use vt_twin::Step;
 
@@ -178,7 +177,7 @@ fn begin<D: Disk>(section: &mut Section<D>, entries: Entries, mark: u64) -> Resu
     if section.is_changing() || !section.has_buckets(entries.as_slice()) {
         return Err("no writeback may begin".into());
     }
-    section.begin_file(entries, mark);
+    section.begin_file(entries, mark, None);
     Ok(())
 }
 
@@ -242,34 +241,6 @@ fn level<D: Disk>(section: &mut Section<D>) -> Result<u8, Fail> {
     Ok(b'0')
 }
 
-/// What a crash leaves of the pending bytes: the synced ones in mode 0, the written ones in mode 1,
-/// the written ones at even places in mode 2, and a5 in mode 3.
-fn choice(alloc: Global, disk: &MemDisk<Listed>, mode: usize) -> Result<Vec<u16>, Fail>
-    requires { length (memory_bytes disk.now) ≡ 58368 }
-{
-    let mut choice = Vec::new(alloc);
-    for at in 0..LEN {
-        if disk.pending(at) {
-            choice.push(match mode {
-                0 => 256,
-                1 => 257,
-                2 => if at % 2 == 0 { 257 } else { 256 },
-                _ => 0xa5,
-            })?;
-        }
-    }
-    Ok(choice)
-}
-
-/// A disk after a crash in this mode.
-fn crashed(alloc: Global, disk: MemDisk<Listed>, mode: usize) -> Result<MemDisk<Listed>, Fail> {
-    if disk.len() != LEN {
-        return Err("another length".into());
-    }
-    let choice = choice(alloc, &disk, mode)?;
-    Ok(disk.crash(&choice))
-}
-
 /// Makes so many calls of what is under way and one further, which fails where that is said.
 fn stop<D: Disk>(
     section: &mut Section<D>,
@@ -307,20 +278,20 @@ fn reads(call: u64) -> bool {
 }
 
 /// How far a writeback has come that ends with this call, after a crash.
-fn written(alloc: Global, call: u64, fails: bool, mode: usize) -> Result<u8, Fail> {
+fn written(alloc: Global, call: u64, fails: bool, mode: CrashMode) -> Result<u8, Fail> {
     let mut section = live(alloc, failing(call, fails))?;
     begin(&mut section, three(alloc)?, 3)?;
     stop(&mut section, call, fails, reads(call))?;
-    let disk = crashed(alloc, section.into_devices(), mode)?;
+    let disk = section.into_devices().crash_in(mode);
     level(&mut mounted(alloc, disk)?)
 }
 
 /// Whether a change of the head that ends with this call has come to its end, after a crash.
-fn changed(alloc: Global, call: u64, fails: bool, mode: usize) -> Result<u8, Fail> {
+fn changed(alloc: Global, call: u64, fails: bool, mode: CrashMode) -> Result<u8, Fail> {
     let mut section = live(alloc, failing(call, fails))?;
     begin_head(&mut section, (2, 5, 9, 4))?;
     stop(&mut section, call, fails, false)?;
-    let disk = crashed(alloc, section.into_devices(), mode)?;
+    let disk = section.into_devices().crash_in(mode);
     let head = mounted(alloc, disk)?.head();
     see(head.count == 2, "another count")?;
     match (head.state, head.first, head.total, head.mark) {
@@ -361,11 +332,12 @@ const HEAD: [[[u8; 4]; 2]; 4] = [
 #[test]
 fn a_writeback_is_stopped_anywhere(rt: HostRuntime) -> Result<(), Fail> {
     for (call, [done, failed]) in WRITEBACK.into_iter().enumerate() {
-        for mode in 0..4 {
-            let answer = written(rt.alloc(), call as u64, false, mode)?;
-            assert_eq!(rt; answer, done[mode], "call {call}, mode {mode}");
-            let answer = written(rt.alloc(), call as u64, true, mode)?;
-            assert_eq!(rt; answer, failed[mode], "failed call {call}, mode {mode}");
+        for (mode, wanted) in CrashMode::ALL.into_iter().zip(done.into_iter().zip(failed)) {
+            let found = (
+                written(rt.alloc(), call as u64, false, mode)?,
+                written(rt.alloc(), call as u64, true, mode)?,
+            );
+            assert_eq!(rt; found, wanted, "call {call}, {mode:?}");
         }
     }
     Ok(())
@@ -374,11 +346,12 @@ fn a_writeback_is_stopped_anywhere(rt: HostRuntime) -> Result<(), Fail> {
 #[test]
 fn a_change_of_the_head_is_stopped_anywhere(rt: HostRuntime) -> Result<(), Fail> {
     for (call, [done, failed]) in HEAD.into_iter().enumerate() {
-        for mode in 0..4 {
-            let answer = changed(rt.alloc(), call as u64, false, mode)?;
-            assert_eq!(rt; answer, done[mode], "call {call}, mode {mode}");
-            let answer = changed(rt.alloc(), call as u64, true, mode)?;
-            assert_eq!(rt; answer, failed[mode], "failed call {call}, mode {mode}");
+        for (mode, wanted) in CrashMode::ALL.into_iter().zip(done.into_iter().zip(failed)) {
+            let found = (
+                changed(rt.alloc(), call as u64, false, mode)?,
+                changed(rt.alloc(), call as u64, true, mode)?,
+            );
+            assert_eq!(rt; found, wanted, "call {call}, {mode:?}");
         }
     }
     Ok(())
@@ -637,7 +610,7 @@ fn a_cleared_bucket_is_spelled(rt: HostRuntime) -> Result<(), Fail> {
 
 /// The state of a section after a crash that follows this call of the change of its head to state
 /// 1, where a bucket was filled before it. In state 1 the bucket has its entry.
-fn state_when_filled(alloc: Global, call: u64, mode: usize) -> Result<u8, Fail> {
+fn state_when_filled(alloc: Global, call: u64, mode: CrashMode) -> Result<u8, Fail> {
     let mut section = fresh(alloc, disk(alloc, LEN, NEVER)?)?;
     begin_head(&mut section, (2, 0, 2, 0))?;
     finish(&mut section, 4)?;
@@ -649,7 +622,7 @@ fn state_when_filled(alloc: Global, call: u64, mode: usize) -> Result<u8, Fail> 
     see(has(&mut section, 1, &[8])?, "another bucket 1")?;
     begin_head(&mut section, (1, 0, 2, 1))?;
     see(step_after(&mut section, call)?.is_ok(), "a fault")?;
-    let mut section = mounted(alloc, crashed(alloc, section.into_devices(), mode)?)?;
+    let mut section = mounted(alloc, section.into_devices().crash_in(mode))?;
     let state = section.head().state;
     see(
         state != 1 || has(&mut section, 1, &[8])?,
@@ -667,9 +640,9 @@ fn a_filled_bucket_is_settled_before_the_head(rt: HostRuntime) -> Result<(), Fai
         (2, [2, 1, 1, 2]),
         (3, [1, 1, 1, 1]),
     ] {
-        for (mode, state) in states.into_iter().enumerate() {
+        for (mode, state) in CrashMode::ALL.into_iter().zip(states) {
             let found = state_when_filled(rt.alloc(), call, mode)?;
-            assert_eq!(rt; found, state, "call {call}, mode {mode}");
+            assert_eq!(rt; found, state, "call {call}, {mode:?}");
         }
     }
     // Each call of filling fails in turn: the write of the frame, that of the selector.

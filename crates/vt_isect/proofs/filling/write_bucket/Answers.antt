@@ -1,26 +1,32 @@
-use Rattle.std.proofs.Common.{Result, Ok, Err, min, ◌-◌, ◌^◌, ◌≡◌, ◌+◌, IsTrue, List, ℕ, length, replicate, inl, inr, sym, ◌∙◌, ap, subst, arith}
-use Rattle.std.specs.Prelude.{OnErr}
+use Rattle.std.proofs.Common.{◌≡◌, ◌+◌, ◌<◌, IsTrue, List, ℕ, length, replicate, sym, ◌∙◌, ap, subst, arith}
 use Rattle.std.proofs.lemmas.Result.{on_ok_weaker}
-use Rattle.vt_disk.specs.Disk.{with_bytes, Touches, SameBut, IsOneMore}
-use Rattle.vt_twin.proofs.Formatting.{framed}
-use Rattle.vt_isect.proofs.WriteBucket.{first_bytes, first_images, then_bytes, then_images, only_frame, frame_left, new_frame, new_idle, new_current, new_selector}
+use Rattle.vt_disk.specs.Disk.{with_bytes, SameBut}
+use Rattle.vt_disk.proofs.Calls.{on_err, made_then}
+use Rattle.vt_twin.specs.Calls.{TouchedBy}
+use Rattle.vt_twin.specs.Formatting.{EndsFormat}
+use Rattle.vt_isect.proofs.WriteBucket.{frame_written, first_within, selector_written, both_written, both_within, frame_left, new_frame, new_idle, new_current, new_selector}
 use Rattle.vt_isect.proofs.filling.write_bucket.Goals as goal
 
-pub returns-in_err-write_at-clause-images : goal.returns-in_err-write_at-clause-images
-returns-in_err-write_at-clause-images g c =
-    first_images c.args.place c.args.frame.now _ c.requires.whole c.requires.len c.requires.room _ _ c.write_at.ensures.images
+pub returns-in_err-write_at-clause-writes : goal.returns-in_err-write_at-clause-writes
+returns-in_err-write_at-clause-writes g c =
+    first_within c.args.place c.args.frame.now _ c.requires.whole c.requires.len c.requires.room g.D.Disk _ _ c.write_at.ensures.writes
 
-pub returns-in_err-write_at-clause-bytes : goal.returns-in_err-write_at-clause-bytes
-returns-in_err-write_at-clause-bytes g c told =
-    first_bytes c.args.place c.args.frame.now _ c.requires.whole c.requires.len c.requires.room _ _ (c.write_at.ensures.others told)
+pub returns-in_err-write_at-clause-stops : goal.returns-in_err-write_at-clause-stops
+returns-in_err-write_at-clause-stops g c = on_err {P = (made : ℕ) × (made < 2) × EndsFormat g.D.Disk c.args.place c.args.frame.now made c.args.disk.now c.write_at.new.disk} _ (
+  0,
+  omega arith,
+  record {
+    few = omega arith;
+    calls = c.write_at.ensures.calls;
+    writes = frame_written c.args.place c.args.frame.now _ c.requires.whole c.requires.len c.requires.room g.D.Disk _ _ c.write_at.ensures.writes;
+    frame_is = λ some. absurd (omega (arith, some));
+    selector_is = λ some. absurd (omega (arith, some));
+  },
+)
 
-pub returns-clause-images : goal.returns-clause-images
-returns-clause-images g c =
-    then_images c.args.place c.args.frame.now _ c.requires.whole c.requires.len c.requires.room _ _ _ c.write_at.ensures.images c.write_at-2.ensures.images
-
-pub returns-clause-bytes : goal.returns-clause-bytes
-returns-clause-bytes g c told =
-    then_bytes c.args.place c.args.frame.now _ c.requires.whole c.requires.len c.requires.room _ _ _ (c.write_at.ensures.others told) (c.write_at-2.ensures.others told)
+pub returns-clause-writes : goal.returns-clause-writes
+returns-clause-writes g c =
+    both_within c.args.place c.args.frame.now _ c.requires.whole c.requires.len c.requires.room g.D.Disk _ _ c.write_at.ensures.writes _ c.write_at-2.ensures.writes
 
 -- as many bytes as the disk has
 whole : (g : _) (c : goal.After-write_at-2 g) → IsTrue g.D.Disk.tells → length (g.D.Disk.bytes c.args.disk.now) ≡ g.D.Disk.size c.args.disk.now
@@ -54,18 +60,18 @@ returns-clause-selector g c =
     (written told ∙ ap (with_bytes (c.args.place.start + 16384) (replicate 512 0)) (c.in_ok-write_at.ensures.written told)))
     c.write_at-2.ensures.written
 
-always : {T E : Type 0} (r : Result T E) (P : Type 0) → P → OnErr r P
-always (Ok x) P it = tt
-always (Err e) P it = it
-
-twice : (a b n : ℕ) → IsOneMore a b → IsOneMore b n → n ≡ min (a + 2) (2 ^ 64 - 1)
-twice a b n one two = omega (arith, one, two)
-
 pub returns-clause-stops : goal.returns-clause-stops
-returns-clause-stops g c =
-    always c.write_at-2.result _ (λ told. inr (
-      twice _ _ _ (c.write_at.ensures.calls told) (c.write_at-2.ensures.calls told),
-      frame_left c.args.place c.args.frame.now _ c.requires.whole c.requires.len c.requires.room _ (whole g c told) _
-          (subst (λ (file : List ℕ). SameBut (Touches (c.args.place.start + 16384) 512) file (g.D.Disk.bytes c.write_at-2.new.disk))
-          (c.in_ok-write_at.ensures.written told) (c.write_at-2.ensures.others told)),
-    ))
+returns-clause-stops g c = on_err {P = (made : ℕ) × (made < 2) × EndsFormat g.D.Disk c.args.place c.args.frame.now made c.args.disk.now c.write_at-2.new.disk} c.write_at-2.result (
+  1,
+  omega arith,
+  record {
+    few = omega arith;
+    calls = made_then g.D.Disk 1 1 _ _ _ c.write_at.ensures.calls c.write_at-2.ensures.calls;
+    writes = both_written c.args.place c.args.frame.now _ c.requires.whole c.requires.len c.requires.room g.D.Disk _ _ c.write_at.ensures.writes _ c.write_at-2.ensures.writes;
+    frame_is = λ some told. frame_left c.args.place c.args.frame.now _ c.requires.whole c.requires.len c.requires.room _ (whole g c told) _
+        (subst (λ (file : List ℕ). SameBut (TouchedBy 2 c.args.place (length c.args.frame.now) 1) file (g.D.Disk.bytes c.write_at-2.new.disk))
+        (c.in_ok-write_at.ensures.written told)
+        ((selector_written c.args.place c.args.frame.now _ c.requires.whole c.requires.len c.requires.room g.D.Disk _ _ c.write_at.ensures.writes _ c.write_at-2.ensures.writes).bytes told));
+    selector_is = λ some. absurd (omega (arith, some));
+  },
+)

@@ -1,9 +1,7 @@
-use Rattle.std.proofs.Common.{◌≡◌, ◌≢◌, ℕ, List, Result, Ok, Err, Some, None, inl, ◌∙◌, subst}
-use Rattle.std.specs.Prelude.{IsErrAnd, IfErr}
+use Rattle.std.proofs.Common.{◌≡◌, ℕ, List, Result, Ok, Err, Some, None, inl, ◌∙◌, subst}
+use Rattle.std.specs.Prelude.{IfErr}
 use Rattle.std.proofs.lemmas.List.{take_at}
 use Rattle.vt_twin.specs.Frames.{current_frame}
-use Rattle.vt_isect.specs.declared.bad.SectBad.{SectBad}
-use Rattle.vt_isect.specs.declared.bad.SectBad.TheVariants.{Fault, NoMemory}
 use Rattle.vt_isect.specs.Faults.{first_bad}
 use Rattle.vt_isect.specs.Head.{IsHeadFrame}
 use Rattle.vt_isect.specs.Layout.{head_place}
@@ -37,19 +35,10 @@ returns-in-Ok-clause-accepted g c told =
     let it = c.in-Ok.ensures.refused in
     subst (λ (f : List ℕ). first_bad (g.D.Disk.size c.args.disk.now) f ≡ None) read (rw len at it)
 
--- a call that failed, or want of memory, tells nothing of the head
-fault : {T : Type 0} (P R Q : Type 0) (r : Result T SectBad) → IsErrAnd r (λ bad. bad ≡ Fault)
-    → IfErr r (λ bad. P → R → bad ≢ Fault → bad ≢ NoMemory → Q)
-fault P R Q (Ok it) is = tt
-fault P R Q (Err bad) is = λ told room other more. absurd (other is)
+-- what holds anyway holds behind a call that failed
+anyway : {T E : Type 0} (P : E → Type 0) (Q : Type 0) (r : Result T E) → Q → IfErr r (λ bad. P bad → Q)
+anyway P Q (Ok it) holds = tt
+anyway P Q (Err bad) holds = λ is. holds
 
-memory : {T : Type 0} (P R Q : Type 0) (r : Result T SectBad) → IsErrAnd r (λ bad. bad ≡ NoMemory)
-    → IfErr r (λ bad. P → R → bad ≢ Fault → bad ≢ NoMemory → Q)
-memory P R Q (Ok it) is = tt
-memory P R Q (Err bad) is = λ told room other more. absurd (more is)
-
-pub returns-in_err-twin-clause-settled_first : goal.returns-in_err-twin-clause-settled_first
-returns-in_err-twin-clause-settled_first g c = fault _ _ _ c.from_residual-in_err-twin.result c.from_residual-in_err-twin.ensures.1
-
-pub returns-in_err-bucket_frame-clause-settled_first : goal.returns-in_err-bucket_frame-clause-settled_first
-returns-in_err-bucket_frame-clause-settled_first g c = memory _ _ _ c.from_residual-in_err-bucket_frame.result c.from_residual-in_err-bucket_frame.ensures.1
+pub returns-in_err-twin-clause-failed : goal.returns-in_err-twin-clause-failed
+returns-in_err-twin-clause-failed g c = anyway _ _ c.from_residual-in_err-twin.result c.read_head.ensures.settled

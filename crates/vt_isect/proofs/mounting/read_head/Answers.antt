@@ -11,5 +11,5 @@ returns-clause-read g c told =
     let named : c.current.result ≡ named_number at 8192 file = c.current.ensures.number ∙ c.in_ok-twin.ensures.named told in
     subst (λ (r : Region). c.read_at.new.buf ≡ current_frame r 8192 file) c.head_place-place.ensures
     (c.in_ok-read_at.ensures.read told
-    ∙ (λ i. part (at.start + 8192 * c.from.ensures i) (c.requires.whole i) (c.in_ok-twin.ensures.bytes i))
+    ∙ (λ i. part (at.start + 8192 * c.from.ensures i) (c.requires.whole i) (c.mount.ensures.reads.bytes i))
     ∙ ap (λ (k : ℕ). frame_of at 8192 k file) named)

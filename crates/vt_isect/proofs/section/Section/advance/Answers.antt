@@ -9,7 +9,9 @@ use Rattle.vt_isect.proofs.Follows.{keeps_quiet, same_selector}
 use Rattle.vt_isect.proofs.IsCovered.{covered_kept}
 use Rattle.vt_isect.proofs.IsDamage.{no_damage}
 use Rattle.vt_isect.proofs.WithinCall.{crash_within, agrees_within}
-use Rattle.vt_isect.proofs.DiffersIn.{differs_in, fault_is}
+use Rattle.vt_isect.proofs.NamesDamage.{differs_in, fault_is}
+use Rattle.vt_isect.proofs.AreNext.{HasGroup}
+use Rattle.vt_isect.proofs.WritesBack.{wrote_is}
 use Rattle.vt_isect.proofs.CallsLeft.{bucket_made, head_made, advance_lower, ends_none}
 use Rattle.vt_isect.proofs.section.Section.advance.Goals as goal
 
@@ -100,23 +102,23 @@ returns-in-ChangeHead-clause-left g c =
 
 pub returns-in-ReadSelector-clause-covers : goal.returns-in-ReadSelector-clause-covers
 returns-in-ReadSelector-clause-covers g c score setup h known knows agrees follows =
-    covered_kept score setup h _ _ known knows agrees _ c.read_selector.ensures.steps follows
+    covered_kept score setup h _ _ known knows agrees (subst HasGroup c.self.view_is c.self.invariant.group) _ c.read_selector.ensures.steps follows
 
 pub returns-in-ReadFrame-clause-covers : goal.returns-in-ReadFrame-clause-covers
 returns-in-ReadFrame-clause-covers g c score setup h known knows agrees follows =
-    covered_kept score setup h _ _ known knows agrees _ c.read_frame.ensures.steps follows
+    covered_kept score setup h _ _ known knows agrees (subst HasGroup c.self.view_is c.self.invariant.group) _ c.read_frame.ensures.steps follows
 
 pub returns-in-ChangeBucket-clause-covers : goal.returns-in-ChangeBucket-clause-covers
 returns-in-ChangeBucket-clause-covers g c score setup h known knows agrees follows =
-    covered_kept score setup h _ _ known knows agrees _ c.change_bucket.ensures.steps follows
+    covered_kept score setup h _ _ known knows agrees (subst HasGroup c.self.view_is c.self.invariant.group) _ c.change_bucket.ensures.steps follows
 
 pub returns-in-ChangeHead-clause-covers : goal.returns-in-ChangeHead-clause-covers
 returns-in-ChangeHead-clause-covers g c score setup h known knows agrees follows =
-    covered_kept score setup h _ _ known knows agrees _ c.change_head.ensures.steps follows
+    covered_kept score setup h _ _ known knows agrees (subst HasGroup c.self.view_is c.self.invariant.group) _ c.change_head.ensures.steps follows
 
 pub returns-in-Some-clause-covers : goal.returns-in-Some-clause-covers
 returns-in-Some-clause-covers g c score setup h known knows agrees follows =
-    covered_kept score setup h c.args.self.now c.args.self.now known knows agrees (Err (Stopped c.in-Some.call))
+    covered_kept score setup h c.args.self.now c.args.self.now known knows agrees (subst HasGroup c.self.view_is c.self.invariant.group) (Err (Stopped c.in-Some.call))
     (ap (λ x. x.stopped) (sym c.self.view_is) ∙ c.in-Some.is, refl) follows
 
 pub returns-in-ReadFrame-clause-undamaged : goal.returns-in-ReadFrame-clause-undamaged
@@ -127,7 +129,8 @@ returns-in-ReadFrame-clause-undamaged g c score setup h known told sound agrees 
     let within : InRange now.head now.buckets now.bucket =
     rw (← c.self.view_is) (c.self.invariant.bucket (subst HasBucket (sym c.in-ReadFrame.is) tt)) in
     IfErr-weaker c.read_frame.result _ _
-    (λ bad it. no_damage score setup h now known agrees c.in-ReadFrame.selector phase within _ _
+    (λ bad it. no_damage score setup h now known agrees c.in-ReadFrame.selector phase within
+    ((subst HasGroup c.self.view_is c.self.invariant.group) (subst HasBucket (sym phase) tt)).own _ _
     (g.met.D.Disk.read_is_image _ told) sound room bad
     (λ other. let found = it other in (found.0, found.1, λ region place. found.2 region told place)))
     c.read_frame.ensures.damaged
@@ -143,7 +146,7 @@ returns-in-ReadFrame-clause-ended g c = ends_none c.read_frame.result _ _ c.read
 
 pub returns-in-ReadFrame-clause-differs : goal.returns-in-ReadFrame-clause-differs
 returns-in-ReadFrame-clause-differs g c =
-    IfErr-weaker c.read_frame.result _ _ (λ bad it. differs_in _ _ _ _ bad it) c.read_frame.ensures.damaged
+    IfErr-weaker c.read_frame.result _ _ (λ bad it. differs_in _ _ _ bad it) c.read_frame.ensures.damaged
 
 pub returns-in-ChangeBucket-clause-ended : goal.returns-in-ChangeBucket-clause-ended
 returns-in-ChangeBucket-clause-ended g c = ends_none c.change_bucket.result _ _ c.change_bucket.ensures.steps
@@ -161,3 +164,28 @@ pub returns-in-Some-clause-ended : goal.returns-in-Some-clause-ended
 returns-in-Some-clause-ended g c =
     ends_none (Err (Stopped c.in-Some.call)) c.args.self.now c.args.self.now
     (ap (λ x. x.stopped) (sym c.self.view_is) ∙ c.in-Some.is, refl)
+
+pub returns-in-ReadSelector-clause-wrote : goal.returns-in-ReadSelector-clause-wrote
+returns-in-ReadSelector-clause-wrote g c entry =
+    wrote_is _ _ (subst HasGroup c.self.view_is c.self.invariant.group) entry
+    c.read_selector.result c.read_selector.ensures.steps
+
+pub returns-in-ReadFrame-clause-wrote : goal.returns-in-ReadFrame-clause-wrote
+returns-in-ReadFrame-clause-wrote g c entry =
+    wrote_is _ _ (subst HasGroup c.self.view_is c.self.invariant.group) entry
+    c.read_frame.result c.read_frame.ensures.steps
+
+pub returns-in-ChangeBucket-clause-wrote : goal.returns-in-ChangeBucket-clause-wrote
+returns-in-ChangeBucket-clause-wrote g c entry =
+    wrote_is _ _ (subst HasGroup c.self.view_is c.self.invariant.group) entry
+    c.change_bucket.result c.change_bucket.ensures.steps
+
+pub returns-in-ChangeHead-clause-wrote : goal.returns-in-ChangeHead-clause-wrote
+returns-in-ChangeHead-clause-wrote g c entry =
+    wrote_is _ _ (subst HasGroup c.self.view_is c.self.invariant.group) entry
+    c.change_head.result c.change_head.ensures.steps
+
+pub returns-in-Some-clause-wrote : goal.returns-in-Some-clause-wrote
+returns-in-Some-clause-wrote g c entry =
+    wrote_is c.args.self.now c.args.self.now (subst HasGroup c.self.view_is c.self.invariant.group) entry
+    (Err (Stopped c.in-Some.call)) (ap (λ x. x.stopped) (sym c.self.view_is) ∙ c.in-Some.is, refl)

@@ -8,7 +8,7 @@ use Rattle.vt_disk.specs.Disk.{part}
 use Rattle.vt_isect.specs.Layout.{IsPlaceOf}
 use Rattle.vt_isect.specs.Section.{SectionState}
 use Rattle.vt_isect.specs.Sound.{IsReadFrom}
-use Rattle.vt_isect.proofs.DiffersIn.{faulty_differs}
+use Rattle.vt_isect.proofs.NamesDamage.{faulty_differs}
 use Rattle.vt_isect.proofs.IsReadFrom.{reads_from, reads_known}
 use Rattle.vt_isect.proofs.section.Section.bucket.Goals as goal
 
@@ -18,7 +18,7 @@ frame_from : (g : _) (c : goal.After-decode_bucket g) → IsTrue g.D.Disk.tells 
 frame_from g c told region place =
     let now = c.args.self.now in
     let bytes : g.D.Disk.bytes c.self-2.inside.disk ≡ g.D.Disk.bytes now.disk =
-    ap (λ (t : SectionState g.row.D.Denot). g.D.Disk.bytes t.disk) c.self-2.view_is ∙ c.current_number.ensures.bytes in
+    ap (λ (t : SectionState g.row.D.Denot). g.D.Disk.bytes t.disk) c.self-2.view_is ∙ c.current_number.ensures.reads.bytes in
     let here : IsPlaceOf (c.args.number - now.head.first) c.bucket_place-place.result =
     subst (λ (t : SectionState g.row.D.Denot). IsPlaceOf (c.args.number - t.head.first) c.bucket_place-place.result) c.self.view_is c.bucket_place-place.ensures.place in
     reads_from now c.args.number c.in_ok-current.current c.bucket_place-place.result region _ c.read_at.new.buf here place

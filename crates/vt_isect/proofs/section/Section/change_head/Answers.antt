@@ -1,11 +1,11 @@
-use Rattle.std.proofs.Common.{◌≡◌, ◌≢◌, Err, inr, refl, ap, ◌∙◌, subst}
+use Rattle.std.proofs.Common.{◌≡◌, ◌≢◌, Err, inr, refl, ap, ◌∙◌, subst, arith}
+use Rattle.vt_disk.proofs.Calls.{writes_wider}
 use Rattle.vt_twin.specs.Twin.{TwinState, calls_made, next_frame, without_spare}
 use Rattle.vt_twin.specs.declared.step.TwinErr.TheVariants.{Fault}
 use Rattle.vt_isect.specs.declared.phase.Phase.TheVariants.{ChangeHead}
 use Rattle.vt_isect.specs.Writeback.{IsRead}
 use Rattle.vt_isect.proofs.IsSoundSection.{idle_sound, is_fault}
-use Rattle.vt_isect.proofs.Follows.{keeps_quiet, agrees_moves, next_of, images_wider, head_written}
-use Rattle.vt_disk.proofs.Bytes.{same_wider}
+use Rattle.vt_isect.proofs.Follows.{keeps_quiet, agrees_moves, next_of, head_written}
 use Rattle.vt_isect.proofs.Keeps.{head_goes, keeps_head}
 use Rattle.vt_isect.proofs.Writes.{head_writes}
 use Rattle.vt_isect.proofs.section.Section.change_head.Goals as goal
@@ -17,7 +17,7 @@ returns-in-Ok-More-clause-sound g c told =
     let steps = rw c.in-Ok-More.field-0-is at c.in-Ok-More.ensures.steps in
     rw (← c.self.view_is)
     (keeps_quiet _ _ _ _ _ _ _ (λ n done. let e = done.1 in cc)
-    (λ known sound. head_goes _ _ _ _ _ _ phase c.self.invariant.room (rw c.head_place.ensures at (c.advance.ensures.bytes told)) (rw c.head_place.ensures at c.advance.ensures.images)
+    (λ known sound. head_goes _ _ _ _ _ _ phase c.self.invariant.room (rw c.head_place.ensures at (c.advance.ensures.within.bytes told)) (rw c.head_place.ensures at c.advance.ensures.within.images)
     _ _ _ _ known (c.advance.ensures.len ∙ c.self.invariant.head_len) (ap next_frame steps)
     (λ old it. rw (c.in-Ok-More.field-0-is, c.head_place.ensures) at (c.in-Ok-More.ensures.sound old told (rw c.head_place.ensures it))) sound)
     (λ score setup h known agrees. agrees_moves score setup h _ _ _ _ _ _ _ _ known (λ entry way. way) (λ entry way. way) agrees))
@@ -38,7 +38,7 @@ returns-in-Ok-More-clause-steps g c =
         calls = c.saturating_add-self-inside.ensures;
       },
       goes,
-      next_of ChangeHead _ _ phase (no, phase, steps),
+      next_of ChangeHead _ _ phase (no, phase, steps, record { written = refl; begun = refl; bucket = refl }),
     )
 
 pub returns-in-Ok-Done-clause-sound : goal.returns-in-Ok-Done-clause-sound
@@ -47,7 +47,7 @@ returns-in-Ok-Done-clause-sound g c told =
     let phase = rw (← c.self.view_is) at c.requires.phase in
     let steps = rw c.in-Ok-Done.field-0-is at c.in-Ok-Done.ensures.steps in
     rw (← c.self.view_is)
-    (keeps_head _ _ _ _ _ _ phase c.self.invariant.room (rw c.head_place.ensures at (c.advance.ensures.bytes told)) (rw c.head_place.ensures at c.advance.ensures.images)
+    (keeps_head _ _ _ _ _ _ phase c.self.invariant.room (rw c.head_place.ensures at (c.advance.ensures.within.bytes told)) (rw c.head_place.ensures at c.advance.ensures.within.images)
     _ _ _ (ap (λ (t : TwinState). t.frame_len) c.idle.ensures.same ∙ c.advance.ensures.len ∙ c.self.invariant.head_len)
     (ap (λ (t : TwinState). t.change) (c.idle.ensures.same ∙ ap without_spare steps))
     (λ old it. rw c.idle.ensures.same (idle_sound _ _ _ _ _ (rw (c.in-Ok-Done.field-0-is, c.head_place.ensures) at (c.in-Ok-Done.ensures.sound old told (rw c.head_place.ensures it))))))
@@ -63,6 +63,7 @@ returns-in-Ok-Done-clause-steps g c =
       done.0 refl,
       record {
         section = record { buckets = refl; name = refl; entries = refl };
+        group = record { written = refl; begun = refl; bucket = refl };
         head_is = refl;
         next_is = refl;
         phase = refl;
@@ -80,7 +81,7 @@ returns-in-Err-clause-sound g c told =
     let steps = rw fault at c.in-Err.ensures.steps in
     rw (← c.self.view_is)
     (keeps_quiet _ _ _ _ _ _ _ (λ n done. let e = done.0 in cc)
-    (λ known sound. head_goes _ _ _ _ _ _ phase c.self.invariant.room (rw c.head_place.ensures at (c.advance.ensures.bytes told)) (rw c.head_place.ensures at c.advance.ensures.images)
+    (λ known sound. head_goes _ _ _ _ _ _ phase c.self.invariant.room (rw c.head_place.ensures at (c.advance.ensures.within.bytes told)) (rw c.head_place.ensures at c.advance.ensures.within.images)
     _ _ _ _ known (c.advance.ensures.len ∙ c.self.invariant.head_len) (ap next_frame steps)
     (λ old it. rw c.head_place.ensures at (c.in-Err.ensures.sound old told (rw c.head_place.ensures it))) sound)
     (λ score setup h known agrees. agrees_moves score setup h _ _ _ _ _ _ _ _ known (λ entry way. way) (λ entry way. way) agrees))
@@ -99,7 +100,7 @@ returns-in-Err-clause-steps g c =
         calls = c.saturating_add-self-inside.ensures;
       },
       refl,
-      refl,
+      record { written = refl; begun = refl; bucket = refl },
       refl,
     ))
 
@@ -110,35 +111,23 @@ returns-in-Err-clause-faults g c =
     let fault : c.in-Err.field-0 ≡ Fault = is_fault c.in-Err.field-0 s.head_twin.stopped (c.self.invariant.goes goes).0 (λ n is. (c.in-Err.ensures.stopped n).0 (ap Err is)) in
     rw (← c.self.view_is) (rw fault at c.in-Err.ensures.faults)
 
-pub returns-in-Ok-More-clause-images : goal.returns-in-Ok-More-clause-images
-returns-in-Ok-More-clause-images g c =
+pub returns-in-Ok-More-clause-writes : goal.returns-in-Ok-More-clause-writes
+returns-in-Ok-More-clause-writes g c =
     let phase = rw (← c.self.view_is) at c.requires.phase in
-    rw (← c.self.view_is) (images_wider _ _ (head_written _ phase) _ _ (rw c.head_place.ensures at c.advance.ensures.images))
+    rw (← c.self.view_is)
+    (writes_wider g.D.Disk _ _ (head_written _ phase) 1 1 (omega arith) _ _ (rw c.head_place.ensures at c.advance.ensures.within))
 
-pub returns-in-Ok-More-clause-bytes : goal.returns-in-Ok-More-clause-bytes
-returns-in-Ok-More-clause-bytes g c told =
+pub returns-in-Ok-Done-clause-writes : goal.returns-in-Ok-Done-clause-writes
+returns-in-Ok-Done-clause-writes g c =
     let phase = rw (← c.self.view_is) at c.requires.phase in
-    rw (← c.self.view_is) (same_wider _ _ (head_written _ phase) _ _ (rw c.head_place.ensures at (c.advance.ensures.bytes told)))
+    rw (← c.self.view_is)
+    (writes_wider g.D.Disk _ _ (head_written _ phase) 1 1 (omega arith) _ _ (rw c.head_place.ensures at c.advance.ensures.within))
 
-pub returns-in-Ok-Done-clause-images : goal.returns-in-Ok-Done-clause-images
-returns-in-Ok-Done-clause-images g c =
+pub returns-in-Err-clause-writes : goal.returns-in-Err-clause-writes
+returns-in-Err-clause-writes g c =
     let phase = rw (← c.self.view_is) at c.requires.phase in
-    rw (← c.self.view_is) (images_wider _ _ (head_written _ phase) _ _ (rw c.head_place.ensures at c.advance.ensures.images))
-
-pub returns-in-Ok-Done-clause-bytes : goal.returns-in-Ok-Done-clause-bytes
-returns-in-Ok-Done-clause-bytes g c told =
-    let phase = rw (← c.self.view_is) at c.requires.phase in
-    rw (← c.self.view_is) (same_wider _ _ (head_written _ phase) _ _ (rw c.head_place.ensures at (c.advance.ensures.bytes told)))
-
-pub returns-in-Err-clause-images : goal.returns-in-Err-clause-images
-returns-in-Err-clause-images g c =
-    let phase = rw (← c.self.view_is) at c.requires.phase in
-    rw (← c.self.view_is) (images_wider _ _ (head_written _ phase) _ _ (rw c.head_place.ensures at c.advance.ensures.images))
-
-pub returns-in-Err-clause-bytes : goal.returns-in-Err-clause-bytes
-returns-in-Err-clause-bytes g c told =
-    let phase = rw (← c.self.view_is) at c.requires.phase in
-    rw (← c.self.view_is) (same_wider _ _ (head_written _ phase) _ _ (rw c.head_place.ensures at (c.advance.ensures.bytes told)))
+    rw (← c.self.view_is)
+    (writes_wider g.D.Disk _ _ (head_written _ phase) 1 1 (omega arith) _ _ (rw c.head_place.ensures at c.advance.ensures.within))
 
 pub returns-in-Ok-More-clause-written : goal.returns-in-Ok-More-clause-written
 returns-in-Ok-More-clause-written g c told =

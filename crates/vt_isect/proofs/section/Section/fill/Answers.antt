@@ -1,14 +1,16 @@
-use Rattle.std.proofs.Common.{◌≡◌, ◌-◌, ℕ, IsTrue, sym, ◌∙◌, ap, subst, arith}
+use Rattle.std.proofs.Common.{◌≡◌, ◌-◌, ◌<◌, ℕ, List, IsTrue, sym, ◌∙◌, ap, subst, arith}
 use Rattle.std.proofs.lemmas.Result.{on_ok_weaker}
-use Rattle.vt_disk.proofs.Bytes.{same_wider}
+use Rattle.vt_disk.specs.declared.region.Region.{Region}
+use Rattle.vt_disk.proofs.Calls.{on_err, writes_wider}
 use Rattle.vt_bucket.specs.Buckets.{number_of, entries_of}
-use Rattle.vt_bucket.specs.Frame.{IsFrame}
+use Rattle.vt_bucket.specs.Frame.{IsFrame, frame_of as bucket_frame}
+use Rattle.vt_twin.specs.Formatting.{EndsFormat}
 use Rattle.vt_twin.specs.Frames.{current_frame}
 use Rattle.vt_isect.specs.Layout.{IsPlaceOf}
-use Rattle.vt_isect.specs.Section.{SectionState}
+use Rattle.vt_isect.specs.View.{state_of}
 use Rattle.vt_isect.proofs.WithBucket.{others_sound}
 use Rattle.vt_isect.proofs.Fills.{reads_filled, agrees_filled, in_buckets}
-use Rattle.vt_isect.proofs.Follows.{images_wider}
+use Rattle.vt_isect.proofs.Places.{one_place}
 use Rattle.vt_isect.proofs.section.Section.fill.Goals as goal
 
 pub returns-in_err-write_bucket-clause-others : goal.returns-in_err-write_bucket-clause-others
@@ -18,7 +20,7 @@ returns-in_err-write_bucket-clause-others g c known told =
     let place = rw c.number.ensures at c.bucket_place-place.ensures.place in
     rw (← c.self.view_is)
     (others_sound _ _ (number_of c.args.bucket.now) c.bucket_place-place.result _ _ _ _ _ rest c.self.invariant.room range place
-    (c.write_bucket.ensures.bytes told) c.write_bucket.ensures.images known)
+    (c.write_bucket.ensures.writes.bytes told) c.write_bucket.ensures.writes.images known)
 
 pub returns-in_err-write_bucket-clause-agrees : goal.returns-in_err-write_bucket-clause-agrees
 returns-in_err-write_bucket-clause-agrees g c score setup h known =
@@ -31,7 +33,7 @@ returns-clause-others g c known told =
     let place = rw c.number.ensures at c.bucket_place-place.ensures.place in
     rw (← c.self.view_is)
     (others_sound _ _ (number_of c.args.bucket.now) c.bucket_place-place.result _ _ _ _ _ rest c.self.invariant.room range place
-    (c.write_bucket.ensures.bytes told) c.write_bucket.ensures.images known)
+    (c.write_bucket.ensures.writes.bytes told) c.write_bucket.ensures.writes.images known)
 
 pub returns-clause-agrees : goal.returns-clause-agrees
 returns-clause-agrees g c score setup h known =
@@ -42,53 +44,39 @@ returns-clause-read g c known told =
     let range = rw (← c.self.view_is) at c.requires.in_range in
     let place = rw c.number.ensures at c.bucket_place-place.ensures.place in
     let s = c.self.inside in
-    let t : SectionState g.row.D.Denot = record {
-      disk = s.disk;
-      buckets = s.buckets;
-      name = s.name;
-      head = s.head;
-      next = s.next;
-      phase = s.phase;
-      entries = s.entries;
-      bucket = s.bucket;
-      head_twin = s.head_twin;
-      bucket_twin = s.bucket_twin;
-      calls = s.calls;
-      stopped = s.stopped;
-    } in
+    let t = state_of s in
     rw (← c.self.view_is)
     (reads_filled t c.write_bucket.new.disk (number_of c.args.bucket.now) c.bucket_place-place.result (entries_of c.args.bucket.now) known _ _ range place
-    (c.write_bucket.ensures.bytes told)
+    (c.write_bucket.ensures.writes.bytes told)
     (subst (IsFrame (number_of c.args.bucket.now) (entries_of c.args.bucket.now)) (sym (c.in_ok-write_bucket.ensures.current told)) c.encode.ensures.spelled))
 
-pub returns-in_err-write_bucket-clause-images : goal.returns-in_err-write_bucket-clause-images
-returns-in_err-write_bucket-clause-images g c =
+pub returns-in_err-write_bucket-clause-writes : goal.returns-in_err-write_bucket-clause-writes
+returns-in_err-write_bucket-clause-writes g c =
     let range = rw (← c.self.view_is) at c.requires.in_range in
     let place = rw c.number.ensures at c.bucket_place-place.ensures.place in
     rw (← c.self.view_is)
-    (images_wider _ _ (in_buckets _ (number_of c.args.bucket.now) 1 (number_of c.args.bucket.now) c.bucket_place-place.result place range.0 (omega arith, omega arith))
-    _ _ c.write_bucket.ensures.images)
+    (writes_wider g.D.Disk _ _ (in_buckets _ (number_of c.args.bucket.now) 1 (number_of c.args.bucket.now) c.bucket_place-place.result place range.0 (omega arith, omega arith))
+    2 2 (omega arith) _ _ c.write_bucket.ensures.writes)
 
-pub returns-in_err-write_bucket-clause-bytes : goal.returns-in_err-write_bucket-clause-bytes
-returns-in_err-write_bucket-clause-bytes g c told =
+pub returns-clause-writes : goal.returns-clause-writes
+returns-clause-writes g c =
     let range = rw (← c.self.view_is) at c.requires.in_range in
     let place = rw c.number.ensures at c.bucket_place-place.ensures.place in
     rw (← c.self.view_is)
-    (same_wider _ _ (in_buckets _ (number_of c.args.bucket.now) 1 (number_of c.args.bucket.now) c.bucket_place-place.result place range.0 (omega arith, omega arith))
-    _ _ (c.write_bucket.ensures.bytes told))
+    (writes_wider g.D.Disk _ _ (in_buckets _ (number_of c.args.bucket.now) 1 (number_of c.args.bucket.now) c.bucket_place-place.result place range.0 (omega arith, omega arith))
+    2 2 (omega arith) _ _ c.write_bucket.ensures.writes)
 
-pub returns-clause-images : goal.returns-clause-images
-returns-clause-images g c =
-    let range = rw (← c.self.view_is) at c.requires.in_range in
+pub returns-in_err-write_bucket-clause-stops : goal.returns-in_err-write_bucket-clause-stops
+returns-in_err-write_bucket-clause-stops g c =
+    let t = state_of c.self.inside in
+    let n : ℕ = number_of c.args.bucket.now in
     let place = rw c.number.ensures at c.bucket_place-place.ensures.place in
-    rw (← c.self.view_is)
-    (images_wider _ _ (in_buckets _ (number_of c.args.bucket.now) 1 (number_of c.args.bucket.now) c.bucket_place-place.result place range.0 (omega arith, omega arith))
-    _ _ c.write_bucket.ensures.images)
-
-pub returns-clause-bytes : goal.returns-clause-bytes
-returns-clause-bytes g c told =
-    let range = rw (← c.self.view_is) at c.requires.in_range in
-    let place = rw c.number.ensures at c.bucket_place-place.ensures.place in
-    rw (← c.self.view_is)
-    (same_wider _ _ (in_buckets _ (number_of c.args.bucket.now) 1 (number_of c.args.bucket.now) c.bucket_place-place.result place range.0 (omega arith, omega arith))
-    _ _ (c.write_bucket.ensures.bytes told))
+    let ends = c.in_err-write_bucket.ensures.stops in
+    rw (← c.self.view_is) (on_err {P = (region : Region) → IsPlaceOf (n - t.head.first) region → (made : ℕ) × (made < 2)
+    × EndsFormat g.D.Disk region (bucket_frame n (entries_of c.args.bucket.now)) made t.disk c.write_bucket.new.disk} _ (λ region here. (
+      ends.0,
+      ends.1,
+      subst (λ (r : Region). EndsFormat g.D.Disk r (bucket_frame n (entries_of c.args.bucket.now)) ends.0 t.disk c.write_bucket.new.disk)
+          (one_place (n - t.head.first) c.bucket_place-place.result region place here)
+          (subst (λ (f : List ℕ). EndsFormat g.D.Disk c.bucket_place-place.result f ends.0 t.disk c.write_bucket.new.disk) c.encode.ensures.bytes ends.2),
+    )))

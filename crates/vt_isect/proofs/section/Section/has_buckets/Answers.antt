@@ -5,7 +5,7 @@ use Rattle.vt_base.specs.declared.place.Entry.{Entry}
 use Rattle.vt_model.specs.Places.{bucket_of}
 use Rattle.vt_isect.specs.Layout.{InRange}
 use Rattle.vt_isect.specs.Section.{AreInRange}
-use Rattle.vt_isect.proofs.BeginsFrom.{in_range_none, in_range_more}
+use Rattle.vt_isect.proofs.BeginsBehind.{in_range_none, in_range_more}
 use Rattle.vt_isect.proofs.section.Section.has_buckets.Goals as goal
 
 pub loop-entry-init : goal.loop-entry-init

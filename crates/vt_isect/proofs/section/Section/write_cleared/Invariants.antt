@@ -3,4 +3,4 @@ use Rattle.vt_isect.proofs.Fills.{HasCleared}
 use Rattle.vt_isect.proofs.section.Section.write_cleared.Given as goal
 
 abbrev pub invariant-loop-i : goal.invariant-loop-i
-invariant-loop-i g l = HasCleared g.D.Disk.tells g.D.Disk.bytes g.D.Disk.images g.D.Disk.size g.D.Disk.calls g.D.Disk.faults l.initial.self l.self l.first l.i
+invariant-loop-i g l = HasCleared g.D.Disk l.initial.self l.self l.first l.i

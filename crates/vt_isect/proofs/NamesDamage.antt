@@ -1,0 +1,47 @@
+-- The two values of a damage are of one form, and differ.
+use Rattle.std.proofs.Common.{◌≡◌, ◌≢◌, ⊎_elim, ℕ, ◌<◌, List, codes, sym, ◌∙◌, subst, arith}
+use Rattle.vt_base.specs.declared.place.Entry.{Entry}
+use Rattle.vt_base.specs.declared.why.FieldValue.{FieldValue}
+use Rattle.vt_base.specs.declared.why.FieldValue.TheVariants as value
+use Rattle.vt_bucket.specs.declared.decoding.BucketBad.{BucketBad}
+use Rattle.vt_bucket.specs.declared.decoding.BucketBad.TheVariants.{Magic, Number, Count, Order}
+use Rattle.vt_bucket.specs.Faults.{FaultIs}
+use Rattle.vt_isect.specs.declared.bad.ShardErr.{ShardErr}
+use Rattle.vt_isect.specs.declared.bad.ShardErr.TheVariants.{Fault, Damaged, Stopped}
+use Rattle.vt_isect.specs.Faults.{NamesDamage, damage_of}
+use Rattle.vt_isect.specs.Merging.{IsDamage, IsFaulty, IsOverfull}
+
+one_magic : (a b : List ℕ) → value.Magic a ≡ value.Magic b → a ≡ b
+one_magic a b e = cc
+
+one_number : (a b : ℕ) → value.Number a ≡ value.Number b → a ≡ b
+one_number a b e = cc
+
+fault_differs : (fault : BucketBad) (n : ℕ) (frame : List ℕ) → FaultIs fault n frame → NamesDamage (damage_of n fault)
+fault_differs (Magic found) n frame it = record { form = tt; values = λ same. it.1 (sym it.0 ∙ sym (one_magic (codes "VBKT") found same)) }
+fault_differs (Number found) n frame it = record { form = tt; values = λ same. it.2 (sym (one_number n found same)) }
+fault_differs (Count found) n frame it = record { form = tt; values = λ same. let e = one_number 263 found same in omega (arith, it.3, e) }
+fault_differs (Order entry count) n frame it = record { form = tt; values = λ same. let e = one_number count entry same in omega (arith, it.4, e) }
+
+pub faulty_differs : (n : ℕ) (frame : List ℕ) (bad : ShardErr) → IsFaulty n frame bad → NamesDamage bad
+faulty_differs n frame bad it = subst NamesDamage (sym it.2) (fault_differs it.0 n frame it.1)
+
+damage_differs : (n : ℕ) (group : List Entry) (frame : List ℕ) (bad : ShardErr)
+    → IsDamage n group frame bad → NamesDamage bad
+damage_differs n group frame bad it = ⊎_elim
+    (λ (faulty : IsFaulty n frame bad). faulty_differs n frame bad faulty)
+    (λ (full : IsOverfull n group frame bad).
+    subst NamesDamage (sym full.5)
+    (record { form = tt; values = λ same. let e = one_number 263 full.2 same in omega (arith, full.4, e) }))
+    it
+
+-- a refusal that is none of a device call
+pub differs_in : (n : ℕ) (group : List Entry) (Of : List ℕ → Type 0) (bad : ShardErr)
+    → (bad ≢ Fault → (frame : List ℕ) × IsDamage n group frame bad × Of frame) → NamesDamage bad
+differs_in n group Of Fault it = tt
+differs_in n group Of (Stopped call) it = tt
+differs_in n group Of (Damaged b want found) it =
+    let damage = it (λ e. cc) in damage_differs n group damage.0 (Damaged b want found) damage.1
+
+pub fault_is : (bad : ShardErr) → bad ≡ Fault → NamesDamage bad
+fault_is bad is = subst NamesDamage (sym is) tt

@@ -1,0 +1,22 @@
+-- What the types of this crate are seen as.
+use Rattle.vt_isect.specs.declared.section.Section.TheInside.{Inside}
+use Rattle.vt_isect.specs.Section.{SectionState}
+
+-- a section in memory
+abbrev pub state_of : {D : Type 0} → Inside D → SectionState D
+state_of s = record {
+  disk = s.disk;
+  buckets = s.buckets;
+  name = s.name;
+  head = s.head;
+  next = s.next;
+  phase = s.phase;
+  entries = s.entries;
+  written = s.written;
+  begun = s.begun;
+  bucket = s.bucket;
+  head_twin = s.head_twin;
+  bucket_twin = s.bucket_twin;
+  calls = s.calls;
+  stopped = s.stopped;
+}
