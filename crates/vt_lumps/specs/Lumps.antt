@@ -17,8 +17,8 @@ bytes_of key s = lookup (same_key key) s.entries
 abbrev pub used : Key → LumpsState → LumpsState
 used key s = lru_cache (promoted (same_key key) s.entries) s.cap
 
--- this block is kept: it goes first, in place of what its key had or, where there is no room, of the
--- last
+-- this block is kept: it goes first, in place of what its key had or, where there is none and no
+-- room, of the last
 abbrev pub kept : Key → (bytes : List ℕ) → LumpsState → LumpsState
 kept key bytes s = lru_cache (put_entries same_key s key bytes) s.cap
 

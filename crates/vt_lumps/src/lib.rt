@@ -5,3 +5,6 @@
 mod lumps;
 
 pub use lumps::Lumps;
+
+#[cfg(test)]
+mod tests;
