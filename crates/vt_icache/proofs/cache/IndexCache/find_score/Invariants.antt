@@ -1,0 +1,8 @@
+use Rattle.std.proofs.Common.{◌≡◌, ◌<◌, ◌≢◌, ℕ}
+use Rattle.vt_base.specs.declared.key.Key.{Key}
+use Rattle.vt_base.specs.declared.place.Entry.{Entry}
+use Rattle.vt_icache.specs.Index.{IsKept}
+use Rattle.vt_icache.proofs.cache.IndexCache.find_score.Given as goal
+
+abbrev pub invariant-loop-number : goal.invariant-loop-number
+invariant-loop-number l = (entry : Entry) → IsKept l.self entry → entry.key.kind < l.number → entry.key.score.0 ≢ l.score.0
