@@ -1,0 +1,66 @@
+-- The first words of lines (venti.conf(6)).
+use Rattle.std.specs.Prelude.{ℕ, ◌==◌, Bool, true, false, not, if◌then◌else◌, List, Option, Some, None, codes}
+use Rattle.std.specs.Str.{bytes_eq}
+use Rattle.vt_conf.specs.declared.TheConstants.{MAX_FILES}
+use Rattle.vt_conf.specs.declared.keyword.Keyword.{Keyword}
+use Rattle.vt_conf.specs.declared.keyword.Keyword.TheVariants.{Index, Arenas, Isect, Bloom, Mem, Icmem, Bcmem, Httpaddr, Webroot, Queuewrites, Addr}
+
+-- the keyword that a word is, if it is one
+abbrev pub keyword_of : List ℕ → Option Keyword
+keyword_of word =
+    if bytes_eq word (codes "index") then Some Index
+    else if bytes_eq word (codes "arenas") then Some Arenas
+    else if bytes_eq word (codes "isect") then Some Isect
+    else if bytes_eq word (codes "bloom") then Some Bloom
+    else if bytes_eq word (codes "mem") then Some Mem
+    else if bytes_eq word (codes "icmem") then Some Icmem
+    else if bytes_eq word (codes "bcmem") then Some Bcmem
+    else if bytes_eq word (codes "httpaddr") then Some Httpaddr
+    else if bytes_eq word (codes "webroot") then Some Webroot
+    else if bytes_eq word (codes "queuewrites") then Some Queuewrites
+    else if bytes_eq word (codes "addr") then Some Addr
+    else None
+
+-- whether a value stands behind a keyword
+abbrev pub takes_value : Keyword → Bool
+takes_value Queuewrites = false
+takes_value keyword = true
+
+-- whether that is a size
+abbrev pub takes_size : Keyword → Bool
+takes_size Mem = true
+takes_size Icmem = true
+takes_size Bcmem = true
+takes_size keyword = false
+
+-- whether it is an address that is read
+abbrev pub takes_address : Keyword → Bool
+takes_address Addr = true
+takes_address keyword = false
+
+-- whether it names one file of several
+abbrev pub is_file : Keyword → Bool
+is_file Arenas = true
+is_file Isect = true
+is_file keyword = false
+
+-- on how many lines a keyword may stand
+abbrev pub room_of : Keyword → ℕ
+room_of keyword = if is_file keyword then MAX_FILES else 1
+
+-- two keywords are one
+abbrev pub number_of : Keyword → ℕ
+number_of Index = 0
+number_of Arenas = 1
+number_of Isect = 2
+number_of Bloom = 3
+number_of Mem = 4
+number_of Icmem = 5
+number_of Bcmem = 6
+number_of Httpaddr = 7
+number_of Webroot = 8
+number_of Queuewrites = 9
+number_of Addr = 10
+
+abbrev pub same_keyword : Keyword → Keyword → Bool
+same_keyword a b = number_of a == number_of b

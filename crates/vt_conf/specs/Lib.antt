@@ -1,0 +1,10 @@
+pub mod Addresses
+pub mod Causes
+pub mod Configuration
+pub mod Exceeding
+pub mod Keywords
+pub mod Lines
+pub mod Numbers
+pub mod Parsing
+pub mod Settings
+pub mod Sizes

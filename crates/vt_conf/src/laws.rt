@@ -1,0 +1,24 @@
+//! What a configuration's text can say.
+
+ghost use Rattle.std.specs.Prelude.{◌≡◌, ℕ, List};
+ghost use Rattle.vt_conf.specs.declared.conf.Conf.{Conf};
+ghost use Rattle.vt_conf.specs.declared.why.ConfWhy.{ConfWhy};
+ghost use Rattle.vt_conf.specs.Addresses.{SpellsAddress};
+ghost use Rattle.vt_conf.specs.Configuration.{Configures, IsFirstCause, SameConf};
+ghost use Rattle.vt_conf.specs.Sizes.{SpellsSize};
+ghost use Rattle.vt_conf.specs.declared.address.Address.{Address};
+
+/// A text says one size, and one address.
+pub fn texts_have_one_meaning()
+    ensures size { (text : List ℕ) (a b : ℕ) → SpellsSize a text → SpellsSize b text → a ≡ b }
+    ensures address { (text : List ℕ) (a b : Address) → SpellsAddress a text
+        → SpellsAddress b text → a ≡ b }
+{}
+
+/// A text says one configuration, and none that says one is refused.
+pub fn configurations_have_one_meaning()
+    ensures one { (text : List ℕ) (a b : Conf) → Configures text a → Configures text b
+        → SameConf a b }
+    ensures accepted { (text : List ℕ) (conf : Conf) (line : ℕ) (why : ConfWhy)
+        → Configures text conf → ¬ IsFirstCause text line why }
+{}

@@ -1,0 +1,140 @@
+//! Reading a configuration.
+
+ghost use Rattle.std.specs.Prelude.{◌≡◌, ◌≤◌, ◌==◌, length, All, IfErr, IfOk, OnOk};
+ghost use Rattle.std.specs.List.{before_first, position_or_len};
+ghost use Rattle.std.specs.Str.{IsUtf8};
+ghost use Rattle.vt_conf.specs.Configuration.{Configures, IsFirstCause, IsFirstWrong, IsText};
+ghost use Rattle.vt_conf.specs.Configuration.{AreSettings};
+ghost use Rattle.vt_conf.specs.Lines.{lines_of};
+ghost use Rattle.vt_conf.specs.Parsing.{AddsLine, IsBad, IsBadLine};
+
+use crate::conf::Conf;
+use crate::said::{conf_of, count};
+use crate::setting::{Setting, read_line};
+use crate::why::{ConfBad, ConfErr, ConfWhy};
+use crate::{Keyword, MAX_CONF};
+use std::alloc::Global;
+use std::str;
+use vt_base::Text;
+
+/// Reads a configuration (venti.conf(6)): each line says one thing by its first word, and what
+/// begins with `#` is a comment. It takes time in the length of the text.
+pub fn parse_conf(alloc: Global, text: &[u8]) -> Result<Conf, ConfErr>
+    ensures conf { IfOk result (Configures text.now) }
+    ensures bad { IfErr result (IsBad (IsFirstCause text.now)) }
+{
+    test_text(text)?;
+    let settings = read_settings(alloc, text)?;
+    let settings = settings.as_slice();
+    if count(settings, Keyword::Arenas) == 0 {
+        return Err(ConfErr::Bad(whole(ConfWhy::NoArenas)));
+    }
+    if count(settings, Keyword::Isect) == 0 {
+        return Err(ConfErr::Bad(whole(ConfWhy::NoSections)));
+    }
+    Ok(conf_of(alloc, settings)?)
+}
+
+/// What is wrong with the whole text.
+fn whole(why: ConfWhy) -> ConfBad
+    ensures { result ≡ record { line = 0; why = why } }
+{
+    ConfBad { line: 0, why }
+}
+
+/// Whether a text may be a configuration, whatever its lines say.
+fn test_text(text: &[u8]) -> Result<(), ConfBad>
+    ensures ok { OnOk result (IsText text.now) }
+    ensures bad { IfErr result (λ bad. IsFirstCause text.now bad.line bad.why) }
+{
+    test_utf8(text)?;
+    if text.len() > MAX_CONF {
+        return Err(whole(ConfWhy::TooLong));
+    }
+    Ok(())
+}
+
+/// Whether each line of a text is UTF-8.
+fn test_utf8(text: &[u8]) -> Result<(), ConfBad>
+    ensures ok { OnOk result (All IsUtf8 (lines_of text.now)) }
+    ensures bad { IfErr result (λ bad. (bad.why ≡ ConfWhy.NotUtf8)
+        × IsFirstWrong text.now bad.line) }
+{
+    let mut number = 0;
+    let mut start = 0;
+    while start <= text.len() {
+        let line = first_line(&text[start..]);
+        number += 1;
+        if str::from_utf8(line).is_err() {
+            return Err(ConfBad {
+                line: number,
+                why: ConfWhy::NotUtf8,
+            });
+        }
+        start += line.len() + 1;
+    }
+    Ok(())
+}
+
+/// What the lines of a text set.
+fn read_settings(alloc: Global, text: &[u8]) -> Result<Vec<Setting>, ConfErr>
+    requires { IsText text.now }
+    ensures ok { IfOk result (λ settings. AreSettings text.now settings.items) }
+    ensures bad { IfErr result (IsBad (IsFirstCause text.now)) }
+{
+    let mut settings = Vec::new(alloc);
+    let mut number = 0;
+    let mut start = 0;
+    while start <= text.len() {
+        let line = first_line(&text[start..]);
+        number += 1;
+        add_line(alloc, &mut settings, number, line)?;
+        start += line.len() + 1;
+    }
+    Ok(settings)
+}
+
+/// Adds what a line sets. There are 137 settings at most, so that a line takes no longer the more
+/// there are.
+fn add_line(
+    alloc: Global,
+    settings: &mut Vec<Setting>,
+    number: usize,
+    line: &[u8],
+) -> Result<(), ConfErr>
+    ensures ok { OnOk result (AddsLine number line.now settings.old.items settings.new.items) }
+    ensures bad { IfErr result (IsBad (IsBadLine settings.old.items number line.now)) }
+{
+    let (keyword, value) = match read_line(line) {
+        Ok(Some(read)) => read,
+        Ok(None) => return Ok(()),
+        Err(why) => return Err(ConfErr::Bad(ConfBad { line: number, why })),
+    };
+    if count(settings, keyword) >= keyword.room() {
+        let why = keyword.exceeded();
+        return Err(ConfErr::Bad(ConfBad { line: number, why }));
+    }
+    let value = Text::copy_of(alloc, value)?;
+    settings.push(Setting {
+        keyword,
+        value,
+        line: number,
+    })?;
+    Ok(())
+}
+
+/// The first line of a text, without its newline.
+fn first_line(text: &[u8]) -> &[u8]
+    ensures value { result.now ≡ before_first (λ b. b == 10) text.now }
+    ensures within { length result.now ≤ length text.now }
+{
+    &text[..line_len(text)]
+}
+
+/// How many bytes stand before the first newline.
+fn line_len(text: &[u8]) -> usize
+    ensures value { result ≡ position_or_len (λ b. b == 10) text.now }
+    ensures within { result ≤ length text.now }
+{
+    text.iter().take_while(|b| **b != b'\n').count()
+}

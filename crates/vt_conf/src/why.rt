@@ -1,0 +1,112 @@
+//! Why a configuration is refused.
+
+ghost use Rattle.std.specs.Prelude.{◌≡◌};
+ghost use Rattle.vt_conf.specs.Causes.{text_of};
+
+use std::alloc::{AllocError, AllocFailed};
+use vt_base::NoMemory;
+
+/// What is wrong with a configuration.
+#[derive(Clone, Copy, Debug, PartialEq, Eq)]
+pub enum ConfWhy {
+    /// The line isn't UTF-8.
+    NotUtf8,
+    /// More than 65,536 bytes.
+    TooLong,
+    /// The line's first word is none of those known.
+    UnknownName,
+    /// The line's first word wants a value, and none stands there.
+    MissingValue,
+    /// More words stand on the line than its first one wants.
+    ExtraValue,
+    /// The value is no size.
+    BadSize,
+    /// The value is no address.
+    BadAddress,
+    /// An earlier line says what may be said once.
+    Repeated,
+    /// There are 64 such files before.
+    TooMany,
+    /// No line names a file of arenas.
+    NoArenas,
+    /// No line names a file with an index section.
+    NoSections,
+}
+
+/// A configuration is refused.
+#[derive(Clone, Copy, Debug, PartialEq, Eq)]
+pub struct ConfBad {
+    /// The line, counted from 1, or 0 where the whole text is meant.
+    pub line: usize,
+    pub why: ConfWhy,
+}
+
+/// Why a configuration wasn't read.
+#[derive(Clone, Copy, Debug, PartialEq, Eq)]
+pub enum ConfErr {
+    Bad(ConfBad),
+    NoMemory,
+}
+
+impl From<NoMemory> for ConfErr {
+    ghost use Rattle.std.specs.Prelude.{◌≡◌};
+    ghost use Rattle.vt_conf.specs.declared.why.ConfErr.TheVariants.{NoMemory};
+
+    ghost from_gives = { λ _ e. e ≡ NoMemory };
+
+    fn from(_error: NoMemory) -> Self {
+        ConfErr::NoMemory
+    }
+}
+
+impl From<AllocError> for ConfErr {
+    ghost use Rattle.std.specs.Prelude.{◌≡◌};
+    ghost use Rattle.vt_conf.specs.declared.why.ConfErr.TheVariants.{NoMemory};
+
+    ghost from_gives = { λ _ e. e ≡ NoMemory };
+
+    fn from(_error: AllocError) -> Self {
+        ConfErr::NoMemory
+    }
+}
+
+impl<T: Drop> From<AllocFailed<T>> for ConfErr {
+    ghost use Rattle.std.specs.Prelude.{◌≡◌};
+    ghost use Rattle.vt_conf.specs.declared.why.ConfErr.TheVariants.{NoMemory};
+
+    ghost from_gives = { λ _ e. e ≡ NoMemory };
+
+    fn from(_error: AllocFailed<T>) -> Self {
+        ConfErr::NoMemory
+    }
+}
+
+impl From<ConfBad> for ConfErr {
+    ghost use Rattle.std.specs.Prelude.{◌≡◌};
+    ghost use Rattle.vt_conf.specs.declared.why.ConfErr.TheVariants.{Bad};
+
+    ghost from_gives = { λ bad e. e ≡ Bad bad };
+
+    fn from(bad: ConfBad) -> Self {
+        ConfErr::Bad(bad)
+    }
+}
+
+/// The text that tells the cause.
+pub fn conf_text(why: &ConfWhy) -> &'static str
+    ensures { result.now ≡ text_of why.now }
+{
+    match why {
+        ConfWhy::NotUtf8 => "not utf-8",
+        ConfWhy::TooLong => "too long",
+        ConfWhy::UnknownName => "unknown name",
+        ConfWhy::MissingValue => "missing value",
+        ConfWhy::ExtraValue => "extra value",
+        ConfWhy::BadSize => "bad size",
+        ConfWhy::BadAddress => "bad address",
+        ConfWhy::Repeated => "repeated",
+        ConfWhy::TooMany => "too many",
+        ConfWhy::NoArenas => "no arenas",
+        ConfWhy::NoSections => "no sections",
+    }
+}
