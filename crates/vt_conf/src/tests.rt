@@ -11,8 +11,9 @@ fn refusal(alloc: Global, text: &[u8]) -> Option<ConfErr> {
     parse_conf(alloc, text).err()
 }
 
-fn names(files: &[PartFile]) -> usize {
-    files.len()
+/// A file's name and line.
+fn file(files: &[PartFile], i: usize) -> Option<(&[u8], usize)> {
+    files.get(i).map(|file| (file.name.as_slice(), file.line))
 }
 
 /// The stated configuration, with comments, blanks and defaults.
@@ -22,29 +23,23 @@ fn a_configuration_is_read(rt: HostRuntime) -> Result<(), Fail> {
     let short = b"index main\narenas a.part\nisect i.part\nmem 1m\n";
     let conf = parse_conf(alloc, short).expect(&rt, "row");
     assert_eq!(rt; conf.index.as_slice(), b"main".as_slice());
-    assert_eq!(rt; (names(&conf.arenas), names(&conf.sections)), (1, 1));
-    assert_eq!(rt; conf.arenas[0].name.as_slice(), b"a.part".as_slice());
-    assert_eq!(rt; (conf.arenas[0].line, conf.sections[0].line), (2, 3));
+    assert_eq!(rt; (conf.arenas.len(), conf.sections.len()), (1, 1));
+    assert_eq!(rt; file(&conf.arenas, 0), Some((b"a.part".as_slice(), 2)));
+    assert_eq!(rt; file(&conf.sections, 0), Some((b"i.part".as_slice(), 3)));
     assert_eq!(rt; (conf.mem, conf.icmem), (1_048_576, 1_048_576));
     assert!(rt; conf.filter.is_none() && conf.addr.host.is_none());
     assert_eq!(rt; conf.addr.port, 17_034);
 
-    let long =
-        b"# all\n\n\tisect  i1 # one\nisect i0\narenas a0\nbloom b#b\nqueuewrites\nwebroot /w\nhttpaddr x\nbcmem 2K\nicmem 3k\nmem 4G\naddr tcp!h!80";
-    let conf = parse_conf(alloc, long).expect(&rt, "all lines");
-    assert_eq!(rt; conf.sections[0].name.as_slice(), b"i1".as_slice());
-    assert_eq!(rt; (conf.sections[0].line, conf.sections[1].line), (3, 4));
-    let filter = conf.filter.expect(&rt, "a filter");
-    assert_eq!(rt;
-        (filter.name.as_slice(), filter.line),
-        (b"b#b".as_slice(), 6)
-    );
-    assert_eq!(rt; (conf.mem, conf.icmem), (4 << 30, 3_072));
-    assert_eq!(rt;
-        conf.addr.host.expect(&rt, "a host").as_slice(),
-        b"h".as_slice()
-    );
-    assert_eq!(rt; conf.addr.port, 80);
+    let long = b"# all\n\n\tisect  i1 # one\nisect i0\narenas a0\nbloom b#b\nqueuewrites\n\
+        webroot /w\nhttpaddr x\nbcmem 2K\nicmem 3k\nmem 4G\naddr tcp!h!80";
+    let all = parse_conf(alloc, long).expect(&rt, "all lines");
+    assert_eq!(rt; file(&all.sections, 0), Some((b"i1".as_slice(), 3)));
+    assert_eq!(rt; file(&all.sections, 1), Some((b"i0".as_slice(), 4)));
+    let filter = all.filter.as_ref().expect(&rt, "a filter");
+    assert_eq!(rt; filter.name.as_slice(), b"b#b".as_slice());
+    assert_eq!(rt; (filter.line, all.mem, all.icmem), (6, 4 << 30, 3_072));
+    let host = all.addr.host.as_ref().expect(&rt, "a host");
+    assert_eq!(rt; (host.as_slice(), all.addr.port), (b"h".as_slice(), 80));
     Ok(())
 }
 
@@ -105,8 +100,8 @@ fn a_configuration_is_refused(rt: HostRuntime) -> Result<(), Fail> {
         why: ConfWhy::TooMany,
     };
     assert_eq!(rt; refusal(alloc, &text), Some(ConfErr::Bad(many)));
-    text.truncate(text.len() - 8);
-    while text.len() < 65_536 {
+    text.truncate(text.len().saturating_sub(8));
+    for _ in text.len()..65_536 {
         text.push(b' ')?;
     }
     assert!(rt; parse_conf(alloc, &text).is_ok());
