@@ -1,0 +1,57 @@
+//! Entries and roots, with bytes from outside.
+
+use super::*;
+use std::test::Fail;
+use vt_base::Score;
+
+const ZERO: Score = Score(
+    *b"\xda\x39\xa3\xee\x5e\x6b\x4b\x0d\x32\x55\xbf\xef\x95\x60\x18\x90\xaf\xd8\x07\x09",
+);
+
+#[test]
+fn entries_are_tested_field_by_field(rt: HostRuntime) {
+    let mut bytes = [0u8; 40];
+    bytes[8] = 0xa0;
+    assert!(rt; Entry::decode(&bytes).is_ok_and(|e| !e.active && e.depth == 0));
+    for (psize, dsize, flags, bad) in [
+        (19, 0, 0x41, Some((EntryField::PSize, 19))),
+        (20, 0, 0x41, Some((EntryField::DSize, 0))),
+        (20, 39, 0x43, Some((EntryField::DSize, 39))),
+        (20, 39, 0x41, Some((EntryField::Flags, 0x41))),
+        (0, 0, 0x40, Some((EntryField::Flags, 0x40))),
+        (20, 40, 0x03, None),
+        (20, 1, 0xbd, None),
+        (0, 0, 0x02, None),
+    ] {
+        bytes[5] = psize;
+        bytes[7] = dsize;
+        bytes[8] = flags;
+        let wanted = bad.map(|(field, found)| BadEntry { field, found });
+        assert_eq!(rt;
+            Entry::decode(&bytes).err(),
+            wanted,
+            "{psize} {dsize} {flags}"
+        );
+    }
+}
+
+#[test]
+fn roots_are_300_bytes_of_version_2(rt: HostRuntime) {
+    let mut root = Root {
+        name: [0; 128],
+        kind: [0; 128],
+        score: Score([1; 20]),
+        block_size: 8192,
+        prev: ZERO,
+    };
+    root.name[0] = b'v';
+    root.kind[127] = b'r';
+    let mut bytes = root.encode();
+    assert_eq!(rt; &bytes[0..3], b"\x00\x02v".as_slice());
+    assert_eq!(rt; &bytes[257..259], b"r\x01".as_slice());
+    assert_eq!(rt; &bytes[278..282], b"\x20\x00\xda\x39".as_slice());
+    assert_eq!(rt; Root::decode(&bytes), Ok(root));
+    assert_eq!(rt; Root::decode(&bytes[..299]), Err(RootField::Length));
+    bytes[1] = 3;
+    assert_eq!(rt; Root::decode(&bytes), Err(RootField::Version));
+}
