@@ -1,11 +1,17 @@
-//! Files and directories as trees of blocks (venti(6)): entries and roots.
+//! Files and directories as trees of blocks (venti(6)): entries and roots, and stores of blocks.
 #![tactic(auto)]
 
+mod blocks;
 mod entry;
+mod err;
 pub mod laws;
+mod mem_blocks;
 mod root;
 
+pub use blocks::Blocks;
 pub use entry::{BadEntry, ENTRY_LEN, Entry, EntryField};
+pub use err::{BlockErr, TreeErr};
+pub use mem_blocks::{MemBlocks, Stored};
 pub use root::{ROOT_LEN, Root, RootField};
 
 #[cfg(test)]

@@ -1,8 +1,9 @@
-//! Entries and roots, with bytes from outside.
+//! Entries, roots and blocks in memory, with scores and bytes from outside.
 
 use super::*;
+use std::alloc::Global;
 use std::test::Fail;
-use vt_base::Score;
+use vt_base::{Kind, Score, Scorer, Sha1Scorer};
 
 const ZERO: Score = Score(
     *b"\xda\x39\xa3\xee\x5e\x6b\x4b\x0d\x32\x55\xbf\xef\x95\x60\x18\x90\xaf\xd8\x07\x09",
@@ -54,4 +55,26 @@ fn roots_are_300_bytes_of_version_2(rt: HostRuntime) {
     assert_eq!(rt; Root::decode(&bytes[..299]), Err(RootField::Length));
     bytes[1] = 3;
     assert_eq!(rt; Root::decode(&bytes), Err(RootField::Version));
+}
+
+#[test]
+fn calls_fail_and_are_refused_on_demand(rt: HostRuntime) -> Result<(), Fail> {
+    let alloc = rt.alloc();
+    let blocks = MemBlocks::new(alloc, Sha1Scorer).failing(vec![in alloc; 1, 3]?);
+    let mut blocks = blocks.refusing(vec![in alloc; 5]?);
+    let Ok(score) = blocks.put(alloc, Kind::DATA, b"abc") else {
+        return Err("not put".into());
+    };
+    assert!(rt; matches!(blocks.get(alloc, Kind::DATA, &score), Err(BlockErr::Fault)));
+    let abc = blocks.get(alloc, Kind::DATA, &score);
+    assert!(rt; abc.is_ok_and(|b| b.as_slice() == b"abc".as_slice()));
+    assert!(rt; matches!(blocks.sync(alloc), Err(BlockErr::Fault)));
+    assert_eq!(rt; blocks.synced(), 0);
+    assert!(rt; blocks.sync(alloc).is_ok());
+    assert_eq!(rt; blocks.synced(), 1);
+    assert!(rt; matches!(blocks.sync(alloc), Err(BlockErr::Refused(_))));
+    let absent = blocks.get(alloc, Kind::DATA, &Score([7; 20]));
+    assert!(rt; matches!(absent, Err(BlockErr::Refused(_))));
+    assert_eq!(rt; (blocks.faults(), blocks.refusals()), (2, 2));
+    Ok(())
 }

@@ -1,0 +1,20 @@
+-- Calls of a store of blocks, one after another.
+use Rattle.std.specs.Prelude.{ℕ, ◌≡◌, ⊤, List, [], ◌∷◌}
+use Rattle.vt_tree.specs.Calls.{Call, Tells, after}
+use Rattle.vt_tree.specs.Maps.{Maps}
+
+-- it was called for these, in this order, answered so, and wasn't called for anything else
+abbrev pub Makes : {S : Type 0} → (does : S → Call → S → Type 0) → S → List Call → S → Type 0
+Makes does s [] last = last ≡ s
+Makes {S} does s (call ∷ calls) last = (next : S) × does s call next × Makes does next calls last
+
+-- what is held, and what is synced, after them
+abbrev pub after_all : (score_of : List ℕ → List ℕ) → List Call → Maps → Maps
+after_all score_of [] m = m
+after_all score_of (call ∷ calls) m = after_all score_of calls (after score_of call m)
+
+-- each answer is true of the map that was held then
+abbrev pub TellsEach : (score_of : List ℕ → List ℕ) → Maps → List Call → Type 0
+TellsEach score_of m [] = ⊤
+TellsEach score_of m (call ∷ calls) =
+    Tells score_of m.held call × TellsEach score_of (after score_of call m) calls
