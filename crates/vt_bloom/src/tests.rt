@@ -33,7 +33,6 @@ type Mounted = (Bloom<MemDisk<Listed>>, Bits);
 
 /// A formatted filter of 8,192 bytes and 3 bits a score, on a disk of which these calls fail.
 fn mounted(rt: &HostRuntime, failing: &[u64]) -> Result<Mounted, Fail>
-    ensures disk { IfOk result (λ it. length (memory_bytes it.0.disk) ≡ LEN) }
     ensures rest { IfOk result (λ it. it.0.twin.change ≡ None) }
     ensures m { IfOk result (λ it. it.1.m ≡ it.0.m) }
     ensures k { IfOk result (λ it. it.1.k ≡ it.0.k) }
@@ -110,6 +109,7 @@ fn a_frame_is_spelled(rt: HostRuntime) -> Result<(), Fail> {
     assert_eq!(rt; save_until(&rt, &mut bloom, &bits, 3), Ok(Step::Done));
     assert!(rt; bloom.mark() == 1 && !bloom.saving() && bloom.stopped().is_none());
     let mut disk = bloom.into_devices();
+    assert_eq!(rt; disk.len(), LEN);
     let mut want = [0; 16_384];
     want[..16].copy_from_slice(b"VBLM\x00\x01\x10\x03\x00\x00\x00\x00\x00\x00\x00\x01");
     want[8399] = 0x10;
