@@ -2,6 +2,8 @@
 use Rattle.std.specs.Prelude.{◌≡◌, ◌≢◌, ℕ, ◌+◌, ◌<◌, ◌≤◌, List, codes, length, take, drop}
 use Rattle.byteorder.specs.Endian.{big_number}
 use Rattle.vt_base.specs.declared.place.Entry.{Entry}
+use Rattle.vt_model.specs.declared.TheConstants.{BUCKET_ROOM}
+use Rattle.vt_bucket.specs.declared.TheConstants.{FIELDS_LEN}
 use Rattle.vt_bucket.specs.declared.decoding.BucketBad.{BucketBad}
 use Rattle.vt_bucket.specs.declared.decoding.BucketBad.TheVariants.{Magic, Number, Count, Order}
 use Rattle.vt_bucket.specs.Frame.{BeginsWith}
@@ -18,7 +20,7 @@ count_in bytes = big_number 2 (drop 8 bytes)
 -- the first n entries stand there, and are in order
 abbrev pub HasEntries : ℕ → List ℕ → Type 0
 HasEntries n bytes =
-    (entries : List Entry) × (length entries ≡ n) × BeginsWith entries (drop 10 bytes)
+    (entries : List Entry) × (length entries ≡ n) × BeginsWith entries (drop FIELDS_LEN bytes)
 
 abbrev pub HasMagic : List ℕ → Type 0
 HasMagic bytes = magic_in bytes ≡ codes "VBKT"
@@ -29,7 +31,7 @@ FaultIs (Magic found) number bytes = (found ≡ magic_in bytes) × ¬ HasMagic b
 FaultIs (Number found) number bytes = HasMagic bytes × (found ≡ number_in bytes) × (found ≢ number)
 FaultIs (Count found) number bytes =
     HasMagic bytes × (number_in bytes ≡ number) × (found ≡ count_in bytes)
-    × (263 < found)
+    × (BUCKET_ROOM < found)
 FaultIs (Order entry count) number bytes =
     HasMagic bytes × (number_in bytes ≡ number) × (count ≡ count_in bytes)
-    × (count ≤ 263) × (entry < count) × HasEntries entry bytes × ¬ HasEntries (entry + 1) bytes
+    × (count ≤ BUCKET_ROOM) × (entry < count) × HasEntries entry bytes × ¬ HasEntries (entry + 1) bytes

@@ -10,6 +10,8 @@ use Rattle.std.specs.List.{AllByRecursion, flat_map}
 use Rattle.byteorder.specs.Endian.{big_bytes}
 use Rattle.vt_base.specs.Kind.{IsKind}
 use Rattle.vt_base.specs.declared.place.Entry.{Entry}
+use Rattle.vt_model.specs.declared.TheConstants.{BUCKET_ROOM}
+use Rattle.vt_bucket.specs.declared.TheConstants.{FRAME_LEN, FIELDS_LEN, CELL_LEN}
 use Rattle.vt_bucket.specs.Order.{IsAscending}
 
 -- the bytes of an entry
@@ -30,7 +32,7 @@ pub record IsEntry (e : Entry) : Type 0 where
 pub record AreEntries (entries : List Entry) : Type 0 where
   pub each : AllByRecursion IsEntry entries
   pub ascending : IsAscending entries
-  pub most : length entries ≤ 263
+  pub most : length entries ≤ BUCKET_ROOM
 
 abbrev pub cells : List Entry → List ℕ
 cells entries = flat_map cell entries
@@ -46,10 +48,11 @@ header number count = codes "VBKT" ++ (big_bytes 4 number ++ big_bytes 2 count)
 -- the bytes are a frame of the bucket of this number, which holds these entries
 pub record IsFrame (number : ℕ) (entries : List Entry) (bytes : List ℕ) : Type 0 where
   pub number_fits : number < 2 ^ 32
-  pub head : take 10 bytes ≡ header number (length entries)
-  pub body : BeginsWith entries (drop 10 bytes)
+  pub head : take FIELDS_LEN bytes ≡ header number (length entries)
+  pub body : BeginsWith entries (drop FIELDS_LEN bytes)
 
 -- the frame that is written
 abbrev pub frame_of : (number : ℕ) → (entries : List Entry) → List ℕ
 frame_of number entries =
-    header number (length entries) ++ (cells entries ++ replicate (8182 - 31 * length entries) 0)
+    header number (length entries) ++ (cells entries
+    ++ replicate (FRAME_LEN - FIELDS_LEN - CELL_LEN * length entries) 0)

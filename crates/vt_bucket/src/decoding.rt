@@ -9,9 +9,10 @@ ghost use Rattle.vt_bucket.specs.Frame.{cell, IsEntry, IsFrame, BeginsWith};
 ghost use Rattle.vt_bucket.specs.Order.{IsBelow};
 
 use crate::holding::blank_table;
-use crate::{Bucket, CELL_LEN, HEAD_LEN, ROOM};
+use crate::{Bucket, CELL_LEN, FIELDS_LEN, FRAME_LEN};
 use vt_base::{Entry, Key, Kind, Place, Score};
 use vt_fields::{u16_at, u32_at};
+use vt_model::BUCKET_ROOM;
 
 /// Why bytes aren't a bucket's frame: the first of these tests that fails, and what was found.
 #[derive(Clone, Copy, Debug, PartialEq, Eq)]
@@ -30,7 +31,7 @@ pub enum BucketBad {
 /// The bucket of this number, from a frame of 8,192 bytes. The whole frame is tested before an
 /// entry is used.
 pub fn decode(frame: &[u8], number: u32) -> Result<Bucket, BucketBad>
-    requires { length frame.now ≡ 8192 }
+    requires { length frame.now ≡ FRAME_LEN }
     ensures number { IfOk result (λ bucket. number_of bucket ≡ number) }
     ensures found { IfOk result (λ bucket. IsFrame number (entries_of bucket) frame.now) }
     ensures all_are_read { (entries : List Entry) → IsFrame number entries frame.now
@@ -51,10 +52,10 @@ pub fn decode(frame: &[u8], number: u32) -> Result<Bucket, BucketBad>
 
 /// Tests the head of a frame, and gives the count of entries.
 fn decode_head(frame: &[u8], number: u32) -> Result<u16, BucketBad>
-    requires { length frame.now ≡ 8192 }
+    requires { length frame.now ≡ FRAME_LEN }
     ensures magic { OnOk result (HasMagic frame.now) }
     ensures number { OnOk result (number_in frame.now ≡ number) }
-    ensures count { IfOk result (λ count. (count ≡ count_in frame.now) × (count ≤ 263)) }
+    ensures count { IfOk result (λ count. (count ≡ count_in frame.now) × (count ≤ BUCKET_ROOM)) }
     ensures refused { IfErr result (λ bad. FaultIs bad number frame.now) }
 {
     let magic = [frame[0], frame[1], frame[2], frame[3]];
@@ -66,7 +67,7 @@ fn decode_head(frame: &[u8], number: u32) -> Result<u16, BucketBad>
         return Err(BucketBad::Number(found));
     }
     let count = u16_at(frame, 8);
-    if count as usize > ROOM {
+    if count as usize > BUCKET_ROOM {
         return Err(BucketBad::Count(count));
     }
     Ok(count)
@@ -75,15 +76,15 @@ fn decode_head(frame: &[u8], number: u32) -> Result<u16, BucketBad>
 /// Reads the entries of a frame into a table, or gives the number of the first that can't stand
 /// there.
 fn decode_entries(frame: &[u8], count: u16, table: &mut [Entry]) -> Result<(), u16>
-    requires whole { length frame.now ≡ 8192 }
-    requires most { count ≤ 263 }
-    requires room { length table.old ≡ 263 }
-    ensures read { OnOk result (BeginsWith (take count table.new) (drop 10 frame.now)) }
+    requires whole { length frame.now ≡ FRAME_LEN }
+    requires most { count ≤ BUCKET_ROOM }
+    requires room { length table.old ≡ BUCKET_ROOM }
+    ensures read { OnOk result (BeginsWith (take count table.new) (drop FIELDS_LEN frame.now)) }
     ensures bad { IfErr result (λ entry. (entry < count) × HasEntries entry frame.now
         × ¬ HasEntries (entry + 1) frame.now) }
 {
     for i in 0..count {
-        let start = HEAD_LEN + CELL_LEN * i as usize;
+        let start = FIELDS_LEN + CELL_LEN * i as usize;
         let Some(entry) = decode_entry(&frame[start..start + CELL_LEN]) else {
             return Err(i);
         };
@@ -97,7 +98,7 @@ fn decode_entries(frame: &[u8], count: u16, table: &mut [Entry]) -> Result<(), u
 
 /// The entry of these bytes, if it has a block type.
 fn decode_entry(bytes: &[u8]) -> Option<Entry>
-    requires { length bytes.now ≡ 31 }
+    requires { length bytes.now ≡ CELL_LEN }
     ensures found { IfSome result (λ entry. IsEntry entry × (bytes.now ≡ cell entry)) }
     ensures none { IfNone result (¬ IsKind (slice_index bytes.now 20)) }
 {

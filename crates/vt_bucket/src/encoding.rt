@@ -4,14 +4,14 @@ ghost use Rattle.std.specs.Prelude.{◌≡◌, ◌+◌, ◌≤◌, ◌++◌, len
 ghost use Rattle.vt_bucket.specs.Buckets.{number_of, entries_of};
 ghost use Rattle.vt_bucket.specs.Frame.{cell, frame_of, IsEntry, IsFrame};
 
-use crate::Bucket;
+use crate::{Bucket, CELL_LEN, FRAME_LEN};
 use vt_base::Entry;
 use vt_fields::{put, put_u8, put_u16, put_u32};
 
 impl Bucket {
     /// Writes the bucket's frame.
     pub fn encode(&self, frame: &mut [u8])
-        requires { length frame.old ≡ 8192 }
+        requires { length frame.old ≡ FRAME_LEN }
         ensures bytes { frame.new ≡ frame_of (number_of self.now) (entries_of self.now) }
         ensures spelled { IsFrame (number_of self.now) (entries_of self.now) frame.new }
     {
@@ -28,9 +28,9 @@ impl Bucket {
 
 /// Writes the bytes of an entry at this place, and gives the place behind them.
 fn put_entry(frame: &mut [u8], at: usize, entry: &Entry) -> usize
-    requires { at + 31 ≤ length frame.old }
-    ensures written { take (at + 31) frame.new ≡ take at frame.old ++ cell entry.now }
-    ensures end { result ≡ at + 31 }
+    requires { at + CELL_LEN ≤ length frame.old }
+    ensures written { take (at + CELL_LEN) frame.new ≡ take at frame.old ++ cell entry.now }
+    ensures end { result ≡ at + CELL_LEN }
     ensures entry { IsEntry entry.now }
 {
     let at = put(frame, at, &entry.key.score.0);

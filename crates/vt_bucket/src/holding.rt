@@ -8,9 +8,10 @@ ghost use Rattle.vt_bucket.specs.Buckets.{number_of, entries_of, Puts};
 ghost use Rattle.vt_bucket.specs.Order.{IsAscending};
 ghost use Rattle.vt_base.specs.Key.{key_cmp};
 
-use crate::{Bucket, ROOM};
+use crate::Bucket;
 use std::cmp::Ordering;
 use vt_base::{Entry, Key, Kind, Place, Score};
+use vt_model::BUCKET_ROOM;
 
 /// The bucket has 263 entries already, none of this key.
 #[derive(Clone, Copy, Debug, PartialEq, Eq)]
@@ -40,7 +41,7 @@ impl Bucket {
     pub fn entries(&self) -> &[Entry]
         ensures entries { result.now ≡ entries_of self.now }
         ensures ascending { IsAscending result.now }
-        ensures most { length result.now ≤ 263 }
+        ensures most { length result.now ≤ BUCKET_ROOM }
     {
         &self.table[..self.len]
     }
@@ -61,7 +62,7 @@ impl Bucket {
     /// Puts an entry in, in place of one of its key.
     pub fn with(&mut self, entry: Entry) -> Result<(), Full>
         ensures put { OnOk result (Puts (entries_of self.old) entry (entries_of self.new)) }
-        ensures full { IsErr result ↔ ((length (entries_of self.old) ≡ 263)
+        ensures full { IsErr result ↔ ((length (entries_of self.old) ≡ BUCKET_ROOM)
             × All (λ other. other.key ≢ entry.key) (entries_of self.old)) }
         ensures unchanged { OnErr result (entries_of self.new ≡ entries_of self.old) }
         ensures number { number_of self.new ≡ number_of self.old }
@@ -69,7 +70,7 @@ impl Bucket {
         match place(self.entries(), &entry.key) {
             Ok(at) => self.table[at] = entry,
             Err(at) => {
-                if self.len == ROOM {
+                if self.len == BUCKET_ROOM {
                     return Err(Full);
                 }
                 insert_at(&mut self.table, self.len, at, entry);
@@ -81,7 +82,7 @@ impl Bucket {
 }
 
 /// What stands in a table before entries are written there. It isn't read, so any entries would do.
-pub fn blank_table() -> [Entry; ROOM] {
+pub fn blank_table() -> [Entry; BUCKET_ROOM] {
     let blank = Entry {
         key: Key {
             score: Score([0; 20]),
@@ -93,7 +94,7 @@ pub fn blank_table() -> [Entry; ROOM] {
             offset: 0,
         },
     };
-    [blank; ROOM]
+    [blank; BUCKET_ROOM]
 }
 
 /// Where the entry of this key is, or where it would go.

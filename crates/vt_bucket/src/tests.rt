@@ -57,14 +57,14 @@ fn has_room_for_263(rt: HostRuntime) -> Result<(), Fail> {
         let one = entry((score / 256) as u8, (score % 256) as u8, 13, 0x6000)?;
         assert_eq!(rt; bucket.with(one), Ok(()));
     }
-    assert_eq!(rt; bucket.entries().len(), ROOM);
+    assert_eq!(rt; bucket.entries().len(), BUCKET_ROOM);
     assert_eq!(rt; bucket.with(entry(0, 5, 2, 0x6000)?), Err(Full));
     assert_eq!(rt; bucket.with(entry(0, 5, 13, 0x7000)?), Ok(()));
     assert_eq!(rt;
         bucket.find(&entry(0, 5, 13, 0)?.key),
         Some(entry(0, 5, 13, 0x7000)?)
     );
-    assert_eq!(rt; bucket.entries().len(), ROOM);
+    assert_eq!(rt; bucket.entries().len(), BUCKET_ROOM);
     Ok(())
 }
 

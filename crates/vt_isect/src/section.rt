@@ -121,6 +121,14 @@ impl<D: Disk> Section<D> {
         }
     }
 
+    /// Its name, with the zeros that fill it up.
+    pub fn name(&self) -> &[u8]
+        ensures name { result.now ≡ self.now.name }
+        ensures len { length result.now ≡ NAME_LEN }
+    {
+        &self.name
+    }
+
     /// What its head says.
     pub fn head(&self) -> Head
         ensures { result ≡ self.now.head }
