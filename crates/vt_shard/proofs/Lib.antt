@@ -1,0 +1,16 @@
+pub mod Advances
+pub mod Begins
+pub mod Blocks
+pub mod Finds
+pub mod IsAboveAll
+pub mod IsLumpOf
+pub mod IsSoundFrom
+pub mod IsWell
+pub mod KeepsPlace
+pub mod LeavesLive
+pub mod Lists
+pub mod Mounted
+pub mod Settles
+pub mod TakesStep
+pub mod UnderWay
+pub mod WellAfter

@@ -1,0 +1,232 @@
+//! Writing dirty entries back to their buckets.
+
+ghost use Rattle.std.specs.Prelude.{◌≡◌, ◌≢◌, ◌⊎◌, ◌↔◌, ◌+◌, ◌-◌, ◌^◌, ◌<◌, ◌≤◌, ℕ, List, [], max, length, true, false, take, IsTrue, IsSome, IfSome, IfNone, IfOk, IfErr, OnOk, None, Some, Ok, Err, vec_capacity};
+ghost use Rattle.std.specs.List.{All, AllPairs, Contains};
+ghost use Rattle.std.specs.Option.{option_map};
+ghost use Rattle.vt_base.specs.declared.place.Entry.{Entry};
+ghost use Rattle.vt_base.specs.declared.place.Info.{Info};
+ghost use Rattle.vt_disk.specs.Disk.{WithinCall};
+ghost use Rattle.vt_icache.specs.Index.{entries_below};
+ghost use Rattle.vt_isect.specs.Section.{IsAtRest};
+ghost use Rattle.vt_model.specs.History.{History};
+ghost use Rattle.vt_model.specs.Places.{Setup, bucket_count, crowd};
+ghost use Rattle.vt_shard.specs.Shard.{ReadBucket, HasBelow, IsAboveAll, IsDirtyBelow, read_bucket};
+ghost use Rattle.vt_shard.specs.Writeback.{SettlesAll};
+
+use crate::ROOM;
+use crate::shard::Shard;
+use vt_base::{Entry, Info};
+use vt_bucket::Bucket;
+use vt_disk::Disk;
+use vt_icache::{IndexCache, entry_of};
+use vt_isect::{Entries, Section, ShardErr, bucket_number};
+use vt_model::BUCKET_ROOM;
+use vt_twin::Step;
+
+impl<D: Disk> Shard<D> {
+    ghost use Rattle.vt_shard.specs.Sound.{IsSound, IsSoundFrom, KeepsSound, LeavesLive};
+    ghost use Rattle.vt_shard.specs.Writeback.{Begins, MakesCall, ReadsFrame, TakesStep};
+
+    /// Begins to put the dirty entries of the blocks below `durable` into their buckets. Behind
+    /// them the mark is raised to that number. It makes no device call: `advance` does. False says
+    /// that there is nothing to do.
+    ///
+    /// It begins with the bucket behind the one at which the last writeback ended early, if it did,
+    /// and comes to that one last: so a damaged bucket keeps no other from being written back.
+    pub fn begin_file(&mut self, durable: u64) -> bool
+        requires rest { self.old.writeback ≡ None }
+        ensures begins { IsTrue result ↔ (HasBelow durable self.old.index.dirty
+            ⊎ (self.old.section.head.mark < durable)) }
+        ensures begun { result ≡ true
+            → Begins durable (max self.old.section.head.mark durable) self.old self.new }
+        ensures idle { result ≡ false → self.new ≡ self.old }
+        ensures sound { (score : List ℕ → List ℕ) (c : Setup) (h : History) (most : ℕ)
+            → IsTrue D.tells → IsSound score c D.Disk self.old h most → durable ≤ most
+            → IsSound score c D.Disk self.new h most }
+    {
+        let mark = self.section.mark();
+        if mark >= durable && !has_below(self.index.dirty(), durable) {
+            return false;
+        }
+        self.begin(durable, mark.max(durable));
+        true
+    }
+
+    /// Begins to put all dirty entries into their buckets, and leaves the mark, as while a log is
+    /// read back. It makes no device call. False says that none is dirty.
+    pub fn begin_bare(&mut self) -> bool
+        requires rest { self.old.writeback ≡ None }
+        ensures begins { IsTrue result ↔ (0 < length self.old.index.dirty) }
+        ensures begun { result ≡ true → (below : ℕ) × IsAboveAll self.old.index.dirty below
+            × Begins below self.old.section.head.mark self.old self.new }
+        ensures idle { result ≡ false → self.new ≡ self.old }
+        ensures sound { (score : List ℕ → List ℕ) (c : Setup) (h : History) (durable from : ℕ)
+            → IsTrue D.tells → IsSoundFrom score c D.Disk self.old h durable from
+            → ((info : Info) → Contains self.old.index.dirty info → info.number < durable)
+            → IsSoundFrom score c D.Disk self.new h durable from }
+    {
+        match above_all(self.index.dirty()) {
+            Some(below) => {
+                let mark = self.section.mark();
+                self.begin(below, mark);
+                true
+            }
+            None => false,
+        }
+    }
+
+    /// Makes one device call of the writeback under way. Of each bucket it reads the selector, then
+    /// the current frame, and writes a frame with the bucket's entries too, syncs, writes the
+    /// selector, and syncs. Then these entries are clean. Behind the last bucket come the four
+    /// calls that raise the mark, and Done is the answer to the last of them: no entry below the
+    /// writeback's number is dirty then.
+    ///
+    /// A fault in a read and a damaged bucket end the writeback, and its entries stay dirty but for
+    /// those of the buckets that were completed. A fault in a write or a sync stops the shard: from
+    /// then on the answer is Stopped with the number of that call, and nothing is done.
+    pub fn advance(&mut self) -> Result<Step, ShardErr>
+        requires under_way { IsSome self.old.writeback }
+        ensures sound { IsTrue D.tells → KeepsSound D.Disk self.old self.new }
+
+        // What a crash at any moment of it leaves is a section in use that agrees with the first n
+        // blocks, for whatever n from the durable ones on.
+        ensures crash { (score : List ℕ → List ℕ) (c : Setup) (h : History)
+            (durable from n : ℕ) → IsTrue D.tells
+            → IsSoundFrom score c D.Disk self.old h durable from → durable ≤ n → n ≤ length h
+            → (file : List ℕ)
+            → WithinCall (D.images self.old.section.disk) (D.images self.new.section.disk) file
+            → LeavesLive score c (take n h) self.old file }
+
+        // Whatever the disk holds:
+        ensures takes { TakesStep result self.old self.new }
+        ensures reads { ReadsFrame D.Disk result self.old self.new }
+        ensures calls { MakesCall D.Disk result self.old self.new }
+
+        // While no bucket has more blocks than it has room for, it finds no damage.
+        ensures undamaged { (score : List ℕ → List ℕ) (c : Setup) (h : History)
+            (durable from : ℕ) → IsTrue D.tells
+            → IsSoundFrom score c D.Disk self.old h durable from
+            → ((n : ℕ) → crowd score (bucket_count c) h n ≤ BUCKET_ROOM)
+            → IfErr result (λ bad. (bad ≡ ShardErr.Fault)
+            ⊎ ((n : ℕ) × (bad ≡ ShardErr.Stopped n))) }
+    {
+        let Some(below) = self.writeback else {
+            unreachable!()
+        };
+        let before = self.section.written();
+        let bucket = self.section.bucket_under_way();
+        let answer = self.section.advance();
+        if !self.section.is_changing() {
+            self.list = take_back(&mut self.section);
+            self.writeback = None;
+            self.ended_at = bucket;
+            return answer;
+        }
+        let written = &self.section.entries()[before..self.section.written()];
+        let Some(first) = written.first() else {
+            return answer;
+        };
+        let head = self.section.head();
+        let number = bucket_number(head.total, &first.key.score);
+        settle(&mut self.index, written, below);
+        self.waiting[(number - head.first) as usize] -= written.len() as u16;
+        forget(&mut self.bucket, number);
+        answer
+    }
+
+    /// Begins to write the dirty entries of the blocks below a number back.
+    fn begin(&mut self, below: u64, mark: u64)
+        requires rest { self.old.writeback ≡ None }
+        requires rises { self.old.section.head.mark ≤ mark }
+        ensures begins { Begins below mark self.old self.new }
+        ensures sound { (score : List ℕ → List ℕ) (c : Setup) (h : History) (durable from : ℕ)
+            → IsTrue D.tells → IsSoundFrom score c D.Disk self.old h durable from → below ≤ durable
+            → (mark ≡ self.old.section.head.mark)
+            ⊎ ((from ≡ 0) × (mark ≡ max self.old.section.head.mark below))
+            → IsSoundFrom score c D.Disk self.new h durable from }
+    {
+        let Some(mut list) = self.list.take() else {
+            unreachable!()
+        };
+        self.index.forget_settled();
+        fill(&mut list, self.index.dirty(), below);
+        self.section
+            .begin_file(Entries::from_vec(list), mark, self.ended_at);
+        self.writeback = Some(below);
+        self.filed = self.filed.max(below);
+    }
+}
+
+/// Whether an entry is that of a block below this number.
+fn has_below(dirty: &[Info], below: u64) -> bool
+    ensures { IsTrue result ↔ HasBelow below dirty.now }
+{
+    dirty.iter().any(|info| info.number < below)
+}
+
+/// These dirty entries become clean, which are of blocks below a number.
+fn settle(index: &mut IndexCache, entries: &[Entry], below: u64)
+    requires keys { AllPairs (λ a b. a.key ≢ b.key) index.old.dirty }
+    requires apart { AllPairs (λ a b. a.key ≢ b.key) entries.now }
+    requires dirty { (entry : Entry) → Contains entries.now entry
+        → IsDirtyBelow below index.old.dirty entry }
+    ensures { SettlesAll below entries.now index.old index.new }
+{
+    for entry in entries {
+        index.settle(&entry.key, below);
+    }
+}
+
+/// Drops the bucket that was read, if it is of this number.
+fn forget(read: &mut Option<Bucket>, number: u32)
+    ensures dropped { (bucket : ReadBucket) → read_bucket read.old ≡ Some bucket
+        → bucket.number ≡ number → read_bucket read.new ≡ None }
+    ensures kept { ((bucket : ReadBucket) → read_bucket read.old ≡ Some bucket
+        → bucket.number ≢ number) → read_bucket read.new ≡ read_bucket read.old }
+{
+    if let Some(bucket) = read
+        && bucket.number() == number
+    {
+        *read = None;
+    }
+}
+
+/// The memory for the entries of a writeback, which the section at rest hands back.
+fn take_back<D: Disk>(section: &mut Section<D>) -> Option<Vec<Entry>>
+    requires { IsAtRest section.old }
+    ensures taken { section.new ≡ record section.old { entries = None } }
+    ensures room { option_map (λ list. vec_capacity list) result
+        ≡ option_map (λ list. list.room) section.old.entries }
+{
+    match section.idle() {
+        Some(entries) => Some(entries.into_vec()),
+        None => None,
+    }
+}
+
+/// Puts the entries of the blocks below a number into a list, which has room for them.
+fn fill(list: &mut Vec<Entry>, dirty: &[Info], below: u64)
+    requires { length dirty.now ≤ vec_capacity list.old }
+    ensures items { list.new.items ≡ entries_below below dirty.now }
+    ensures room { vec_capacity list.old ≤ vec_capacity list.new }
+{
+    list.clear();
+    for info in dirty {
+        if info.number < below {
+            let _ = list.push(entry_of(info));
+        }
+    }
+}
+
+/// The least number that is above those of all entries.
+fn above_all(dirty: &[Info]) -> Option<u64>
+    requires { All (λ info. info.number < 2 ^ 64 - 1) dirty.now }
+    ensures some { IfSome result (IsAboveAll dirty.now) }
+    ensures none { IfNone result (dirty.now ≡ []) }
+{
+    let mut greatest = None;
+    for info in dirty {
+        greatest = Some(info.number.max(greatest.unwrap_or(0)));
+    }
+    Some(greatest? + 1)
+}
