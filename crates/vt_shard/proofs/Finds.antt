@@ -44,6 +44,11 @@ read_of t n has = by t.bucket refl has
     by None is it = absurd it
     by (Some bucket) is it = (bucket, is, it)
 
+pub number_of_read : (o : Option Bucket) (n : ℕ) → MatchOption (read_bucket o) ⊥ (λ bucket. bucket.number ≡ n)
+    → option_map (λ b. number_of b) o ≡ Some n
+number_of_read None n is = absurd is
+number_of_read (Some b) n is = ap (λ (k : ℕ). Some k) is
+
 pub entries_of_read : (o : Option Bucket) (bucket : ReadBucket) → read_bucket o ≡ Some bucket → option_map_or entries_in o [] ≡ bucket.entries
 entries_of_read None bucket is = absurd (cc)
 entries_of_read (Some b) bucket is = ap (λ (x : ReadBucket). x.entries) (one_bucket (record { number = number_of b; entries = entries_in b }) bucket is)
@@ -70,6 +75,7 @@ module _ {D S T : Type 0} (disk : DiskOf D) (n : ℕ) (old new : ShardState D) w
   looks_ok a b it = record {
     same = it.same;
     reads = it.reads;
+    known = λ has. (refl, (it.known has).1);
     bucket = it.bucket;
     kept = tt;
     cause = tt;
@@ -81,6 +87,7 @@ module _ {D S T : Type 0} (disk : DiskOf D) (n : ℕ) (old new : ShardState D) w
   looks_err bad it = record {
     same = it.same;
     reads = it.reads;
+    known = it.known;
     bucket = tt;
     kept = it.kept;
     cause = it.cause;

@@ -1,5 +1,5 @@
 -- What a look-up makes of a shard.
-use Rattle.std.specs.Prelude.{◌≡◌, ◌⊎◌, ℕ, ◌+◌, ◌-◌, IsTrue, IsSome, IfOk, IfErr, IsOkAnd, IsSomeAnd, OnOk, OnErr, MatchOption, List, length, Option, None, Some, Result, Ok}
+use Rattle.std.specs.Prelude.{◌≡◌, ◌⊎◌, ℕ, ◌+◌, ◌-◌, IsTrue, IsSome, IsOk, IfOk, IfErr, IsOkAnd, IsSomeAnd, OnOk, OnErr, MatchOption, List, length, Option, None, Some, Result, Ok}
 use Rattle.vt_base.specs.declared.key.Key.{Key}
 use Rattle.vt_base.specs.declared.place.Entry.{Entry}
 use Rattle.vt_bucket.specs.Frame.{IsFrame}
@@ -34,8 +34,8 @@ ReadsBucket disk n old new = (bucket : ReadBucket) × (new.bucket ≡ Some bucke
     × (bucket.number ≡ n)
     × (frame : List ℕ) × IsFrame n bucket.entries frame × IsFrameAt disk old.section n frame
 
--- Nothing changes but the disk, by reads, and the bucket that was read last. Where that isn't the
--- one that is asked for, its frame is read, and damage is a fault of that.
+-- Nothing changes but the disk, by reads, and the bucket that was read last. Where that is the one
+-- that is asked for nothing is read, and else its frame is, and damage is a fault of that.
 pub record Looks {D T : Type 0} (disk : DiskOf D) (n : ℕ) (result : Result T ShardErr)
     (old new : ShardState D) : Type 0 where
   pub same : new ≡ record old {
@@ -43,6 +43,7 @@ pub record Looks {D T : Type 0} (disk : DiskOf D) (n : ℕ) (result : Result T S
     bucket = new.bucket;
   }
   pub reads : OnlyReads disk 2 old.section.disk new.section.disk
+  pub known : HasRead old n → IsOk result × (new ≡ old)
   pub bucket : OnOk result ((new ≡ old) ⊎ (¬ HasRead old n × ReadsBucket disk n old new))
   pub kept : OnErr result (new.bucket ≡ old.bucket)
   pub cause : IfErr result (λ bad. (bad ≡ Fault)

@@ -27,6 +27,11 @@ use Rattle.vt_shard.specs.Shard.{ShardState, HasBelow, KeepsPlace, ReadBucket}
 
 -- ---- the beginning
 
+-- A writeback of the blocks below a number has something to do: one of them is dirty, or it raises
+-- the mark.
+abbrev pub HasWork : {D : Type 0} → (below : ℕ) → ShardState D → Type 0
+HasWork below t = HasBelow below t.index.dirty ⊎ (t.section.head.mark < below)
+
 -- A writeback began of the entries of the blocks below a number, and the head gets this mark behind
 -- them. Its buckets come in the order of their numbers, but that those up to the one at which the
 -- last writeback ended early come behind the others.

@@ -66,8 +66,8 @@ impl<D: Disk> Shard<D> {
             → OnOk result (steps.new ≡ steps.old + 1) }
         ensures cost { steps.new ≤ steps.old + 1 }
         ensures least_cost { steps.old ≤ steps.new }
-        ensures read_last { HasRead self.old (bucket_at self.old key.now.score.0)
-            → IsOk result × (self.new.section ≡ self.old.section) × (steps.new ≡ steps.old) }
+        ensures cost_of_known { HasRead self.old (bucket_at self.old key.now.score.0)
+            → steps.new ≡ steps.old }
         ensures calls { OnlyReads D.Disk (1 + (steps.new - steps.old))
             self.old.section.disk self.new.section.disk }
     {
@@ -88,8 +88,6 @@ impl<D: Disk> Shard<D> {
             → IfOk result (FindsScore scorer c h from score.now.0) }
         ensures sound { LooksSoundly D.Disk result self.old self.new }
         ensures finds { FindsOther D.Disk score.now.0 result self.old self.new }
-        ensures read_last { HasRead self.old (bucket_at self.old score.now.0)
-            → IsOk result × (self.new ≡ self.old) }
     {
         if let Some(entry) = self.index.find_score(score) {
             return Ok(Some(entry));
@@ -111,7 +109,6 @@ impl<D: Disk> Shard<D> {
             → IfOk result (λ count. count ≤ crowd score (bucket_count c) h number) }
         ensures sound { LooksSoundly D.Disk result self.old self.new }
         ensures counts { CountsCrowd D.Disk number result self.old self.new }
-        ensures read_last { HasRead self.old number → IsOk result × (self.new ≡ self.old) }
     {
         self.read_uncounted(number)?;
         let place = number - self.section.head().first;
@@ -123,8 +120,7 @@ impl<D: Disk> Shard<D> {
         requires in_range { InRange self.old.section.head self.old.section.buckets number }
         ensures has { OnOk result (HasRead self.new number) }
         ensures looks { Looks D.Disk number result self.old self.new }
-        ensures read_last { HasRead self.old number
-            → IsOk result × (self.new ≡ self.old) × (steps.new ≡ steps.old) }
+        ensures cost_of_known { HasRead self.old number → steps.new ≡ steps.old }
         ensures sound { LooksSoundly D.Disk result self.old self.new }
         ensures cost_of_read { ¬ HasRead self.old number
             → OnOk result (steps.new ≡ steps.old + 1) }
@@ -144,7 +140,6 @@ impl<D: Disk> Shard<D> {
         requires in_range { InRange self.old.section.head self.old.section.buckets number }
         ensures has { OnOk result (HasRead self.new number) }
         ensures looks { Looks D.Disk number result self.old self.new }
-        ensures read_last { HasRead self.old number → IsOk result × (self.new ≡ self.old) }
         ensures sound { LooksSoundly D.Disk result self.old self.new }
     {
         self.read_on::<Brand>(number, Blank::new(1))
@@ -157,7 +152,6 @@ impl<D: Disk> Shard<D> {
         requires some { 0 < L.parts }
         ensures has { OnOk result (HasRead self.new number) }
         ensures looks { Looks D.Disk number result self.old self.new }
-        ensures read_last { HasRead self.old number → IsOk result × (self.new ≡ self.old) }
         ensures sound { LooksSoundly D.Disk result self.old self.new }
     {
         let mut steps = Steps::<L>::new(blank);

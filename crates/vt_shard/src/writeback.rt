@@ -25,7 +25,7 @@ use vt_twin::Step;
 
 impl<D: Disk> Shard<D> {
     ghost use Rattle.vt_shard.specs.Sound.{IsSound, IsSoundFrom, KeepsSound, LeavesLive};
-    ghost use Rattle.vt_shard.specs.Writeback.{Begins, MakesCall, ReadsFrame, TakesStep};
+    ghost use Rattle.vt_shard.specs.Writeback.{Begins, HasWork, MakesCall, ReadsFrame, TakesStep};
 
     /// Begins to put the dirty entries of the blocks below `durable` into their buckets. Behind
     /// them the mark is raised to that number. It makes no device call: `advance` does. False says
@@ -35,8 +35,7 @@ impl<D: Disk> Shard<D> {
     /// and comes to that one last: so a damaged bucket keeps no other from being written back.
     pub fn begin_file(&mut self, durable: u64) -> bool
         requires rest { self.old.writeback ≡ None }
-        ensures begins { IsTrue result ↔ (HasBelow durable self.old.index.dirty
-            ⊎ (self.old.section.head.mark < durable)) }
+        ensures begins { IsTrue result ↔ HasWork durable self.old }
         ensures begun { result ≡ true
             → Begins durable (max self.old.section.head.mark durable) self.old self.new }
         ensures idle { result ≡ false → self.new ≡ self.old }

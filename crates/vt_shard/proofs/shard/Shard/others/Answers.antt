@@ -22,6 +22,7 @@ returns-in-Some-clause-finds g c =
       looks = record {
         same = refl;
         reads = no_reads g.D.Disk c.self.inside.section.disk;
+        known = λ has. (refl, refl);
         bucket = inl refl;
         kept = tt;
         cause = tt;

@@ -1,4 +1,5 @@
-use Rattle.std.proofs.Common.{◌≡◌, ◌≢◌, ◌⊎◌, inl, inr, ◌∙◌, Some, sym, ap, subst, refl, List}
+use Rattle.std.proofs.Common.{◌≡◌, ◌≢◌, ◌⊎◌, inl, inr, ◌∙◌, Some, sym, ap, subst, refl, List, ◌==◌, true, true≢false}
+use Rattle.std.proofs.lemmas.Bool.Decides.{Decides-eqb}
 use Rattle.std.proofs.lemmas.Result.{err_from_is_err_and}
 use Rattle.vt_bucket.specs.Buckets.{number_of as bucket_number_of, entries_of as entries_in}
 use Rattle.vt_isect.specs.Layout.{InRange}
@@ -9,6 +10,7 @@ use Rattle.vt_isect.proofs.Fills.{synced_sound}
 use Rattle.vt_shard.specs.Shard.{ReadBucket, read_bucket}
 use Rattle.vt_shard.specs.Sound.{IsSoundFrom}
 use Rattle.vt_shard.specs.View.{state_of}
+use Rattle.vt_shard.proofs.Finds.{number_of_read}
 use Rattle.vt_shard.proofs.IsSoundFrom.{known_at, with_read}
 use Rattle.vt_shard.proofs.IsWell.{well_read}
 use Rattle.vt_shard.proofs.shard.Shard.read.Goals as goal
@@ -28,6 +30,11 @@ returns-in_err-bucket-clause-looks g c =
     (record {
       same = ap (λ (s : SectionState g.row.D.Denot). record (state_of c.self.inside) { section = s }) c.bucket.ensures.same;
       reads = c.bucket.ensures.reads;
+      known = λ has.
+          let same : c.number_of.result ≡ Some c.args.number = c.number_of.ensures ∙ number_of_read c.self.inside.bucket c.args.number has in
+          let one : (c.args.number == c.args.number) ≡ true = (Decides-eqb c.args.number c.args.number).1 refl in
+          let other = rw one at (rw same at c.ne.ensures) in
+          absurd (true≢false (sym c.if-ne.true ∙ other));
       bucket = tt;
       kept = refl;
       cause = cause_of c.in_err-bucket.field-0.0 _ c.in_err-bucket.ensures.damaged;
