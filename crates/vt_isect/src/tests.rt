@@ -1,4 +1,7 @@
-//! Sections on disks in memory: formatted, mounted, written back, stopped, crashed and refused.
+//! Sections on disks in memory: spelled by hand, stopped, crashed, damaged and refused.
+//!
+//! All is said of any disk, which is much less work to prove than for one in memory, and the test
+//! functions alone make such disks and crash them.
 
 ghost use Rattle.std.specs.Prelude.{◌≡◌, ◌<◌};
 ghost use Rattle.vt_isect.specs.Layout.{InRange};
@@ -18,8 +21,8 @@ use vt_twin::Step;
 /// A head and two buckets.
 const LEN: u64 = 58_368;
 
-/// The calls before those of the test: three of formatting, three of mounting, four of each change
-/// of the head, and five for the two buckets that are cleared.
+/// The calls before those of a writeback: three of formatting, three of mounting, four of each
+/// change of the head, and five for the two buckets that are cleared.
 const FIRST_CALL: u64 = 19;
 
 /// How many of those `advance` makes.
@@ -36,34 +39,32 @@ fn see(holds: bool, otherwise: &'static str) -> Result<(), Fail> {
     Err(otherwise.into())
 }
 
+/// A disk of this length, of which this call fails.
+fn disk(alloc: Global, len: u64, failing: u64) -> Result<MemDisk<Listed>, Fail> {
+    let calls = vec![in alloc; failing]?;
+    Ok(MemDisk::failing(alloc, len, calls)?)
+}
+
 /// An entry whose score begins with these bytes.
-fn entry(first: u8, second: u8, offset: u32) -> Result<Entry, Fail> {
+fn entry(first: u8, second: u8, offset: u32) -> Entry {
     let kind = Kind::DATA;
     let mut score = [0; 20];
     score[0] = first;
     score[1] = second;
-    Ok(Entry {
+    Entry {
         key: Key {
             score: Score(score),
             kind,
         },
         size: 3,
         place: Place { arena: 1, offset },
-    })
-}
-
-/// Entries of these scores' first two bytes and offsets.
-fn entries(alloc: Global, of: &[(u8, u8, u32)]) -> Result<Entries, Fail> {
-    let mut list = Vec::new(alloc);
-    for (first, second, offset) in of {
-        list.push(entry(*first, *second, *offset)?)?;
     }
-    Ok(Entries::from_vec(list))
 }
 
 /// The three entries that are written back: two of bucket 0, not in order, and one of bucket 1.
 fn three(alloc: Global) -> Result<Entries, Fail> {
-    entries(alloc, &[(0x7f, 0, 7), (0x80, 0, 8), (0x01, 2, 9)])
+    let list = vec![in alloc; entry(0x7f, 0, 7), entry(0x80, 0, 8), entry(0x01, 2, 9)]?;
+    Ok(Entries::from_vec(list))
 }
 
 /// Makes a disk a section.
@@ -75,18 +76,18 @@ fn format_named<D: Disk>(alloc: Global, disk: &mut D) -> Result<Result<u32, Sect
     Ok(format(disk, &name))
 }
 
-/// A disk of this length, of which this call fails.
-fn disk(alloc: Global, len: u64, failing: u64) -> Result<MemDisk<Listed>, Fail> {
-    let calls = vec![in alloc; failing]?;
-    Ok(MemDisk::failing(alloc, len, calls)?)
-}
-
 /// The section of a disk.
 fn mounted<D: Disk + Drop>(alloc: Global, disk: D) -> Result<Section<D>, Fail> {
     match mount(alloc, disk) {
         Ok(section) => Ok(section),
         Err(_) => Err("not mounted".into()),
     }
+}
+
+/// A disk that is made a section, mounted.
+fn fresh<D: Disk + Drop>(alloc: Global, mut disk: D) -> Result<Section<D>, Fail> {
+    see(format_named(alloc, &mut disk)?.is_ok(), "not formatted")?;
+    mounted(alloc, disk)
 }
 
 /// Makes one device call, where something is under way.
@@ -110,75 +111,52 @@ fn step_after<D: Disk>(
 
 /// Makes so many device calls, and sees that what is under way ends with the last.
 fn finish<D: Disk>(section: &mut Section<D>, calls: u64) -> Result<(), Fail> {
+    see(section.calls_left() >= calls, "too few calls")?;
     let last = step_after(section, calls.saturating_sub(1))?;
     see(last == Ok(Step::Done), "another step than Done")?;
-    see(!section.is_changing(), "no end")
+    see(section.calls_left() == 0, "no end")
 }
 
-/// Changes the head to this state, first bucket, count of all buckets and mark.
-fn begin_head<D: Disk>(section: &mut Section<D>, to: (u8, u32, u32, u64)) -> Result<(), Fail> {
-    if section.is_changing() || to.1 > u32::MAX - section.buckets() {
+/// Changes the head to this state and mark, with two buckets over all sections.
+fn change_head<D: Disk>(section: &mut Section<D>, state: u8, mark: u64) -> Result<(), Fail> {
+    if section.is_changing() || section.buckets() != 2 {
         return Err("no change may begin".into());
     }
-    section.begin_head(to.0, to.1, to.2, to.3);
-    see(section.is_changing(), "no change")
-}
-
-/// Clears a bucket.
-fn clear<D: Disk>(section: &mut Section<D>, number: u32) -> Result<Result<(), ShardErr>, Fail> {
-    if section.is_changing() || !section.has_bucket(number) {
-        return Err("no bucket to clear".into());
-    }
-    Ok(section.clear(number, 1))
-}
-
-/// Clears buckets 0 and 1.
-fn clear_two<D: Disk>(section: &mut Section<D>) -> Result<Result<(), ShardErr>, Fail> {
-    if section.is_changing() || section.head().first != 0 || section.buckets() < 2 {
-        return Err("no buckets to clear".into());
-    }
-    Ok(section.clear(0, 2))
-}
-
-/// Writes bucket 1 with one entry, without a sync.
-fn fill_one<D: Disk>(section: &mut Section<D>) -> Result<Result<(), ShardErr>, Fail> {
-    let mut bucket = Bucket::new(1);
-    see(bucket.with(entry(0x80, 0, 8)?).is_ok(), "no room")?;
-    if section.is_changing() || !section.has_bucket(bucket.number()) {
-        return Err("no bucket to fill".into());
-    }
-    Ok(section.fill(&bucket))
-}
-
-/// A disk that is made a section, mounted.
-fn fresh<D: Disk + Drop>(alloc: Global, mut disk: D) -> Result<Section<D>, Fail> {
-    see(format_named(alloc, &mut disk)?.is_ok(), "not formatted")?;
-    mounted(alloc, disk)
-}
-
-/// A section that is put to use with two empty buckets.
-fn use_two<D: Disk>(section: &mut Section<D>) -> Result<(), Fail> {
-    begin_head(section, (2, 0, 2, 0))?;
-    finish(section, 4)?;
-    see(clear_two(section)? == Ok(()), "the buckets aren't cleared")?;
-    begin_head(section, (1, 0, 2, 0))?;
+    section.begin_head(state, 0, 2, mark);
     finish(section, 4)
 }
 
-/// A section in use, with empty buckets, of which this call fails.
-fn live(alloc: Global, failing: u64) -> Result<Section<MemDisk<Listed>>, Fail> {
-    let mut section = fresh(alloc, disk(alloc, LEN, failing)?)?;
-    use_two(&mut section)?;
+/// Clears so many buckets, from this one on.
+fn clear<D: Disk>(
+    section: &mut Section<D>,
+    first: u32,
+    count: u32,
+) -> Result<Result<(), ShardErr>, Fail> {
+    let is_there = section.head().first == 0 && first < 2 && count <= 2 - first;
+    if section.is_changing() || section.buckets() != 2 || !is_there {
+        return Err("no buckets to clear".into());
+    }
+    Ok(section.clear(first, count))
+}
+
+/// A section that is put to use with two empty buckets.
+fn live<D: Disk + Drop>(alloc: Global, disk: D) -> Result<Section<D>, Fail> {
+    let mut section = fresh(alloc, disk)?;
+    change_head(&mut section, 2, 0)?;
+    see(clear(&mut section, 0, 2)? == Ok(()), "not cleared")?;
+    change_head(&mut section, 1, 0)?;
     Ok(section)
 }
 
-/// Begins to write these entries back.
-fn begin<D: Disk>(section: &mut Section<D>, entries: Entries, mark: u64) -> Result<(), Fail> {
+/// Begins to write the three entries back.
+fn begin<D: Disk>(alloc: Global, section: &mut Section<D>) -> Result<(), Fail> {
+    let entries = three(alloc)?;
     if section.is_changing() || !section.has_buckets(entries.as_slice()) {
         return Err("no writeback may begin".into());
     }
-    section.begin_file(entries, mark, None);
-    Ok(())
+    section.begin_file(entries, 3, None);
+    see(section.calls_left() == 16, "another count of calls")?;
+    see(section.bucket_under_way() == Some(0), "no bucket 0")
 }
 
 /// A bucket, with a count of steps of its own.
@@ -241,20 +219,21 @@ fn level<D: Disk>(section: &mut Section<D>) -> Result<u8, Fail> {
     Ok(b'0')
 }
 
+/// How far the writeback has come on a disk.
+fn level_of<D: Disk + Drop>(alloc: Global, disk: D) -> Result<u8, Fail> {
+    let mut section = mounted(alloc, disk)?;
+    level(&mut section)
+}
+
 /// Makes so many calls of what is under way and one further, which fails where that is said.
-fn stop<D: Disk>(
-    section: &mut Section<D>,
-    call: u64,
-    fails: bool,
-    is_read: bool,
-) -> Result<(), Fail> {
+fn stop<D: Disk>(section: &mut Section<D>, call: u64, fails: bool) -> Result<(), Fail> {
     let answer = step_after(section, call)?;
     if !fails {
         return see(answer.is_ok(), "a fault");
     }
     see(answer == Err(ShardErr::Fault), "no fault")?;
-    if is_read {
-        see(section.stopped().is_none(), "a read stops it")?;
+    // The first two calls of a bucket read, and end a writeback where they fail.
+    if call < 2 || call == 6 || call == 7 {
         return see(!section.is_changing(), "a read doesn't end it");
     }
     let stopped = call.saturating_add(FIRST_ADVANCE);
@@ -263,42 +242,12 @@ fn stop<D: Disk>(
     see(again == Err(ShardErr::Stopped(stopped)), "another step")
 }
 
-/// The call that fails, of those behind the first ones.
-fn failing(call: u64, fails: bool) -> u64 {
-    if fails {
-        call.saturating_add(FIRST_CALL)
-    } else {
-        NEVER
-    }
-}
-
-/// Whether a call of the writeback of the three entries reads: the first two of each bucket do.
-fn reads(call: u64) -> bool {
-    call < 2 || call == 6 || call == 7
-}
-
-/// How far a writeback has come that ends with this call, after a crash.
-fn written(alloc: Global, call: u64, fails: bool, mode: CrashMode) -> Result<u8, Fail> {
-    let mut section = live(alloc, failing(call, fails))?;
-    begin(&mut section, three(alloc)?, 3)?;
-    stop(&mut section, call, fails, reads(call))?;
-    let disk = section.into_devices().crash_in(mode);
-    level(&mut mounted(alloc, disk)?)
-}
-
-/// Whether a change of the head that ends with this call has come to its end, after a crash.
-fn changed(alloc: Global, call: u64, fails: bool, mode: CrashMode) -> Result<u8, Fail> {
-    let mut section = live(alloc, failing(call, fails))?;
-    begin_head(&mut section, (2, 5, 9, 4))?;
-    stop(&mut section, call, fails, false)?;
-    let disk = section.into_devices().crash_in(mode);
-    let head = mounted(alloc, disk)?.head();
-    see(head.count == 2, "another count")?;
-    match (head.state, head.first, head.total, head.mark) {
-        (1, 0, 2, 0) => Ok(b'0'),
-        (2, 5, 9, 4) => Ok(b'1'),
-        _ => Err("another head".into()),
-    }
+/// The disk of a writeback of the three entries that ends with this call.
+fn written<D: Disk + Drop>(alloc: Global, disk: D, call: u64, fails: bool) -> Result<D, Fail> {
+    let mut section = live(alloc, disk)?;
+    begin(alloc, &mut section)?;
+    stop(&mut section, call, fails)?;
+    Ok(section.into_devices())
 }
 
 /// What is left by a crash after each call, in the four modes, where it is done and where it fails.
@@ -322,190 +271,70 @@ const WRITEBACK: [[[u8; 4]; 2]; 16] = [
     [*b"3333", *b"2333"],
 ];
 
-const HEAD: [[[u8; 4]; 2]; 4] = [
-    [*b"0000", *b"0000"],
-    [*b"0000", *b"0000"],
-    [*b"0111", *b"0001"],
-    [*b"1111", *b"0111"],
-];
+/// How far a writeback has come that ends with this call, after a crash.
+fn crashed(alloc: Global, call: u64, fails: bool, mode: CrashMode) -> Result<u8, Fail> {
+    let failing = if fails {
+        call.saturating_add(FIRST_CALL)
+    } else {
+        NEVER
+    };
+    let disk = written(alloc, disk(alloc, LEN, failing)?, call, fails)?;
+    level_of(alloc, disk.crash_in(mode))
+}
 
 #[test]
 fn a_writeback_is_stopped_anywhere(rt: HostRuntime) -> Result<(), Fail> {
     for (call, [done, failed]) in WRITEBACK.into_iter().enumerate() {
         for (mode, wanted) in CrashMode::ALL.into_iter().zip(done.into_iter().zip(failed)) {
-            let found = (
-                written(rt.alloc(), call as u64, false, mode)?,
-                written(rt.alloc(), call as u64, true, mode)?,
-            );
-            assert_eq!(rt; found, wanted, "call {call}, {mode:?}");
+            let found = crashed(rt.alloc(), call as u64, false, mode)?;
+            see(found == wanted.0, "another writeback")?;
+            let found = crashed(rt.alloc(), call as u64, true, mode)?;
+            see(found == wanted.1, "another failed writeback")?;
         }
     }
     Ok(())
 }
 
-#[test]
-fn a_change_of_the_head_is_stopped_anywhere(rt: HostRuntime) -> Result<(), Fail> {
-    for (call, [done, failed]) in HEAD.into_iter().enumerate() {
-        for (mode, wanted) in CrashMode::ALL.into_iter().zip(done.into_iter().zip(failed)) {
-            let found = (
-                changed(rt.alloc(), call as u64, false, mode)?,
-                changed(rt.alloc(), call as u64, true, mode)?,
-            );
-            assert_eq!(rt; found, wanted, "call {call}, {mode:?}");
-        }
-    }
-    Ok(())
+/// Writes the three entries back, and looks both buckets up while the first is written.
+fn write_three<D: Disk>(alloc: Global, section: &mut Section<D>) -> Result<(), Fail> {
+    begin(alloc, section)?;
+    see(step_after(section, 4)? == Ok(Step::More), "no step")?;
+    see(level(section)? == b'0', "the new frame is looked up")?;
+    see(step(section)? == Ok(Step::More), "no step")?;
+    see(section.written() == 2, "another count of entries")?;
+    see(section.bucket_under_way() == Some(1), "no bucket 1")?;
+    finish(section, 10)?;
+    see(level(section)? == b'3', "not all is written")
 }
 
-/// How far look-ups find a writeback to have come that ends with this call.
-fn looked_up(alloc: Global, call: u64, fails: bool) -> Result<u8, Fail> {
-    let mut section = live(alloc, failing(call, fails))?;
-    begin(&mut section, three(alloc)?, 3)?;
-    stop(&mut section, call, fails, reads(call))?;
-    level(&mut section)
+/// Takes the three entries again, in the order of their buckets.
+fn take_back<D: Disk>(section: &mut Section<D>) -> Result<(), Fail> {
+    let list = section.idle().ok_or("no entries are handed back")?;
+    see(section.idle().is_none(), "entries twice")?;
+    let entries = list.into_vec();
+    let last = entries.last().ok_or("no entry")?;
+    see(
+        entries.len() == 3 && last.place.offset == 8,
+        "other entries",
+    )
 }
 
-/// Makes so many device calls, and sees before each that bucket 0 has entries at these offsets.
-fn step_with<D: Disk>(section: &mut Section<D>, calls: u64, offsets: &[u32]) -> Result<(), Fail> {
-    for _ in 0..calls {
-        see(has(section, 0, offsets)?, "another bucket 0")?;
-        see(step(section)? == Ok(Step::More), "another step than More")?;
+/// The disk of a section with the three entries, where any bytes stood before.
+fn spelled<D: Disk + Drop>(alloc: Global, mut disk: D) -> Result<D, Fail> {
+    if disk.len() != LEN {
+        return Err("another length".into());
     }
-    Ok(())
-}
-
-#[test]
-fn a_bucket_under_way_has_its_old_entries(rt: HostRuntime) -> Result<(), Fail> {
-    // What is found behind each call, where it is done and where it fails: a bucket has its new
-    // entries from the last of its six calls on.
-    let done = *b"0000011111122223";
-    let failed = *b"0000001111112222";
-    for call in 0..16 {
-        let found = looked_up(rt.alloc(), call as u64, false)?;
-        assert_eq!(rt; found, done[call], "call {call}");
-        let found = looked_up(rt.alloc(), call as u64, true)?;
-        assert_eq!(rt; found, failed[call], "failed call {call}");
-    }
-    // And where the bucket is in frame 1 and has entries.
-    let mut section = live(rt.alloc(), NEVER)?;
-    file_three(rt.alloc(), &mut section)?;
-    let list = entries(rt.alloc(), &[(0x7f, 0, 17), (0x00, 1, 6)])?;
-    begin(&mut section, list, 4)?;
-    step_with(&mut section, 6, &[9, 7])?;
-    step_with(&mut section, 3, &[6, 9, 17])?;
-    finish(&mut section, 1)?;
-    assert!(rt; has(&mut section, 0, &[6, 9, 17])?);
-    Ok(())
-}
-
-/// How far a writeback has come whose write of bucket 0's selector failed, after a crash that
-/// leaves this byte there.
-fn selected(alloc: Global, selector: u16) -> Result<u8, Fail> {
-    let mut section = live(alloc, FIRST_CALL + 4)?;
-    begin(&mut section, three(alloc)?, 3)?;
-    stop(&mut section, 4, true, false)?;
-    let disk = section.into_devices().crash(&[selector]);
-    level(&mut mounted(alloc, disk)?)
-}
-
-#[test]
-fn every_selector_gives_a_whole_bucket(rt: HostRuntime) -> Result<(), Fail> {
-    for selector in 0..256 {
-        let wanted = if selector % 2 == 0 { b'0' } else { b'1' };
-        assert_eq!(rt; selected(rt.alloc(), selector)?, wanted, "at {selector}");
-    }
-    Ok(())
-}
-
-/// How many buckets a disk has as a section, or why it isn't one.
-fn count<D: Disk + Drop>(alloc: Global, mut disk: D) -> Result<Result<u32, SectBad>, Fail> {
-    let count = format_named(alloc, &mut disk)?;
-    let found = match mount(alloc, disk) {
-        Ok(section) => Ok(section.buckets()),
-        Err((bad, _disk)) => Err(bad),
-    };
-    see(count == found, "two answers")?;
-    Ok(count)
-}
-
-/// Why a section with these bytes in its head isn't mounted.
-fn refusal<D: Disk + Drop>(
-    alloc: Global,
-    mut disk: D,
-    at: u64,
-    bytes: &[u8; 2],
-) -> Result<Option<SectBad>, Fail> {
-    see(format_named(alloc, &mut disk)?.is_ok(), "not formatted")?;
-    if disk.len() < 100 || at > 98 {
-        return Err("a place".into());
-    }
-    disk.write_at(at, bytes)?;
-    match mount(alloc, disk) {
-        Ok(_section) => Ok(None),
-        Err((bad, _disk)) => Ok(Some(bad)),
-    }
-}
-
-#[test]
-fn sections_are_found_or_refused(rt: HostRuntime) -> Result<(), Fail> {
-    let small = SectBad::TooSmall {
-        len: 41_471,
-        need: 41_472,
-    };
-    for (len, wanted) in [
-        (41_471, Err(small)),
-        (41_472, Ok(1)),
-        (58_367, Ok(1)),
-        (92_160, Ok(4)),
-    ] {
-        assert_eq!(rt;
-            count(rt.alloc(), disk(rt.alloc(), len, NEVER)?)?,
-            wanted,
-            "{len}"
-        );
-    }
-    let torn = SectBad::Torn {
-        field: Field::Version,
-        found: 256,
-        want: 1,
-    };
-    for (at, bytes, bad) in [
-        (3, *b"B\x01", SectBad::NotFormatted),
-        (4, *b"\x01\x00", torn),
-    ] {
-        let disk = disk(rt.alloc(), LEN, NEVER)?;
-        assert_eq!(rt; refusal(rt.alloc(), disk, at, &bytes)?, Some(bad));
-    }
-    // Each call of mounting fails in turn: the sync, the read of the selector, that of the head.
-    for failing in 4..7 {
-        let disk = disk(rt.alloc(), LEN, failing)?;
-        let bad = refusal(rt.alloc(), disk, 98, b"\0\0")?;
-        assert_eq!(rt; bad, Some(SectBad::Fault), "call {failing}");
-    }
-    Ok(())
-}
-
-#[test]
-fn formatting_fails_with_its_disk(rt: HostRuntime) -> Result<(), Fail> {
-    // The write of the head, that of its selector, the sync.
-    for (failing, answer) in [
-        (0, Err(SectBad::Fault)),
-        (1, Err(SectBad::Fault)),
-        (2, Err(SectBad::Fault)),
-        (3, Ok(2)),
-    ] {
-        let mut disk = disk(rt.alloc(), LEN, failing)?;
-        assert_eq!(rt;
-            format_named(rt.alloc(), &mut disk)?,
-            answer,
-            "call {failing}"
-        );
-    }
-    Ok(())
+    disk.write_at(41_472, &[0xa5; 16_896])?;
+    let mut section = live(alloc, disk)?;
+    see(section.name()[..8] == b"index.0\0"[..], "another name")?;
+    write_three(alloc, &mut section)?;
+    take_back(&mut section)?;
+    change_head(&mut section, 2, 0x0102_0304_0506_0708)?;
+    Ok(section.into_devices())
 }
 
 /// Whether these bytes stand at a place of a disk.
-fn stands<D: Disk + Drop>(mut disk: D, at: u64, bytes: &[u8; 31]) -> Result<bool, Fail> {
+fn stands<D: Disk>(disk: &mut D, at: u64, bytes: &[u8; 31]) -> Result<bool, Fail> {
     if disk.len() != LEN || at > LEN - 31 {
         return Err("a place".into());
     }
@@ -514,47 +343,25 @@ fn stands<D: Disk + Drop>(mut disk: D, at: u64, bytes: &[u8; 31]) -> Result<bool
     Ok(found == *bytes)
 }
 
-/// Writes the three entries back, and takes them again.
-fn file_three<D: Disk>(alloc: Global, section: &mut Section<D>) -> Result<(), Fail> {
-    begin(section, three(alloc)?, 3)?;
-    see(section.idle().is_none(), "entries of a writeback under way")?;
-    see(section.bucket_under_way() == Some(0), "no bucket 0")?;
-    see(section.calls_left() == 16, "another count of calls")?;
-    see(step_after(section, 5)? == Ok(Step::More), "no end of it")?;
-    see(section.bucket_under_way() == Some(1), "no bucket 1")?;
-    see(section.calls_left() == 10, "another count of calls")?;
-    finish(section, 10)?;
-    see(section.calls_left() == 0, "calls at rest")?;
-    let list = section.idle().ok_or("no entries are handed back")?;
-    let last = list.as_slice().last().ok_or("no entry")?;
-    see(last.place.offset == 8, "another order")?;
-    see(list.into_vec().len() == 3, "other entries")?;
-    see(section.idle().is_none(), "entries twice")?;
-    see(level(section)? == b'3', "not all is written")
-}
-
-#[test]
-fn a_section_is_spelled(rt: HostRuntime) -> Result<(), Fail> {
-    // The head of a section being built, in frame 1: what begins it, and its numbers.
+/// The bytes of a section, by hand.
+fn spell<D: Disk + Drop>(alloc: Global, disk: D) -> Result<(), Fail> {
+    let mut disk = spelled(alloc, disk)?;
     for (at, bytes) in [
+        // The head, in frame 0: what begins it, and its numbers.
         (
-            8192,
+            0,
             b"VSEC\x00\x01\x02index.0\0\0\0\0\0\0\0\0\0\0\0\0\0\0\0\0\0",
         ),
         (
-            8252,
+            60,
             b"\0\0\0\0\0\0\0\0\0\0\0\0\0\0\0\0\0\0\x02\0\0\0\x02\x01\x02\x03\x04\x05\x06\x07\x08",
         ),
-    ] {
-        let mut section = fresh(rt.alloc(), disk(rt.alloc(), LEN, NEVER)?)?;
-        begin_head(&mut section, (2, 0, 2, 0x0102_0304_0506_0708))?;
-        finish(&mut section, 4)?;
-        assert_eq!(rt; section.mark(), 0x0102_0304_0506_0708);
-        assert!(rt; stands(section.into_devices(), at, bytes)?, "{at}");
-    }
-    // Frame 1 of bucket 1 at 24,576 + 16,896 + 8,192: its head with a score's front, and the rest
-    // of that entry. Then its selector behind the frame.
-    for (at, bytes) in [
+        // Frame 0 of bucket 1, at 24,576 + 16,896, as it was cleared.
+        (
+            41_472,
+            b"VBKT\x00\x00\x00\x01\x00\x00\0\0\0\0\0\0\0\0\0\0\0\0\0\0\0\0\0\0\0\0\0",
+        ),
+        // Its frame 1: its head with a score's front, and the rest of that entry.
         (
             49_664,
             b"VBKT\x00\x00\x00\x01\x00\x01\x80\0\0\0\0\0\0\0\0\0\0\0\0\0\0\0\0\0\0\0\x0d",
@@ -563,187 +370,129 @@ fn a_section_is_spelled(rt: HostRuntime) -> Result<(), Fail> {
             49_695,
             b"\x00\x03\x00\x00\x00\x01\x00\x00\x00\x08\0\0\0\0\0\0\0\0\0\0\0\0\0\0\0\0\0\0\0\0\0",
         ),
+        // Its selector behind them.
         (
             57_856,
             b"\x01\0\0\0\0\0\0\0\0\0\0\0\0\0\0\0\0\0\0\0\0\0\0\0\0\0\0\0\0\0\0",
         ),
     ] {
-        let mut section = live(rt.alloc(), NEVER)?;
-        file_three(rt.alloc(), &mut section)?;
-        assert!(rt; stands(section.into_devices(), at, bytes)?, "{at}");
-    }
-    Ok(())
-}
-
-/// Whether bucket 1 of a disk has no entries: its head and zeros in frame 0, at 24,576 + 16,896,
-/// and a selector of zeros.
-fn is_clear<D: Disk + Drop>(mut disk: D) -> Result<bool, Fail> {
-    if disk.len() != LEN {
-        return Err("another length".into());
-    }
-    let mut frame = [0xa5; 8192];
-    disk.read_at(41_472, &mut frame)?;
-    let mut selector = [0xa5; 512];
-    disk.read_at(57_856, &mut selector)?;
-    let mut wanted = [0; 8192];
-    wanted[..10].copy_from_slice(b"VBKT\x00\x00\x00\x01\x00\x00");
-    Ok(frame == wanted && selector == [0; 512])
-}
-
-/// A disk with this byte at each place of bucket 1.
-fn filled<D: Disk + Drop>(mut disk: D, byte: u8) -> Result<D, Fail> {
-    if disk.len() != LEN {
-        return Err("another length".into());
-    }
-    disk.write_at(41_472, &[byte; 16_896])?;
-    Ok(disk)
-}
-
-#[test]
-fn a_cleared_bucket_is_spelled(rt: HostRuntime) -> Result<(), Fail> {
-    let disk = filled(disk(rt.alloc(), LEN, NEVER)?, 0xa5)?;
-    let mut section = fresh(rt.alloc(), disk)?;
-    assert_eq!(rt; clear(&mut section, 1)?, Ok(()));
-    assert!(rt; is_clear(section.into_devices())?);
-    Ok(())
-}
-
-/// The state of a section after a crash that follows this call of the change of its head to state
-/// 1, where a bucket was filled before it. In state 1 the bucket has its entry.
-fn state_when_filled(alloc: Global, call: u64, mode: CrashMode) -> Result<u8, Fail> {
-    let mut section = fresh(alloc, disk(alloc, LEN, NEVER)?)?;
-    begin_head(&mut section, (2, 0, 2, 0))?;
-    finish(&mut section, 4)?;
-    see(
-        clear_two(&mut section)? == Ok(()),
-        "the buckets aren't cleared",
-    )?;
-    see(fill_one(&mut section)? == Ok(()), "bucket 1 isn't filled")?;
-    see(has(&mut section, 1, &[8])?, "another bucket 1")?;
-    begin_head(&mut section, (1, 0, 2, 1))?;
-    see(step_after(&mut section, call)?.is_ok(), "a fault")?;
-    let mut section = mounted(alloc, section.into_devices().crash_in(mode))?;
-    let state = section.head().state;
-    see(
-        state != 1 || has(&mut section, 1, &[8])?,
-        "a bucket isn't settled",
-    )?;
-    Ok(state)
-}
-
-#[test]
-fn a_filled_bucket_is_settled_before_the_head(rt: HostRuntime) -> Result<(), Fail> {
-    // The new selector of the head is 0, so that a5 names the old frame.
-    for (call, states) in [
-        (0, [2, 2, 2, 2]),
-        (1, [2, 2, 2, 2]),
-        (2, [2, 1, 1, 2]),
-        (3, [1, 1, 1, 1]),
-    ] {
-        for (mode, state) in CrashMode::ALL.into_iter().zip(states) {
-            let found = state_when_filled(rt.alloc(), call, mode)?;
-            assert_eq!(rt; found, state, "call {call}, {mode:?}");
-        }
-    }
-    // Each call of filling fails in turn: the write of the frame, that of the selector.
-    for (call, answer) in [
-        (6, Err(ShardErr::Fault)),
-        (7, Err(ShardErr::Fault)),
-        (8, Ok(())),
-    ] {
-        let mut section = fresh(rt.alloc(), disk(rt.alloc(), LEN, call)?)?;
-        assert_eq!(rt; fill_one(&mut section)?, answer, "call {call}");
+        see(stands(&mut disk, at, bytes)?, "other bytes")?;
     }
     Ok(())
 }
 
 #[test]
-fn buckets_go_by_the_first_32_bits(rt: HostRuntime) {
-    let mut score = Score([0xff; 20]);
-    for (total, wanted) in [(1, 0), (2, 1), (u32::MAX, u32::MAX - 1)] {
-        assert_eq!(rt; bucket_number(total, &score), wanted, "of {total}");
-    }
-    // The score of `abc`, a9993e36..
-    score.0[..4].copy_from_slice(b"\xa9\x99\x3e\x36");
-    for (total, wanted) in [(4, 2), (1000, 662)] {
-        assert_eq!(rt; bucket_number(total, &score), wanted, "of {total}");
-    }
+fn a_section_is_spelled(rt: HostRuntime) -> Result<(), Fail> {
+    spell(rt.alloc(), disk(rt.alloc(), LEN, NEVER)?)
 }
 
-/// Fills bucket 0 with 263 entries.
-fn fill<D: Disk>(alloc: Global, section: &mut Section<D>) -> Result<(), Fail> {
-    let mut list = Vec::new(alloc);
-    for n in 0..263_u32 {
-        list.push(entry((n / 256) as u8, (n % 256) as u8, n)?)?;
-    }
-    begin(section, Entries::from_vec(list), 263)?;
-    finish(section, 10)
-}
-
-/// The offset of an entry of a bucket, where it has 263.
-fn offset_in_full<D: Disk>(section: &mut Section<D>, at: usize) -> Result<Option<u32>, Fail> {
-    let Ok(bucket) = bucket(section, 0)? else {
-        return Err("no bucket".into());
-    };
-    let entries = bucket.entries();
-    see(entries.len() == 263, "another count")?;
-    match entries.get(at) {
-        Some(entry) => Ok(Some(entry.place.offset)),
-        None => Ok(None),
-    }
-}
-
-#[test]
-fn a_full_bucket_takes_no_other_key(rt: HostRuntime) -> Result<(), Fail> {
-    let alloc = rt.alloc();
-    let mut section = live(alloc, NEVER)?;
-    fill(alloc, &mut section)?;
-    // The bucket would have 265 entries: of the four here one is held, two aren't, and one belongs
-    // to another bucket; one of those that aren't comes twice.
-    let list = entries(
-        alloc,
-        &[(3, 0, 1), (0, 9, 2), (3, 1, 3), (3, 0, 4), (0x80, 0, 5)],
-    )?;
-    begin(&mut section, list, 266)?;
-    let bad = ShardErr::Damaged {
-        bucket: 0,
-        want: FieldValue::Number(263),
-        found: FieldValue::Number(265),
-    };
-    assert_eq!(rt; step_after(&mut section, 1)?, Err(bad));
-    assert!(rt; !section.is_changing() && section.stopped().is_none());
-    assert_eq!(rt; section.mark(), 263);
-    assert_eq!(rt; offset_in_full(&mut section, 9)?, Some(9));
-    begin(&mut section, entries(alloc, &[(0, 9, 1_000)])?, 264)?;
-    finish(&mut section, 10)?;
-    assert_eq!(rt; section.mark(), 264);
-    assert_eq!(rt; offset_in_full(&mut section, 9)?, Some(1_000));
-    Ok(())
-}
-
-/// The section of a disk with this byte at a place of bucket 0.
-fn damaged<D: Disk + Drop>(
+/// How many buckets a disk has as a section that has these bytes in its head, or why it isn't one.
+fn refusal<D: Disk + Drop>(
     alloc: Global,
     mut disk: D,
     at: u64,
+    bytes: &[u8; 2],
+) -> Result<Result<u32, SectBad>, Fail> {
+    let made = format_named(alloc, &mut disk)?;
+    if made == Err(SectBad::Fault) {
+        return Ok(made);
+    }
+    if made.is_ok() && disk.len() >= 100 && at <= 98 {
+        disk.write_at(at, bytes)?;
+    }
+    let found = match mount(alloc, disk) {
+        Ok(section) => Ok(section.buckets()),
+        Err((bad, _disk)) => Err(bad),
+    };
+    see(found == made || made.is_ok(), "two answers")?;
+    Ok(found)
+}
+
+#[test]
+fn sections_are_refused(rt: HostRuntime) -> Result<(), Fail> {
+    let small = SectBad::TooSmall {
+        len: 41_471,
+        need: 41_472,
+    };
+    let torn = SectBad::Torn {
+        field: Field::Version,
+        found: 256,
+        want: 1,
+    };
+    for (len, failing, at, bytes, wanted) in [
+        (41_471, NEVER, 98, b"\0\0", Err(small)),
+        (41_472, NEVER, 98, b"\0\0", Ok(1)),
+        (58_367, NEVER, 98, b"\0\0", Ok(1)),
+        (92_160, NEVER, 98, b"\0\0", Ok(4)),
+        (LEN, NEVER, 3, b"B\x01", Err(SectBad::NotFormatted)),
+        (LEN, NEVER, 4, b"\x01\x00", Err(torn)),
+        // A call of formatting fails, and, behind the write of these bytes, each one of mounting.
+        (LEN, 1, 98, b"\0\0", Err(SectBad::Fault)),
+        (LEN, 4, 98, b"\0\0", Err(SectBad::Fault)),
+        (LEN, 5, 98, b"\0\0", Err(SectBad::Fault)),
+        (LEN, 6, 98, b"\0\0", Err(SectBad::Fault)),
+    ] {
+        let found = refusal(rt.alloc(), disk(rt.alloc(), len, failing)?, at, bytes)?;
+        see(found == wanted, "another refusal")?;
+    }
+    Ok(())
+}
+
+/// Fills bucket 1 with an entry, looks it up and clears it again.
+fn fill_and_clear<D: Disk>(section: &mut Section<D>) -> Result<Result<(), ShardErr>, Fail> {
+    let mut one = Bucket::new(1);
+    see(one.with(entry(0x80, 0, 8)).is_ok(), "no room")?;
+    if section.is_changing() || !section.has_bucket(one.number()) {
+        return Err("no bucket to fill".into());
+    }
+    if let Err(bad) = section.fill(&one) {
+        return Ok(Err(bad));
+    }
+    match bucket(section, 1)? {
+        Ok(found) => see(found.entries() == one.entries(), "other entries")?,
+        Err(bad) => return Ok(Err(bad)),
+    }
+    clear(section, 1, 1)
+}
+
+/// Fills and clears a bucket of a new section.
+fn fill_fresh<D: Disk + Drop>(alloc: Global, disk: D) -> Result<Result<(), ShardErr>, Fail> {
+    let mut section = fresh(alloc, disk)?;
+    fill_and_clear(&mut section)
+}
+
+#[test]
+fn buckets_are_filled_and_cleared(rt: HostRuntime) -> Result<(), Fail> {
+    // Each call fails in turn: two of filling, two of the look-up, three of clearing.
+    for failing in 6..14 {
+        let found = fill_fresh(rt.alloc(), disk(rt.alloc(), LEN, failing)?)?;
+        let wanted = if failing < 13 {
+            Err(ShardErr::Fault)
+        } else {
+            Ok(())
+        };
+        see(found == wanted, "another answer")?;
+    }
+    Ok(())
+}
+
+/// What a look-up and a writeback say of bucket 0 with this byte at a place.
+fn damage<D: Disk + Drop>(
+    alloc: Global,
+    disk: D,
+    at: u64,
     byte: u8,
-) -> Result<Section<D>, Fail> {
+) -> Result<Option<ShardErr>, Fail> {
+    let mut disk = live(alloc, disk)?.into_devices();
     if disk.len() != LEN || at > 8191 {
         return Err("a place".into());
     }
     disk.write_at(24_576 + at, &[byte])?;
-    mounted(alloc, disk)
-}
-
-/// What a look-up and a writeback say of a damaged bucket 0.
-fn damage<D: Disk>(alloc: Global, section: &mut Section<D>) -> Result<Option<ShardErr>, Fail> {
-    let bad = bucket(section, 0)?.err();
-    begin(section, three(alloc)?, 3)?;
-    let again = step_after(section, 1)?.err();
+    let mut section = mounted(alloc, disk)?;
+    let bad = bucket(&mut section, 0)?.err();
+    begin(alloc, &mut section)?;
+    let again = step_after(&mut section, 1)?.err();
     see(bad == again, "two answers")?;
-    see(!section.is_changing(), "no end")?;
-    see(section.stopped().is_none(), "a stop")?;
-    see(has(section, 1, &[])?, "another bucket 1")?;
     Ok(bad)
 }
 
@@ -762,26 +511,21 @@ fn damage_is_told_with_both_values(rt: HostRuntime) -> Result<(), Fail> {
             want,
             found,
         };
-        let disk = live(rt.alloc(), NEVER)?.into_devices();
-        let mut section = damaged(rt.alloc(), disk, at, byte)?;
-        assert_eq!(rt; damage(rt.alloc(), &mut section)?, Some(bad), "{at}");
-    }
-    // Each call of a look-up fails in turn: the read of the selector, that of the frame.
-    for call in [FIRST_CALL, FIRST_CALL + 1] {
-        let mut section = live(rt.alloc(), call)?;
-        let bad = bucket(&mut section, 1)?.err();
-        assert_eq!(rt; bad, Some(ShardErr::Fault), "call {call}");
-        assert!(rt; has(&mut section, 1, &[])?);
-    }
-    // And each of clearing: the write of the frame, that of the selector, the sync.
-    for call in 6..9 {
-        let mut section = fresh(rt.alloc(), disk(rt.alloc(), LEN, call)?)?;
-        assert_eq!(rt;
-            clear(&mut section, 1)?,
-            Err(ShardErr::Fault),
-            "call {call}"
-        );
-        assert_eq!(rt; clear(&mut section, 1)?, Ok(()));
+        let told = damage(rt.alloc(), disk(rt.alloc(), LEN, NEVER)?, at, byte)?;
+        see(told == Some(bad), "another damage")?;
     }
     Ok(())
+}
+
+#[test]
+fn buckets_go_by_the_first_32_bits(rt: HostRuntime) {
+    let mut score = Score([0xff; 20]);
+    for (total, wanted) in [(1, 0), (2, 1), (u32::MAX, u32::MAX - 1)] {
+        assert_eq!(rt; bucket_number(total, &score), wanted, "of {total}");
+    }
+    // The score of `abc`, a9993e36..
+    score.0[..4].copy_from_slice(b"\xa9\x99\x3e\x36");
+    for (total, wanted) in [(4, 2), (1000, 662)] {
+        assert_eq!(rt; bucket_number(total, &score), wanted, "of {total}");
+    }
 }
