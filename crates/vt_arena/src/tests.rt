@@ -1,7 +1,9 @@
-//! Arenas on a disk in memory: committed, stopped, crashed, damaged and mounted again.
+//! Arenas on disks in memory: committed, stopped, crashed, damaged and mounted again.
+//!
+//! All is said of any disk, which is much less work to prove than for one in memory, and the test
+//! functions alone make such disks and crash them.
 
 ghost use Rattle.std.specs.Prelude.{◌≡◌, ◌+◌, ◌<◌, ◌≤◌, length};
-ghost use Rattle.vt_memdisk.specs.Memory.{memory_bytes};
 
 use super::*;
 use std::alloc::Global;
@@ -65,28 +67,43 @@ fn see(holds: bool, otherwise: &'static str) -> Result<(), Fail> {
     Err(otherwise.into())
 }
 
+/// A disk of which this call fails.
+fn disk(alloc: Global, failing: u64) -> Result<MemDisk<Listed>, Fail> {
+    let calls = vec![in alloc; failing]?;
+    Ok(MemDisk::failing(alloc, LEN, calls)?)
+}
+
 /// A disk with an arena, and the arena.
 #[derive(Drop)]
-struct Rig {
-    disk: MemDisk<Listed>,
+struct Rig<D: Disk> {
+    disk: D,
     arena: Arena,
-    ghost sized: { length (memory_bytes disk) ≡ 33792 },
+    ghost sized: { D.size disk ≡ 33792 },
     ghost len: { arena.len ≡ 32768 },
 }
 
-impl Rig {
-    /// A disk with an empty arena, of which this call fails.
-    fn new(alloc: Global, failing: u64) -> Result<Rig, Fail> {
-        let calls = vec![in alloc; failing]?;
-        let mut disk = MemDisk::failing(alloc, LEN, calls)?;
+impl<D: Disk + Drop> Rig<D> {
+    /// A disk that is given an empty arena.
+    fn new(alloc: Global, mut disk: D) -> Result<Self, Fail> {
+        if disk.len() != LEN {
+            return Err("another length".into());
+        }
         format(&mut disk, REGION, NUMBER)?;
+        Rig::mounted(alloc, disk)
+    }
+
+    /// A disk with the arena that is there.
+    fn mounted(alloc: Global, mut disk: D) -> Result<Self, Fail> {
+        if disk.len() != LEN {
+            return Err("another length".into());
+        }
         let arena = mount(alloc, &mut disk, REGION, NUMBER)?;
         Ok(Rig { disk, arena })
     }
 
     /// One whose arena holds these blocks.
-    fn with(alloc: Global, failing: u64, blocks: &[&[u8]]) -> Result<Rig, Fail> {
-        let mut rig = Rig::new(alloc, failing)?;
+    fn with(alloc: Global, disk: D, blocks: &[&[u8]]) -> Result<Self, Fail> {
+        let mut rig = Rig::new(alloc, disk)?;
         for block in blocks {
             see(rig.stage(alloc, block)?, "no room")?;
         }
@@ -131,6 +148,19 @@ impl Rig {
             see(self.advance() == Ok(Step::More), "another step than More")?;
         }
         Ok(self.advance())
+    }
+
+    /// Makes so many calls of a commit and one further, which fails where that is said.
+    fn stop(&mut self, call: u64, fails: bool) -> Result<(), Fail> {
+        let step = self.advance_after(call)?;
+        if !fails {
+            return see(step.is_ok(), "a fault");
+        }
+        let stop = call.saturating_add(6);
+        see(step == Err(TwinErr::Fault), "no fault")?;
+        see(self.arena.stopped() == Some(stop), "another stop")?;
+        see(self.advance() == Err(TwinErr::Stopped(stop)), "a step")?;
+        see(self.arena.is_committing(), "no commit")
     }
 
     /// Commits what is staged.
@@ -216,14 +246,6 @@ impl Rig {
         }
         Ok(None)
     }
-
-    /// The disk after a crash in this mode, with the arena mounted again.
-    fn crash(self, alloc: Global, mode: CrashMode) -> Result<Rig, Fail> {
-        let Rig { disk, arena: _ } = self;
-        let mut disk = disk.crash_in(mode);
-        let arena = mount(alloc, &mut disk, REGION, NUMBER)?;
-        Ok(Rig { disk, arena })
-    }
 }
 
 /// The byte at a place of the disk, by hand: the two frames, the selector, the clumps of `abc` and
@@ -244,6 +266,19 @@ fn expected(at: usize, frames: [&[u8; 43]; 2], selector: u8) -> u8 {
     }
 }
 
+/// Fills an arena, with 64 blocks a commit at most.
+fn fill<D: Disk + Drop>(alloc: Global, disk: D) -> Result<(), Fail> {
+    let mut rig = Rig::new(alloc, disk)?;
+    for (n, staged) in [(65, 64), (64, 60), (1, 0)] {
+        see(rig.stage_many(alloc, b"abc", n)? == staged, "another count")?;
+        if staged > 0 {
+            rig.commit()?;
+        }
+    }
+    see(rig.arena.head().clumps == 124, "another head")?;
+    see(rig.reads(alloc, 24_576 + 123 * 41, b"abc"), "no last block")
+}
+
 #[test]
 fn room_is_used_to_the_end(rt: HostRuntime) -> Result<(), Fail> {
     for (used, clumps, n, fits) in [
@@ -253,93 +288,107 @@ fn room_is_used_to_the_end(rt: HostRuntime) -> Result<(), Fail> {
         (5084, 124, 3, false),
         (u64::MAX, u32::MAX, u32::MAX, false),
     ] {
-        assert_eq!(rt;
-            has_room(32_768, used, clumps, n),
-            fits,
-            "{n} behind {used}"
-        );
+        see(has_room(32_768, used, clumps, n) == fits, "another room")?;
     }
-    let mut rig = Rig::new(rt.alloc(), u64::MAX)?;
-    assert_eq!(rt; rig.stage_many(rt.alloc(), b"abc", 65)?, 64);
-    rig.commit()?;
-    assert_eq!(rt; rig.stage_many(rt.alloc(), b"abc", 64)?, 60);
-    rig.commit()?;
-    assert!(rt; !rig.stage(rt.alloc(), b"a")?);
-    assert_eq!(rt; rig.arena.head().clumps, 124);
-    assert!(rt; rig.reads(rt.alloc(), 24_576 + 123 * 41, b"abc"));
-    Ok(())
+    fill(rt.alloc(), disk(rt.alloc(), u64::MAX)?)
 }
 
-#[test]
-fn two_blocks_byte_for_byte(rt: HostRuntime) -> Result<(), Fail> {
-    let mut rig = Rig::with(rt.alloc(), u64::MAX, &[b"abc", b"abd"])?;
-    assert_eq!(rt; rig.first_difference([&EMPTY, &TWO], 1)?, None);
+/// Two blocks byte for byte, and sealed.
+fn spell<D: Disk + Drop>(alloc: Global, disk: D) -> Result<(), Fail> {
+    let mut rig = Rig::with(alloc, disk, &[b"abc", b"abd"])?;
+    let difference = rig.first_difference([&EMPTY, &TWO], 1)?;
+    see(difference.is_none(), "other bytes")?;
     rig.seal()?;
     // The other frame has the same head, but for the flag.
     let mut sealed = TWO;
     sealed[10] = 1;
-    assert_eq!(rt; rig.first_difference([&sealed, &TWO], 0)?, None);
-    Ok(())
+    let difference = rig.first_difference([&sealed, &TWO], 0)?;
+    see(difference.is_none(), "other bytes of a sealed one")
 }
 
-/// Stops a commit of `abd` behind `abc` at a call. It gives the disk after a crash.
-fn stopped(alloc: Global, call: u64, fails: bool, mode: CrashMode) -> Result<Rig, Fail> {
+#[test]
+fn two_blocks_byte_for_byte(rt: HostRuntime) -> Result<(), Fail> {
+    spell(rt.alloc(), disk(rt.alloc(), u64::MAX)?)
+}
+
+/// The disk of a commit of `abd` behind `abc` that is stopped at a call.
+fn stopped<D: Disk + Drop>(alloc: Global, disk: D, call: u64, fails: bool) -> Result<D, Fail> {
+    let mut rig = Rig::with(alloc, disk, &[b"abc"])?;
+    see(rig.stage(alloc, b"abd")?, "no room")?;
+    rig.stop(call, fails)?;
+    see(rig.reads(alloc, 24_576, b"abc"), "no abc before the crash")?;
+    let Rig { disk, arena: _ } = rig;
+    Ok(disk)
+}
+
+/// How many blocks the arena of a disk has, which are `abc` and `abd`.
+fn count<D: Disk + Drop>(alloc: Global, disk: D) -> Result<u32, Fail> {
+    let mut rig = Rig::mounted(alloc, disk)?;
+    let clumps = rig.arena.head().clumps;
+    see(rig.reads(alloc, 24_576, b"abc"), "no abc")?;
+    see(clumps < 2 || rig.reads(alloc, 24_617, b"abd"), "no abd")?;
+    Ok(clumps)
+}
+
+/// How many blocks the arena has behind a commit of `abd` that is stopped at a call, and a crash.
+fn crashed(alloc: Global, call: u64, fails: bool, mode: CrashMode) -> Result<u32, Fail> {
     let failing = if fails {
         call.saturating_add(FIRST_CALL + 6)
     } else {
         u64::MAX
     };
-    let mut rig = Rig::with(alloc, failing, &[b"abc"])?;
-    see(rig.stage(alloc, b"abd")?, "no room")?;
-    let step = rig.advance_after(call)?;
-    if fails {
-        let stop = call.saturating_add(6);
-        see(step == Err(TwinErr::Fault), "no fault")?;
-        see(rig.arena.stopped() == Some(stop), "another stop")?;
-        see(rig.advance() == Err(TwinErr::Stopped(stop)), "a step")?;
-        see(rig.arena.is_committing(), "no commit")?;
-    }
-    see(rig.reads(alloc, 24_576, b"abc"), "no abc before the crash")?;
-    rig.crash(alloc, mode)
+    let disk = stopped(alloc, disk(alloc, failing)?, call, fails)?;
+    count(alloc, disk.crash_in(mode))
 }
 
 #[test]
 fn a_commit_is_stopped_anywhere(rt: HostRuntime) -> Result<(), Fail> {
-    // The call at which the commit ends, whether it fails, and in which modes a crash then leaves the
-    // new head. The new selector is 0, so that a5 names the old frame.
-    for (call, fails, is_new) in [
-        (0, true, [false, false, false, false]),
-        (0, false, [false, false, false, false]),
-        (1, true, [false, false, false, false]),
-        (1, false, [false, false, false, false]),
-        (2, true, [false, false, false, false]),
-        (2, false, [false, false, false, false]),
-        (3, true, [false, false, false, false]),
-        (3, false, [false, false, false, false]),
-        (4, true, [false, false, false, false]),
-        (4, false, [false, true, true, false]),
-        (5, true, [false, true, true, false]),
-        (5, false, [true, true, true, true]),
+    // The call at which the commit ends, whether it fails, and how many blocks a crash then leaves in
+    // each mode. The new selector is 0, so that a5 names the old frame.
+    for (call, fails, wanted) in [
+        (0, true, [1, 1, 1, 1]),
+        (0, false, [1, 1, 1, 1]),
+        (1, true, [1, 1, 1, 1]),
+        (1, false, [1, 1, 1, 1]),
+        (2, true, [1, 1, 1, 1]),
+        (2, false, [1, 1, 1, 1]),
+        (3, true, [1, 1, 1, 1]),
+        (3, false, [1, 1, 1, 1]),
+        (4, true, [1, 1, 1, 1]),
+        (4, false, [1, 2, 2, 1]),
+        (5, true, [1, 2, 2, 1]),
+        (5, false, [2, 2, 2, 2]),
     ] {
-        for (mode, is_new) in CrashMode::ALL.into_iter().zip(is_new) {
-            let mut rig = stopped(rt.alloc(), call, fails, mode)?;
-            let clumps = if is_new { 2 } else { 1 };
-            assert_eq!(rt; rig.arena.head().clumps, clumps, "call {call}, {mode:?}");
-            assert!(rt; rig.reads(rt.alloc(), 24_576, b"abc"));
-            assert!(rt; !is_new || rig.reads(rt.alloc(), 24_617, b"abd"));
+        for (mode, clumps) in CrashMode::ALL.into_iter().zip(wanted) {
+            let found = crashed(rt.alloc(), call, fails, mode)?;
+            see(found == clumps, "another count")?;
         }
     }
     Ok(())
 }
 
 /// Why an arena with these bytes in its head is refused.
-fn head_refusal(alloc: Global, at: u64, bytes: &[u8]) -> Result<Option<ArenaBad>, Fail> {
-    let mut rig = Rig::new(alloc, u64::MAX)?;
+fn head_refusal<D: Disk + Drop>(
+    alloc: Global,
+    disk: D,
+    at: u64,
+    bytes: &[u8],
+) -> Result<Option<ArenaBad>, Fail> {
+    let mut rig = Rig::new(alloc, disk)?;
     rig.write(at, bytes)?;
     let bad = find(&mut rig.disk, REGION, NUMBER).err();
     let again = mount(alloc, &mut rig.disk, REGION, NUMBER).err();
     see(bad == again, "two answers")?;
     Ok(bad)
+}
+
+/// Whether mounting answers a fault.
+fn fails_to_mount<D: Disk + Drop>(alloc: Global, mut disk: D) -> Result<bool, Fail> {
+    if disk.len() != LEN {
+        return Err("another length".into());
+    }
+    format(&mut disk, REGION, NUMBER)?;
+    Ok(mount(alloc, &mut disk, REGION, NUMBER).err() == Some(ArenaBad::Fault))
 }
 
 #[test]
@@ -358,53 +407,57 @@ fn heads_are_refused(rt: HostRuntime) -> Result<(), Fail> {
             torn(Field::Used, 18_446_744_073_709_551_615, 8192),
         ),
     ] {
-        assert_eq!(rt; head_refusal(rt.alloc(), at, &bytes)?, Some(bad));
+        let disk = disk(rt.alloc(), u64::MAX)?;
+        let found = head_refusal(rt.alloc(), disk, at, &bytes)?;
+        see(found == Some(bad), "another refusal")?;
     }
     // Each call of mounting fails in turn: the sync, the read of the selector, that of the head.
     for failing in 3..6 {
-        let calls = vec![in rt.alloc(); failing]?;
-        let mut disk = MemDisk::failing(rt.alloc(), LEN, calls)?;
-        format(&mut disk, REGION, NUMBER)?;
-        let bad = mount(rt.alloc(), &mut disk, REGION, NUMBER).err();
-        assert_eq!(rt; bad, Some(ArenaBad::Fault), "call {failing}");
+        let disk = disk(rt.alloc(), failing)?;
+        see(fails_to_mount(rt.alloc(), disk)?, "no fault")?;
     }
     Ok(())
 }
 
-/// Why a clump of `abc` with this byte isn't read.
-fn damage(alloc: Global, at: u64, byte: u8) -> Result<Option<ReadBad>, Fail> {
-    let mut rig = Rig::with(alloc, u64::MAX, &[b"abc"])?;
+/// Why a block isn't read at this offset of an arena that holds `abc`, with this byte there.
+fn damage<D: Disk + Drop>(
+    alloc: Global,
+    disk: D,
+    offset: u64,
+    at: u64,
+    byte: u8,
+) -> Result<Option<ReadBad>, Fail> {
+    let mut rig = Rig::with(alloc, disk, &[b"abc"])?;
     see(rig.reads(alloc, 24_576, b"abc"), "no abc")?;
     rig.write(at, &[byte])?;
-    Ok(rig.read(alloc, 24_576).err())
+    Ok(rig.read(alloc, offset).err())
 }
 
 #[test]
 fn damaged_clumps_are_refused(rt: HostRuntime) -> Result<(), Fail> {
-    let number = |n: u16| FieldValue::Number(u128::from(n));
+    let number = FieldValue::Number;
     let magic = FieldValue::Magic;
-    for (at, byte, want, found) in [
-        (24_576, b'X', magic(*b"VCLP"), magic(*b"XCLP")),
-        (24_580, 0, number(13), number(0)),
-        (24_605, 2, number(1), number(2)),
-        (24_605, 7, number(1), number(7)),
-        (24_582, 4, number(4), number(3)),
-        (24_584, 4, number(3), number(4)),
-        (24_616, b'd', FieldValue::Score(ABC), FieldValue::Score(ABD)),
+    for (offset, at, byte, want, found) in [
+        (24_576, 24_576, b'X', magic(*b"VCLP"), magic(*b"XCLP")),
+        (24_576, 24_580, 0, number(13), number(0)),
+        (24_576, 24_605, 2, number(1), number(2)),
+        (24_576, 24_605, 7, number(1), number(7)),
+        (24_576, 24_582, 4, number(4), number(3)),
+        (24_576, 24_584, 4, number(3), number(4)),
+        (
+            24_576,
+            24_616,
+            b'd',
+            FieldValue::Score(ABC),
+            FieldValue::Score(ABD),
+        ),
+        (24_575, 24_616, b'c', number(24_576), number(24_575)),
+        (32_731, 24_616, b'c', number(24_576), number(32_731)),
     ] {
-        let bad = ReadBad::Damaged { want, found };
-        assert_eq!(rt; damage(rt.alloc(), at, byte)?, Some(bad));
-    }
-    for offset in [24_575, 32_731] {
-        let mut rig = Rig::new(rt.alloc(), u64::MAX)?;
-        let bad = rig.read(rt.alloc(), offset).err();
-        let found = FieldValue::Number(u128::from(offset));
-        let want = number(24_576);
-        assert_eq!(rt; bad, Some(ReadBad::Damaged { want, found }));
-    }
-    for failing in [FIRST_CALL, FIRST_CALL + 1] {
-        let mut rig = Rig::new(rt.alloc(), failing)?;
-        assert_eq!(rt; rig.read(rt.alloc(), 24_576).err(), Some(ReadBad::Fault));
+        let disk = disk(rt.alloc(), u64::MAX)?;
+        let bad = damage(rt.alloc(), disk, offset, at, byte)?;
+        let wanted = ReadBad::Damaged { want, found };
+        see(bad == Some(wanted), "another damage")?;
     }
     Ok(())
 }
@@ -425,29 +478,58 @@ fn info_of(block: &[u8], number: u64, offset: u32) -> Option<Info> {
     })
 }
 
-#[test]
-fn the_directory_is_walked(rt: HostRuntime) -> Result<(), Fail> {
-    let mut rig = Rig::with(rt.alloc(), u64::MAX, &[b"a", b"bc", b"def"])?;
+/// Walks a directory of three blocks.
+fn walk<D: Disk + Drop>(alloc: Global, disk: D) -> Result<(), Fail> {
+    let mut rig = Rig::with(alloc, disk, &[b"a", b"bc", b"def"])?;
     let mut at = At::start(&rig.arena.head());
     for (block, number, offset) in [
         (b"def".as_slice(), 2, 24_655),
         (b"bc".as_slice(), 1, 24_615),
         (b"a".as_slice(), 0, 24_576),
     ] {
-        let found = rig.walk(&mut at);
-        assert!(rt; found == info_of(block, number, offset).map(Ok), "{number}");
+        let wanted = info_of(block, number, offset).map(Ok);
+        see(rig.walk(&mut at) == wanted, "another entry")?;
     }
-    assert!(rt; rig.walk(&mut at).is_none());
-    let mut rig = Rig::with(rt.alloc(), FIRST_CALL + 10, &[b"a", b"bc", b"def"])?;
+    see(rig.walk(&mut at).is_none(), "no end")
+}
+
+/// What a read of a block and one of the directory answer.
+fn reads<D: Disk + Drop>(alloc: Global, disk: D) -> Result<[bool; 2], Fail> {
+    let mut rig = Rig::with(alloc, disk, &[b"abc"])?;
+    let read = rig.read(alloc, 24_576).err();
     let mut at = At::start(&rig.arena.head());
-    assert!(rt; rig.walk(&mut at) == Some(Err(BackBad::Fault)));
+    let back = rig.walk(&mut at);
+    Ok([
+        read == Some(ReadBad::Fault),
+        back == Some(Err(BackBad::Fault)),
+    ])
+}
+
+#[test]
+fn the_directory_is_walked(rt: HostRuntime) -> Result<(), Fail> {
+    walk(rt.alloc(), disk(rt.alloc(), u64::MAX)?)?;
+    // Each call fails in turn: the reads of a clump's header and block, that of an entry.
+    for (call, wanted) in [
+        (0, [true, false]),
+        (1, [true, false]),
+        (2, [false, true]),
+        (3, [false, false]),
+    ] {
+        let disk = disk(rt.alloc(), FIRST_CALL + 6 + call)?;
+        see(reads(rt.alloc(), disk)? == wanted, "another answer")?;
+    }
     Ok(())
 }
 
 /// What a walk answers at an entry of a directory of three blocks that begins with these bytes.
-fn walk_over(alloc: Global, mut at: At, bytes: &[u8]) -> Result<Option<BackBad>, Fail> {
+fn walk_over<D: Disk + Drop>(
+    alloc: Global,
+    disk: D,
+    mut at: At,
+    bytes: &[u8],
+) -> Result<Option<BackBad>, Fail> {
     let stays = at;
-    let mut rig = Rig::with(alloc, u64::MAX, &[b"a", b"bc", b"def"])?;
+    let mut rig = Rig::with(alloc, disk, &[b"a", b"bc", b"def"])?;
     let place = u64::from(at.index).saturating_mul(25);
     rig.write(REGION.len.saturating_sub(place), bytes)?;
     match rig.walk(&mut at) {
@@ -471,22 +553,25 @@ fn damaged_entries_are_refused(rt: HostRuntime) -> Result<(), Fail> {
             want: FieldValue::Number(want),
             found: FieldValue::Number(found),
         };
-        assert_eq!(rt;
-            walk_over(rt.alloc(), At { index, end }, &bytes)?,
-            Some(bad)
-        );
+        let disk = disk(rt.alloc(), u64::MAX)?;
+        let told = walk_over(rt.alloc(), disk, At { index, end }, &bytes)?;
+        see(told == Some(bad), "another damage")?;
     }
     Ok(())
 }
 
-#[test]
-fn an_arena_moves_to_another(rt: HostRuntime) -> Result<(), Fail> {
-    let mut rig = Rig::new(rt.alloc(), u64::MAX)?;
+/// Gives an arena's room to itself, and goes on.
+fn move_on<D: Disk + Drop>(alloc: Global, disk: D) -> Result<(), Fail> {
+    let mut rig = Rig::new(alloc, disk)?;
     rig.find_again()?;
-    assert!(rt; rig.stage(rt.alloc(), b"abc")?);
+    see(rig.stage(alloc, b"abc")?, "no room")?;
     rig.commit()?;
     let head = rig.arena.head();
     let found = find(&mut rig.disk, REGION, NUMBER)?;
-    assert_eq!(rt; found, Found { head, selector: 1 });
-    Ok(())
+    see(found == Found { head, selector: 1 }, "another arena")
+}
+
+#[test]
+fn an_arena_moves_to_another(rt: HostRuntime) -> Result<(), Fail> {
+    move_on(rt.alloc(), disk(rt.alloc(), u64::MAX)?)
 }
