@@ -12,12 +12,13 @@ pub record Opening : Type 0 where
   pub ok : Bool
 
 -- A call of an open file: its length, a change of its length, a read that leaves these bytes in its
--- buffer, a write, or a sync.
+-- buffer, a write, taking its lock, or a sync.
 pub data FileCall : Type 0 where
   measured : (answer : Option ℕ) → FileCall
   resized : (len : ℕ) (ok : Bool) → FileCall
   read : (start : ℕ) (bytes : List ℕ) (ok : Bool) → FileCall
   written : (start : ℕ) (bytes : List ℕ) (ok : Bool) → FileCall
+  locked : (ok : Bool) → FileCall
   synced : (ok : Bool) → FileCall
 
 -- A call of a stream that is written: a piece, or a flush.

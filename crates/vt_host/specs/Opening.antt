@@ -1,8 +1,9 @@
 -- How a file is opened as a disk.
-use Rattle.std.specs.Prelude.{◌≡◌, ◌⊎◌, ℕ, ◌<◌, ◌≤◌, Bool, true, List, [], ◌∷◌, Option, Some, None, is_some, unwrap_or, if◌then◌else◌}
+use Rattle.std.specs.Prelude.{◌≡◌, ◌⊎◌, ℕ, ◌+◌, min, length, ◌<◌, ◌≤◌, Bool, true, false, List, [], ◌∷◌, ◌++◌, codes, Option, Some, None, is_some, unwrap_or, if◌then◌else◌}
 use Rattle.std.specs.Fs.{new_options, with_read, with_write, with_create}
+use Rattle.std.specs.Path.{path_parent}
 use Rattle.std.specs.declared.fs.OpenOptions.{OpenOptions}
-use Rattle.vt_host.specs.Calls.{Opening, FileCall, measured, resized}
+use Rattle.vt_host.specs.Calls.{Opening, FileCall, measured, resized, read, locked, synced}
 
 -- It is read and written. It is made where it isn't there, if that is asked for, and never emptied.
 abbrev pub disk_options : (create : Bool) → OpenOptions
@@ -11,6 +12,10 @@ disk_options create = with_create (with_write (with_read new_options true) true)
 -- the opening of the file of this name
 abbrev pub opening : (name : List ℕ) (grow_to : Option ℕ) (ok : Bool) → Opening
 opening name grow_to ok = record { how = disk_options (is_some grow_to); name = name; ok = ok }
+
+-- the length that the file is to have at least
+abbrev pub wanted_length : Option ℕ → ℕ
+wanted_length grow_to = unwrap_or grow_to 0
 
 -- Then it is measured and, where it is shorter than wanted, filled up: these are the calls, and
 -- this is the length that it then has, or none where a call failed.
@@ -22,6 +27,47 @@ Grows wanted calls len =
     × (calls ≡ measured (Some found) ∷ resized wanted ok ∷ [])
     × (len ≡ if ok then Some wanted else None))
 
--- the length that the file is to have at least
-abbrev pub wanted_length : Option ℕ → ℕ
-wanted_length grow_to = unwrap_or grow_to 0
+-- A file that may have been made or filled up is then synced, and so is the folder that it stands
+-- in.
+abbrev pub syncs_of : (grow_to : Option ℕ) → List FileCall
+syncs_of None = []
+syncs_of (Some len) = synced true ∷ []
+
+-- A folder is read alone. That of a name without one is the working folder, and the top is its own.
+abbrev pub folder_options : OpenOptions
+folder_options = with_read new_options true
+
+abbrev pub folder_in : Option (List ℕ) → List ℕ
+folder_in None = codes "."
+folder_in (Some []) = codes "."
+folder_in (Some (b ∷ folder)) = b ∷ folder
+
+abbrev pub folder_of : (name : List ℕ) → List ℕ
+folder_of name = folder_in (path_parent name)
+
+abbrev pub folder_opening : (name : List ℕ) (ok : Bool) → Opening
+folder_opening name ok = record { how = folder_options; name = folder_of name; ok = ok }
+
+-- all that is opened for a disk
+abbrev pub openings : (name : List ℕ) → (grow_to : Option ℕ) → List Opening
+openings name None = opening name None true ∷ []
+openings name (Some len) = opening name (Some len) true ∷ folder_opening name true ∷ []
+
+-- the calls of a file that became a disk of this length
+abbrev pub BecomesDisk : (grow_to : Option ℕ) (calls : List FileCall) (len : ℕ) → Type 0
+BecomesDisk grow_to calls len = (grown : List FileCall)
+    × Grows (wanted_length grow_to) grown (Some len)
+    × (calls ≡ locked true ∷ (grown ++ syncs_of grow_to))
+
+-- the calls of one of which the last failed
+abbrev pub StopsShort : (grow_to : Option ℕ) (calls : List FileCall) → Type 0
+StopsShort grow_to calls = (calls ≡ locked false ∷ [])
+    ⊎ ((grown : List FileCall) × Grows (wanted_length grow_to) grown None
+    × (calls ≡ locked true ∷ grown))
+    ⊎ ((grown : List FileCall) × (len : ℕ) × Grows (wanted_length grow_to) grown (Some len)
+    × (calls ≡ locked true ∷ (grown ++ synced false ∷ [])))
+
+-- The calls of a file of which these bytes are the front: all of it, or one byte more than the limit.
+abbrev pub ReadsFront : (limit : ℕ) (bytes : List ℕ) (calls : List FileCall) → Type 0
+ReadsFront limit bytes calls = (len : ℕ) × (length bytes ≡ min len (limit + 1))
+    × (calls ≡ measured (Some len) ∷ read 0 bytes true ∷ [])

@@ -1,14 +1,17 @@
 //! Files as disks.
 
-ghost use Rattle.std.specs.Prelude.{◌≡◌, ◌<◌, ◌≤◌, ◌^◌, ◌++◌, List, IsTrue, IfOk};
+ghost use Rattle.std.specs.Prelude.{◌≡◌, ◌⊎◌, ◌<◌, ◌≤◌, ◌^◌, ◌++◌, ◌∷◌, [], List, true, false};
+ghost use Rattle.std.specs.Prelude.{IsTrue, IfOk, IfSome, OnOk, OnErr};
 ghost use Rattle.std.specs.Result.{result_ok};
-ghost use Rattle.vt_host.specs.Calls.{FileCall};
-ghost use Rattle.vt_host.specs.Opening.{disk_options, Grows};
+ghost use Rattle.vt_host.specs.Calls.{FileCall, synced};
+ghost use Rattle.vt_host.specs.Opening.{disk_options, folder_options, folder_of, folder_opening};
+ghost use Rattle.vt_host.specs.Opening.{Grows, BecomesDisk, StopsShort};
 
 use crate::faults::Faults;
 use crate::system::{FileCalls, Opener};
 use std::fs::OpenOptions;
 use std::io;
+use std::path::Path;
 use vt_base::Failed;
 use vt_disk::Disk;
 
@@ -30,6 +33,25 @@ fn options(create: bool) -> OpenOptions
     options
 }
 
+/// How a folder is opened.
+fn folder_options() -> OpenOptions
+    ensures { result ≡ folder_options }
+{
+    let mut options = OpenOptions::new();
+    options.read(true);
+    options
+}
+
+/// The folder that a file of this name stands in.
+fn folder_of(name: &str) -> &str
+    ensures { result.now ≡ folder_of name.now }
+{
+    match Path::new(name).parent() {
+        Some(folder) if !folder.as_os_str().is_empty() => folder.as_os_str(),
+        _ => ".",
+    }
+}
+
 /// Fills the file up to this length where it is shorter, and says how many bytes it then has.
 fn grow<F: FileCalls>(file: &mut F, wanted: u64) -> io::Result<u64>
     ensures calls { IsTrue F.tells → (calls : List FileCall)
@@ -44,15 +66,52 @@ fn grow<F: FileCalls>(file: &mut F, wanted: u64) -> io::Result<u64>
     Ok(found)
 }
 
-impl<F: FileCalls + Drop> FileDisk<F> {
-    ghost use Rattle.std.specs.Prelude.{◌≡◌, ◌≤◌, ◌⊎◌, ◌++◌, ◌∷◌, [], true, false, IsTrue};
-    ghost use Rattle.std.specs.Prelude.{Some, None, IfOk, IfSome, OnOk, OnErr};
-    ghost use Rattle.vt_host.specs.Disks.{disk_file, disk_size, disk_faults};
-    ghost use Rattle.vt_host.specs.Opening.{opening, wanted_length, Grows};
+/// Puts the entry of the file of this name on the disk.
+fn sync_folder<F: FileCalls + Drop, O: Opener<File = F>>(
+    files: &mut O,
+    name: &str,
+) -> io::Result<()>
+    ensures ok { OnOk result (IsTrue F.tells →
+        (O.opened files.new ≡ O.opened files.old ++ folder_opening name.now true ∷ [])
+        × ((folder : F) × (F.made folder ≡ synced true ∷ []))) }
+    ensures failed { OnErr result (IsTrue F.tells →
+        (O.opened files.new ≡ O.opened files.old ++ folder_opening name.now false ∷ [])
+        ⊎ ((O.opened files.new ≡ O.opened files.old ++ folder_opening name.now true ∷ [])
+        × ((folder : F) × (F.made folder ≡ synced false ∷ [])))) }
+{
+    let mut folder = files.open(&folder_options(), folder_of(name))?;
+    folder.sync()
+}
 
-    /// Opens what has this name. With a length to grow to, a file that isn't there is made, and one
-    /// that is shorter is filled up with zero bytes; none is made shorter. Failed is the answer
-    /// where one of these calls fails.
+/// Locks the file, and makes it as long as wanted. Gives its length.
+fn lock_and_grow<F: FileCalls>(file: &mut F, grow_to: Option<u64>) -> io::Result<u64>
+    ensures grown { IfOk result (λ len. IfSome grow_to (λ wanted. wanted ≤ len)) }
+    ensures made { IfOk result (λ len. IsTrue F.tells → (calls : List FileCall)
+        × (F.made file.new ≡ F.made file.old ++ calls) × BecomesDisk grow_to calls len) }
+    ensures failed { OnErr result (IsTrue F.tells → (calls : List FileCall)
+        × (F.made file.new ≡ F.made file.old ++ calls) × StopsShort grow_to calls) }
+{
+    file.lock()?;
+    let len = grow(file, grow_to.unwrap_or(0))?;
+    if grow_to.is_some() {
+        file.sync()?;
+    }
+    Ok(len)
+}
+
+impl<F: FileCalls + Drop> FileDisk<F> {
+    ghost use Rattle.std.specs.Prelude.{◌≡◌, ◌≤◌, ◌⊎◌, ◌++◌, ◌∷◌, [], true, false, IsTrue, IsSome};
+    ghost use Rattle.std.specs.Prelude.{Some, None, IfOk, IfSome, OnOk, OnErr};
+    ghost use Rattle.vt_host.specs.Calls.{synced};
+    ghost use Rattle.vt_host.specs.Disks.{disk_file, disk_size, disk_faults};
+    ghost use Rattle.vt_host.specs.Opening.{opening, openings, folder_opening};
+    ghost use Rattle.vt_host.specs.Opening.{BecomesDisk, StopsShort};
+
+    /// Opens what has this name, and takes its exclusive lock, which goes with the disk: a file that
+    /// is open as a disk already, here or in another process, is Failed. With a length to grow to, a
+    /// file that isn't there is made, and one that is shorter is filled up with zero bytes; none is
+    /// made shorter. Then the file and its entry in its folder are synced. Failed is the answer where
+    /// one of these calls fails.
     pub fn open<O: Opener<File = F>>(
         files: &mut O,
         name: &str,
@@ -61,25 +120,35 @@ impl<F: FileCalls + Drop> FileDisk<F> {
         ensures grown { IfOk result (λ disk. IfSome grow_to (λ wanted. wanted ≤ disk_size disk)) }
         ensures faults { IfOk result (λ disk. disk_faults disk ≡ 0) }
         ensures opened { OnOk result (IsTrue F.tells →
-            O.opened files.new ≡ O.opened files.old ++ opening name.now grow_to true ∷ []) }
+            O.opened files.new ≡ O.opened files.old ++ openings name.now grow_to) }
         ensures made { IfOk result (λ disk. IsTrue F.tells →
-            Grows (wanted_length grow_to) (F.made (disk_file disk)) (Some (disk_size disk))) }
+            BecomesDisk grow_to (F.made (disk_file disk)) (disk_size disk)) }
+        ensures entry { OnOk result (IsTrue F.tells → IsSome grow_to →
+            (folder : F) × (F.made folder ≡ synced true ∷ [])) }
         ensures failed { OnErr result (IsTrue F.tells →
             (O.opened files.new ≡ O.opened files.old ++ opening name.now grow_to false ∷ [])
             ⊎ ((O.opened files.new ≡ O.opened files.old ++ opening name.now grow_to true ∷ [])
-            × ((file : F) × Grows (wanted_length grow_to) (F.made file) None))) }
+            × ((file : F) × StopsShort grow_to (F.made file)))
+            ⊎ ((O.opened files.new ≡ O.opened files.old ++ opening name.now grow_to true
+            ∷ folder_opening name.now false ∷ []))
+            ⊎ ((O.opened files.new ≡ O.opened files.old ++ opening name.now grow_to true
+            ∷ folder_opening name.now true ∷ [])
+            × ((folder : F) × (F.made folder ≡ synced false ∷ [])))) }
     {
         let Ok(mut file) = files.open(&options(grow_to.is_some()), name) else {
             return Err(Failed);
         };
-        match grow(&mut file, grow_to.unwrap_or(0)) {
-            Ok(len) => Ok(FileDisk {
-                file,
-                len,
-                faults: Faults::new(),
-            }),
-            Err(_) => Err(Failed),
+        let Ok(len) = lock_and_grow(&mut file, grow_to) else {
+            return Err(Failed);
+        };
+        if grow_to.is_some() && sync_folder(files, name).is_err() {
+            return Err(Failed);
         }
+        Ok(FileDisk {
+            file,
+            len,
+            faults: Faults::new(),
+        })
     }
 }
 

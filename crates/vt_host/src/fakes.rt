@@ -68,6 +68,7 @@ pub enum FileNote {
     Resized(u64, bool),
     Read(u64, Bytes, bool),
     Written(u64, Bytes, bool),
+    Locked(bool),
     Synced(bool),
 }
 
@@ -80,9 +81,9 @@ pub struct FakeFile<R> {
 
 impl<R: Abort + Drop> FileCalls for FakeFile<R> {
     ghost use Rattle.std.specs.Prelude.{true, map};
-    ghost use Rattle.vt_host.specs.Calls.{measured, resized, read, written, synced};
+    ghost use Rattle.vt_host.specs.Calls.{measured, resized, read, written, locked, synced};
     ghost use Rattle.vt_host.specs.declared.fakes.FileNote.TheVariants.{Measured, Resized, Read};
-    ghost use Rattle.vt_host.specs.declared.fakes.FileNote.TheVariants.{Written, Synced};
+    ghost use Rattle.vt_host.specs.declared.fakes.FileNote.TheVariants.{Written, Locked, Synced};
 
     ghost tells = { true };
 
@@ -91,6 +92,7 @@ impl<R: Abort + Drop> FileCalls for FakeFile<R> {
       | Resized len ok ↦ resized len ok
       | Read start bytes ok ↦ read start bytes ok
       | Written start bytes ok ↦ written start bytes ok
+      | Locked ok ↦ locked ok
       | Synced ok ↦ synced ok
     ]) file.notes.calls.items };
 
@@ -121,6 +123,12 @@ impl<R: Abort + Drop> FileCalls for FakeFile<R> {
         let ok = self.notes.next_is_ok();
         let bytes = self.notes.copy_of(chunk);
         self.notes.note(FileNote::Written(start, bytes, ok));
+        answer(ok)
+    }
+
+    fn lock(&mut self) -> io::Result<()> {
+        let ok = self.notes.next_is_ok();
+        self.notes.note(FileNote::Locked(ok));
         answer(ok)
     }
 

@@ -2,7 +2,6 @@
 
 ghost use Rattle.std.specs.Prelude.{◌<◌, ◌^◌};
 
-use std::io;
 use vt_base::Failed;
 
 /// How many calls of the system have failed.
@@ -14,7 +13,7 @@ pub struct Faults {
 
 impl Faults {
     ghost use Rattle.std.specs.Prelude.{◌≡◌, IfOk, Ok, is_ok};
-    ghost use Rattle.vt_base.specs.Faults.{HasCause};
+    ghost use Rattle.vt_base.specs.Faults.{HasCause, HasRisen};
 
     pub fn new() -> Self
         ensures { result.count ≡ 0 }
@@ -22,8 +21,8 @@ impl Faults {
         Faults { count: 0 }
     }
 
-    /// What the system answered. An error is counted.
-    pub fn counted<T>(&mut self, answer: io::Result<T>) -> Result<T, Failed>
+    /// What was answered. An error is counted.
+    pub fn counted<T, E: Drop>(&mut self, answer: Result<T, E>) -> Result<T, Failed>
         ensures variant { is_ok result ≡ is_ok answer }
         ensures value { IfOk result (λ v. answer ≡ Ok v) }
         ensures cause { HasCause result self.old.count self.new.count }
@@ -31,9 +30,16 @@ impl Faults {
         match answer {
             Ok(value) => Ok(value),
             Err(_) => {
-                self.count = self.count.saturating_add(1);
+                self.count_one();
                 Err(Failed)
             }
         }
+    }
+
+    /// Counts a failed call.
+    pub fn count_one(&mut self)
+        ensures { HasRisen self.old.count self.new.count }
+    {
+        self.count = self.count.saturating_add(1);
     }
 }

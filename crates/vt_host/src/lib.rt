@@ -1,4 +1,4 @@
-//! The outside as it is: standard streams, the system's clock, and files as disks.
+//! The outside as it is: standard streams, the system's clock, files, and files as disks.
 //!
 //! Nothing is told of what they hold. Each failed call is counted. Which calls of the system an
 //! adapter makes, in which order, and that it hands on what they answer is proved over every file,
@@ -8,12 +8,16 @@
 mod clock;
 mod disk;
 mod faults;
+mod files;
+mod parts;
 mod sink;
 mod source;
 mod system;
 
 pub use clock::StdClock;
 pub use disk::FileDisk;
+pub use files::StdFiles;
+pub use parts::FileParts;
 pub use sink::StdSink;
 pub use source::StdSource;
 pub use system::{ClockCalls, FileCalls, Opener, ReadCalls, WriteCalls};

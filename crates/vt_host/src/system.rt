@@ -8,7 +8,8 @@ ghost use Rattle.std.specs.Prelude.{◌≡◌, ◌≤◌, ◌++◌, ◌∷◌, �
 ghost use Rattle.std.specs.Prelude.{Option, IfOk, OnOk, is_ok};
 ghost use Rattle.std.specs.Io.KnownBytes.{Appends, Keeps, ReadConsumes};
 ghost use Rattle.std.specs.Result.{result_ok};
-ghost use Rattle.vt_host.specs.Calls.{Opening, FileCall, measured, resized, read, written, synced};
+ghost use Rattle.vt_host.specs.Calls.{Opening, FileCall, measured, resized, read, written, locked};
+ghost use Rattle.vt_host.specs.Calls.{synced};
 ghost use Rattle.vt_host.specs.Calls.{WriteCall, put, flushed, ReadCall};
 
 use std::fs::{File, Files, OpenOptions};
@@ -57,6 +58,10 @@ pub trait FileCalls {
     fn write_at(&mut self, start: u64, chunk: &[u8]) -> io::Result<()>
         ensures { IsTrue tells
             → made self.new ≡ made self.old ++ written start chunk.now (is_ok result) ∷ [] };
+
+    /// Takes the file's exclusive lock, if nobody else has it. It goes with the file.
+    fn lock(&mut self) -> io::Result<()>
+        ensures { IsTrue tells → made self.new ≡ made self.old ++ locked (is_ok result) ∷ [] };
 
     /// Puts on the disk what was written.
     fn sync(&mut self) -> io::Result<()>
@@ -152,6 +157,10 @@ impl FileCalls for File {
 
     fn write_at(&mut self, start: u64, chunk: &[u8]) -> io::Result<()> {
         self.write_all_at(chunk, start)
+    }
+
+    fn lock(&mut self) -> io::Result<()> {
+        Ok(self.try_lock()?)
     }
 
     fn sync(&mut self) -> io::Result<()> {

@@ -6,9 +6,10 @@ use std::process::Abort;
 use std::test::Fail;
 use std::time::{Duration, SystemTime};
 use std::{fs, io, process};
-use vt_base::Failed;
+use vt_base::{Failed, Text};
 use vt_disk::Disk;
-use vt_out::{Clock, Sink, Source};
+use vt_out::{Clock, Files, OutErr, Sink, Source};
+use vt_parts::Parts;
 
 /// Is interrupted once, gives and takes three bytes at once, and breaks at its call number 3.
 #[derive(Drop)]
@@ -104,11 +105,12 @@ fn a_file_is_a_disk(rt: HostRuntime) -> Result<(), Fail> {
     )?;
     let mut files = &rt;
     assert!(rt; FileDisk::open(&mut files, name.as_str(), None).is_err());
-    let mut disk = FileDisk::open(&mut files, name.as_str(), Some(10_000))?;
-    let again = FileDisk::open(&mut files, name.as_str(), Some(500))?;
+    drop(FileDisk::open(&mut files, name.as_str(), Some(10_000))?);
+    let mut disk = FileDisk::open(&mut files, name.as_str(), Some(500))?;
+    assert!(rt; FileDisk::open(&mut files, name.as_str(), None).is_err());
     let file = fs::OpenOptions::new().write(true).open(&rt, name.as_str())?;
     fs::remove_file(&rt, name.as_str())?;
-    assert_eq!(rt; (disk.len(), again.len()), (10_000, 10_000));
+    assert_eq!(rt; disk.len(), 10_000);
 
     let mut buf = [b'.'; 3];
     assert_eq!(rt; disk.write_at(9_998, b"yz"), Ok(()));
@@ -128,19 +130,25 @@ fn a_file_is_a_disk(rt: HostRuntime) -> Result<(), Fail> {
     Ok(())
 }
 
-/// Opens files of 8 bytes. Of each of them, the call of this number fails.
-fn opener<R: Abort + Copy + Drop>(rt: R, alloc: Global, failing: usize) -> FakeOpener<R> {
+/// Opens files of 8 bytes. The opening of the first number fails, and of each file the call of the
+/// second.
+fn opener<R: Abort + Copy + Drop>(
+    rt: R,
+    alloc: Global,
+    opening: usize,
+    call: usize,
+) -> FakeOpener<R> {
     FakeOpener {
-        notes: Notes::new(rt, alloc, 1),
+        notes: Notes::new(rt, alloc, opening),
         len: 8,
-        file_failing: failing,
+        file_failing: call,
     }
 }
 
 #[test]
 fn an_error_of_a_file_is_handed_on(rt: HostRuntime) -> Result<(), Fail> {
-    let mut files = opener(rt, rt.alloc(), 3);
-    let mut disk = FileDisk::open(&mut files, "disk", Some(10))?;
+    let mut files = opener(rt, rt.alloc(), 9, 5);
+    let mut disk = FileDisk::open(&mut files, "a/disk", Some(10))?;
     let mut buf = [0; 2];
     assert_eq!(rt; disk.len(), 10);
     assert_eq!(rt; disk.write_at(3, b"ab"), Ok(()));
@@ -148,15 +156,48 @@ fn an_error_of_a_file_is_handed_on(rt: HostRuntime) -> Result<(), Fail> {
     assert_eq!(rt; disk.read_at(3, &mut buf), Ok(()));
     assert_eq!(rt; disk.sync(), Ok(()));
     assert_eq!(rt; buf, [7, 7]);
+    assert_eq!(rt; files.notes.calls.len(), 2);
 
-    // The second opening fails, and of the next files the length and the change of the length.
-    assert!(rt; FileDisk::open(&mut files, "disk", None).is_err());
-    files.file_failing = 0;
-    assert!(rt; FileDisk::open(&mut files, "disk", None).is_err());
-    files.file_failing = 1;
-    assert!(rt; FileDisk::open(&mut files, "disk", Some(9)).is_err());
-    assert_eq!(rt; FileDisk::open(&mut files, "disk", Some(8))?.len(), 8);
-    assert_eq!(rt; files.notes.calls.len(), 5);
+    Ok(())
+}
+
+/// Whether a file is opened as a disk of 9 bytes, where this opening, and of each file this call,
+/// fails.
+fn opens<R: Abort + Copy + Drop>(rt: R, alloc: Global, opening: usize, call: usize) -> bool {
+    FileDisk::open(&mut opener(rt, alloc, opening, call), "disk", Some(9)).is_ok()
+}
+
+/// Each call before a disk is there: the opening, the folder's, and then the lock, the length, the
+/// change of the length and the sync.
+#[test]
+fn an_error_of_opening_is_handed_on(rt: HostRuntime) {
+    assert!(rt; opens(rt, rt.alloc(), 9, 9));
+    for opening in [0, 1] {
+        assert!(rt; !opens(rt, rt.alloc(), opening, 9));
+    }
+    for call in [0, 1, 2, 3] {
+        assert!(rt; !opens(rt, rt.alloc(), 9, call));
+    }
+}
+
+#[test]
+fn partitions_and_files_by_name(rt: HostRuntime) -> Result<(), Fail> {
+    let alloc = rt.alloc();
+    let name = Text::copy_of(alloc, b"disk").expect(&rt, "memory");
+    let odd = Text::copy_of(alloc, b"\xff").expect(&rt, "memory");
+    let mut parts = FileParts::new(opener(rt, alloc, 2, 9));
+    let disk = parts.part(alloc, &name, Some(9))?;
+    assert_eq!(rt; disk.len(), 9);
+    parts.done(&name, disk);
+    assert!(rt; parts.part(alloc, &name, None).is_err());
+    assert!(rt; parts.part(alloc, &odd, None).is_err());
+
+    let mut files = StdFiles::new(opener(rt, alloc, 2, 9));
+    let bytes = files.read(alloc, &name, 8).expect(&rt, "the file");
+    assert_eq!(rt; bytes.as_slice(), [7; 8].as_slice());
+    let bytes = files.read(alloc, &name, 4).expect(&rt, "its front");
+    assert_eq!(rt; bytes.as_slice(), [7; 5].as_slice());
+    assert!(rt; matches!(files.read(alloc, &name, 4), Err(OutErr::Failed)));
     Ok(())
 }
 

@@ -1,0 +1,18 @@
+-- What files by name are made of.
+use Rattle.std.specs.Prelude.{ℕ}
+use Rattle.vt_host.specs.declared.files.StdFiles.{StdFiles}
+use Rattle.vt_host.specs.declared.parts.FileParts.{FileParts}
+
+-- what opens them
+abbrev pub parts_files : {O : Type 0} → FileParts O → O
+parts_files parts = parts.files
+
+abbrev pub files_opener : {O : Type 0} → StdFiles O → O
+files_opener files = files.files
+
+-- how many of their calls have failed
+abbrev pub parts_faults : {O : Type 0} → FileParts O → ℕ
+parts_faults parts = parts.faults.count
+
+abbrev pub files_faults : {O : Type 0} → StdFiles O → ℕ
+files_faults files = files.faults.count

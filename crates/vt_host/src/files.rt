@@ -1,0 +1,90 @@
+//! Files that are read whole, by name.
+
+ghost use Rattle.std.specs.Prelude.{◌≡◌, ◌≤◌, ◌+◌, ◌++◌, ◌∷◌, [], IsTrue, IfOk, length};
+ghost use Rattle.vt_host.specs.Opening.{ReadsFront};
+
+use crate::faults::Faults;
+use crate::system::{FileCalls, Opener};
+use std::alloc::Global;
+use std::fs::OpenOptions;
+use std::str;
+use vt_base::{Bytes, Text};
+use vt_out::{Files, OutErr};
+
+/// Files of the system, which are read whole. Names are taken as they are, from the working folder.
+#[derive(Drop)]
+pub struct StdFiles<O> {
+    files: O,
+    faults: Faults,
+}
+
+impl<O: Opener> StdFiles<O> {
+    ghost use Rattle.vt_host.specs.Named.{files_opener, files_faults};
+
+    /// Files that this opens.
+    pub fn new(files: O) -> Self
+        ensures files { files_opener result ≡ files }
+        ensures faults { files_faults result ≡ 0 }
+    {
+        StdFiles {
+            files,
+            faults: Faults::new(),
+        }
+    }
+}
+
+/// The front of the file of this name: all of it, or one byte more than the limit.
+fn read_front<O: Opener>(
+    alloc: Global,
+    files: &mut O,
+    name: &Text,
+    limit: u32,
+) -> Result<Bytes, OutErr>
+where
+    O::File: Drop,
+    ensures bound { IfOk result (λ bytes. length bytes ≤ limit + 1) }
+    ensures made { IfOk result (λ bytes. IsTrue O.File.tells → (file : O.File)
+        × ReadsFront limit bytes (O.File.made file)) }
+{
+    let name = str::from_utf8(name.as_slice()).map_err(|_| OutErr::Failed)?;
+    let mut how = OpenOptions::new();
+    how.read(true);
+    let mut file = files.open(&how, name).map_err(|_| OutErr::Failed)?;
+    let len = file.measure().map_err(|_| OutErr::Failed)?;
+    let front = len.min(u64::from(limit) + 1) as usize;
+    let mut bytes = vec![in alloc; 0; front].map_err(|_| OutErr::NoMemory)?;
+    file.read_at(0, &mut bytes).map_err(|_| OutErr::Failed)?;
+    Ok(Bytes::from_vec(bytes))
+}
+
+impl<O: Opener> Files for StdFiles<O>
+where
+    O::File: Drop,
+{
+    ghost use Rattle.std.specs.Prelude.{◌≡◌, ◌≤◌, ◌+◌, false, None, IsTrue, IfOk, length};
+    ghost use Rattle.vt_base.specs.Faults.{CountsFault};
+    ghost use Rattle.vt_host.specs.Named.{files_faults};
+    ghost use Rattle.vt_host.specs.Opening.{ReadsFront};
+    ghost use Rattle.vt_out.specs.Files.{is_fault};
+
+    ghost tells = { false };
+
+    ghost content = { λ _ _. None };
+
+    ghost faults = { files_faults };
+
+    ghost faults_fit = { λ files. files.faults.fits };
+
+    fn read(&mut self, alloc: Global, name: &Text, limit: u32) -> Result<Bytes, OutErr>
+        ensures bound { IfOk result (λ bytes. length bytes ≤ limit + 1) }
+        ensures made { IfOk result (λ bytes. IsTrue O.File.tells → (file : O.File)
+            × ReadsFront limit bytes (O.File.made file)) }
+        ensures cause { CountsFault is_fault result (files_faults self.old) (files_faults self.new) }
+    {
+        let read = read_front(alloc, &mut self.files, name, limit);
+        if matches!(read, Err(OutErr::Failed)) {
+            self.faults.count_one();
+        }
+        read
+    }
+}

@@ -1,0 +1,6 @@
+//! Partitions that are handed out by name, as a trait.
+#![tactic(auto)]
+
+mod parts;
+
+pub use parts::Parts;
