@@ -1,6 +1,12 @@
 pub mod Collisions
+pub mod Contents
 pub mod EntryBytes
 pub mod Making
+pub mod Parts
+pub mod Pieces
+pub mod Places
+pub mod Powers
+pub mod ReadBack
 pub mod RootBytes
 pub mod Searches
 pub mod Written

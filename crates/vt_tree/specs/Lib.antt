@@ -1,4 +1,5 @@
 pub mod Calls
+pub mod Content
 pub mod Entries
 pub mod Making
 pub mod MapLaws
@@ -6,3 +7,4 @@ pub mod Maps
 pub mod Memory
 pub mod MemoryLaws
 pub mod Roots
+pub mod Streams

@@ -6,12 +6,14 @@ mod entry;
 mod err;
 pub mod laws;
 mod mem_blocks;
+mod plain;
 mod root;
 
 pub use blocks::Blocks;
 pub use entry::{BadEntry, ENTRY_LEN, Entry, EntryField};
 pub use err::{BlockErr, TreeErr};
 pub use mem_blocks::{MemBlocks, Stored};
+pub use plain::{Trouble, byte_at, content};
 pub use root::{ROOT_LEN, Root, RootField};
 
 #[cfg(test)]

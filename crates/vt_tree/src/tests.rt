@@ -1,5 +1,7 @@
 //! Entries, roots and blocks in memory, with scores and bytes from outside.
 
+ghost use Rattle.std.specs.Prelude.{◌≤◌, length};
+
 use super::*;
 use std::alloc::Global;
 use std::test::Fail;
@@ -76,5 +78,80 @@ fn calls_fail_and_are_refused_on_demand(rt: HostRuntime) -> Result<(), Fail> {
     let absent = blocks.get(alloc, Kind::DATA, &Score([7; 20]));
     assert!(rt; matches!(absent, Err(BlockErr::Refused(_))));
     assert_eq!(rt; (blocks.faults(), blocks.refusals()), (2, 2));
+    Ok(())
+}
+
+/// Puts a block that has to be taken.
+fn put(
+    alloc: Global,
+    blocks: &mut MemBlocks<Sha1Scorer>,
+    kind: Kind,
+    bytes: &[u8],
+) -> Result<Score, Fail>
+    requires { length bytes.now ≤ 57344 }
+{
+    match blocks.put(alloc, kind, bytes) {
+        Ok(score) => Ok(score),
+        Err(_) => Err("not put".into()),
+    }
+}
+
+#[test]
+fn a_file_is_told_byte_by_byte(rt: HostRuntime) -> Result<(), Fail> {
+    let alloc = rt.alloc();
+    let mut blocks = MemBlocks::new(alloc, Sha1Scorer);
+    let abc = put(alloc, &mut blocks, Kind::DATA, b"abc")?;
+    let long = put(alloc, &mut blocks, Kind::DATA, b"defgh")?;
+    let mut pointers = [0; 60];
+    pointers[..20].copy_from_slice(&abc.0);
+    pointers[20..40].copy_from_slice(&ZERO.0);
+    pointers[40..].copy_from_slice(&abc.0);
+    let Some(kind) = Kind::from_wire(3) else {
+        return Err("no type".into());
+    };
+    let score = put(alloc, &mut blocks, kind, &pointers)?;
+    let entry = Entry {
+        generation: 0,
+        psize: 80,
+        dsize: 4,
+        active: true,
+        is_dir: false,
+        depth: 1,
+        size: 17,
+        score,
+    };
+    let bytes = b"abc\0\0\0\0\0abc\0\0\0\0\0\0".as_slice();
+    assert!(rt; content(alloc, &blocks, &entry)?.is_ok_and(|b| b.as_slice() == bytes));
+    let inactive = Entry {
+        active: false,
+        ..entry
+    };
+    assert!(rt; content(alloc, &blocks, &inactive)?.is_ok_and(|b| b.is_empty()));
+    for (entry, wanted) in [
+        (
+            Entry { psize: 59, ..entry },
+            Err(Trouble::BadBlock { depth: 1, len: 60 }),
+        ),
+        (Entry { depth: 0, ..entry }, Err(Trouble::Absent)),
+        (
+            Entry {
+                depth: 0,
+                score: long,
+                ..entry
+            },
+            Err(Trouble::BadBlock { depth: 0, len: 5 }),
+        ),
+        (
+            Entry {
+                depth: 0,
+                dsize: 5,
+                score: long,
+                ..entry
+            },
+            Ok(b'd'),
+        ),
+    ] {
+        assert_eq!(rt; byte_at(&blocks, &entry, 0), wanted);
+    }
     Ok(())
 }
