@@ -106,7 +106,7 @@ div_small p d small =
     let sum : p ≡ 0 * d + p = omega arith in
     ap (λ (n : ℕ). n / d) sum ∙ div-mul-add 0 d p small
 
-mod_small : (p d : ℕ) → p < d → p % d ≡ p
+pub mod_small : (p d : ℕ) → p < d → p % d ≡ p
 mod_small p d small =
     let sum : p ≡ 0 * d + p = omega arith in
     ap (λ (n : ℕ). n % d) sum ∙ mod-mul-add 0 d p small

@@ -1,7 +1,7 @@
 -- How many leaves a depth reaches.
-use Rattle.std.proofs.Common.{◌≡◌, ℕ, suc, ◌-◌, ◌*◌, ◌<◌, ◌≤◌, ◌^◌, sym, ◌∙◌, ap, arith, lit<, inl, inr}
+use Rattle.std.proofs.Common.{◌≡◌, ℕ, zero, suc, ◌-◌, ◌*◌, ◌<◌, ◌≤◌, ◌^◌, sym, ◌∙◌, ap, arith, lit<, inl, inr}
 use Rattle.std.proofs.lemmas.Bool.{cases_lt}
-use Rattle.std.proofs.Math.Nat.{pow-le-pow_left, pow-le-pow_right, pow-suc}
+use Rattle.std.proofs.Math.Nat.{pow-le-pow_left, pow-le-pow_right, pow-suc, pow-zero}
 
 pub power_fits : (s d : ℕ) → s ≤ 3276 → d < 8 → s ^ d < 2 ^ 84
 power_fits s d small shallow =
@@ -23,3 +23,16 @@ positive s d leaf some below = elim (cases_lt 0 (s ^ (d - 1))) [
       let all : s ^ d ≡ 0 * s = sym (one_deeper s d some) ∙ ap (λ (k : ℕ). k * s) none in
       absurd (omega arith)
 ]
+
+pub product_some : (a b : ℕ) → 0 < a → 0 < b → 0 < a * b
+product_some zero b a_some b_some = absurd (omega arith)
+product_some (suc a) zero a_some b_some = absurd (omega arith)
+product_some (suc a) (suc b) a_some b_some = omega arith
+
+pub power_some : (s d : ℕ) → 0 < s → 0 < s ^ d
+power_some s zero some =
+    let one = pow-zero s in omega arith
+power_some s (suc d) some =
+    let more = pow-suc s d in
+    let product = product_some (s ^ d) s (power_some s d some) some in
+    omega arith

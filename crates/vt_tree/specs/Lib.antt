@@ -6,5 +6,6 @@ pub mod MapLaws
 pub mod Maps
 pub mod Memory
 pub mod MemoryLaws
+pub mod Reading
 pub mod Roots
 pub mod Streams

@@ -7,6 +7,7 @@ mod err;
 pub mod laws;
 mod mem_blocks;
 mod plain;
+mod reading;
 mod root;
 
 pub use blocks::Blocks;
@@ -14,6 +15,7 @@ pub use entry::{BadEntry, ENTRY_LEN, Entry, EntryField};
 pub use err::{BlockErr, TreeErr};
 pub use mem_blocks::{MemBlocks, Stored};
 pub use plain::{Trouble, byte_at, content};
+pub use reading::read_range;
 pub use root::{ROOT_LEN, Root, RootField};
 
 #[cfg(test)]

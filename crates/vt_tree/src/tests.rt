@@ -5,7 +5,7 @@ ghost use Rattle.std.specs.Prelude.{◌≤◌, length};
 use super::*;
 use std::alloc::Global;
 use std::test::Fail;
-use vt_base::{Kind, Score, Scorer, Sha1Scorer};
+use vt_base::{Bytes, Kind, Score, Scorer, Sha1Scorer};
 
 const ZERO: Score = Score(
     *b"\xda\x39\xa3\xee\x5e\x6b\x4b\x0d\x32\x55\xbf\xef\x95\x60\x18\x90\xaf\xd8\x07\x09",
@@ -96,21 +96,18 @@ fn put(
     }
 }
 
-#[test]
-fn a_file_is_told_byte_by_byte(rt: HostRuntime) -> Result<(), Fail> {
-    let alloc = rt.alloc();
-    let mut blocks = MemBlocks::new(alloc, Sha1Scorer);
-    let abc = put(alloc, &mut blocks, Kind::DATA, b"abc")?;
-    let long = put(alloc, &mut blocks, Kind::DATA, b"defgh")?;
-    let mut pointers = [0; 60];
-    pointers[..20].copy_from_slice(&abc.0);
-    pointers[20..40].copy_from_slice(&ZERO.0);
-    pointers[40..].copy_from_slice(&abc.0);
+/// A file below one pointer block, whose leaves are three bytes, none, and three bytes.
+fn small_tree(alloc: Global, blocks: &mut MemBlocks<Sha1Scorer>) -> Result<Entry, Fail> {
+    put(alloc, blocks, Kind::DATA, b"abc")?;
+    let pointers =
+        b"\xa9\x99\x3e\x36\x47\x06\x81\x6a\xba\x3e\x25\x71\x78\x50\xc2\x6c\x9c\xd0\xd8\x9d\
+        \xda\x39\xa3\xee\x5e\x6b\x4b\x0d\x32\x55\xbf\xef\x95\x60\x18\x90\xaf\xd8\x07\x09\
+        \xa9\x99\x3e\x36\x47\x06\x81\x6a\xba\x3e\x25\x71\x78\x50\xc2\x6c\x9c\xd0\xd8\x9d";
     let Some(kind) = Kind::from_wire(3) else {
         return Err("no type".into());
     };
-    let score = put(alloc, &mut blocks, kind, &pointers)?;
-    let entry = Entry {
+    let score = put(alloc, blocks, kind, pointers)?;
+    Ok(Entry {
         generation: 0,
         psize: 80,
         dsize: 4,
@@ -119,7 +116,18 @@ fn a_file_is_told_byte_by_byte(rt: HostRuntime) -> Result<(), Fail> {
         depth: 1,
         size: 17,
         score,
-    };
+    })
+}
+
+#[test]
+fn a_file_is_told_byte_by_byte(rt: HostRuntime) -> Result<(), Fail> {
+    let alloc = rt.alloc();
+    let mut blocks = MemBlocks::new(alloc, Sha1Scorer);
+    let long = put(alloc, &mut blocks, Kind::DATA, b"defgh")?;
+    let entry = small_tree(alloc, &mut blocks)?;
+    if entry.depth >= 8 || entry.size >= 1 << 48 || entry.dsize == 0 {
+        return Err("no entry".into());
+    }
     let bytes = b"abc\0\0\0\0\0abc\0\0\0\0\0\0".as_slice();
     assert!(rt; content(alloc, &blocks, &entry)?.is_ok_and(|b| b.as_slice() == bytes));
     let inactive = Entry {
@@ -153,5 +161,96 @@ fn a_file_is_told_byte_by_byte(rt: HostRuntime) -> Result<(), Fail> {
     ] {
         assert_eq!(rt; byte_at(&blocks, &entry, 0), wanted);
     }
+    Ok(())
+}
+
+/// What reading gives, of an entry whose fields have room for what they say.
+fn try_read(
+    alloc: Global,
+    blocks: &mut MemBlocks<Sha1Scorer>,
+    entry: &Entry,
+    at: u64,
+    n: u32,
+) -> Result<Result<Bytes, TreeErr>, Fail> {
+    if entry.depth >= 8 || entry.size >= 1 << 48 {
+        return Err("no entry".into());
+    }
+    Ok(read_range(alloc, blocks, entry, at, n))
+}
+
+#[test]
+fn parts_are_read_by_the_blocks_on_their_way(rt: HostRuntime) -> Result<(), Fail> {
+    let alloc = rt.alloc();
+    let mut blocks = MemBlocks::new(alloc, Sha1Scorer);
+    let entry = small_tree(alloc, &mut blocks)?;
+    let bytes = b"abc\0\0\0\0\0abc\0\0\0\0\0\0".as_slice();
+    for (at, n, gets) in [
+        (0, 17, 3),
+        (0, 100, 3),
+        (0, 0, 0),
+        (2, 1, 2),
+        (3, 6, 3),
+        (4, 4, 1),
+        (9, 3, 2),
+        (12, 5, 1),
+        (16, 9, 1),
+        (17, 1, 0),
+        (1 << 40, 1, 0),
+    ] {
+        let before = blocks.gets().len();
+        let Ok(part) = try_read(alloc, &mut blocks, &entry, at, n)? else {
+            return Err("not read".into());
+        };
+        let from = at.min(17) as usize;
+        let to = (from + n as usize).min(17);
+        assert!(rt;
+            bytes.get(from..to) == Some(part.as_slice()),
+            "{n} from {at}"
+        );
+        let now = blocks.gets().len();
+        assert_eq!(rt; now.saturating_sub(before), gets, "{n} from {at}");
+    }
+    Ok(())
+}
+
+#[test]
+fn a_bad_tree_is_refused(rt: HostRuntime) -> Result<(), Fail> {
+    let alloc = rt.alloc();
+    let mut blocks = MemBlocks::new(alloc, Sha1Scorer);
+    let entry = small_tree(alloc, &mut blocks)?;
+    for (entry, wanted) in [
+        (Entry { dsize: 2, ..entry }, (0, 3)),
+        (Entry { psize: 59, ..entry }, (1, 60)),
+        (
+            Entry {
+                size: (1 << 40) + 1,
+                ..entry
+            },
+            (8, 0),
+        ),
+        (Entry { dsize: 0, ..entry }, (9, 0)),
+        (
+            Entry {
+                score: Score([7; 20]),
+                ..entry
+            },
+            (10, 0),
+        ),
+    ] {
+        let found = match try_read(alloc, &mut blocks, &entry, 0, 10)? {
+            Err(TreeErr::BadBlock { depth, len }) => (depth, len),
+            Err(TreeErr::TooLong) => (8, 0),
+            Err(TreeErr::BadEntry(_)) => (9, 0),
+            Err(TreeErr::Block(BlockErr::Refused(_))) => (10, 0),
+            _ => return Err("not refused".into()),
+        };
+        assert_eq!(rt; found, wanted);
+    }
+    let inactive = Entry {
+        active: false,
+        dsize: 0,
+        ..entry
+    };
+    assert!(rt; try_read(alloc, &mut blocks, &inactive, 0, 10)?.is_ok_and(|b| b.is_empty()));
     Ok(())
 }
