@@ -1,6 +1,5 @@
 -- Bytes appended part by part, and the calls that were made for them.
 use Rattle.std.proofs.Common.{◌≡◌, ℕ, ◌+◌, ◌-◌, ◌<◌, ◌≤◌, Option, Result, Ok, Err, Some, None, false, List, [], ◌∷◌, ◌++◌, length, map, refl, sym, ◌∙◌, ap, subst, arith, append_assoc, length-append}
-use Rattle.std.specs.Prelude.{slice_index}
 use Rattle.std.specs.List.{AllByRecursion}
 use Rattle.std.proofs.lemmas.List.{map-append}
 use Rattle.std.proofs.lemmas.List.Elements.{filter_map-append}
@@ -12,9 +11,9 @@ use Rattle.vt_tree.specs.declared.err.TreeErr.TheVariants as errs
 use Rattle.vt_tree.specs.declared.entry.Entry.{Entry}
 use Rattle.vt_tree.specs.declared.plain.Trouble.{Trouble}
 use Rattle.vt_tree.specs.declared.plain.Trouble.TheVariants.{Absent, BadBlock}
-use Rattle.vt_tree.specs.Calls.{Call, get, asked_of, refusal_of, refusals_of, IsGet, IsRefusal, Tells}
+use Rattle.vt_tree.specs.Calls.{Call, get, asked_of, refusal_of, refusals_of, IsGet, Tells}
 use Rattle.vt_tree.specs.Content.{AreGiven, FirstTrouble, fits_at}
-use Rattle.vt_tree.specs.Making.{Makes, EndsBy, IsRefusedLast}
+use Rattle.vt_tree.specs.Making.{EndsBy}
 use Rattle.vt_tree.specs.Maps.{BlockMap, IsWriteOnce}
 use Rattle.vt_tree.specs.Reading.{Appends, AppendsBytes, AsksFor, Gives, ReadsBlock, refused_by, with_bytes}
 use Rattle.vt_tree.proofs.Givens.{gives_more, gives_no_more, gives_there}
@@ -157,7 +156,8 @@ module _ {S : Type 0} (does : S → Call → S → Type 0) (score_of : List ℕ 
     );
     asked = λ blocks once tells.
         map-append asked_of one.calls two.calls
-        ∙ (λ i. one.asked blocks once (all_first (Tells score_of blocks) one.calls two.calls tells) i
+        ∙ (λ i. one.asked blocks once (all_first (Tells score_of blocks) one.calls two.calls tells)
+        i
         ++ two.asked blocks once (all_then (Tells score_of blocks) one.calls two.calls tells) i);
     gives = λ blocks once tells.
         gives_more (byte blocks) from n m one.bytes (Ok two.bytes) one.appended.1

@@ -1,23 +1,22 @@
 -- What is read below a score, below those of a pointer block, and of a whole file.
-use Rattle.std.proofs.Common.{◌≡◌, ◌⊎◌, ℕ, zero, suc, ◌+◌, ◌-◌, ◌*◌, ◌/◌, ◌%◌, ◌<◌, ◌≤◌, ◌^◌, inl, inr, min, Bool, true, false, cond, Option, Result, Ok, Err, Some, None, List, [], ◌∷◌, ◌++◌, length, take, drop, replicate, get_or, map, refl, sym, ◌∙◌, ap, subst, arith, append_assoc, append-nil, length-append, length-drop}
+use Rattle.std.proofs.Common.{◌≡◌, ℕ, zero, suc, ◌+◌, ◌-◌, ◌*◌, ◌/◌, ◌%◌, ◌<◌, ◌≤◌, ◌^◌, inl, inr, min, Bool, true, false, cond, Option, Result, Ok, Err, Some, None, List, [], ◌∷◌, ◌++◌, length, take, drop, replicate, refl, sym, ◌∙◌, ap, subst, arith, append-nil, length-append, length-drop}
 use Rattle.std.specs.Prelude.{slice_index, nat_le, ◌==◌, ◌||◌}
 use Rattle.std.specs.Str.{bytes_eq}
-use Rattle.std.proofs.lemmas.Bool.{cases_lt, cases_Bool, lt-ltb, le-ltb, le-leb, lt-leb, leb-true, eq-eqb, eqb-true}
+use Rattle.std.proofs.lemmas.Bool.{cases_lt, cases_Bool, lt-ltb, le-leb, lt-leb, leb-true, eq-eqb, eqb-true}
 use Rattle.std.proofs.lemmas.List.{get_or-take, get_or-drop, get_or-replicate, get_or_past, get_or_append_left, get_or-append_right, length-replicate, length-take}
 use Rattle.std.proofs.lemmas.Nat.{div-mul-add, mod-mul-add, div_below, le-div}
 use Rattle.std.proofs.lemmas.Slice.Eq.{bytes_eq-Decides}
 use Rattle.vt_base.specs.Protocol.{Operation, read}
 use Rattle.vt_base.specs.declared.TheConstants.{MAX_BLOCK}
 use Rattle.vt_tree.specs.declared.err.TreeErr.{TreeErr}
-use Rattle.vt_tree.specs.declared.err.TreeErr.TheVariants as errs
 use Rattle.vt_tree.specs.declared.entry.Entry.{Entry}
 use Rattle.vt_tree.specs.declared.plain.Trouble.{Trouble}
-use Rattle.vt_tree.specs.declared.plain.Trouble.TheVariants.{Absent, BadBlock}
-use Rattle.vt_tree.specs.Calls.{Call, get}
+use Rattle.vt_tree.specs.declared.plain.Trouble.TheVariants.{BadBlock}
+use Rattle.vt_tree.specs.Calls.{Call}
 use Rattle.vt_tree.specs.Content.{AreGiven, byte_of, byte_of_leaf, byte_below, fits_at, led, leaf_kind, pointer_kind, score_in, score_of_pointers, scores_in, through, way_below, way_through, way_to}
-use Rattle.vt_tree.specs.Maps.{BlockMap, IsWriteOnce}
+use Rattle.vt_tree.specs.Maps.{BlockMap}
 use Rattle.vt_tree.specs.Reading.{Appends, AppendsBytes, ReadsBelow, ReadsEach, ReadsAt, ReadsFile, ReadsBlock, byte_under, cut_out}
-use Rattle.vt_tree.proofs.Appending.{nothing_read, known, same_way, same_bytes, joined, given_up, cut_short, behind_block, no_block_came}
+use Rattle.vt_tree.proofs.Appending.{known, same_way, same_bytes, joined, given_up, cut_short, behind_block, no_block_came}
 use Rattle.vt_tree.proofs.Contents.{leaf_byte, pointers_lead, nothing_below, past_the_reach, mod_small}
 use Rattle.vt_tree.proofs.Places.{child_of, leaf_inside, byte_inside}
 use Rattle.vt_tree.proofs.Powers.{product_some}
@@ -63,7 +62,8 @@ zeros_at len i = elim (cases_lt i len) [
 zeros_given : (byte : ℕ → Result ℕ Trouble) (at len : ℕ)
     → ((i : ℕ) → i < len → byte (at + i) ≡ Ok 0) → AreGiven byte at (replicate len 0)
 zeros_given byte at len zeros i within =
-    zeros i (omega (arith, length-replicate {A = ℕ} len 0)) ∙ ap (λ (b : ℕ). Ok b) (sym (zeros_at len i))
+    zeros i (omega (arith, length-replicate {A = ℕ} len 0))
+    ∙ ap (λ (b : ℕ). Ok b) (sym (zeros_at len i))
 
 module _ {S : Type 0} (does : S → Call → S → Type 0) (score_of : List ℕ → List ℕ) (e : Entry)
   where
@@ -88,7 +88,8 @@ module _ {S : Type 0} (does : S → Call → S → Type 0) (score_of : List ℕ 
         from len old new (replicate len 0) result appended (length-replicate len 0)
         (λ blocks once.
         zeros_given (λ p. byte_below blocks e depth score (p / e.dsize) (p % e.dsize)) from len
-        (λ i within. nothing_below blocks e depth score ((from + i) / e.dsize) ((from + i) % e.dsize)
+        (λ i within. nothing_below blocks e depth score ((from + i) / e.dsize) ((from + i) %
+        e.dsize)
         (λ kind. ap (λ (t : List ℕ). blocks t kind) ((bytes_eq-Decides score (score_of [])).0 none)
         ∙ once.zero_score kind)))
         (λ blocks. no_way blocks depth score (from / e.dsize) ((from + len - 1) / e.dsize + 1) none)
@@ -123,7 +124,8 @@ module _ {S : Type 0} (does : S → Call → S → Type 0) (score_of : List ℕ 
         (mod_small (from + i) e.dsize (omega arith)))
         (λ blocks has. leaf_way blocks kind score (from / e.dsize) ((from + len - 1) / e.dsize + 1)
         some is) got.0
-        (known does score_of s' (λ blocks p. Ok (slice_index block p)) (λ blocks. []) from len old new
+        (known does score_of s' (λ blocks p. Ok (slice_index block p)) (λ blocks. []) from len old
+        new
         (cut_out block from len) result appended (length-cut_out block from len)
         (λ blocks once i inside. ap (λ (b : ℕ). Ok b)
         (cut_out_at block from len i (omega (arith, length-cut_out block from len))))
@@ -194,7 +196,8 @@ module _ {S : Type 0} (does : S → Call → S → Type 0) (score_of : List ℕ 
         ((from + i) % e.dsize)))
         (leads blocks has ((from + i) / e.dsize / scores_in e.psize ^ d)))
         (λ blocks has.
-        pointer_way blocks d kind score (from / e.dsize) ((from + len - 1) / e.dsize + 1) some kind_is
+        pointer_way blocks d kind score (from / e.dsize) ((from + len - 1) / e.dsize + 1) some
+        kind_is
         ∙ (λ i. read score kind MAX_BLOCK ∷ way_through (scores_in e.psize ^ d)
         (λ place. leads_kind blocks has place i)
         (way_below (score_of []) blocks e d) (from / e.dsize) ((from + len - 1) / e.dsize + 1)))
@@ -237,7 +240,8 @@ module _ {S : Type 0} (does : S → Call → S → Type 0) (score_of : List ℕ 
         (λ blocks block has bad.
         by (blocks score (pointer_kind (suc d))) (Some block) blocks
         (ap (λ (k : ℕ). blocks score k) (sym kind_is) ∙ has)
-        ∙ ap (λ (t : Bool). through (cond t (Ok (score_in block (from / e.dsize / scores_in e.psize ^ d)))
+        ∙ ap (λ (t : Bool). through (cond t (Ok (score_in block (from / e.dsize / scores_in e.psize
+        ^ d)))
         (Err (BadBlock (suc d) (length block)))) (λ t. byte_below blocks e d t
         (from / e.dsize % scores_in e.psize ^ d) (from % e.dsize))) bad)
         (λ blocks. (
@@ -257,7 +261,8 @@ module _ {S : Type 0} (does : S → Call → S → Type 0) (score_of : List ℕ 
             (λ t. byte_below blocks e d t (from / e.dsize % scores_in e.psize ^ d) (from % e.dsize))
         by found other blocks is = ap (λ (o : Option (List ℕ)).
             through (score_of_pointers e (suc d) (from / e.dsize / scores_in e.psize ^ d) o)
-            (λ t. byte_below blocks e d t (from / e.dsize % scores_in e.psize ^ d) (from % e.dsize)))
+            (λ t. byte_below blocks e d t (from / e.dsize % scores_in e.psize ^ d) (from %
+            e.dsize)))
             is
 
     -- ---- below one score of a pointer block
@@ -268,7 +273,8 @@ module _ {S : Type 0} (does : S → Call → S → Type 0) (score_of : List ℕ 
       where
         -- where a byte of it stands
         there : (i : ℕ) → i < len
-            → ((from + i) / e.dsize / scores_in e.psize ^ d ≡ from / (scores_in e.psize ^ d * e.dsize))
+            → ((from + i) / e.dsize / scores_in e.psize ^ d
+            ≡ from / (scores_in e.psize ^ d * e.dsize))
             × ((from + i) / e.dsize % scores_in e.psize ^ d
             ≡ (from % (scores_in e.psize ^ d * e.dsize) + i) / e.dsize)
             × ((from + i) % e.dsize ≡ (from % (scores_in e.psize ^ d * e.dsize) + i) % e.dsize)
@@ -316,7 +322,8 @@ module _ {S : Type 0} (does : S → Call → S → Type 0) (score_of : List ℕ 
         pub reads_there : (s s' : S) (below : List ℕ) (old new : List ℕ)
             (result : Result (Unit {0}) TreeErr)
             → Some below ≡ score_in pointers (from / (scores_in e.psize ^ d * e.dsize))
-            → ReadsBelow does score_of s s' e d below (from % (scores_in e.psize ^ d * e.dsize)) len old
+            → ReadsBelow does score_of s s' e d below (from % (scores_in e.psize ^ d * e.dsize))
+            len old
             new result
             → ReadsAt does score_of s s' e d pointers from len old new result
         reads_there s s' below old new result is part =
@@ -326,7 +333,8 @@ module _ {S : Type 0} (does : S → Call → S → Type 0) (score_of : List ℕ 
             (λ blocks. ap (λ (o : Option (List ℕ)). way_there o blocks) is)
             (same_bytes does score_of s s' (λ blocks p. byte_under blocks e d pointers p)
             (λ blocks p. byte_below blocks e d below (p / e.dsize) (p % e.dsize))
-            (way_there (Some below)) from (from % (scores_in e.psize ^ d * e.dsize)) len old new result
+            (way_there (Some below)) from (from % (scores_in e.psize ^ d * e.dsize)) len old new
+            result
             (λ blocks i within. under_at blocks (Some below) is i within) part)
 
         pub none_there : (s : S) (old new : List ℕ) (result : Result (Unit {0}) TreeErr)
@@ -335,7 +343,8 @@ module _ {S : Type 0} (does : S → Call → S → Type 0) (score_of : List ℕ 
             → ReadsAt does score_of s s e d pointers from len old new result
         none_there s old new result is appended =
             known does score_of s (λ blocks p. byte_under blocks e d pointers p)
-            (way_there (score_in pointers (from / (scores_in e.psize ^ d * e.dsize)))) from len old new
+            (way_there (score_in pointers (from / (scores_in e.psize ^ d * e.dsize)))) from len old
+            new
             (replicate len 0) result appended (length-replicate len 0)
             (λ blocks once. zeros_given (λ p. byte_under blocks e d pointers p) from len
             (λ i within. under_at blocks None is i within))
@@ -356,7 +365,8 @@ module _ {S : Type 0} (does : S → Call → S → Type 0) (score_of : List ℕ 
         (λ i within.
         let far = past (omega arith) in
         past_the_reach blocks e (from + i) far.0 (omega (arith, far.1))))
-        (λ blocks. none blocks (len == 0) (nat_le (scores_in e.psize ^ e.depth) (from / e.dsize)) why)
+        (λ blocks. none blocks (len == 0) (nat_le (scores_in e.psize ^ e.depth) (from / e.dsize))
+        why)
       where
         why : (len == 0 || nat_le (scores_in e.psize ^ e.depth) (from / e.dsize)) ≡ true
         why = elim (cases_lt 0 len) [
@@ -482,7 +492,8 @@ module _ {S : Type 0} (does : S → Call → S → Type 0) (score_of : List ℕ 
           rest : Appends does score_of s' s' (λ blocks p. byte_of blocks e p) (λ blocks. [])
               (from + reached) (len - reached) half new result
           rest = known does score_of s' (λ blocks p. byte_of blocks e p) (λ blocks. [])
-              (from + reached) (len - reached) half new (replicate (len - reached) 0) result appended
+              (from + reached) (len - reached) half new (replicate (len - reached) 0) result
+              appended
               (length-replicate (len - reached) 0)
               (λ blocks once. zeros_given (λ p. byte_of blocks e p) (from + reached) (len - reached)
               (λ i within. past_the_reach blocks e (from + reached + i) d_some (omega arith)))
@@ -503,7 +514,8 @@ module _ {S : Type 0} (does : S → Call → S → Type 0) (score_of : List ℕ 
               (λ blocks. way_to (score_of []) blocks e from len) from k old new (Ok tt)) sum
               (same_way does score_of s s' (λ blocks p. byte_of blocks e p)
               (λ blocks. way_to (score_of []) blocks e from len ++ [])
-              (λ blocks. way_to (score_of []) blocks e from len) from (reached + (len - reached)) old
+              (λ blocks. way_to (score_of []) blocks e from len) from (reached + (len - reached))
+              old
               new (Ok tt) (λ blocks. append-nil (way_to (score_of []) blocks e from len))
               (joined does score_of s s' s' (λ blocks p. byte_of blocks e p)
               (λ blocks. way_to (score_of []) blocks e from len) (λ blocks. []) from reached
@@ -511,7 +523,8 @@ module _ {S : Type 0} (does : S → Call → S → Type 0) (score_of : List ℕ 
           of (Err err) more =
               given_up does score_of s s' s' (λ blocks p. byte_of blocks e p)
               (λ blocks. way_to (score_of []) blocks e from len) (λ blocks. [])
-              (λ blocks. way_to (score_of []) blocks e from len) from reached (len - reached) len old
+              (λ blocks. way_to (score_of []) blocks e from len) from reached (len - reached) len
+              old
               half new err few
               (λ blocks. (
                 [],

@@ -1,14 +1,13 @@
 -- What is read of a file, as its caller is told.
-use Rattle.std.proofs.Common.{◌≡◌, ℕ, ◌<◌, ◌≤◌, Result, Ok, Err, List, [], ◌++◌, length, refl, sym, ◌∙◌, ap, subst}
-use Rattle.vt_base.specs.Protocol.{Operation}
+use Rattle.std.proofs.Common.{◌≡◌, ℕ, Result, Ok, Err, List, [], ◌++◌, refl, sym, ◌∙◌, ap, subst}
 use Rattle.vt_tree.specs.declared.entry.Entry.{Entry}
 use Rattle.vt_tree.specs.declared.err.TreeErr.{TreeErr}
 use Rattle.vt_tree.specs.declared.plain.Trouble.{Trouble}
 use Rattle.vt_tree.specs.Calls.{Call, Tells, after}
 use Rattle.vt_tree.specs.Content.{byte_of, way_to}
 use Rattle.vt_tree.specs.Making.{EndsBy}
-use Rattle.vt_tree.specs.Maps.{BlockMap, Maps, IsWriteOnce}
-use Rattle.vt_tree.specs.Reading.{Gives, ReadsFile, ReadsRange, refused_by, with_bytes}
+use Rattle.vt_tree.specs.Maps.{Maps, IsWriteOnce}
+use Rattle.vt_tree.specs.Reading.{Gives, ReadsFile, ReadsRange, refused_by}
 use Rattle.vt_tree.proofs.Making.{gets_leave, gets_tell, told}
 
 module _ {S : Type 0} (does : S → Call → S → Type 0) (score_of : List ℕ → List ℕ) where

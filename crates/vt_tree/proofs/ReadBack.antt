@@ -55,7 +55,8 @@ leaf_len shape bytes = either shape.is_dir
     either true = omega arith
     either false = omega (arith, length-without_end (λ (x : ℕ). x == 0) bytes)
 
-first_short : (most : ℕ) (leaves : List (List ℕ)) → All (λ (leaf : List ℕ). length leaf ≤ most) leaves
+first_short : (most : ℕ) (leaves : List (List ℕ))
+    → All (λ (leaf : List ℕ). length leaf ≤ most) leaves
     → length (get_or leaves 0 []) ≤ most
 first_short most [] short = omega arith
 first_short most (leaf ∷ leaves) short = short 0 [] (omega arith)
@@ -93,7 +94,8 @@ module _ (score_of : List ℕ → List ℕ) (held : BlockMap) (e : Entry)
       (map (λ (t : Tree). t.score) (map (tree d) (pieces (scores_in e.psize ^ d) leaves)))).bytes
 
   pub reads_back : (d : ℕ) (leaves : List (List ℕ)) → length leaves ≤ scores_in e.psize ^ d
-      → All (λ (leaf : List ℕ). length leaf ≤ e.dsize) leaves → All (Has score_of held) (tree d leaves).blocks
+      → All (λ (leaf : List ℕ). length leaf ≤ e.dsize) leaves
+      → All (Has score_of held) (tree d leaves).blocks
       → (leaf byte : ℕ) → leaf < scores_in e.psize ^ d → byte < e.dsize
       → byte_below held e d (tree d leaves).score leaf byte
       ≡ Ok (get_or (get_or leaves leaf []) byte 0)
@@ -128,7 +130,8 @@ module _ (score_of : List ℕ → List ℕ) (held : BlockMap) (e : Entry)
       (All-map (λ (t : Tree). length t.score ≡ 20) (tree d) cut
       (λ k e' _. tree_score_len d (get_or cut k e'))) in
       let kept_20 : All (λ (s : List ℕ). length s ≡ 20) kept =
-      All-take (λ (s : List ℕ). length s ≡ 20) (length scores - suffix_len (bytes_eq (score_of [])) scores)
+      All-take (λ (s : List ℕ). length s
+      ≡ 20) (length scores - suffix_len (bytes_eq (score_of [])) scores)
       scores all_20 in
       let long : length top.bytes ≡ 20 * length kept = length-scores kept kept_20 in
       let no_more : length kept ≤ length scores =
@@ -152,7 +155,8 @@ module _ (score_of : List ℕ → List ℕ) (held : BlockMap) (e : Entry)
       let small : length (get_or cut place []) ≤ q =
       omega (arith, ap length piece, length-take q (drop (q * place) leaves)) in
       let all_short : All (λ (l : List ℕ). length l ≤ e.dsize) (get_or cut place []) =
-      All-same (λ (l : List ℕ). length l ≤ e.dsize) (get_or cut place []) (take q (drop (q * place) leaves))
+      All-same (λ (l : List ℕ). length l ≤ e.dsize) (get_or cut place []) (take q (drop (q * place)
+      leaves))
       piece (All-take (λ (l : List ℕ). length l ≤ e.dsize) q (drop (q * place) leaves)
       (All-drop (λ (l : List ℕ). length l ≤ e.dsize) (q * place) leaves short)) in
       let in_trees : place < length trees =
@@ -262,7 +266,8 @@ depth_is_least shape size d below =
 
 -- ---- the whole stream
 
-pieces_short : {A : Type 0} (n : ℕ) (xs : List A) → All (λ (piece : List A). length piece ≤ n) (pieces n xs)
+pieces_short : {A : Type 0} (n : ℕ) (xs : List A)
+    → All (λ (piece : List A). length piece ≤ n) (pieces n xs)
 pieces_short {A} n xs =
     All-map (λ (piece : List A). length piece ≤ n) (λ (i : ℕ). take n (drop (n * i) xs))
     (range_with_len 0 (count_of n xs))

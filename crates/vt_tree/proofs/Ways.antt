@@ -44,7 +44,8 @@ module _ (leaves : ℕ) (score_at : ℕ → Result (Option (List ℕ)) Trouble)
   abbrev pub so_far : (count : ℕ) → List Operation
   so_far count = flat_map at_place (range_with_len (first / leaves) count)
 
-  pub one_more : (count : ℕ) → so_far (count + 1) ≡ so_far count ++ at_place (first / leaves + count)
+  pub one_more : (count : ℕ) → so_far (count + 1)
+      ≡ so_far count ++ at_place (first / leaves + count)
   one_more count =
       ap (flat_map at_place) (range_split (first / leaves) count 1)
       ∙ flat_map-append at_place (range_with_len (first / leaves) count)

@@ -1,5 +1,5 @@
 -- What reading a part of a file gives.
-use Rattle.std.specs.Prelude.{ℕ, ◌≡◌, ◌+◌, ◌-◌, ◌*◌, ◌/◌, ◌%◌, ◌^◌, ⊤, true, false, OnOk, nat_lt, if◌then◌else◌, Option, Some, None, Result, Ok, Err, List, [], ◌∷◌, ◌++◌, length, map, take, drop, replicate, IfErr, MatchResult}
+use Rattle.std.specs.Prelude.{ℕ, ◌≡◌, ◌+◌, ◌-◌, ◌*◌, ◌/◌, ◌%◌, ◌^◌, ⊤, true, false, OnOk, nat_lt, if◌then◌else◌, Option, Some, None, Result, Ok, Err, List, [], ◌++◌, length, map, take, drop, replicate, IfErr, MatchResult}
 use Rattle.std.specs.List.{AllByRecursion}
 use Rattle.vt_base.specs.Protocol.{Operation}
 use Rattle.vt_tree.specs.declared.entry.Entry.{Entry}

@@ -1,6 +1,5 @@
-use Rattle.std.proofs.Common.{◌≡◌, ℕ, ◌-◌, min, Ok, Err, refl, sym, ◌∙◌, ap, subst, arith}
+use Rattle.std.proofs.Common.{◌≡◌, ◌-◌, min, Ok, refl, arith}
 use Rattle.std.proofs.lemmas.Result.{err_from_is_err_and}
-use Rattle.vt_tree.specs.declared.err.TreeErr.{TreeErr}
 use Rattle.vt_tree.specs.declared.err.TreeErr.TheVariants as errs
 use Rattle.vt_tree.specs.Content.{size_of}
 use Rattle.vt_tree.proofs.Ranges.{unread, range_read, range_given_up, content_told}

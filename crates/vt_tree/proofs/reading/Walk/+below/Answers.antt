@@ -1,11 +1,11 @@
-use Rattle.std.proofs.Common.{◌≡◌, ℕ, suc, ◌+◌, ◌-◌, ◌*◌, ◌%◌, ◌/◌, ◌<◌, ◌≤◌, ◌^◌, min, Ok, Err, Some, None, List, [], ◌++◌, length, true, false, sym, ◌∙◌, ap, subst, arith, rules, length-append}
+use Rattle.std.proofs.Common.{◌≡◌, ℕ, suc, ◌+◌, ◌-◌, ◌*◌, ◌%◌, ◌/◌, ◌<◌, ◌≤◌, ◌^◌, min, List, [], length, true, false, sym, ◌∙◌, ap, subst, arith, rules, length-append}
 use Rattle.std.specs.Str.{bytes_eq}
 use Rattle.std.proofs.Math.Nat.{pow-zero, mod-lt}
 use Rattle.std.proofs.lemmas.Result.{err_from_is_err_and}
 use Rattle.vt_tree.specs.Content.{scores_in, score_in}
 use Rattle.vt_tree.specs.Reading.{AppendsBytes, ReadsBelow, ReadsEach, cut_out}
 use Rattle.vt_tree.proofs.Below.{reads_zeros, reads_leaf, no_leaf, reads_pointers, no_pointers, reads_there, none_there}
-use Rattle.vt_tree.proofs.Passing.{SoFar, begin, step, stop, finish}
+use Rattle.vt_tree.proofs.Passing.{begin, step, stop, finish}
 use Rattle.vt_tree.proofs.Powers.{power_some, product_some}
 use Rattle.vt_tree.proofs.reading.Walk.+below.Goals as goal
 

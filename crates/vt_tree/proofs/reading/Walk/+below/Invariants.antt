@@ -1,4 +1,4 @@
-use Rattle.std.proofs.Common.{ℕ, ◌+◌, ◌-◌, ◌*◌}
+use Rattle.std.proofs.Common.{◌+◌, ◌-◌, ◌*◌}
 use Rattle.vt_tree.proofs.Passing.{SoFar}
 use Rattle.vt_tree.proofs.reading.Walk.+below.Given as goal
 
