@@ -193,7 +193,7 @@ fn parts_are_read_by_the_blocks_on_their_way(rt: HostRuntime) -> Result<(), Fail
         (4, 4, 1),
         (9, 3, 2),
         (12, 5, 1),
-        (16, 9, 1),
+        (16, 9, 0),
         (17, 1, 0),
         (1 << 40, 1, 0),
     ] {
