@@ -476,24 +476,34 @@ fn buckets_are_filled_and_cleared(rt: HostRuntime) -> Result<(), Fail> {
     Ok(())
 }
 
-/// What a look-up and a writeback say of bucket 0 with this byte at a place.
+/// The section of a disk with this byte at a place of bucket 0.
+fn damaged<D: Disk + Drop>(alloc: Global, disk: D, at: u64, byte: u8) -> Result<Section<D>, Fail> {
+    let mut disk = live(alloc, disk)?.into_devices();
+    if disk.len() != LEN || at > 8191 {
+        return Err("a place".into());
+    }
+    disk.write_at(24_576 + at, &[byte])?;
+    mounted(alloc, disk)
+}
+
+/// What a look-up and a writeback say of a damaged bucket 0.
+fn told<D: Disk>(alloc: Global, section: &mut Section<D>) -> Result<Option<ShardErr>, Fail> {
+    let bad = bucket(section, 0)?.err();
+    begin(alloc, section)?;
+    let again = step_after(section, 1)?.err();
+    see(bad == again, "two answers")?;
+    Ok(bad)
+}
+
+/// What is said of bucket 0 with this byte at a place.
 fn damage<D: Disk + Drop>(
     alloc: Global,
     disk: D,
     at: u64,
     byte: u8,
 ) -> Result<Option<ShardErr>, Fail> {
-    let mut disk = live(alloc, disk)?.into_devices();
-    if disk.len() != LEN || at > 8191 {
-        return Err("a place".into());
-    }
-    disk.write_at(24_576 + at, &[byte])?;
-    let mut section = mounted(alloc, disk)?;
-    let bad = bucket(&mut section, 0)?.err();
-    begin(alloc, &mut section)?;
-    let again = step_after(&mut section, 1)?.err();
-    see(bad == again, "two answers")?;
-    Ok(bad)
+    let mut section = damaged(alloc, disk, at, byte)?;
+    told(alloc, &mut section)
 }
 
 #[test]
