@@ -1,26 +1,28 @@
 -- Buckets that are written whole: what a read gives of them, and what stands behind the next sync.
-use Rattle.std.proofs.Common.{◌≡◌, ◌≢◌, ◌⊎◌, inl, inr, ⊎_elim, ℕ, ◌+◌, ◌-◌, ◌*◌, ◌%◌, ◌<◌, ◌≤◌, Bool, true, false, cond, List, [], length, Option, Some, None, min, ◌^◌, IsTrue, refl, sym, ◌∙◌, ap, subst, arith}
+use Rattle.std.proofs.Common.{◌≡◌, ◌≢◌, ◌⊎◌, inl, inr, ⊎_elim, ℕ, zero, suc, ◌+◌, ◌-◌, ◌*◌, ◌%◌, ◌<◌, ◌≤◌, Bool, true, false, cond, List, [], length, Option, Some, None, min, ◌^◌, IsTrue, refl, sym, ◌∙◌, ap, subst, arith}
 use Rattle.std.specs.Prelude.{IsSome, nat_le, nat_lt, ◌&&◌, if◌then◌else◌}
 use Rattle.std.specs.List.{Contains}
 use Rattle.std.proofs.lemmas.Bool.{cases_eq, cases_lt, le-leb, leb-true}
 use Rattle.std.proofs.lemmas.Bool.Decides.{Decides-ltb}
 use Rattle.vt_base.specs.declared.place.Entry.{Entry}
-use Rattle.vt_bucket.specs.Frame.{IsFrame}
+use Rattle.std.proofs.lemmas.List.{length-replicate}
+use Rattle.vt_bucket.specs.Frame.{IsFrame, frame_of as bucket_frame}
 use Rattle.vt_disk.specs.declared.region.Region.{Region}
 use Rattle.vt_disk.specs.Calls.{OnlyReads, WritesAt, MadeCalls}
-use Rattle.vt_disk.specs.Disk.{AreAmong, IsOneMore, SameBut, Only}
+use Rattle.vt_disk.specs.Disk.{AreAmong, IsOneMore, SameBut, Only, Touches}
 use Rattle.vt_disk.specs.Members.{DiskOf}
 use Rattle.vt_disk.specs.Region.{Inside}
-use Rattle.vt_disk.proofs.Bytes.{part_same, same_refl}
+use Rattle.vt_disk.proofs.Bytes.{part_same, same_refl, touches_within}
 use Rattle.vt_disk.proofs.Calls.{reads_as_writes, writes_then, writes_wider}
 use Rattle.vt_model.specs.History.{History}
 use Rattle.vt_model.specs.Places.{Setup, bucket_of, bucket_count}
-use Rattle.vt_twin.specs.Frames.{HasRoom, frame_of, named_number, current_frame, selector_start, selector_len}
+use Rattle.vt_twin.specs.Formatting.{EndsFormat, TouchedByFirst}
+use Rattle.vt_twin.specs.Frames.{HasRoom, frame_of, frame_start, named_number, current_frame, selector_of, selector_start, selector_len}
 use Rattle.vt_twin.proofs.Places.{InFrame, frame_inside, selector_inside, frame_same, named_same}
 use Rattle.vt_isect.specs.declared.head.Head.{Head}
 use Rattle.vt_isect.specs.declared.phase.Phase.TheVariants.{Rest, ChangeBucket}
 use Rattle.vt_isect.specs.Agreement.{KnownAgrees, IsOfBlock}
-use Rattle.vt_isect.specs.Filling.{AreCleared, Fills, InBuckets, IsAmong, Reads, with_buckets}
+use Rattle.vt_isect.specs.Filling.{AreCleared, Fills, HasSelectorOf, InBuckets, IsAmong, Reads, with_buckets}
 use Rattle.vt_isect.specs.Layout.{head_place, IsPlaceOf, InRange}
 use Rattle.vt_isect.specs.Section.{SectionState, IsChanging}
 use Rattle.vt_isect.specs.Sound.{Known, DiskHolds, IsReadFrom, IsSoundSection, with_bucket, nothing_known}
@@ -422,6 +424,47 @@ module _ {D : Type 0} (disk : DiskOf D) (t : SectionState D) (first : ℕ) where
       ∙ among_there first k None known n (λ among. apart (among.0, omega (arith, among.1, low)))
       ∙ sym (among_there first count None known n apart) ∙ is)
       (step (with_buckets first k None known) told (it.others known told sound))
+
+-- ---- the bucket at which it ended
+
+-- the frame of a bucket without entries
+pub blank_len : (n : ℕ) → length (bucket_frame n []) ≡ 8192
+blank_len n = omega (arith, length-replicate {A = ℕ} 8182 0)
+
+-- a selector in a place that nothing was written to
+selector_elsewhere : (P : ℕ → Type 0) (j : ℕ) (region : Region) → IsPlaceOf j region → ((i : ℕ) → P i → ¬ Inside region i)
+    → (old new : List ℕ) → SameBut P old new → selector_of region 8192 new ≡ selector_of region 8192 old
+selector_elsewhere P j region place apart old new same =
+    part_same P (selector_start region 8192) (selector_len region 8192) old new same
+    (λ i up down changed. apart i changed (omega (arith, up), omega (arith, down, place.len)))
+
+-- its selector is as it was, or behind a frame that is whole
+pub ends_whole : {D : Type 0} (disk : DiskOf D) (j : ℕ) (region : Region) (frame : List ℕ) (made : ℕ) (old new : D) → IsPlaceOf j region → length frame ≡ 8192 → made < 2
+    → EndsFormat disk region frame made old new → IsTrue disk.tells
+    → (selector_of region 8192 (disk.bytes new) ≡ selector_of region 8192 (disk.bytes old)) ⊎ (frame_of region 8192 0 (disk.bytes new) ≡ frame)
+ends_whole disk j region frame zero old new place len few ends told = inl (
+    part_same (TouchedByFirst 1 region (length frame)) (selector_start region 8192) (selector_len region 8192) (disk.bytes old) (disk.bytes new) (ends.writes.bytes told)
+    (λ i up down touched. ⊎_elim
+    (λ (first : (1 ≤ 1) × Touches (frame_start region (length frame) 0) (length frame) i).
+    omega (arith, up, (touches_within region.start (region.start + 8192) (frame_start region (length frame) 0) (length frame) i
+    (omega (arith, place.start)) (omega (arith, place.start)) (omega arith) (omega (arith, len)) first.1).1))
+    (λ (second : (2 ≤ 1) × Touches (selector_start region (length frame)) (selector_len region (length frame)) i). omega (arith, second.0))
+    touched))
+ends_whole disk j region frame (suc zero) old new place len few ends told = inr (
+    ap (λ (n : ℕ). frame_of region n 0 (disk.bytes new)) (sym len) ∙ ends.frame_is (omega arith) told)
+ends_whole disk j region frame (suc (suc n)) old new place len few ends told = absurd (omega (arith, few))
+
+-- and that was so before the first of them
+pub stops_whole : {D : Type 0} (disk : DiskOf D) (t u v : SectionState D) (first k : ℕ) (region : Region) (frame : List ℕ) (made : ℕ)
+    → t.head.first ≤ first → IsPlaceOf (first + k - t.head.first) region → length frame ≡ 8192 → made < 2
+    → HasCleared disk t u first k → EndsFormat disk region frame made u.disk v.disk → IsTrue disk.tells
+    → HasSelectorOf region (disk.bytes t.disk) (disk.bytes v.disk) ⊎ (frame_of region 8192 0 (disk.bytes v.disk) ≡ frame)
+stops_whole disk t u v first k region frame made from place len few it ends told = ⊎_elim
+    (λ (same : selector_of region 8192 (disk.bytes v.disk) ≡ selector_of region 8192 (disk.bytes u.disk)).
+    inl (same ∙ selector_elsewhere (InBuckets (first - t.head.first) k) (first + k - t.head.first) region place
+    (λ i changed here. omega (arith, changed.1, here.0, place.start, from)) (disk.bytes t.disk) (disk.bytes u.disk) (it.writes.bytes told)))
+    (λ (whole : frame_of region 8192 0 (disk.bytes v.disk) ≡ frame). inr whole)
+    (ends_whole disk (first + k - t.head.first) region frame made u.disk v.disk place len few ends told)
 
 -- ---- the sync behind them
 

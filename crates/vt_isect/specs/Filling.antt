@@ -1,5 +1,5 @@
 -- Buckets that are written while the mark doesn't count, with one sync behind many of them.
-use Rattle.std.specs.Prelude.{◌≡◌, ℕ, ◌+◌, ◌-◌, ◌*◌, ◌<◌, ◌≤◌, nat_le, nat_lt, ◌&&◌, IsTrue, List, [], Option, Some, if◌then◌else◌}
+use Rattle.std.specs.Prelude.{◌≡◌, ◌⊎◌, ℕ, ◌+◌, ◌-◌, ◌*◌, ◌<◌, ◌≤◌, nat_le, nat_lt, ◌&&◌, IsTrue, List, [], Option, Some, if◌then◌else◌}
 use Rattle.vt_base.specs.declared.place.Entry.{Entry}
 use Rattle.vt_bucket.specs.Frame.{IsFrame, frame_of as bucket_frame}
 use Rattle.vt_disk.specs.declared.TheConstants.{SECTOR_LEN}
@@ -42,6 +42,10 @@ Reads disk t known = (n : ℕ) (entries : List Entry) → InRange t.head t.bucke
     → (region : Region) × IsPlaceOf (n - t.head.first) region
     × IsFrame n entries (current_frame region FRAME_LEN (disk.bytes t.disk))
 
+-- the selector is as it was
+abbrev pub HasSelectorOf : Region → (old new : List ℕ) → Type 0
+HasSelectorOf region old new = selector_of region FRAME_LEN new ≡ selector_of region FRAME_LEN old
+
 -- each of so many buckets, from this number on, is written without entries
 abbrev pub AreCleared : {D : Type 0} → DiskOf D → (first count : ℕ) → (old new : SectionState D)
     → Type 0
@@ -50,7 +54,8 @@ AreCleared disk first count old new = (n : ℕ) (region : Region) → IsAmong fi
     → Fills n [] region (disk.bytes old.disk) (disk.bytes new.disk)
 
 -- Clearing so many buckets, from this number on, ended at a call that failed: those before it are
--- written, and nothing is behind the next one.
+-- written, and nothing is behind the next one, whose selector is as it was or names a frame that was
+-- written whole.
 pub record StopsClearing {D : Type 0} (disk : DiskOf D) (first count : ℕ) (old new : SectionState D)
     : Type 0 where
   pub done : ℕ
@@ -58,3 +63,7 @@ pub record StopsClearing {D : Type 0} (disk : DiskOf D) (first count : ℕ) (old
   pub cleared : IsTrue disk.tells → AreCleared disk first done old new
   pub writes : WritesAt disk (InBuckets (first - old.head.first) (done + 1)) (2 * done + 2)
       old.disk new.disk
+  pub whole : IsTrue disk.tells → done < count → (region : Region)
+      → IsPlaceOf (first + done - old.head.first) region
+      → HasSelectorOf region (disk.bytes old.disk) (disk.bytes new.disk)
+      ⊎ (frame_of region FRAME_LEN 0 (disk.bytes new.disk) ≡ bucket_frame (first + done) [])

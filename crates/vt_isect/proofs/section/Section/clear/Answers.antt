@@ -39,6 +39,7 @@ returns-in_err-sync-clause-stops g c =
     on_err {P = StopsClearing g.D.Disk c.args.first c.args.count t (record (state_of c.self.inside) { disk = c.sync.new.self })} c.from_residual-in_err-sync.result (record {
       done = c.args.count;
       few = omega arith;
+      whole = λ told low. absurd (omega (arith, low));
       cleared = λ told n region within place. subst (λ (file : List ℕ). Fills n [] region (g.D.Disk.bytes t.disk) file) (sym synced.bytes)
           (c.in_ok-write_cleared.ensures.written told n region within place);
       writes = writes_wider g.D.Disk _ _ (more_buckets g.D.Disk t c.args.first c.args.count (c.args.count + 1) (omega arith)) (2 * c.args.count + 1) (2 * c.args.count + 2) (omega arith) _ _

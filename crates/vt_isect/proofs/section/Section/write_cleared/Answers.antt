@@ -1,10 +1,11 @@
 use Rattle.std.proofs.Common.{◌≡◌, ◌+◌, ◌-◌, ◌*◌, ◌≤◌, ℕ, [], Some, None, sym, ap, subst, arith}
 use Rattle.vt_bucket.specs.Buckets.{number_of}
+use Rattle.vt_bucket.specs.Frame.{frame_of as bucket_frame}
 use Rattle.vt_disk.specs.Calls.{WritesAt}
 use Rattle.vt_disk.proofs.Calls.{on_err, writes_wider}
 use Rattle.vt_isect.specs.Filling.{InBuckets, IsAmong, Reads, StopsClearing, with_buckets}
 use Rattle.vt_isect.specs.Layout.{IsPlaceOf}
-use Rattle.vt_isect.proofs.Fills.{cleared_none, cleared_more, more_buckets, next_writes, next_written, stopped_others}
+use Rattle.vt_isect.proofs.Fills.{blank_len, cleared_none, cleared_more, more_buckets, next_writes, next_written, stopped_others, stops_whole}
 use Rattle.vt_isect.proofs.section.Section.write_cleared.Goals as goal
 
 pub loop-i-init : goal.loop-i-init
@@ -40,11 +41,18 @@ stopped g c =
 pub returns-in_err-fill-clause-stops : goal.returns-in_err-fill-clause-stops
 returns-in_err-fill-clause-stops g c =
     let t = c.args.self.now in
+    let u = c.loop-i.self in
+    let n : ℕ = c.args.first + c.loop-i.i in
+    let head : u.head ≡ t.head = ap (λ x. x.head) c.loop-i.invariant.same in
+    let at : n - t.head.first ≡ number_of c.new.result - u.head.first = λ j. sym c.new.ensures.number j - (sym head j).first in
     on_err {P = StopsClearing g.D.Disk c.args.first c.args.count t c.fill.new.self} c.from_residual.result (record {
       done = c.loop-i.i;
       few = omega (arith, c.loop-i-test.true);
       cleared = next_written g.D.Disk t c.args.first c.loop-i.self c.fill.new.self c.loop-i.i c.requires.in_range.0 c.loop-i.invariant (stopped g c);
       writes = next_writes g.D.Disk t c.args.first c.loop-i.self c.fill.new.self c.loop-i.i c.requires.in_range.0 c.loop-i.invariant (stopped g c);
+      whole = λ told low region place.
+          let ends = rw (c.new.ensures.number, c.new.ensures.entries) at (c.in_err-fill.ensures.stops region (subst (λ (k : ℕ). IsPlaceOf k region) at place)) in
+          stops_whole g.D.Disk t u c.fill.new.self c.args.first c.loop-i.i region (bucket_frame n []) ends.0 c.requires.in_range.0 place (blank_len n) ends.1 c.loop-i.invariant ends.2 told;
     })
 
 pub returns-in_err-fill-clause-writes : goal.returns-in_err-fill-clause-writes
