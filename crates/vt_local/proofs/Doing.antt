@@ -10,8 +10,8 @@ use Rattle.vt_answer.specs.Condition.{GoesOn}
 use Rattle.vt_local.specs.Members.{StoreOf}
 use Rattle.vt_answer.specs.Serving.{Serves, TellsCause}
 use Rattle.vt_tree.specs.declared.err.BlockErr.{BlockErr}
-use Rattle.vt_tree.specs.Calls.{Call, get, put, sync, asked_of, refusal_of, counted}
-use Rattle.vt_local.specs.Local.{LocalState, DoesLocal, HasKind, IsToldAs}
+use Rattle.vt_tree.specs.Calls.{get, put, sync, counted}
+use Rattle.vt_local.specs.Local.{LocalState, DoesLocal, IsToldAs}
 
 module _ {S : Type 0} (T : StoreOf S) (l l' : LocalState S)
     (goes : GoesOn (T.condition l.store) (T.condition l'.store)) where

@@ -10,7 +10,7 @@ use Rattle.vt_answer.specs.Condition.{GoesOn}
 use Rattle.vt_local.specs.Members.{StoreOf}
 use Rattle.vt_answer.specs.Serving.{Serves, TellsCause, said}
 use Rattle.vt_tree.specs.declared.err.BlockErr.{BlockErr}
-use Rattle.vt_tree.specs.declared.err.BlockErr.TheVariants.{Fault, Refused, Damaged, NoMemory}
+use Rattle.vt_tree.specs.declared.err.BlockErr.TheVariants.{Fault, Refused, WrongScore, Damaged, NoMemory}
 use Rattle.vt_tree.specs.Calls.{Call, get, put, sync, asked_of, refusal_of, Counts, counted}
 use Rattle.vt_tree.specs.Maps.{Maps}
 
@@ -31,9 +31,17 @@ err_of (whys.Damaged site want found) = Damaged want found
 err_of whys.NoMemory = NoMemory
 err_of why = Refused (text_of why)
 
--- it is told so, or memory ran out for the text
+-- it is told with a text
+abbrev pub HasText : BlockErr → Type 0
+HasText Fault = ⊥
+HasText (Refused text) = ⊤
+HasText (WrongScore want found) = ⊥
+HasText (Damaged want found) = ⊥
+HasText NoMemory = ⊥
+
+-- it is told so, or memory ran out for its text
 abbrev pub IsToldAs : Why → BlockErr → Type 0
-IsToldAs why err = (err ≡ err_of why) ⊎ (err ≡ NoMemory)
+IsToldAs why err = (err ≡ err_of why) ⊎ (HasText (err_of why) × (err ≡ NoMemory))
 
 -- ---- a call
 

@@ -1,5 +1,5 @@
 -- Laws of a store as a store of blocks: what was taken in is held, and nothing else.
-use Rattle.std.proofs.Common.{◌≡◌, ◌⊎◌, ℕ, ◌≤◌, inl, inr, Bool, true, false, cond, Option, Some, None, Result, Ok, Err, List, [], ◌∷◌, ◌++◌, length, take, refl, sym, ◌∙◌, ap, subst, arith}
+use Rattle.std.proofs.Common.{◌≡◌, ◌⊎◌, ℕ, ◌≤◌, inl, inr, Bool, true, false, cond, Option, Some, None, Ok, Err, List, [], ◌∷◌, ◌++◌, length, take, refl, sym, ◌∙◌, ap, subst, arith}
 use Rattle.std.specs.Prelude.{find, slice_get, is_some, not, nat_lt, nat_le, ◌==◌, IsTrue}
 use Rattle.std.specs.List.{All}
 use Rattle.std.specs.Option.{option_map, option_or}
@@ -14,10 +14,10 @@ use Rattle.vt_base.specs.Protocol.{Operation, read, write, sync as sync_all, RMe
 use Rattle.vt_base.specs.declared.TheConstants.{MAX_BLOCK}
 use Rattle.vt_base.specs.declared.why.Why.{Why}
 use Rattle.vt_base.specs.declared.why.Why.TheVariants as whys
-use Rattle.vt_model.specs.History.{History, Accepted, Block, IsBlock, held, has_key, HasKeyAt, HasScoreAt}
+use Rattle.vt_model.specs.History.{History, Accepted, Block, IsBlock, held, has_key}
 use Rattle.vt_model.specs.Places.{Setup, next_arena, crowd, bucket_of, bucket_count}
 use Rattle.vt_model.specs.declared.TheConstants.{BUCKET_ROOM}
-use Rattle.vt_model.specs.Answer.{Outcome, answer, answer_to_read, answer_to_write, adds, collides, lends, refuses, replies, with_added}
+use Rattle.vt_model.specs.Answer.{Outcome, answer, answer_to_read, adds, collides, lends, refuses, replies, with_added}
 use Rattle.vt_model.specs.Legal.{IsLegal}
 use Rattle.vt_model.proofs.Added.{adds_when, added-refused}
 use Rattle.vt_model.proofs.Adding.{IsLegal-with_added}
@@ -27,12 +27,11 @@ use Rattle.vt_session.specs.Answered.{IsCauseFor}
 use Rattle.vt_session.specs.Turns.{Cause, disk_fault, stopped, damaged, no_memory, why_of}
 use Rattle.vt_answer.specs.Condition.{Condition, GoesOn, IsNoDamage}
 use Rattle.vt_local.specs.Members.{StoreOf}
-use Rattle.vt_answer.specs.Serving.{Answers, Fails, Serves, IsCovered}
+use Rattle.vt_answer.specs.Serving.{Answers, Serves, IsCovered}
 use Rattle.vt_tree.specs.declared.err.BlockErr.{BlockErr}
-use Rattle.vt_tree.specs.declared.err.BlockErr.TheVariants.{Fault, Refused, WrongScore, Damaged, NoMemory}
 use Rattle.vt_tree.specs.Calls.{Call, get, put, sync, asked_of, after, Tells, IsRefusal}
 use Rattle.vt_tree.specs.MapLaws.{block_again, block_same}
-use Rattle.vt_tree.specs.Maps.{BlockMap, Maps, with_block, HasNoOther, IsWithin, IsWriteOnce}
+use Rattle.vt_tree.specs.Maps.{Maps, with_block, HasNoOther, IsWithin, IsWriteOnce}
 use Rattle.vt_local.specs.Local.{LocalState, DoesLocal, HoldsLocal, StandsFor, HasKind, IsToldAs, err_of}
 
 -- ---- what a history holds with a block more
@@ -337,7 +336,7 @@ module _ {S : Type 0} (T : StoreOf S)
           hold.history (read s kind MAX_BLOCK) (λ r. r) (Err why)
           → IsRefusal err → m.held s kind ≡ None
       refused_get s kind why err known (inr short) serves refusal =
-          absurd (subst IsRefusal short refusal)
+          absurd (subst IsRefusal short.1 refusal)
       refused_get s kind why err known (inl told) (inl served) refusal =
           let own = alone_answers (T.condition l.store) (T.condition l'.store) (T.holds l'.store)
           hold.history (read s kind MAX_BLOCK) (r_error (text_of why)) hold.alone served.1 in

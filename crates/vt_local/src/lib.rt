@@ -5,3 +5,6 @@ pub mod laws;
 mod local;
 
 pub use local::Local;
+
+#[cfg(test)]
+mod tests;

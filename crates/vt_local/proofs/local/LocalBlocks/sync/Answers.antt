@@ -1,5 +1,5 @@
-use Rattle.std.proofs.Common.{◌≡◌, Some, Ok, Err, refl, sym, ◌∙◌, subst}
-use Rattle.vt_tree.specs.Calls.{Call, get, put, sync, Counts, counted}
+use Rattle.std.proofs.Common.{Some, Ok, Err, refl, sym, subst}
+use Rattle.vt_tree.specs.Calls.{sync, Counts, counted}
 use Rattle.vt_local.specs.Local.{LocalState, DoesLocal}
 use Rattle.vt_local.proofs.Doing.{synced, not_synced}
 use Rattle.vt_local.proofs.local.LocalBlocks.sync.Goals as goal
