@@ -343,7 +343,7 @@ fn crashed(alloc: Global, call: u64, fails: bool, mode: CrashMode) -> Result<u32
 
 #[test]
 fn a_commit_is_stopped_anywhere(rt: HostRuntime) -> Result<(), Fail> {
-    // The call at which the commit ends, whether it fails, and how many blocks a crash then leaves in
+    // The call at which a commit ends, whether it fails, and how many blocks a crash then leaves in
     // each mode. The new selector is 0, so that a5 names the old frame.
     for (call, fails, wanted) in [
         (0, true, [1, 1, 1, 1]),

@@ -54,8 +54,8 @@ AreCleared disk first count old new = (n : ℕ) (region : Region) → IsAmong fi
     → Fills n [] region (disk.bytes old.disk) (disk.bytes new.disk)
 
 -- Clearing so many buckets, from this number on, ended at a call that failed: those before it are
--- written, and nothing is behind the next one, whose selector is as it was or names a frame that was
--- written whole.
+-- written, and nothing is behind the next one, whose selector is as it was or names a frame that
+-- was written whole.
 pub record StopsClearing {D : Type 0} (disk : DiskOf D) (first count : ℕ) (old new : SectionState D)
     : Type 0 where
   pub done : ℕ
