@@ -1,27 +1,34 @@
-//! Logs on disks in memory: filled to the end, stopped, crashed at each device call, mounted again,
-//! and side by side with the plain store.
+//! Logs on disks in memory: filled to the end, mounted again, crashed at each call of a commit, with
+//! calls that fail, and side by side with the plain store.
 
-ghost use Rattle.std.specs.Prelude.{◌≡◌, ◌<◌, ◌≤◌, length, IfOk};
-ghost use Rattle.vt_memdisk.specs.Memory.{memory_bytes};
+ghost use Rattle.std.specs.Prelude.{◌≡◌, ◌<◌, ◌≤◌, IfOk};
 ghost use Rattle.vt_part.specs.Parts.{disk_of, table_of};
 ghost use Rattle.vt_part.specs.Table.{end_of};
 
 use super::*;
+use std::alloc::Global;
 use std::marker::Brand;
 use std::sync::ledger::{Blank, Ledger};
 use std::test::Fail;
-use vt_arena::{ArenaBad, ArenaHead, BackBad, Field, ReadBad};
-use vt_base::{Failed, FieldValue, Info, Key, Kind, Place, Scorer, Sha1Scorer, Text, Why};
+use vt_arena::{ArenaBad, BackBad, Field, ReadBad};
+use vt_base::{Bytes, Failed, FieldValue, Info, Key, Kind, Place, Scorer, Sha1Scorer, Text, Why};
 use vt_clump::{Packed, pack};
 use vt_disk::Disk;
-use vt_memdisk::{CrashMode, Listed, MemDisk};
+use vt_memdisk::{CrashMode, Listed, MemDisk, Plan};
 use vt_model::PlainStore;
 use vt_part::{Part, PartBad};
 use vt_steps::Steps;
 
-type TestLog = Log<MemDisk<Listed>, Sha1Scorer>;
+type TestLog<D> = Log<D, Sha1Scorer>;
 
 const ARENA_LEN: u64 = 32_768;
+
+/// The lengths of partitions of one arena, of two and of three.
+const ONE: u64 = 40_960;
+
+const TWO: u64 = 73_728;
+
+const THREE: u64 = 106_496;
 
 /// The calls of a disk of one arena before a commit's first one: two of formatting the partition,
 /// two of mounting it twice, three of formatting its arena, a sync and two reads of mounting the
@@ -34,49 +41,63 @@ const ABC_CLUMP: [u8; 41] = *b"VCLP\x0d\x00\x03\x00\x03\
     \x01\x00\x00\x00\x00\x00\x00\x00\x00abc";
 
 /// Where a log's first block stands, and the second one behind a block of three bytes.
-const FIRST_PLACE: Place = Place {
+const FIRST: Place = Place {
     arena: 0,
     offset: 24_576,
 };
 
-const SECOND_PLACE: Place = Place {
+const SECOND: Place = Place {
     arena: 0,
     offset: 24_617,
 };
 
-/// Where the first block of the second arena stands.
-const NEXT_PLACE: Place = Place {
+/// Where the last of 124 blocks of three bytes stands.
+const LAST: Place = Place {
+    arena: 0,
+    offset: 24_576 + 123 * 41,
+};
+
+/// The first and the last of them in the next arena.
+const NEXT: Place = Place {
     arena: 1,
     offset: 24_576,
 };
 
-/// Where the last one of 124 blocks of three bytes stands in an arena.
-const LAST_OFFSET: u32 = 24_576 + 123 * 41;
+const NEXT_LAST: Place = Place {
+    arena: 1,
+    offset: 24_576 + 123 * 41,
+};
 
-/// A partition of this length with arenas of 32,768 bytes, of which these calls fail.
-fn part(
-    rt: &HostRuntime,
-    len: u64,
-    name: &[u8],
-    failing: &[u64],
-) -> Result<Part<MemDisk<Listed>>, Fail>
-    ensures { IfOk result (λ part. (end_of (table_of part) ≤ length (memory_bytes (disk_of part)))
-        × ((table_of part).count ≤ 100)) }
-{
-    let calls = Vec::from_slice(rt.alloc(), failing)?;
-    let mut disk = MemDisk::failing(rt.alloc(), len, calls)?;
-    let name = Text::copy_of(rt.alloc(), name)?;
-    if !vt_part::is_name(name.as_slice()) {
-        return Err("name")?;
-    }
-    vt_part::format(&mut disk, &name, ARENA_LEN)
-        .ok()
-        .ok_or("format")?;
-    mount_part(disk)
+/// A disk that a test crashes. What is done to logs is proved for any such disk, which is much less
+/// work than for one in memory, and runs on that.
+trait Crashing: Disk + Drop {
+    /// What a crash in this mode leaves.
+    fn crashed(self, mode: CrashMode) -> Self;
 }
 
-fn mount_part(disk: MemDisk<Listed>) -> Result<Part<MemDisk<Listed>>, Fail>
-    ensures { IfOk result (λ part. (end_of (table_of part) ≤ length (memory_bytes (disk_of part)))
+impl<P: Plan> Crashing for MemDisk<P> {
+    fn crashed(self, mode: CrashMode) -> Self {
+        self.crash_in(mode)
+    }
+}
+
+/// A disk of this length, of which these calls fail.
+fn disk(alloc: Global, len: u64, failing: &[u64]) -> Result<MemDisk<Listed>, Fail> {
+    let calls = Vec::from_slice(alloc, failing)?;
+    Ok(MemDisk::failing(alloc, len, calls)?)
+}
+
+/// Goes on where this holds.
+fn see(holds: bool, otherwise: &'static str) -> Result<(), Fail> {
+    if holds {
+        return Ok(());
+    }
+    Err(otherwise.into())
+}
+
+/// The partition of a disk.
+fn mount_part<D: Disk + Drop>(disk: D) -> Result<Part<D>, Fail>
+    ensures { IfOk result (λ part. (end_of (table_of part) ≤ D.size (disk_of part))
         × ((table_of part).count ≤ 100)) }
 {
     let Ok(part) = vt_part::mount(disk) else {
@@ -88,116 +109,82 @@ fn mount_part(disk: MemDisk<Listed>) -> Result<Part<MemDisk<Listed>>, Fail>
     Ok(part)
 }
 
-/// A partition like that, with arenas without blocks.
-fn formatted(
-    rt: &HostRuntime,
-    len: u64,
-    name: &[u8],
-    failing: &[u64],
-) -> Result<MemDisk<Listed>, Fail> {
-    let mut parts = vec![in rt.alloc(); part(rt, len, name, failing)?]?;
+/// Makes a disk a partition of this name, with arenas of 32,768 bytes without blocks.
+fn formatted<D: Disk + Drop>(alloc: Global, disk: D, name: &[u8]) -> Result<D, Fail> {
+    let mut parts = Vec::new(alloc);
+    parts.push(made_part(alloc, disk, name)?)?;
     format(&mut parts)?;
     let part = parts.pop().ok_or("no partition")?;
     Ok(part.into_devices())
 }
 
-/// A log without blocks on one partition of this length, of which these calls fail.
-fn log(rt: &HostRuntime, len: u64, failing: &[u64]) -> Result<TestLog, Fail> {
-    mounted(rt, formatted(rt, len, b"a", failing)?)
+/// The partition that a disk is made.
+fn made_part<D: Disk + Drop>(alloc: Global, disk: D, name: &[u8]) -> Result<Part<D>, Fail>
+    ensures { IfOk result (λ part. (end_of (table_of part) ≤ D.size (disk_of part))
+        × ((table_of part).count ≤ 100)) }
+{
+    let mut disk = disk;
+    let name = Text::copy_of(alloc, name)?;
+    if !vt_part::is_name(name.as_slice()) {
+        return Err("name")?;
+    }
+    let made = vt_part::format(&mut disk, &name, ARENA_LEN);
+    made.ok().ok_or("format")?;
+    mount_part(disk)
 }
 
 /// The log of this disk.
-fn mounted(rt: &HostRuntime, disk: MemDisk<Listed>) -> Result<TestLog, Fail> {
-    match mount(
-        rt.alloc(),
-        vec![in rt.alloc(); mount_part(disk)?]?,
-        Sha1Scorer,
-    ) {
+fn mounted<D: Disk + Drop>(alloc: Global, disk: D) -> Result<TestLog<D>, Fail> {
+    let mut parts = Vec::new(alloc);
+    parts.push(mount_part(disk)?)?;
+    match mount(alloc, parts, Sha1Scorer) {
         Ok(log) => Ok(log),
         Err(_) => Err("mount the log")?,
     }
 }
 
-/// A log without blocks on two partitions of these lengths.
-fn pair(rt: &HostRuntime, first: u64, second: u64) -> Result<TestLog, Fail> {
-    let a = part(rt, first, b"a", &[])?;
-    let b = part(rt, second, b"b", &[])?;
-    let mut parts = vec![in rt.alloc(); a, b]?;
-    format(&mut parts)?;
-    let b = parts.pop().ok_or("no partition")?;
-    let a = parts.pop().ok_or("no partition")?;
-    mounted_pair(rt, a.into_devices(), b.into_devices())
-}
-
-/// The log of these disks.
-fn mounted_pair(
-    rt: &HostRuntime,
-    first: MemDisk<Listed>,
-    second: MemDisk<Listed>,
-) -> Result<TestLog, Fail> {
-    let a = mount_part(first)?;
-    let b = mount_part(second)?;
-    match mount(rt.alloc(), vec![in rt.alloc(); a, b]?, Sha1Scorer) {
-        Ok(log) => Ok(log),
-        Err(_) => Err("mount the log")?,
+/// The log of these disks, or why there is none.
+fn mounted_pair<D: Disk + Drop>(
+    alloc: Global,
+    first: D,
+    second: D,
+) -> Result<Result<TestLog<D>, LogBad>, Fail> {
+    let mut parts = Vec::new(alloc);
+    parts.push(mount_part(first)?)?;
+    parts.push(mount_part(second)?)?;
+    match mount(alloc, parts, Sha1Scorer) {
+        Ok(log) => Ok(Ok(log)),
+        Err((bad, _)) => Ok(Err(bad)),
     }
 }
 
-/// The log of the same disks.
-fn mounted_again(rt: &HostRuntime, log: TestLog) -> Result<TestLog, Fail> {
-    let mut parts = log.into_devices();
-    let last = parts.pop().ok_or("no partition")?;
-    match parts.pop() {
-        Some(first) => mounted_pair(rt, first.into_devices(), last.into_devices()),
-        None => mounted(rt, last.into_devices()),
-    }
+/// The disk of a log of one partition.
+fn into_disk<D: Disk + Drop>(log: TestLog<D>) -> Result<D, Fail> {
+    let part = log.into_devices().pop().ok_or("no partition")?;
+    Ok(part.into_devices())
 }
 
-/// The head of an arena, if it is there.
-fn head(log: &TestLog, arena: u32) -> Result<ArenaHead, Fail> {
-    if arena >= log.arenas() {
-        return Err("no arena")?;
-    }
-    Ok(log.head(arena))
-}
-
-/// Reads bytes of the first arena's region.
-fn bytes(log: &mut TestLog, at: u64, buf: &mut [u8]) -> Result<Result<(), Failed>, Fail> {
-    if log.arenas() == 0 {
-        return Err("no arena")?;
-    }
-    let len = log.arena_len(0);
-    if at > len || buf.len() as u64 > len - at {
-        return Err("outside of the arena")?;
-    }
-    Ok(log.bytes(0, at, buf))
-}
-
-fn packed(rt: &HostRuntime, kind: u8, block: &[u8]) -> Result<Packed, Fail> {
-    let kind = Kind::from_wire(kind).ok_or("no type")?;
-    if block.is_empty() || block.len() > 57_344 {
-        return Err("length")?;
-    }
-    Ok(pack(rt.alloc(), kind, block, Sha1Scorer.score(block), 0)?)
+fn kind_of(kind: u8) -> Result<Kind, Fail> {
+    Ok(Kind::from_wire(kind).ok_or("no type")?)
 }
 
 fn key_of(kind: u8, block: &[u8]) -> Result<Key, Fail> {
     Ok(Key {
         score: Sha1Scorer.score(block),
-        kind: Kind::from_wire(kind).ok_or("no type")?,
+        kind: kind_of(kind)?,
     })
 }
 
-/// Goes on where this holds.
-fn see(holds: bool, otherwise: &'static str) -> Result<(), Fail> {
-    if holds {
-        return Ok(());
+fn packed(alloc: Global, kind: u8, block: &[u8]) -> Result<Packed, Fail> {
+    if block.is_empty() || block.len() > 57_344 {
+        return Err("length")?;
     }
-    Err(otherwise.into())
+    let score = Sha1Scorer.score(block);
+    Ok(pack(alloc, kind_of(kind)?, block, score, 0)?)
 }
 
 /// Advances until nothing is queued or a call fails, and gives how many calls it took.
-fn flush(log: &mut TestLog) -> Result<u64, LogErr> {
+fn flush<D: Disk>(log: &mut TestLog<D>) -> Result<u64, LogErr> {
     let most = log.owed();
     for call in 0..most {
         if log.advance()? == Progress::Idle {
@@ -208,41 +195,45 @@ fn flush(log: &mut TestLog) -> Result<u64, LogErr> {
 }
 
 /// Makes so many calls of a log's commits.
-fn advance(log: &mut TestLog, calls: u64) -> Result<(), Fail> {
+fn advance<D: Disk>(log: &mut TestLog<D>, calls: u64) -> Result<(), LogErr> {
     for _ in 0..calls {
-        log.advance().ok().ok_or("advance")?;
+        log.advance()?;
     }
     Ok(())
 }
 
-/// Takes a block in, where there is room for it.
-fn put(rt: &HostRuntime, log: &mut TestLog, kind: u8, block: &[u8]) -> Result<Option<Place>, Fail> {
+/// Commits all that is queued.
+fn commit<D: Disk>(log: &mut TestLog<D>) -> Result<(), Fail> {
+    flush(log).ok().ok_or("flush")?;
+    Ok(())
+}
+
+/// Takes a block in, where there is room for it. A full queue is committed first.
+fn put<D: Disk>(
+    alloc: Global,
+    log: &mut TestLog<D>,
+    kind: u8,
+    block: &[u8],
+) -> Result<Option<Place>, Fail> {
+    let packed = packed(alloc, kind, block)?;
     if log.queue_full() {
-        flush(log).ok().ok_or("flush")?;
+        commit(log)?;
     }
-    let packed = packed(rt, kind, block)?;
     if log.queue_full() {
         return Err("full queue")?;
     }
     let room = log.room(packed.len);
-    match log.append(packed) {
-        Ok(place) => {
-            see(room, "a place without room")?;
-            Ok(Some(place))
-        }
-        Err(Full) => {
-            see(!room, "no place where there is room")?;
-            Ok(None)
-        }
-    }
+    let place = log.append(packed).ok();
+    see(room == place.is_some(), "room without a place")?;
+    Ok(place)
 }
 
 /// Takes in blocks of three bytes until there is no room for one, and gives how many it took and
 /// the place of the last.
-fn fill(rt: &HostRuntime, log: &mut TestLog) -> Result<(u32, Place), Fail> {
-    let mut last = FIRST_PLACE;
-    for n in 0..1000u32 {
-        match put(rt, log, 13, &[3, (n / 256) as u8, (n % 256) as u8])? {
+fn fill<D: Disk>(alloc: Global, log: &mut TestLog<D>) -> Result<(u8, Place), Fail> {
+    let mut last = FIRST;
+    for n in 0..255u8 {
+        match put(alloc, log, 13, &[1, 2, n])? {
             Some(place) => last = place,
             None => return Ok((n, last)),
         }
@@ -250,567 +241,435 @@ fn fill(rt: &HostRuntime, log: &mut TestLog) -> Result<(u32, Place), Fail> {
     Err("never full")?
 }
 
-/// Whether the block is given that was written with these bytes.
-fn read<L: Ledger>(
-    rt: &HostRuntime,
-    log: &mut TestLog,
+/// The block of type 13 that was written with these bytes.
+fn read<D: Disk, L: Ledger>(
+    alloc: Global,
+    log: &mut TestLog<D>,
     place: Place,
-    kind: u8,
+    block: &[u8],
+    steps: &mut Steps<L>,
+) -> Result<Result<Bytes, ReadBad>, Fail> {
+    Ok(log.read(alloc, place, &key_of(13, block)?, steps))
+}
+
+/// What a walk gives, from the last block to the first.
+fn walk<D: Disk, L: Ledger>(
+    alloc: Global,
+    log: &mut TestLog<D>,
+    steps: &mut Steps<L>,
+) -> Result<Vec<Info>, Fail> {
+    let mut tail = log.tail();
+    let mut infos = Vec::new(alloc);
+    for _ in 0..tail.left() {
+        let info = log.back(&mut tail, steps).ok().ok_or("back")?;
+        infos.push(info.ok_or("an early end")?)?;
+    }
+    see(log.back(&mut tail, steps) == Ok(None), "no end of a walk")?;
+    Ok(infos)
+}
+
+/// Whether a walk's first step fails and leaves as many blocks.
+fn stays<D: Disk, L: Ledger>(log: &mut TestLog<D>, steps: &mut Steps<L>) -> bool {
+    let mut tail = log.tail();
+    log.back(&mut tail, steps) == Err(BackBad::Fault) && tail.left() == log.front()
+}
+
+/// Reads the clump of a log's first block.
+fn first_clump<D: Disk>(log: &mut TestLog<D>) -> Result<Result<[u8; 41], Failed>, Fail> {
+    if log.arenas() == 0 || log.arena_len(0) < 32_768 {
+        return Err("no arena")?;
+    }
+    let mut clump = [0; 41];
+    match log.bytes(0, 24_576, &mut clump) {
+        Ok(()) => Ok(Ok(clump)),
+        Err(failed) => Ok(Err(failed)),
+    }
+}
+
+/// Whether the block is read that was written with these bytes.
+fn is_read<D: Disk, L: Ledger>(
+    alloc: Global,
+    log: &mut TestLog<D>,
+    place: Place,
     block: &[u8],
     steps: &mut Steps<L>,
 ) -> Result<bool, Fail> {
-    match log.read(rt.alloc(), place, &key_of(kind, block)?, steps) {
+    match read(alloc, log, place, block, steps)? {
         Ok(found) => Ok(found.as_slice() == block),
         Err(_) => Ok(false),
     }
 }
 
-/// The blocks that a walk gives, by their numbers: each with the one before it numbered one less.
-fn count_back<L: Ledger>(log: &mut TestLog, steps: &mut Steps<L>) -> Result<u64, Fail> {
-    let mut tail = log.tail();
-    let blocks = tail.left();
-    for n in 0..blocks {
-        let info = log
-            .back(&mut tail, steps)
-            .ok()
-            .ok_or("back")?
-            .ok_or("early end")?;
-        see(info.number == blocks - 1 - n, "a step to another number")?;
-        see(tail.left() == info.number, "another count of blocks left")?;
+/// Whether an arena is sealed or not, and has so many blocks.
+fn is_head<D: Disk>(log: &TestLog<D>, arena: u32, sealed: bool, clumps: u32) -> bool {
+    if arena >= log.arenas() {
+        return false;
     }
-    see(log.back(&mut tail, steps) == Ok(None), "no end of a walk")?;
-    Ok(blocks)
+    let head = log.head(arena);
+    head.sealed == sealed && head.clumps == clumps
 }
 
-/// The log after a crash of its one disk.
-fn crashed(rt: &HostRuntime, log: TestLog, mode: CrashMode) -> Result<TestLog, Fail> {
-    let mut parts = log.into_devices();
-    let part = parts.pop().ok_or("no partition")?;
-    mounted(rt, part.into_devices().crash_in(mode))
+/// What is done with a log, and what it has to give.
+#[derive(Clone, Copy)]
+enum Act<'a> {
+    /// A block of type 13 is taken in, at this place, or there is no room for it.
+    Put(&'a [u8], Option<Place>),
+    /// Blocks of three bytes are taken in until there is no room: so many, the last one there.
+    Fill(u8, Place),
+    /// So many calls of commits are made.
+    Advance(u64),
+    /// All that is queued is committed.
+    Commit,
+    /// The same, by so many calls, or a call fails.
+    Flush(Result<u64, LogErr>),
+    /// A call is made of a log that stopped at this one.
+    Stopped(u64),
+    /// So many blocks are accepted, and so many are committed.
+    Counts(u64, u64),
+    /// So many blocks are left, or one more where that is said, and all are committed.
+    Left(u64, bool),
+    /// An arena is sealed or not, and has so many blocks.
+    Head(u32, bool, u32),
+    /// The block at a place is read.
+    Read(Place, &'a [u8]),
+    /// The same, if the block of this number is left.
+    ReadLeft(u64, Place, &'a [u8]),
+    /// No block with these bytes is read at a place.
+    Unread(Place, &'a [u8], ReadBad),
+    /// A walk gives so many blocks.
+    Walk(usize),
+    /// A walk's first step fails.
+    Stay,
+    /// The clump of the first block is read.
+    Clump(Result<[u8; 41], Failed>),
+    /// The log is mounted again.
+    Again,
+    /// It is mounted again behind a crash.
+    Crash(CrashMode),
 }
 
-/// So many blocks were accepted, and so many of them are committed.
-fn see_counts(log: &TestLog, front: u64, durable: u64) -> Result<(), Fail> {
-    see(log.front() == front, "another count of accepted blocks")?;
-    see(
-        log.durable() == durable,
-        "another count of committed blocks",
-    )
-}
-
-fn see_head(log: &TestLog, arena: u32, sealed: bool, clumps: u32) -> Result<(), Fail> {
-    let head = head(log, arena)?;
-    see(
-        head.sealed == sealed,
-        "sealed where it isn't, or not where it is",
-    )?;
-    see(head.clumps == clumps, "another count of clumps")
-}
-
-/// The block of type 13 is given that was written with these bytes.
-fn see_block<L: Ledger>(
-    rt: &HostRuntime,
-    log: &mut TestLog,
-    place: Place,
-    block: &[u8],
+/// Does these with a log.
+fn play<D: Crashing, L: Ledger>(
+    alloc: Global,
+    log: TestLog<D>,
+    acts: &[Act],
     steps: &mut Steps<L>,
 ) -> Result<(), Fail> {
-    see(read(rt, log, place, 13, block, steps)?, "another block")
-}
-
-/// Why no block is given for this place and key.
-fn see_refused<L: Ledger>(
-    rt: &HostRuntime,
-    log: &mut TestLog,
-    place: Place,
-    key: &Key,
-    values: (FieldValue, FieldValue),
-    steps: &mut Steps<L>,
-) -> Result<(), Fail> {
-    let (want, found) = values;
-    let refused = log.read(rt.alloc(), place, key, steps).err();
-    see(
-        refused == Some(ReadBad::Damaged { want, found }),
-        "another refusal of a read",
-    )
-}
-
-/// What a log with `abc` at the first place answers for other places and keys.
-fn see_refusals<L: Ledger>(
-    rt: &HostRuntime,
-    log: &mut TestLog,
-    steps: &mut Steps<L>,
-) -> Result<(), Fail> {
-    let abc = key_of(13, b"abc")?;
-    let abd = key_of(13, b"abd")?;
-    let arena = Place {
-        arena: 1,
-        offset: 24_576,
-    };
-    let head = Place {
-        arena: 0,
-        offset: 24_575,
-    };
-    let number = FieldValue::Number;
-    see_refused(rt, log, arena, &abc, (number(0), number(1)), steps)?;
-    see_refused(rt, log, head, &abc, (number(24_576), number(24_575)), steps)?;
-    let other = key_of(2, b"abc")?;
-    see_refused(rt, log, FIRST_PLACE, &other, (number(2), number(13)), steps)?;
-    let scores = (FieldValue::Score(abd.score), FieldValue::Score(abc.score));
-    see_refused(rt, log, FIRST_PLACE, &abd, scores, steps)
-}
-
-/// What is known of `abc`, as the first block of a log.
-fn abc_info() -> Result<Info, Fail> {
-    Ok(Info {
-        key: key_of(13, b"abc")?,
-        size: 3,
-        place: FIRST_PLACE,
-        number: 0,
-    })
-}
-
-/// The last block of a log is `abc`, at the first place.
-fn see_last<L: Ledger>(log: &mut TestLog, steps: &mut Steps<L>) -> Result<(), Fail> {
-    let mut tail = log.tail();
-    see(
-        log.back(&mut tail, steps) == Ok(Some(abc_info()?)),
-        "another last block",
-    )
-}
-
-/// Queues `abc`, commits it, and reads it before and after.
-fn commit_abc<L: Ledger>(
-    rt: &HostRuntime,
-    log: &mut TestLog,
-    steps: &mut Steps<L>,
-) -> Result<(), Fail> {
-    see(
-        put(rt, log, 13, b"abc")? == Some(FIRST_PLACE),
-        "another first place",
-    )?;
-    see_counts(log, 1, 0)?;
-    see_block(rt, log, FIRST_PLACE, b"abc", steps)?;
-    see_last(log, steps)?;
-    see(flush(log) == Ok(6), "another flush of one block")?;
-    see_counts(log, 1, 1)?;
-    see_block(rt, log, FIRST_PLACE, b"abc", steps)?;
-    see_last(log, steps)
-}
-
-/// The first arena holds `abc`, and nothing else.
-fn see_arena(log: &mut TestLog) -> Result<(), Fail> {
-    see_head(log, 0, false, 1)?;
-    let mut clump = [0; 41];
-    see(
-        bytes(log, 24_576, &mut clump)? == Ok(()),
-        "a failed reading of bytes",
-    )?;
-    see(clump == ABC_CLUMP, "another clump")
-}
-
-fn a_block_is_committed<L: Ledger>(rt: &HostRuntime, blank: Blank) -> Result<(), Fail>
-    requires name { blank.name ≡ L.name }
-    requires parts { blank.parts ≡ L.parts }
-    requires some { 0 < L.parts }
-{
-    let mut steps = Steps::<L>::new(blank);
-    let mut log = log(rt, 40_960, &[])?;
-    commit_abc(rt, &mut log, &mut steps)?;
-    see_arena(&mut log)?;
-    see_refusals(rt, &mut log, &mut steps)
-}
-
-#[test]
-fn a_block_is_queued_committed_and_read(rt: HostRuntime) -> Result<(), Fail> {
-    a_block_is_committed::<Brand>(&rt, Blank::new(1))
-}
-
-/// A block of so many bytes gets this place, if any, in a log of one arena.
-fn see_room(rt: &HostRuntime, len: usize, place: Option<Place>) -> Result<(), Fail> {
-    let mut log = log(rt, 40_960, &[])?;
-    see(log.arenas() == 1, "another count of arenas")?;
-    let block = vec![in rt.alloc(); 7; len]?;
-    see(put(rt, &mut log, 13, &block)? == place, "another place")
-}
-
-/// So many blocks of three bytes fill a log of one arena.
-fn see_filled(rt: &HostRuntime, log: &mut TestLog) -> Result<(), Fail> {
-    see(log.arenas() == 1, "another count of arenas")?;
-    let last = Place {
-        arena: 0,
-        offset: LAST_OFFSET,
-    };
-    let (blocks, place) = fill(rt, log)?;
-    see(blocks == 124, "another count of blocks that fill an arena")?;
-    see(place == last, "another last place")
-}
-
-#[test]
-fn room_is_used_to_the_end(rt: HostRuntime) -> Result<(), Fail> {
-    see_filled(&rt, &mut log(&rt, 40_960, &[])?)?;
-    see_room(&rt, 8129, Some(FIRST_PLACE))?;
-    see_room(&rt, 8130, None)
-}
-
-/// Takes in so many blocks of three bytes.
-fn put_many(rt: &HostRuntime, log: &mut TestLog, blocks: u8) -> Result<(), Fail> {
-    for n in 0..blocks {
-        put(rt, log, 13, &[1, 2, n])?.ok_or("no room")?;
-    }
-    Ok(())
-}
-
-/// A block goes to the second arena once the first one is full.
-fn turns(rt: &HostRuntime, two: &mut TestLog) -> Result<(), Fail> {
-    see(two.arenas() == 2, "another count of arenas")?;
-    put_many(rt, two, 124)?;
-    see(
-        put(rt, two, 13, b"abc")? == Some(NEXT_PLACE),
-        "no turn to the next arena",
-    )?;
-    flush(two).ok().ok_or("flush")?;
-    see_head(two, 0, true, 124)?;
-    see_head(two, 1, false, 1)
-}
-
-/// Fills two arenas, and commits all blocks.
-fn fill_both(rt: &HostRuntime, two: &mut TestLog) -> Result<(), Fail> {
-    turns(rt, two)?;
-    let last = Place {
-        arena: 1,
-        offset: LAST_OFFSET,
-    };
-    let (more, place) = fill(rt, two)?;
-    see(more == 123, "another count of blocks that fill an arena")?;
-    see(place == last, "another last place")?;
-    flush(two).ok().ok_or("flush")?;
-    see_counts(two, 248, 248)
-}
-
-/// The first and the last block of both arenas are given, and a walk gives all.
-fn see_both<L: Ledger>(
-    rt: &HostRuntime,
-    two: &mut TestLog,
-    steps: &mut Steps<L>,
-) -> Result<(), Fail> {
-    see_block(rt, two, FIRST_PLACE, &[1, 2, 0], steps)?;
-    let last = Place {
-        arena: 0,
-        offset: LAST_OFFSET,
-    };
-    see_block(rt, two, last, &[1, 2, 123], steps)?;
-    see_block(rt, two, NEXT_PLACE, b"abc", steps)?;
-    let last = Place {
-        arena: 1,
-        offset: LAST_OFFSET,
-    };
-    see_block(rt, two, last, &[3, 0, 122], steps)?;
-    see(count_back(two, steps)? == 248, "another walk")
-}
-
-/// What was committed in two arenas is there when they are mounted again.
-fn is_found<L: Ledger>(rt: &HostRuntime, log: TestLog, steps: &mut Steps<L>) -> Result<(), Fail> {
-    let mut two = log;
-    fill_both(rt, &mut two)?;
-    let mut two = mounted_again(rt, two)?;
-    see_counts(&two, 248, 248)?;
-    see(two.base() == 1, "another base")?;
-    see_head(&two, 0, true, 124)?;
-    see_head(&two, 1, false, 124)?;
-    see_both(rt, &mut two, steps)
-}
-
-fn two_arenas<L: Ledger>(rt: &HostRuntime, blank: Blank) -> Result<(), Fail>
-    requires name { blank.name ≡ L.name }
-    requires parts { blank.parts ≡ L.parts }
-    requires some { 0 < L.parts }
-{
-    let mut steps = Steps::<L>::new(blank);
-    is_found(rt, log(rt, 73_728, &[])?, &mut steps)?;
-    is_found(rt, pair(rt, 40_960, 40_960)?, &mut steps)
-}
-
-#[test]
-fn two_full_arenas_are_found_again(rt: HostRuntime) -> Result<(), Fail> {
-    two_arenas::<Brand>(&rt, Blank::new(1))
-}
-
-/// The flush of 64 blocks, on a disk of which this call fails, counted from the first of the flush,
-/// ends so.
-fn see_flush(rt: &HostRuntime, call: u64, end: Result<u64, LogErr>) -> Result<(), Fail> {
-    let mut log = log(rt, 40_960, &[FIRST_CALL.saturating_add(call)])?;
-    put_many(rt, &mut log, 64)?;
-    see(log.queue_full(), "room in a full queue")?;
-    see_counts(&log, 64, 0)?;
-    see(flush(&mut log) == end, "another flush of 64 blocks")?;
-    see_counts(&log, 64, if end.is_ok() { 64 } else { 0 })
-}
-
-/// A clump and a directory entry are written of each, and the change of the head is four calls.
-#[test]
-fn a_full_queue_takes_132_calls(rt: HostRuntime) -> Result<(), Fail> {
-    see_flush(&rt, 131, Err(LogErr::Fault))?;
-    see_flush(&rt, 132, Ok(132))
-}
-
-/// A log on a partition of this length that has taken in `abc`.
-fn with_one(rt: &HostRuntime, len: u64) -> Result<TestLog, Fail> {
-    let mut log = log(rt, len, &[])?;
-    put(rt, &mut log, 13, b"abc")?;
-    Ok(log)
-}
-
-/// One that has committed it, and has taken in `abd`.
-fn with_two(rt: &HostRuntime) -> Result<TestLog, Fail> {
-    let mut log = with_one(rt, 40_960)?;
-    flush(&mut log).ok().ok_or("flush")?;
-    put(rt, &mut log, 13, b"abd")?;
-    Ok(log)
-}
-
-/// A block that fills the first arena, behind one of three bytes.
-fn rest(rt: &HostRuntime) -> Result<Vec<u8>, Fail> {
-    Ok(vec![in rt.alloc(); 7; 8192 - 66 - 63]?)
-}
-
-/// One that has committed `abc`, and has taken in two blocks: the first of them fills the first
-/// arena.
-fn with_three(rt: &HostRuntime) -> Result<TestLog, Fail> {
-    let mut log = with_one(rt, 73_728)?;
-    flush(&mut log).ok().ok_or("flush")?;
-    put(rt, &mut log, 13, &rest(rt)?)?;
-    put(rt, &mut log, 13, b"abd")?;
-    Ok(log)
-}
-
-/// So many blocks may be left where so many were committed, and then so many calls were made of
-/// commits of one block each. These have six calls, of which the fifth is the one that counts.
-fn may_be_left(committed: u8, calls: u8, blocks: u64) -> bool {
-    let least = u64::from(committed) + u64::from(calls / 6);
-    blocks == least || (calls % 6 == 5 && blocks == least + 1)
-}
-
-/// The log after a crash behind so many more calls, with a right number of blocks.
-fn after_crash<L: Ledger>(
-    rt: &HostRuntime,
-    log: TestLog,
-    committed: u8,
-    calls: u8,
-    mode: CrashMode,
-    steps: &mut Steps<L>,
-) -> Result<TestLog, Fail> {
     let mut log = log;
-    advance(&mut log, u64::from(calls))?;
-    let mut log = crashed(rt, log, mode)?;
-    let blocks = log.front();
-    see(
-        may_be_left(committed, calls, blocks),
-        "another count of blocks left",
-    )?;
-    see_counts(&log, blocks, blocks)?;
-    see(count_back(&mut log, steps)? == blocks, "another walk")?;
+    for act in acts {
+        log = done(alloc, log, act, steps)?;
+    }
+    Ok(())
+}
+
+/// The log behind that.
+fn done<D: Crashing, L: Ledger>(
+    alloc: Global,
+    log: TestLog<D>,
+    act: &Act,
+    steps: &mut Steps<L>,
+) -> Result<TestLog<D>, Fail> {
+    match act {
+        Act::Again => mounted(alloc, into_disk(log)?),
+        Act::Crash(mode) => mounted(alloc, into_disk(log)?.crashed(*mode)),
+        _ => answering(alloc, log, act, steps),
+    }
+}
+
+/// The same log, if it gives what it has to.
+fn answering<D: Disk + Drop, L: Ledger>(
+    alloc: Global,
+    log: TestLog<D>,
+    act: &Act,
+    steps: &mut Steps<L>,
+) -> Result<TestLog<D>, Fail> {
+    let mut log = log;
+    see(reads(alloc, &mut log, act, steps)?, "another answer")?;
     Ok(log)
 }
 
-/// The block of this number is given, where it is left.
-fn see_left<L: Ledger>(
-    rt: &HostRuntime,
-    log: &mut TestLog,
-    number: u64,
-    place: Place,
-    block: &[u8],
+/// Whether a log gives what it has to.
+fn reads<D: Disk, L: Ledger>(
+    alloc: Global,
+    log: &mut TestLog<D>,
+    act: &Act,
     steps: &mut Steps<L>,
-) -> Result<(), Fail> {
-    if log.front() <= number {
-        return Ok(());
+) -> Result<bool, Fail> {
+    match act {
+        Act::Read(place, block) => is_read(alloc, log, *place, block, steps),
+        Act::ReadLeft(number, place, block) => {
+            Ok(log.front() <= *number || is_read(alloc, log, *place, block, steps)?)
+        }
+        Act::Unread(place, block, bad) => {
+            Ok(read(alloc, log, *place, block, steps)?.err() == Some(*bad))
+        }
+        Act::Walk(blocks) => Ok(walk(alloc, log, steps)?.len() == *blocks),
+        Act::Stay => Ok(stays(log, steps)),
+        _ => writes(alloc, log, act),
     }
-    see_block(rt, log, place, block, steps)
 }
 
-/// A crash within the first commit.
-fn first_commit<L: Ledger>(
-    rt: &HostRuntime,
-    calls: u8,
-    mode: CrashMode,
-    steps: &mut Steps<L>,
-) -> Result<(), Fail> {
-    let mut log = after_crash(rt, with_one(rt, 40_960)?, 0, calls, mode, steps)?;
-    see_left(rt, &mut log, 0, FIRST_PLACE, b"abc", steps)
+/// The same where nothing is read of the clumps.
+fn writes<D: Disk>(alloc: Global, log: &mut TestLog<D>, act: &Act) -> Result<bool, Fail> {
+    match act {
+        Act::Put(block, place) => Ok(put(alloc, log, 13, block)? == *place),
+        Act::Fill(blocks, place) => Ok(fill(alloc, log)? == (*blocks, *place)),
+        Act::Advance(calls) => Ok(advance(log, *calls).is_ok()),
+        Act::Commit => Ok(flush(log).is_ok()),
+        Act::Flush(end) => Ok(flush(log) == *end),
+        Act::Stopped(call) => Ok(log.advance() == Err(LogErr::Stopped(*call))),
+        Act::Clump(clump) => Ok(first_clump(log)? == *clump),
+        _ => Ok(tells(log, act)),
+    }
 }
 
-/// A crash within the second commit.
-fn second_commit<L: Ledger>(
-    rt: &HostRuntime,
-    calls: u8,
-    mode: CrashMode,
-    steps: &mut Steps<L>,
-) -> Result<(), Fail> {
-    let mut log = after_crash(rt, with_two(rt)?, 1, calls, mode, steps)?;
-    see_block(rt, &mut log, FIRST_PLACE, b"abc", steps)?;
-    see_left(rt, &mut log, 1, SECOND_PLACE, b"abd", steps)
+/// The same where the log isn't changed.
+fn tells<D: Disk>(log: &TestLog<D>, act: &Act) -> bool {
+    let counts = (log.front(), log.durable());
+    match act {
+        Act::Counts(front, durable) => counts == (*front, *durable),
+        Act::Left(blocks, or_more) => {
+            let more = blocks.saturating_add(1);
+            counts == (*blocks, *blocks) || *or_more && counts == (more, more)
+        }
+        Act::Head(arena, sealed, clumps) => is_head(log, *arena, *sealed, *clumps),
+        _ => false,
+    }
 }
 
-/// A crash within a commit that seals its arena, or within the one behind it.
-fn sealing_commit<L: Ledger>(
-    rt: &HostRuntime,
-    calls: u8,
-    mode: CrashMode,
-    steps: &mut Steps<L>,
-) -> Result<(), Fail> {
-    let mut log = after_crash(rt, with_three(rt)?, 1, calls, mode, steps)?;
-    see_sealed(&log)?;
-    see_block(rt, &mut log, FIRST_PLACE, b"abc", steps)?;
-    see_left(rt, &mut log, 1, SECOND_PLACE, &rest(rt)?, steps)?;
-    see_left(rt, &mut log, 2, NEXT_PLACE, b"abd", steps)
-}
-
-/// The first arena is sealed exactly where it has its two blocks.
-fn see_sealed(log: &TestLog) -> Result<(), Fail> {
-    let blocks = log.front().min(3) as u32;
-    let sealed = blocks >= 2;
-    see(log.base() == u32::from(sealed), "another base")?;
-    see_head(log, 0, sealed, blocks.min(2))?;
-    see_head(log, 1, false, blocks.saturating_sub(2))
-}
-
-fn a_crash<L: Ledger>(rt: &HostRuntime, blank: Blank) -> Result<(), Fail>
+/// Does these with a log without blocks on this disk.
+fn play_on<D: Crashing, L: Ledger>(
+    alloc: Global,
+    disk: D,
+    acts: &[Act],
+    blank: Blank,
+) -> Result<(), Fail>
     requires name { blank.name ≡ L.name }
     requires parts { blank.parts ≡ L.parts }
     requires some { 0 < L.parts }
 {
-    let mut steps = Steps::<L>::new(blank);
+    let log = mounted(alloc, formatted(alloc, disk, b"a")?)?;
+    play(alloc, log, acts, &mut Steps::<L>::new(blank))
+}
+
+/// The same on a disk in memory of this length, of which these calls fail.
+fn run(alloc: Global, len: u64, failing: &[u64], acts: &[Act]) -> Result<(), Fail> {
+    let disk = disk(alloc, len, failing)?;
+    play_on::<MemDisk<Listed>, Brand>(alloc, disk, acts, Blank::new(1))
+}
+
+/// `abc` is queued, committed and read before and after. No other block is read where it stands.
+fn commit_one(alloc: Global) -> Result<(), Fail> {
+    let bad = ReadBad::Damaged {
+        want: FieldValue::Score(Sha1Scorer.score(b"abd")),
+        found: FieldValue::Score(Sha1Scorer.score(b"abc")),
+    };
+    let acts = [
+        Act::Put(b"abc", Some(FIRST)),
+        Act::Counts(1, 0),
+        Act::Read(FIRST, b"abc"),
+        Act::Walk(1),
+        Act::Flush(Ok(6)),
+        Act::Counts(1, 1),
+        Act::Head(0, false, 1),
+        Act::Read(FIRST, b"abc"),
+        Act::Unread(FIRST, b"abd", bad),
+        Act::Walk(1),
+        Act::Clump(Ok(ABC_CLUMP)),
+    ];
+    run(alloc, ONE, &[], &acts)
+}
+
+/// One arena has room for 124 blocks of three bytes, or for one of 8,129.
+fn fill_one(alloc: Global) -> Result<(), Fail> {
+    run(alloc, ONE, &[], &[Act::Fill(124, LAST)])?;
+    let block = vec![in alloc; 7; 8129]?;
+    run(alloc, ONE, &[], &[Act::Put(&block, Some(FIRST))])?;
+    let block = vec![in alloc; 7; 8130]?;
+    run(alloc, ONE, &[], &[Act::Put(&block, None)])
+}
+
+/// Two arenas have room for 248, which are there when they are mounted again.
+fn fill_two(alloc: Global) -> Result<(), Fail> {
+    let acts = [
+        Act::Fill(248, NEXT_LAST),
+        Act::Commit,
+        Act::Again,
+        Act::Counts(248, 248),
+        Act::Head(0, true, 124),
+        Act::Head(1, false, 124),
+        Act::Read(FIRST, &[1, 2, 0]),
+        Act::Read(LAST, &[1, 2, 123]),
+        Act::Read(NEXT, &[1, 2, 124]),
+        Act::Read(NEXT_LAST, &[1, 2, 247]),
+        Act::Walk(248),
+    ];
+    run(alloc, TWO, &[], &acts)
+}
+
+#[test]
+fn blocks_are_committed_and_found_again(rt: HostRuntime) -> Result<(), Fail> {
+    commit_one(rt.alloc())?;
+    fill_one(rt.alloc())?;
+    fill_two(rt.alloc())
+}
+
+/// A crash behind so many calls of two commits of one block each, behind `abc`. The first of them
+/// seals the first arena. A commit has six calls, of which the fifth is the one that counts.
+fn crash_at(alloc: Global, calls: u8, mode: CrashMode) -> Result<(), Fail> {
+    let rest = vec![in alloc; 7; 8192 - 66 - 63]?;
+    let acts = [
+        Act::Put(b"abc", Some(FIRST)),
+        Act::Commit,
+        Act::Put(&rest, Some(SECOND)),
+        Act::Put(b"abd", Some(NEXT)),
+        Act::Advance(u64::from(calls)),
+        Act::Crash(mode),
+        Act::Left(1 + u64::from(calls / 6), calls % 6 == 5),
+        Act::Read(FIRST, b"abc"),
+        Act::ReadLeft(1, SECOND, &rest),
+        Act::ReadLeft(2, NEXT, b"abd"),
+    ];
+    run(alloc, TWO, &[], &acts)
+}
+
+/// A commit's call fails.
+fn fail_at(alloc: Global, call: u64) -> Result<(), Fail> {
+    let acts = [
+        Act::Put(b"abc", Some(FIRST)),
+        Act::Flush(Err(LogErr::Fault)),
+        Act::Stopped(call),
+        Act::Counts(1, 0),
+        Act::Read(FIRST, b"abc"),
+        Act::Walk(1),
+    ];
+    run(alloc, ONE, &[FIRST_CALL.saturating_add(call)], &acts)
+}
+
+/// Reading a block, a step back and reading bytes fail, and then do what they are asked.
+fn read_again(alloc: Global) -> Result<(), Fail> {
+    let acts = [
+        Act::Put(b"abc", Some(FIRST)),
+        Act::Commit,
+        Act::Unread(FIRST, b"abc", ReadBad::Fault),
+        Act::Read(FIRST, b"abc"),
+        Act::Stay,
+        Act::Walk(1),
+        Act::Clump(Err(Failed)),
+        Act::Clump(Ok(ABC_CLUMP)),
+    ];
+    let failing = [FIRST_CALL + 6, FIRST_CALL + 9, FIRST_CALL + 11];
+    run(alloc, ONE, &failing, &acts)
+}
+
+#[test]
+fn crashes_and_faults_leave_a_prefix(rt: HostRuntime) -> Result<(), Fail> {
     for mode in CrashMode::ALL {
-        for calls in 0..7 {
-            first_commit(rt, calls, mode, &mut steps)?;
-            second_commit(rt, calls, mode, &mut steps)?;
-        }
         for calls in 0..13 {
-            sealing_commit(rt, calls, mode, &mut steps)?;
+            crash_at(rt.alloc(), calls, mode)?;
         }
     }
-    Ok(())
-}
-
-#[test]
-fn a_crash_leaves_a_prefix(rt: HostRuntime) -> Result<(), Fail> {
-    a_crash::<Brand>(&rt, Blank::new(1))
-}
-
-/// A commit's call of this number fails.
-fn see_stopped<L: Ledger>(
-    rt: &HostRuntime,
-    log: &mut TestLog,
-    call: u64,
-    steps: &mut Steps<L>,
-) -> Result<(), Fail> {
-    put(rt, log, 13, b"abc")?;
-    see(flush(log) == Err(LogErr::Fault), "no fault")?;
-    see(
-        log.advance() == Err(LogErr::Stopped(call)),
-        "a call of a stopped log",
-    )?;
-    see(log.stopped() == Some(call), "stopped at another call")?;
-    see_counts(log, 1, 0)?;
-    see_block(rt, log, FIRST_PLACE, b"abc", steps)?;
-    see(count_back(log, steps)? == 1, "another walk")
-}
-
-fn failed_at<L: Ledger>(rt: &HostRuntime, call: u64, steps: &mut Steps<L>) -> Result<(), Fail> {
-    let mut log = log(rt, 40_960, &[FIRST_CALL.saturating_add(call)])?;
-    see_stopped(rt, &mut log, call, steps)
-}
-
-fn a_failed_call<L: Ledger>(rt: &HostRuntime, blank: Blank) -> Result<(), Fail>
-    requires name { blank.name ≡ L.name }
-    requires parts { blank.parts ≡ L.parts }
-    requires some { 0 < L.parts }
-{
-    let mut steps = Steps::<L>::new(blank);
     for call in 0..6 {
-        failed_at(rt, call, &mut steps)?;
+        fail_at(rt.alloc(), call)?;
+    }
+    read_again(rt.alloc())
+}
+
+/// What is changed of the second of two partitions without blocks.
+#[derive(Clone, Copy)]
+enum Change {
+    Nothing,
+    /// It has a block.
+    Block,
+    /// The head of its first arena has these bytes. Behind its magic number stands its version at 4.
+    Bytes(u64, [u8; 2]),
+}
+
+/// Commits `abc`.
+fn commit_abc<D: Disk>(alloc: Global, log: &mut TestLog<D>) -> Result<(), Fail> {
+    put(alloc, log, 13, b"abc")?;
+    commit(log)
+}
+
+fn changed<D: Disk + Drop>(alloc: Global, disk: D, change: Change) -> Result<D, Fail> {
+    let mut disk = disk;
+    match change {
+        Change::Nothing => Ok(disk),
+        Change::Block => {
+            let mut log = mounted(alloc, disk)?;
+            commit_abc(alloc, &mut log)?;
+            into_disk(log)
+        }
+        Change::Bytes(at, bytes) => {
+            if at > 100 || disk.len() < ONE {
+                return Err("outside of the head")?;
+            }
+            disk.write_at(8192 + at, &bytes)?;
+            Ok(disk)
+        }
+    }
+}
+
+/// Why there is no log on a partition named `a` and one of this name that is changed so.
+fn refusal_on<D: Disk + Drop>(
+    alloc: Global,
+    first: D,
+    second: D,
+    name: &[u8],
+    change: Change,
+) -> Result<Option<LogBad>, Fail> {
+    let first = formatted(alloc, first, b"a")?;
+    let second = changed(alloc, formatted(alloc, second, name)?, change)?;
+    Ok(mounted_pair(alloc, first, second)?.err())
+}
+
+/// This is why there is no log, where the second disk fails at these calls.
+fn see_refusal(
+    alloc: Global,
+    name: &[u8],
+    failing: &[u64],
+    change: Change,
+    bad: LogBad,
+) -> Result<(), Fail> {
+    let first = disk(alloc, ONE, &[])?;
+    let second = disk(alloc, ONE, failing)?;
+    let found = refusal_on(alloc, first, second, name, change)?;
+    see(found == Some(bad), "another refusal")
+}
+
+/// Namesakes, a block behind an empty arena, and heads that are none.
+fn refuse(alloc: Global) -> Result<(), Fail> {
+    let namesakes = PartBad::DuplicateName {
+        first: 0,
+        second: 1,
+    };
+    see_refusal(alloc, b"a", &[], Change::Nothing, LogBad::Part(namesakes))?;
+    let order = LogBad::Order {
+        arena: 1,
+        clumps: 1,
+    };
+    see_refusal(alloc, b"b", &[], Change::Block, order)?;
+    let bad = ArenaBad::NotFormatted;
+    let none = LogBad::Arena { arena: 1, bad };
+    see_refusal(alloc, b"b", &[], Change::Bytes(0, [0, 0]), none)?;
+    let bad = ArenaBad::Torn {
+        field: Field::Version,
+        found: 2,
+        want: 1,
+    };
+    let torn = LogBad::Arena { arena: 1, bad };
+    see_refusal(alloc, b"b", &[], Change::Bytes(4, [0, 2]), torn)
+}
+
+/// The calls of the second disk before those of mounting the log are 7: a sync, and two reads of a
+/// head.
+#[test]
+fn what_is_no_log_is_refused(rt: HostRuntime) -> Result<(), Fail> {
+    refuse(rt.alloc())?;
+    for call in 7..10 {
+        see_refusal(rt.alloc(), b"b", &[call], Change::Nothing, LogBad::Fault)?;
     }
     Ok(())
-}
-
-#[test]
-fn a_failed_call_stops_the_log(rt: HostRuntime) -> Result<(), Fail> {
-    a_failed_call::<Brand>(&rt, Blank::new(1))
-}
-
-/// The calls that fail of a disk with `abc`, committed: the first and the second of two readings of
-/// it, the one of a step back, and the one of reading bytes. Those between them don't fail.
-const FAILING_READS: [u64; 4] = [
-    FIRST_CALL + 6,
-    FIRST_CALL + 8,
-    FIRST_CALL + 11,
-    FIRST_CALL + 13,
-];
-
-/// A call of the disk fails where `abc` is read.
-fn see_fault<L: Ledger>(
-    rt: &HostRuntime,
-    log: &mut TestLog,
-    steps: &mut Steps<L>,
-) -> Result<(), Fail> {
-    let refused = log
-        .read(rt.alloc(), FIRST_PLACE, &key_of(13, b"abc")?, steps)
-        .err();
-    see(refused == Some(ReadBad::Fault), "no fault of a read")
-}
-
-/// A step back fails, and is made then.
-fn step_again<L: Ledger>(log: &mut TestLog, steps: &mut Steps<L>) -> Result<(), Fail> {
-    let mut tail = log.tail();
-    see(
-        log.back(&mut tail, steps) == Err(BackBad::Fault),
-        "no fault of a step",
-    )?;
-    see(tail.left() == 1, "a step that failed and was made")?;
-    see(
-        log.back(&mut tail, steps) == Ok(Some(abc_info()?)),
-        "another last block",
-    )
-}
-
-/// Each call that reads fails, and then does what it is asked.
-fn read_again<L: Ledger>(
-    rt: &HostRuntime,
-    log: &mut TestLog,
-    steps: &mut Steps<L>,
-) -> Result<(), Fail> {
-    see_fault(rt, log, steps)?;
-    see_fault(rt, log, steps)?;
-    see_block(rt, log, FIRST_PLACE, b"abc", steps)?;
-    step_again(log, steps)?;
-    see(
-        bytes(log, 24_576, &mut [0; 41])? == Err(Failed),
-        "no fault of bytes",
-    )?;
-    see_arena(log)
-}
-
-fn failing_reads<L: Ledger>(rt: &HostRuntime, blank: Blank) -> Result<(), Fail>
-    requires name { blank.name ≡ L.name }
-    requires parts { blank.parts ≡ L.parts }
-    requires some { 0 < L.parts }
-{
-    let mut steps = Steps::<L>::new(blank);
-    let mut log = log(rt, 40_960, &FAILING_READS)?;
-    put(rt, &mut log, 13, b"abc")?;
-    see(flush(&mut log) == Ok(6), "another flush of one block")?;
-    read_again(rt, &mut log, &mut steps)?;
-    see(
-        put(rt, &mut log, 13, b"abd")? == Some(SECOND_PLACE),
-        "another second place",
-    )?;
-    see(flush(&mut log) == Ok(6), "another flush of one block")?;
-    see_counts(&log, 2, 2)
-}
-
-#[test]
-fn a_failed_reading_may_be_made_again(rt: HostRuntime) -> Result<(), Fail> {
-    failing_reads::<Brand>(&rt, Blank::new(1))
 }
 
 /// The next of a row of drawn numbers (an xorshift).
@@ -823,310 +682,147 @@ fn drawn(state: &mut u64) -> u64 {
     x
 }
 
-/// A block that was taken in, with its key and place.
-#[derive(Drop)]
-struct Taken {
-    key: Key,
-    block: Vec<u8>,
-    place: Place,
-}
-
-/// A log and a plain store side by side, the blocks that both took, and how many both refused.
-#[derive(Drop)]
-struct Sides {
-    log: TestLog,
-    plain: PlainStore<Sha1Scorer>,
-    taken: Vec<Taken>,
-    refused: u64,
-}
-
-impl Sides {
-    /// Two partitions, with arenas 0 to 2 and 3 to 4.
-    fn new(rt: &HostRuntime) -> Result<Sides, Fail> {
-        let log = pair(rt, 106_496, 73_728)?;
-        let arenas = Vec::from_slice(rt.alloc(), &[ARENA_LEN as u32; 5])?;
-        let sections = Vec::from_slice(rt.alloc(), &[4000])?;
-        let plain = PlainStore::new(rt.alloc(), Sha1Scorer, arenas, 0, sections);
-        let taken = Vec::new(rt.alloc());
-        Ok(Sides {
-            log,
-            plain,
-            taken,
-            refused: 0,
-        })
-    }
-
-    /// Gives both a block that neither has: both take it in, under its score, or both have no room.
-    fn write(&mut self, rt: &HostRuntime, kind: u8, block: Vec<u8>) -> Result<(), Fail> {
-        let key = key_of(kind, &block)?;
-        let answer = self.plain.write(rt.alloc(), kind, &block);
-        match put(rt, &mut self.log, kind, &block)? {
-            Some(place) => {
-                see(
-                    answer == Ok(key.score),
-                    "taken by the log alone, or under another score",
-                )?;
-                self.taken.push(Taken { key, block, place })?;
-            }
-            None => {
-                see(answer == Err(Why::ArenasFull), "refused by the log alone")?;
-                self.refused = self.refused.saturating_add(1);
-            }
-        }
-        Ok(())
-    }
-
-    /// The plain store answers a block that it has with its score, and adds nothing. The log has it
-    /// too, under that score, and isn't asked to take it in again.
-    fn write_again<L: Ledger>(
-        &mut self,
-        rt: &HostRuntime,
-        number: u64,
-        steps: &mut Steps<L>,
-    ) -> Result<(), Fail> {
-        if self.taken.is_empty() {
-            return Ok(());
-        }
-        let Taken { key, block, .. } = &self.taken[(number % self.taken.len() as u64) as usize];
-        let answer = self.plain.write(rt.alloc(), key.kind.wire(), block);
-        see(answer == Ok(key.score), "another score of a held block")?;
-        self.read(rt, number, steps)
-    }
-
-    /// Both give one of the blocks, the same bytes, and neither gives one that wasn't written.
-    fn read<L: Ledger>(
-        &mut self,
-        rt: &HostRuntime,
-        number: u64,
-        steps: &mut Steps<L>,
-    ) -> Result<(), Fail> {
-        if self.taken.is_empty() {
-            return Ok(());
-        }
-        let Taken { key, block, place } = &self.taken[(number % self.taken.len() as u64) as usize];
-        let wanted = self.plain.read(&key.score, key.kind.wire(), 57_344);
-        see(
-            wanted == Ok(block.as_slice()),
-            "another block of the plain store",
-        )?;
-        let found = self.log.read(rt.alloc(), *place, key, steps);
-        let found = found.ok().ok_or("no block of the log")?;
-        see(wanted == Ok(found.as_slice()), "another block of the log")?;
-        let absent = key_of(key.kind.wire(), &ABSENT)?;
-        let wanted = self.plain.read(&absent.score, absent.kind.wire(), 57_344);
-        see(
-            wanted == Err(Why::Absent),
-            "an absent block of the plain store",
-        )?;
-        let values = (
-            FieldValue::Score(absent.score),
-            FieldValue::Score(key.score),
-        );
-        see_refused(rt, &mut self.log, *place, &absent, values, steps)
-    }
-
-    /// At the end all blocks are committed, both give each, and a walk gives what is known of it.
-    fn see_end<L: Ledger>(&mut self, rt: &HostRuntime, steps: &mut Steps<L>) -> Result<(), Fail> {
-        let blocks = self.taken.len() as u64;
-        see(blocks > 100, "few blocks")?;
-        see(self.refused > 0, "no block that has no room")?;
-        flush(&mut self.log).ok().ok_or("flush")?;
-        see_counts(&self.log, blocks, blocks)?;
-        for number in 0..blocks {
-            self.read(rt, number, steps)?;
-        }
-        see_walk(&mut self.log, &self.taken, steps)
-    }
-}
-
-/// A walk gives what is known of each of these blocks, from the last to the first.
-fn see_walk<L: Ledger>(
-    log: &mut TestLog,
-    taken: &[Taken],
-    steps: &mut Steps<L>,
-) -> Result<(), Fail> {
-    let mut tail = log.tail();
-    for n in 0..taken.len() {
-        let number = taken.len() - 1 - n;
-        let Taken { key, block, place } = &taken[number];
-        let info = Info {
-            key: *key,
-            size: u16::try_from(block.len())?,
-            place: *place,
-            number: number as u64,
-        };
-        see(
-            log.back(&mut tail, steps) == Ok(Some(info)),
-            "a step to another block",
-        )?;
-    }
-    see(log.back(&mut tail, steps) == Ok(None), "no end of a walk")
-}
-
-/// A block that is never written.
-const ABSENT: [u8; 2] = [0xff, 0xff];
-
 /// A block of a drawn length that begins with this number, so that it is like no other.
-fn numbered_block(
-    rt: &HostRuntime,
-    state: &mut u64,
-    kind: u8,
-    number: u16,
-) -> Result<Vec<u8>, Fail> {
+fn numbered_block(alloc: Global, state: &mut u64, kind: u8, number: u16) -> Result<Vec<u8>, Fail> {
     let n = 2 + (drawn(state) % 300) as usize;
-    let mut block = vec![in rt.alloc(); kind; n]?;
+    let mut block = vec![in alloc; kind; n]?;
     let [high, low] = number.to_be_bytes();
     block[0] = high;
     block[1] = low;
     Ok(block)
 }
 
-/// Writes, commits and reads one block after another. One time in four it also writes one that is
-/// held.
-fn write_many<L: Ledger>(
-    rt: &HostRuntime,
-    sides: &mut Sides,
+/// A block that was taken in, and what is known of it.
+#[derive(Drop)]
+struct Taken {
+    info: Info,
+    block: Vec<u8>,
+}
+
+/// A log and a plain store side by side, the blocks that both took, and how many both refused.
+#[derive(Drop)]
+struct Sides<D: Disk> {
+    log: TestLog<D>,
+    plain: PlainStore<Sha1Scorer>,
+    taken: Vec<Taken>,
+    refused: u64,
+}
+
+impl<D: Disk + Drop> Sides<D> {
+    /// Two partitions, with arenas 0 to 2 and 3 to 4.
+    fn new(alloc: Global, first: D, second: D) -> Result<Sides<D>, Fail> {
+        let first = formatted(alloc, first, b"a")?;
+        let second = formatted(alloc, second, b"b")?;
+        let log = mounted_pair(alloc, first, second)?;
+        let arenas = Vec::from_slice(alloc, &[ARENA_LEN as u32; 5])?;
+        let sections = Vec::from_slice(alloc, &[4000])?;
+        Ok(Sides {
+            log: log.ok().ok_or("mount the log")?,
+            plain: PlainStore::new(alloc, Sha1Scorer, arenas, 0, sections),
+            taken: Vec::new(alloc),
+            refused: 0,
+        })
+    }
+
+    /// Gives both a block that neither has: both take it in, under its score, or both have no room.
+    fn write(&mut self, alloc: Global, kind: u8, block: Vec<u8>) -> Result<(), Fail> {
+        let key = key_of(kind, &block)?;
+        let answer = self.plain.write(alloc, kind, &block);
+        let Some(place) = put(alloc, &mut self.log, kind, &block)? else {
+            self.refused = self.refused.saturating_add(1);
+            return see(answer == Err(Why::ArenasFull), "refused by the log alone");
+        };
+        see(answer == Ok(key.score), "not taken in by both alike")?;
+        let info = Info {
+            key,
+            size: u16::try_from(block.len())?,
+            place,
+            number: self.taken.len() as u64,
+        };
+        self.taken.push(Taken { info, block })?;
+        Ok(())
+    }
+
+    /// Both give one of the blocks, the same bytes.
+    fn read<L: Ledger>(
+        &mut self,
+        alloc: Global,
+        number: u64,
+        steps: &mut Steps<L>,
+    ) -> Result<(), Fail> {
+        if self.taken.is_empty() {
+            return Ok(());
+        }
+        let Taken { info, block } = &self.taken[(number % self.taken.len() as u64) as usize];
+        let Info { key, place, .. } = info;
+        let wanted = self.plain.read(&key.score, key.kind.wire(), 57_344);
+        see(wanted == Ok(block.as_slice()), "another plain block")?;
+        let found = self.log.read(alloc, *place, key, steps);
+        let found = found.ok().ok_or("no block of the log")?;
+        see(wanted == Ok(found.as_slice()), "another block of the log")
+    }
+
+    /// A walk gives what is known of each block.
+    fn see_walk<L: Ledger>(&mut self, alloc: Global, steps: &mut Steps<L>) -> Result<(), Fail> {
+        let infos = walk(alloc, &mut self.log, steps)?;
+        see(infos.len() == self.taken.len(), "another count of blocks")?;
+        for (info, taken) in infos.iter().rev().zip(self.taken.iter()) {
+            see(*info == taken.info, "a step to another block")?;
+        }
+        Ok(())
+    }
+
+    /// At the end all blocks are committed, and both give each.
+    fn see_end<L: Ledger>(&mut self, alloc: Global, steps: &mut Steps<L>) -> Result<(), Fail> {
+        let blocks = self.taken.len() as u64;
+        see(blocks > 100, "few blocks")?;
+        see(self.refused > 0, "no block that has no room")?;
+        commit(&mut self.log)?;
+        see(self.log.durable() == blocks, "another count of blocks")?;
+        for number in 0..blocks {
+            self.read(alloc, number, steps)?;
+        }
+        self.see_walk(alloc, steps)
+    }
+}
+
+/// Writes, commits and reads one block after another.
+fn write_many<D: Disk + Drop, L: Ledger>(
+    alloc: Global,
+    sides: &mut Sides<D>,
     steps: &mut Steps<L>,
 ) -> Result<(), Fail> {
     let mut state = 1996;
     for number in 0..300u16 {
         let kind = 1 + (drawn(&mut state) % 9) as u8;
-        let block = numbered_block(rt, &mut state, kind, number)?;
-        sides.write(rt, kind, block)?;
-        advance(&mut sides.log, drawn(&mut state) % 8)?;
-        sides.read(rt, drawn(&mut state), steps)?;
-        if drawn(&mut state) % 4 == 0 {
-            sides.write_again(rt, drawn(&mut state), steps)?;
-        }
+        let block = numbered_block(alloc, &mut state, kind, number)?;
+        sides.write(alloc, kind, block)?;
+        let calls = drawn(&mut state) % 8;
+        see(advance(&mut sides.log, calls).is_ok(), "a fault")?;
+        sides.read(alloc, drawn(&mut state), steps)?;
     }
     Ok(())
 }
 
-fn side_by_side<L: Ledger>(rt: &HostRuntime, blank: Blank) -> Result<(), Fail>
+fn side_by_side<D: Disk + Drop, L: Ledger>(
+    alloc: Global,
+    first: D,
+    second: D,
+    blank: Blank,
+) -> Result<(), Fail>
     requires name { blank.name ≡ L.name }
     requires parts { blank.parts ≡ L.parts }
     requires some { 0 < L.parts }
 {
     let mut steps = Steps::<L>::new(blank);
-    let mut sides = Sides::new(rt)?;
-    write_many(rt, &mut sides, &mut steps)?;
-    sides.see_end(rt, &mut steps)
+    let mut sides = Sides::<D>::new(alloc, first, second)?;
+    write_many(alloc, &mut sides, &mut steps)?;
+    sides.see_end(alloc, &mut steps)
 }
 
 #[test]
 fn the_log_and_the_plain_store_agree(rt: HostRuntime) -> Result<(), Fail> {
-    side_by_side::<Brand>(&rt, Blank::new(1))
-}
-
-/// Why there is no log on these two partitions, which are handed back.
-fn refusal(
-    rt: &HostRuntime,
-    first: MemDisk<Listed>,
-    second: MemDisk<Listed>,
-) -> Result<(LogBad, MemDisk<Listed>, MemDisk<Listed>), Fail> {
-    let a = mount_part(first)?;
-    let b = mount_part(second)?;
-    let refused = mount(rt.alloc(), vec![in rt.alloc(); a, b]?, Sha1Scorer);
-    let (bad, mut parts) = refused.err().ok_or("mounted")?;
-    let b = parts.pop().ok_or("no partition")?;
-    let a = parts.pop().ok_or("no partition")?;
-    Ok((bad, a.into_devices(), b.into_devices()))
-}
-
-fn see_namesakes(rt: &HostRuntime) -> Result<(), Fail> {
-    let a = formatted(rt, 40_960, b"a", &[])?;
-    let same = formatted(rt, 40_960, b"a", &[])?;
-    let bad = PartBad::DuplicateName {
-        first: 0,
-        second: 1,
-    };
-    see(
-        refusal(rt, a, same)?.0 == LogBad::Part(bad),
-        "namesakes that are mounted",
-    )
-}
-
-/// A block of the second partition can't stand behind an empty arena, and may before one.
-fn see_order(rt: &HostRuntime) -> Result<(), Fail> {
-    let a = formatted(rt, 40_960, b"a", &[])?;
-    let mut log = mounted(rt, formatted(rt, 40_960, b"b", &[])?)?;
-    put(rt, &mut log, 13, b"abc")?;
-    see(flush(&mut log) == Ok(6), "another flush of one block")?;
-    let part = log.into_devices().pop().ok_or("no partition")?;
-    let (bad, a, b) = refusal(rt, a, part.into_devices())?;
-    let order = LogBad::Order {
-        arena: 1,
-        clumps: 1,
-    };
-    see(bad == order, "another refusal of an order")?;
-    let log = mounted_pair(rt, b, a)?;
-    see_counts(&log, 1, 1)?;
-    see_head(&log, 0, false, 1)
-}
-
-/// Writes over bytes of the head of a partition's first arena.
-fn write(disk: &mut MemDisk<Listed>, at: u64, bytes: &[u8]) -> Result<(), Fail> {
-    let len = disk.len();
-    if at > len || len - at < 8192 || bytes.len() as u64 > len - at - 8192 {
-        return Err("outside of the disk")?;
-    }
-    disk.write_at(8192 + at, bytes)?;
-    Ok(())
-}
-
-/// Where the head of the second of two empty arenas has these bytes instead, this is why there is no
-/// log.
-fn see_bad_head(rt: &HostRuntime, at: u64, bytes: &[u8], bad: ArenaBad) -> Result<(), Fail> {
-    let a = formatted(rt, 40_960, b"a", &[])?;
-    let mut b = formatted(rt, 40_960, b"b", &[])?;
-    write(&mut b, at, bytes)?;
-    see(
-        refusal(rt, a, b)?.0 == LogBad::Arena { arena: 1, bad },
-        "another refusal of a head",
-    )
-}
-
-fn torn(field: Field, found: u128, want: u128) -> ArenaBad {
-    ArenaBad::Torn { field, found, want }
-}
-
-/// Behind the magic number of a head stand its version at 4, its number at 6, the byte for `sealed`
-/// at 10, the count of clumps at 11, and the count of their bytes at 15.
-fn see_bad_heads(rt: &HostRuntime) -> Result<(), Fail> {
-    see_bad_head(rt, 0, &[0; 4], ArenaBad::NotFormatted)?;
-    see_bad_head(rt, 4, &[0, 2], torn(Field::Version, 2, 1))?;
-    see_bad_head(rt, 6, &[0, 0, 0, 1], torn(Field::Number, 1, 0))?;
-    see_bad_head(rt, 10, &[2], torn(Field::Sealed, 2, 1))?;
-    see_bad_head(rt, 10, &[1], torn(Field::Sealed, 1, 0))?;
-    see_bad_head(rt, 11, &[0, 0, 1, 72], torn(Field::Used, 8200, 8192))
-}
-
-/// Mounting ends so on a disk of which this call fails, counted from the first of mounting.
-fn see_failing_mount(rt: &HostRuntime, call: u64, bad: LogBad) -> Result<(), Fail> {
-    let part = part(rt, 40_960, b"a", &[call.saturating_add(3)])?;
-    let refused = mount(rt.alloc(), vec![in rt.alloc(); part]?, Sha1Scorer);
-    see(
-        refused.err().ok_or("mounted")?.0 == bad,
-        "another refusal of a disk",
-    )
-}
-
-/// The disk is synced, and two reads find the head of its arena, which isn't formatted.
-fn see_failing_mounts(rt: &HostRuntime) -> Result<(), Fail> {
-    see_failing_mount(rt, 0, LogBad::Fault)?;
-    see_failing_mount(rt, 1, LogBad::Fault)?;
-    see_failing_mount(rt, 2, LogBad::Fault)?;
-    let bad = LogBad::Arena {
-        arena: 0,
-        bad: ArenaBad::NotFormatted,
-    };
-    see_failing_mount(rt, 3, bad)
-}
-
-#[test]
-fn what_is_no_log_is_refused(rt: HostRuntime) -> Result<(), Fail> {
-    see_namesakes(&rt)?;
-    see_order(&rt)?;
-    see_bad_heads(&rt)?;
-    see_failing_mounts(&rt)
+    let first = disk(rt.alloc(), THREE, &[])?;
+    let second = disk(rt.alloc(), TWO, &[])?;
+    side_by_side::<MemDisk<Listed>, Brand>(rt.alloc(), first, second, Blank::new(1))
 }
