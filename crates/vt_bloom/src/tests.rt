@@ -1,10 +1,10 @@
 //! Filters on disks in memory: formatted, mounted, saved, stopped, crashed and refused.
-
-ghost use Rattle.std.specs.Prelude.{◌≡◌, ◌≤◌, length, None, IfOk, IfErr, IsSome};
-ghost use Rattle.vt_memdisk.specs.Memory.{memory_bytes};
+//!
+//! All is said of any disk, which is much less work to prove than for one in memory, and the test
+//! functions alone make such disks and crash them.
 
 use super::*;
-use std::process::Abort;
+use std::alloc::Global;
 use std::test::Fail;
 use vt_base::Score;
 use vt_disk::Disk;
@@ -29,38 +29,70 @@ const B: Score = Score([
     0x00, 0x00, 0x00, 0x00,
 ]);
 
-type Mounted = (Bloom<MemDisk<Listed>>, Bits);
+/// The number of a call that no test reaches.
+const NEVER: u64 = u64::MAX;
 
-/// A formatted filter of 8,192 bytes and 3 bits a score, on a disk of which these calls fail.
-fn mounted(rt: &HostRuntime, failing: &[u64]) -> Result<Mounted, Fail>
-    ensures rest { IfOk result (λ it. it.0.twin.change ≡ None) }
-    ensures m { IfOk result (λ it. it.1.m ≡ it.0.m) }
-    ensures k { IfOk result (λ it. it.1.k ≡ it.0.k) }
-{
-    let mut disk = MemDisk::failing(rt.alloc(), LEN, Vec::from_slice(rt.alloc(), failing)?)?;
-    format(rt.alloc(), &mut disk, 8192, 3).ok().ok_or("format")?;
-    mount(rt.alloc(), disk).ok().ok_or_else(|| "mount".into())
+/// Goes on where this holds.
+fn see(holds: bool, otherwise: &'static str) -> Result<(), Fail> {
+    if holds {
+        return Ok(());
+    }
+    Err(otherwise.into())
 }
 
-/// Begins to save A and the mark 1, and makes the save's calls up to the one of this number. Each
-/// call before that one gives More.
-fn save_until(
-    rt: &impl Abort,
-    bloom: &mut Bloom<MemDisk<Listed>>,
-    bits: &Bits,
-    call: u64,
-) -> Result<Step, TwinErr>
-    requires rest { bloom.old.twin.change ≡ None }
-    requires m { bits.now.m ≡ bloom.old.m }
-    requires k { bits.now.k ≡ bloom.old.k }
-    ensures disk { length (memory_bytes bloom.new.disk) ≡ length (memory_bytes bloom.old.disk) }
-    ensures fault { IfErr result (λ _. IsSome bloom.new.twin.change) }
-{
-    bloom.save(bits, 1);
-    for made in 0..call {
-        assert_eq!(rt; bloom.advance(), Ok(Step::More), "call {made}");
+/// A disk of this length, of which this call fails.
+fn disk(alloc: Global, len: u64, failing: u64) -> Result<MemDisk<Listed>, Fail> {
+    let calls = vec![in alloc; failing]?;
+    Ok(MemDisk::failing(alloc, len, calls)?)
+}
+
+/// Makes a disk a filter of 8,192 bytes and 3 bits a score.
+fn format_least<D: Disk>(alloc: Global, disk: &mut D) -> Result<(), BloomBad> {
+    format(alloc, disk, 8192, 3)
+}
+
+/// The filter of a disk.
+fn mounted<D: Disk + Drop>(alloc: Global, disk: D) -> Result<(Bloom<D>, Bits), Fail> {
+    match mount(alloc, disk) {
+        Ok(found) => Ok(found),
+        Err(_) => Err("not mounted".into()),
     }
-    bloom.advance()
+}
+
+/// A disk that is made a filter, mounted.
+fn fresh<D: Disk + Drop>(alloc: Global, mut disk: D) -> Result<(Bloom<D>, Bits), Fail> {
+    see(format_least(alloc, &mut disk) == Ok(()), "not formatted")?;
+    mounted(alloc, disk)
+}
+
+/// Makes one device call of a save that is under way.
+fn step<D: Disk>(bloom: &mut Bloom<D>) -> Result<Result<Step, TwinErr>, Fail> {
+    if !bloom.saving() {
+        return Err("no save is under way".into());
+    }
+    Ok(bloom.advance())
+}
+
+/// Makes so many device calls, each of which gives More, and one further call.
+fn step_after<D: Disk>(bloom: &mut Bloom<D>, calls: u64) -> Result<Result<Step, TwinErr>, Fail> {
+    for _ in 0..calls {
+        see(step(bloom)? == Ok(Step::More), "another step than More")?;
+    }
+    step(bloom)
+}
+
+/// Begins to save A and the mark 1, and makes so many device calls and one further.
+fn save<D: Disk>(
+    bloom: &mut Bloom<D>,
+    mut bits: Bits,
+    calls: u64,
+) -> Result<Result<Step, TwinErr>, Fail> {
+    bits.mark_bits(&A);
+    if bloom.saving() || bits.m() != bloom.m() || bits.k() != bloom.k() {
+        return Err("no save may begin".into());
+    }
+    bloom.save(&bits, 1);
+    step_after(bloom, calls)
 }
 
 #[test]
@@ -101,150 +133,189 @@ fn a_filter_has_one_size(rt: HostRuntime) {
     }
 }
 
+/// The disk of a filter with A that is saved.
+fn saved<D: Disk + Drop>(alloc: Global, disk: D) -> Result<D, Fail> {
+    let (mut bloom, bits) = fresh(alloc, disk)?;
+    let is_empty = bloom.m() == 16 && bloom.k() == 3 && bloom.mark() == 0;
+    see(is_empty && !bits.may_have(&A), "another filter")?;
+    see(save(&mut bloom, bits, 3)? == Ok(Step::Done), "no end")?;
+    let is_idle = !bloom.saving() && bloom.stopped().is_none();
+    see(is_idle && bloom.mark() == 1, "another mark")?;
+    Ok(bloom.into_devices())
+}
+
+/// Whether these bytes stand at a place of a disk.
+fn stands<D: Disk>(disk: &mut D, at: u64, bytes: &[u8; 16_384]) -> Result<bool, Fail> {
+    if disk.len() != LEN || at > 16_384 {
+        return Err("a place".into());
+    }
+    let mut found = [0xee; 16_384];
+    disk.read_at(at, &mut found)?;
+    Ok(found == *bytes)
+}
+
+/// What begins the selector.
+fn selector<D: Disk>(disk: &mut D) -> Result<[u8; 2], Fail> {
+    if disk.len() != LEN {
+        return Err("another length".into());
+    }
+    let mut found = [0xee; 2];
+    disk.read_at(32_768, &mut found)?;
+    Ok(found)
+}
+
+/// The mark of the filter of a disk, which has A exactly where that is 1.
+fn mark<D: Disk + Drop>(alloc: Global, disk: D) -> Result<u64, Fail> {
+    let (bloom, bits) = mounted(alloc, disk)?;
+    let mark = bloom.mark();
+    see(bits.may_have(&A) == (mark == 1), "another bit")?;
+    see(!bits.may_have(&B), "too many bits")?;
+    Ok(mark)
+}
+
+/// The bytes of a filter, by hand.
+fn spell<D: Disk + Drop>(alloc: Global, disk: D) -> Result<(), Fail> {
+    let mut disk = saved(alloc, disk)?;
+    let mut frame = [0; 16_384];
+    frame[..8].copy_from_slice(b"VBLM\x00\x01\x10\x03");
+    // The frame that formatting wrote stands beside the new one, which the selector names.
+    see(stands(&mut disk, 0, &frame)?, "another old frame")?;
+    frame[15] = 1;
+    frame[8399] = 0x10;
+    frame[10_365] = 0x80;
+    frame[12_330] = 0x04;
+    see(stands(&mut disk, 16_384, &frame)?, "another frame")?;
+    see(selector(&mut disk)? == [1, 0], "another selector")?;
+    see(mark(alloc, disk)? == 1, "another mark")
+}
+
 #[test]
 fn a_frame_is_spelled(rt: HostRuntime) -> Result<(), Fail> {
-    let (mut bloom, mut bits) = mounted(&rt, &[])?;
-    assert!(rt; bloom.m() == 16 && bloom.k() == 3 && bloom.mark() == 0);
-    bits.mark_bits(&A);
-    assert_eq!(rt; save_until(&rt, &mut bloom, &bits, 3), Ok(Step::Done));
-    assert!(rt; bloom.mark() == 1 && !bloom.saving() && bloom.stopped().is_none());
-    let mut disk = bloom.into_devices();
-    assert_eq!(rt; disk.len(), LEN);
-    let mut want = [0; 16_384];
-    want[..16].copy_from_slice(b"VBLM\x00\x01\x10\x03\x00\x00\x00\x00\x00\x00\x00\x01");
-    want[8399] = 0x10;
-    want[10_365] = 0x80;
-    want[12_330] = 0x04;
-    let mut frame = [0xee; 16_384];
-    disk.read_at(16_384, &mut frame)?;
-    assert_eq!(rt; frame, want);
-    // The one that formatting wrote stands beside it, and the selector names the new one.
-    want[15] = 0;
-    want[8399] = 0;
-    want[10_365] = 0;
-    want[12_330] = 0;
-    disk.read_at(0, &mut frame)?;
-    assert_eq!(rt; frame, want);
-    let mut selector = [0xee; 2];
-    disk.read_at(32_768, &mut selector)?;
-    assert_eq!(rt; selector, [1, 0]);
-    let (bloom, bits) = mount(rt.alloc(), disk).ok().ok_or("mount")?;
-    assert!(rt; bloom.mark() == 1 && bits.may_have(&A) && !bits.may_have(&B));
-    Ok(())
+    spell(rt.alloc(), disk(rt.alloc(), LEN, NEVER)?)
+}
+
+/// The disk of a save that ends with this call.
+fn stopped<D: Disk + Drop>(alloc: Global, disk: D, call: u64, fails: bool) -> Result<D, Fail> {
+    let (mut bloom, bits) = fresh(alloc, disk)?;
+    let last = save(&mut bloom, bits, call)?;
+    if fails {
+        see(last == Err(TwinErr::Fault), "no fault")?;
+        see(bloom.stopped() == Some(call), "another stop")?;
+        let again = step(&mut bloom)?;
+        see(again == Err(TwinErr::Stopped(call)), "another step")?;
+        see(bloom.saving() && bloom.mark() == 0, "no save")?;
+    }
+    Ok(bloom.into_devices())
+}
+
+/// The mark of a filter behind a save that ends with this call, and a crash.
+fn crashed(alloc: Global, call: u64, fails: bool, mode: CrashMode) -> Result<u64, Fail> {
+    let failing = if fails {
+        call.saturating_add(FIRST_CALL)
+    } else {
+        NEVER
+    };
+    let disk = stopped(alloc, disk(alloc, LEN, failing)?, call, fails)?;
+    mark(alloc, disk.crash_in(mode))
 }
 
 #[test]
 fn a_save_is_stopped_anywhere(rt: HostRuntime) -> Result<(), Fail> {
-    // The call at which a save ends, whether it fails, and in which modes a crash then leaves the
-    // new filter.
-    for (call, fails, is_new) in [
-        (0, true, [false, false, false, false]),
-        (0, false, [false, false, false, false]),
-        (1, true, [false, false, false, false]),
-        (1, false, [false, false, false, false]),
-        (2, true, [false, false, false, true]),
-        (2, false, [false, true, true, true]),
-        (3, true, [false, true, true, true]),
-        (3, false, [true, true, true, true]),
+    // The call at which a save ends, whether it fails, and the mark that a crash then leaves in each
+    // mode: that of the old filter or of the new one.
+    for (call, fails, marks) in [
+        (0, true, [0, 0, 0, 0]),
+        (0, false, [0, 0, 0, 0]),
+        (1, true, [0, 0, 0, 0]),
+        (1, false, [0, 0, 0, 0]),
+        (2, true, [0, 0, 0, 1]),
+        (2, false, [0, 1, 1, 1]),
+        (3, true, [0, 1, 1, 1]),
+        (3, false, [1, 1, 1, 1]),
     ] {
-        for (mode, is_new) in CrashMode::ALL.into_iter().zip(is_new) {
-            let failing = if fails { FIRST_CALL + call } else { u64::MAX };
-            let (mut bloom, mut bits) = mounted(&rt, &[failing])?;
-            bits.mark_bits(&A);
-            let step = save_until(&rt, &mut bloom, &bits, call);
-            if fails {
-                assert_eq!(rt; step, Err(TwinErr::Fault));
-                assert_eq!(rt; bloom.stopped(), Some(call));
-                assert!(rt; bloom.saving() && bloom.mark() == 0);
-                assert_eq!(rt; bloom.advance(), Err(TwinErr::Stopped(call)));
-            }
-            let disk = bloom.into_devices();
-            let (bloom, bits) = mount(rt.alloc(), disk.crash_in(mode)).ok().ok_or("mount")?;
-            assert_eq!(rt;
-                bloom.mark(),
-                if is_new { 1 } else { 0 },
-                "call {call}, {mode:?}"
-            );
-            assert_eq!(rt; bits.may_have(&A), is_new, "call {call}, {mode:?}");
+        for (mode, mark) in CrashMode::ALL.into_iter().zip(marks) {
+            let found = crashed(rt.alloc(), call, fails, mode)?;
+            see(found == mark, "another mark")?;
         }
     }
     Ok(())
 }
 
-/// Why a disk of this length that begins with these bytes, and of which these calls fail, isn't
-/// mounted. Call 0 writes the bytes.
-fn refusal(
-    rt: &HostRuntime,
-    len: u64,
-    start: &[u8],
-    failing: &[u64],
-) -> Result<Option<BloomBad>, Fail>
-    requires { length start.now ≤ len }
-{
-    let mut disk = MemDisk::failing(rt.alloc(), len, Vec::from_slice(rt.alloc(), failing)?)?;
+/// Why a disk that begins with these bytes isn't mounted. Its first call writes them.
+fn refusal<D: Disk + Drop>(
+    alloc: Global,
+    mut disk: D,
+    start: &[u8; 8],
+) -> Result<Option<BloomBad>, Fail> {
+    if disk.len() < 8 {
+        return Err("too short".into());
+    }
     disk.write_at(0, start)?;
-    Ok(mount(rt.alloc(), disk).err().map(|refusal| refusal.0))
+    match mount(alloc, disk) {
+        Ok(_found) => Ok(None),
+        Err((bad, _disk)) => Ok(Some(bad)),
+    }
 }
 
 #[test]
 fn the_first_fault_is_told(rt: HostRuntime) -> Result<(), Fail> {
     let torn = |field, found, want| Some(BloomBad::Torn { field, found, want });
-    let mut head = [0; 16];
     let small = BloomBad::TooSmall {
         len: 40_959,
         need: LEN,
     };
-    assert_eq!(rt; refusal(&rt, 40_959, &head, &[])?, Some(small));
-    for failing in 1..4 {
-        assert_eq!(rt;
-            refusal(&rt, LEN, &head, &[failing])?,
-            Some(BloomBad::Fault)
-        );
-    }
-    assert_eq!(rt;
-        refusal(&rt, LEN, &head, &[])?,
-        Some(BloomBad::NotFormatted)
-    );
-    head[..4].copy_from_slice(b"VBLM");
-    assert_eq!(rt; refusal(&rt, LEN, &head, &[])?, torn(Field::Version, 0, 1));
-    head[5] = 1;
-    assert_eq!(rt; refusal(&rt, LEN, &head, &[])?, torn(Field::M, 0, 16));
-    head[6] = 16;
     // The length says how large the filter is, and not the field.
-    assert_eq!(rt; refusal(&rt, 57_344, &head, &[])?, torn(Field::M, 16, 17));
-    assert_eq!(rt; refusal(&rt, LEN, &head, &[])?, torn(Field::K, 0, 32));
-    head[7] = 33;
-    assert_eq!(rt; refusal(&rt, LEN, &head, &[])?, torn(Field::K, 33, 32));
-    head[7] = 32;
-    assert_eq!(rt; refusal(&rt, 57_343, &head, &[])?, None);
+    for (len, failing, start, wanted) in [
+        (40_959, NEVER, b"\0\0\0\0\0\0\0\0", Some(small)),
+        (LEN, 1, b"\0\0\0\0\0\0\0\0", Some(BloomBad::Fault)),
+        (LEN, 2, b"\0\0\0\0\0\0\0\0", Some(BloomBad::Fault)),
+        (LEN, 3, b"\0\0\0\0\0\0\0\0", Some(BloomBad::Fault)),
+        (
+            LEN,
+            NEVER,
+            b"\0\0\0\0\0\0\0\0",
+            Some(BloomBad::NotFormatted),
+        ),
+        (LEN, NEVER, b"VBLM\0\0\0\0", torn(Field::Version, 0, 1)),
+        (LEN, NEVER, b"VBLM\0\x01\0\0", torn(Field::M, 0, 16)),
+        (57_344, NEVER, b"VBLM\0\x01\x10\0", torn(Field::M, 16, 17)),
+        (LEN, NEVER, b"VBLM\0\x01\x10\0", torn(Field::K, 0, 32)),
+        (LEN, NEVER, b"VBLM\0\x01\x10\x21", torn(Field::K, 33, 32)),
+        (57_343, NEVER, b"VBLM\0\x01\x10\x20", None),
+    ] {
+        let disk = disk(rt.alloc(), len, failing)?;
+        let found = refusal(rt.alloc(), disk, start)?;
+        see(found == wanted, "another refusal")?;
+    }
     Ok(())
+}
+
+/// What formatting a disk answers.
+fn formatted<D: Disk + Drop>(alloc: Global, mut disk: D) -> Result<(), BloomBad> {
+    format_least(alloc, &mut disk)
 }
 
 #[test]
 fn formatting_is_refused(rt: HostRuntime) -> Result<(), Fail> {
-    let torn = |found, want| Err(BloomBad::Torn {
+    let small = BloomBad::TooSmall {
+        len: 40_959,
+        need: LEN,
+    };
+    let torn = BloomBad::Torn {
         field: Field::M,
-        found,
-        want,
-    });
+        found: 16,
+        want: 17,
+    };
     for (len, failing, answer) in [
-        (
-            40_959,
-            u64::MAX,
-            Err(BloomBad::TooSmall {
-                len: 40_959,
-                need: LEN,
-            }),
-        ),
-        (57_344, u64::MAX, torn(16, 17)),
+        (40_959, NEVER, Err(small)),
+        (57_344, NEVER, Err(torn)),
         (LEN, 0, Err(BloomBad::Fault)),
         (LEN, 1, Err(BloomBad::Fault)),
         (LEN, 2, Err(BloomBad::Fault)),
         (LEN, 3, Ok(())),
     ] {
-        let calls = vec![in rt.alloc(); failing]?;
-        let mut disk = MemDisk::failing(rt.alloc(), len, calls)?;
-        assert_eq!(rt; format(rt.alloc(), &mut disk, 8192, 32), answer, "at {len}");
+        let disk = disk(rt.alloc(), len, failing)?;
+        see(formatted(rt.alloc(), disk) == answer, "another answer")?;
     }
     Ok(())
 }
