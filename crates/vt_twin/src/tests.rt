@@ -1,14 +1,14 @@
-//! Twins on a disk in memory: changed, stopped, crashed and mounted again.
+//! Twins on disks in memory: changed, stopped, crashed and mounted again.
+//!
+//! All is said of any disk, which is much less work to prove than for one in memory, and the test
+//! functions alone make such disks and crash them.
 
-ghost use Rattle.std.specs.Prelude.{◌≡◌, length, None, IfOk};
-ghost use Rattle.vt_memdisk.specs.Memory.{memory_bytes};
-ghost use Rattle.vt_twin.specs.Twin.{fresh};
+ghost use Rattle.std.specs.Prelude.{◌≡◌};
 
 use super::*;
 use std::alloc::Global;
-use std::process::Abort;
 use std::test::Fail;
-use vt_base::{Bytes, Failed, NoMemory};
+use vt_base::{Bytes, Failed};
 use vt_disk::{Disk, Region};
 use vt_memdisk::{CrashMode, Listed, MemDisk};
 
@@ -31,87 +31,107 @@ const NEXT: Frame = [3; 512];
 /// The calls before a change's first one: two of the test's, three of formatting, two of mounting.
 const FIRST_CALL: u64 = 7;
 
-/// A disk that holds a twin's old frame, of which this call fails, and the twin.
-fn mounted(rt: &HostRuntime, failing: u64) -> Result<(MemDisk<Listed>, Twin), Fail>
-    ensures disk { IfOk result (λ it. length (memory_bytes it.0) ≡ LEN) }
-    ensures twin { IfOk result (λ it. it.1 ≡ fresh 512 it.1.current) }
-{
-    let calls = vec![in rt.alloc(); failing]?;
-    let mut disk = MemDisk::failing(rt.alloc(), LEN, calls)?;
-    disk.write_at(0, &[7; 2560])?;
-    disk.sync()?;
-    format(&mut disk, REGION, &OLD)?;
-    let twin = mount(&mut disk, REGION, 512)?;
-    Ok((disk, twin))
-}
-
-/// Begins a change to this frame, and makes its calls up to the one of this number. Each call
-/// before that one gives More.
-fn change_until(
-    rt: &impl Abort,
-    twin: &mut Twin,
-    disk: &mut MemDisk<Listed>,
-    frame: Bytes,
-    call: u64,
-) -> Result<Step, TwinErr>
-    requires disk { length (memory_bytes disk.old) ≡ LEN }
-    requires twin { twin.old.frame_len ≡ 512 }
-    requires rest { twin.old.change ≡ None }
-    requires frame { length frame ≡ 512 }
-    ensures disk { length (memory_bytes disk.new) ≡ LEN }
-    ensures twin { twin.new.frame_len ≡ 512 }
-{
-    twin.begin(frame);
-    let step = twin.advance(disk, REGION);
-    if call == 0 {
-        return step;
+/// Goes on where this holds.
+fn see(holds: bool, otherwise: &'static str) -> Result<(), Fail> {
+    if holds {
+        return Ok(());
     }
-    assert_eq!(rt; step, Ok(Step::More));
-    let step = twin.advance(disk, REGION);
-    if call == 1 {
-        return step;
+    Err(otherwise.into())
+}
+
+/// A disk of which this call fails.
+fn disk(alloc: Global, failing: u64) -> Result<MemDisk<Listed>, Fail> {
+    let calls = vec![in alloc; failing]?;
+    Ok(MemDisk::failing(alloc, LEN, calls)?)
+}
+
+/// A disk with a twin, and the twin.
+#[derive(Drop)]
+struct Rig<D: Disk> {
+    disk: D,
+    twin: Twin,
+    ghost sized: { D.size disk ≡ 2560 },
+    ghost len: { twin.frame_len ≡ 512 },
+}
+
+impl<D: Disk + Drop> Rig<D> {
+    /// A disk that is given a twin with the old frame, among other bytes.
+    fn new(mut disk: D) -> Result<Self, Fail> {
+        if disk.len() != LEN {
+            return Err("another length".into());
+        }
+        disk.write_at(0, &[7; 2560])?;
+        disk.sync()?;
+        format(&mut disk, REGION, &OLD)?;
+        Rig::mounted(disk)
     }
-    assert_eq!(rt; step, Ok(Step::More));
-    let step = twin.advance(disk, REGION);
-    if call == 2 {
-        return step;
+
+    /// A disk with the twin that is there.
+    fn mounted(mut disk: D) -> Result<Self, Fail> {
+        if disk.len() != LEN {
+            return Err("another length".into());
+        }
+        let twin = mount(&mut disk, REGION, 512)?;
+        Ok(Rig { disk, twin })
     }
-    assert_eq!(rt; step, Ok(Step::More));
-    twin.advance(disk, REGION)
-}
 
-/// The twin's current frame.
-fn current_frame(disk: &mut MemDisk<Listed>, twin: &Twin) -> Result<Frame, Failed>
-    requires { length (memory_bytes disk.old) ≡ LEN }
-    ensures { length (memory_bytes disk.new) ≡ LEN }
-{
-    let mut frame = [0; 512];
-    REGION.read_at(disk, 512 * u64::from(twin.current()), &mut frame)?;
-    Ok(frame)
-}
+    /// The twin's current frame.
+    fn frame(&mut self) -> Result<Frame, Failed> {
+        let mut frame = [0; 512];
+        let start = 512 * u64::from(self.twin.current());
+        REGION.read_at(&mut self.disk, start, &mut frame)?;
+        Ok(frame)
+    }
 
-/// Sees that a change was stopped at this call, goes no further, and leaves the old frame.
-fn check_stopped(
-    rt: &impl Abort,
-    twin: &mut Twin,
-    disk: &mut MemDisk<Listed>,
-    call: u64,
-) -> Result<(), Failed>
-    requires disk { length (memory_bytes disk.old) ≡ LEN }
-    requires twin { twin.old.frame_len ≡ 512 }
-    ensures { length (memory_bytes disk.new) ≡ LEN }
-{
-    assert_eq!(rt; twin.stopped(), Some(call));
-    assert!(rt; twin.is_changing());
-    assert_eq!(rt; twin.advance(disk, REGION), Err(TwinErr::Stopped(call)));
-    assert_eq!(rt; current_frame(disk, twin)?, OLD);
-    Ok(())
-}
+    /// Begins a change to this frame.
+    fn begin(&mut self, alloc: Global, frame: &Frame) -> Result<(), Fail> {
+        let frame = Bytes::copy_of(alloc, frame)?;
+        if self.twin.is_changing() {
+            return Err("a change is under way".into());
+        }
+        self.twin.begin(frame);
+        Ok(())
+    }
 
-fn bytes(alloc: Global, frame: &Frame) -> Result<Bytes, NoMemory>
-    ensures { IfOk result (λ it. length it ≡ 512) }
-{
-    Bytes::copy_of(alloc, frame)
+    /// Makes one call of a change.
+    fn step(&mut self) -> Result<Result<Step, TwinErr>, Fail> {
+        if !self.twin.is_changing() {
+            return Err("no change is under way".into());
+        }
+        Ok(self.twin.advance(&mut self.disk, REGION))
+    }
+
+    /// Makes so many calls of a change, each of which gives More, and one further call.
+    fn step_after(&mut self, calls: u64) -> Result<Result<Step, TwinErr>, Fail> {
+        for _ in 0..calls {
+            see(self.step()? == Ok(Step::More), "another step than More")?;
+        }
+        self.step()
+    }
+
+    /// Makes so many calls of a change and one further, which fails where that is said: it goes no
+    /// further then, and leaves the old frame.
+    fn stop(&mut self, call: u64, fails: bool) -> Result<(), Fail> {
+        let last = self.step_after(call)?;
+        if !fails {
+            return see(last.is_ok(), "a fault");
+        }
+        see(last == Err(TwinErr::Fault), "no fault")?;
+        see(self.twin.stopped() == Some(call), "another stop")?;
+        let again = self.step()?;
+        see(again == Err(TwinErr::Stopped(call)), "another step")?;
+        see(self.frame()? == OLD, "another frame")
+    }
+
+    /// Changes the frame to this one, and takes the buffer again.
+    fn change(&mut self, alloc: Global, frame: &Frame) -> Result<(), Fail> {
+        self.begin(alloc, frame)?;
+        see(self.step_after(3)? == Ok(Step::Done), "no end")?;
+        see(self.frame()? == *frame, "another frame")?;
+        let buffer = self.twin.idle().ok_or("no buffer")?;
+        see(buffer.as_slice() == frame.as_slice(), "another buffer")?;
+        see(self.twin.idle().is_none(), "a buffer twice")
+    }
 }
 
 #[test]
@@ -124,21 +144,31 @@ fn a_byte_names_a_frame(rt: HostRuntime) {
     }
 }
 
-#[test]
-fn every_selector_gives_a_whole_frame(rt: HostRuntime) -> Result<(), Fail> {
-    for selector in 0..256 {
-        let (mut disk, mut twin) = mounted(&rt, FIRST_CALL + 2)?;
-        let frame = bytes(rt.alloc(), &NEW)?;
-        assert_eq!(rt;
-            change_until(&rt, &mut twin, &mut disk, frame, 2),
-            Err(TwinErr::Fault)
-        );
-        let mut disk = disk.crash(&[selector]);
-        let twin = mount(&mut disk, REGION, 512)?;
-        let want = if selector % 2 == 0 { OLD } else { NEW };
-        assert_eq!(rt; current_frame(&mut disk, &twin)?, want, "at {selector}");
-    }
-    Ok(())
+/// The disk of a change that ends with this call.
+fn stopped<D: Disk + Drop>(alloc: Global, disk: D, call: u64, fails: bool) -> Result<D, Fail> {
+    let mut rig = Rig::new(disk)?;
+    rig.begin(alloc, &NEW)?;
+    rig.stop(call, fails)?;
+    let Rig { disk, twin: _ } = rig;
+    Ok(disk)
+}
+
+/// Whether the twin of a disk has the new frame, and not the old one.
+fn has_new<D: Disk + Drop>(disk: D) -> Result<bool, Fail> {
+    let frame = Rig::mounted(disk)?.frame()?;
+    see(frame == OLD || frame == NEW, "another frame")?;
+    Ok(frame == NEW)
+}
+
+/// Whether the new frame is there behind a change that ends with this call, and a crash.
+fn crashed(alloc: Global, call: u64, fails: bool, mode: CrashMode) -> Result<bool, Fail> {
+    let failing = if fails {
+        call.saturating_add(FIRST_CALL)
+    } else {
+        u64::MAX
+    };
+    let disk = stopped(alloc, disk(alloc, failing)?, call, fails)?;
+    has_new(disk.crash_in(mode))
 }
 
 #[test]
@@ -156,53 +186,30 @@ fn a_change_is_stopped_anywhere(rt: HostRuntime) -> Result<(), Fail> {
         (3, false, [true, true, true, true]),
     ] {
         for (mode, is_new) in CrashMode::ALL.into_iter().zip(is_new) {
-            let failing = if fails { FIRST_CALL + call } else { u64::MAX };
-            let (mut disk, mut twin) = mounted(&rt, failing)?;
-            let frame = bytes(rt.alloc(), &NEW)?;
-            let step = change_until(&rt, &mut twin, &mut disk, frame, call);
-            if fails {
-                assert_eq!(rt; step, Err(TwinErr::Fault));
-                check_stopped(&rt, &mut twin, &mut disk, call)?;
-            }
-            let mut disk = disk.crash_in(mode);
-            let twin = mount(&mut disk, REGION, 512)?;
-            let want = if is_new { NEW } else { OLD };
-            assert_eq!(rt;
-                current_frame(&mut disk, &twin)?,
-                want,
-                "call {call}, {mode:?}"
-            );
+            let found = crashed(rt.alloc(), call, fails, mode)?;
+            see(found == is_new, "another frame")?;
         }
     }
     Ok(())
 }
 
-#[test]
-fn changes_follow_one_another(rt: HostRuntime) -> Result<(), Fail> {
-    let (mut disk, mut twin) = mounted(&rt, u64::MAX)?;
-    assert_eq!(rt; current_frame(&mut disk, &twin)?, OLD);
-    let frame = bytes(rt.alloc(), &NEW)?;
-    assert_eq!(rt;
-        change_until(&rt, &mut twin, &mut disk, frame, 3),
-        Ok(Step::Done)
-    );
-    assert_eq!(rt; twin.current(), 1);
-    let buffer = twin.idle().expect(&rt, "a buffer");
-    assert_eq!(rt; buffer.as_slice(), NEW.as_slice());
-    assert!(rt; twin.idle().is_none() && !twin.is_changing());
-    let frame = bytes(rt.alloc(), &NEXT)?;
-    assert_eq!(rt;
-        change_until(&rt, &mut twin, &mut disk, frame, 3),
-        Ok(Step::Done)
-    );
-    assert_eq!(rt; current_frame(&mut disk, &twin)?, NEXT);
-    // Byte for byte: what lies outside stays, and the selector is its number and zeros.
+/// Changes a frame twice, and sees the disk byte for byte: what lies outside stays, and the
+/// selector is its number and zeros.
+fn change_twice<D: Disk + Drop>(alloc: Global, disk: D) -> Result<(), Fail> {
+    let mut rig = Rig::new(disk)?;
+    rig.change(alloc, &NEW)?;
+    see(rig.twin.current() == 1, "another number")?;
+    rig.change(alloc, &NEXT)?;
     let mut file = [0; 2560];
-    disk.read_at(0, &mut file)?;
+    rig.disk.read_at(0, &mut file)?;
     let mut want = [7; 2560];
     want[512..1024].copy_from_slice(&NEXT);
     want[1024..1536].copy_from_slice(&NEW);
     want[1536..2048].copy_from_slice(&[0; 512]);
-    assert_eq!(rt; file, want);
-    Ok(())
+    see(file == want, "other bytes")
+}
+
+#[test]
+fn changes_follow_one_another(rt: HostRuntime) -> Result<(), Fail> {
+    change_twice(rt.alloc(), disk(rt.alloc(), u64::MAX)?)
 }
