@@ -446,8 +446,12 @@ ends_whole disk j region frame zero old new place len few ends told = inl (
     part_same (TouchedByFirst 1 region (length frame)) (selector_start region 8192) (selector_len region 8192) (disk.bytes old) (disk.bytes new) (ends.writes.bytes told)
     (λ i up down touched. ⊎_elim
     (λ (first : (1 ≤ 1) × Touches (frame_start region (length frame) 0) (length frame) i).
-    omega (arith, up, (touches_within region.start (region.start + 8192) (frame_start region (length frame) 0) (length frame) i
-    (omega (arith, place.start)) (omega (arith, place.start)) (omega arith) (omega (arith, len)) first.1).1))
+    omega (
+      arith,
+      up,
+      (touches_within region.start (region.start + 8192) (frame_start region (length frame) 0) (length frame) i
+          (omega (arith, place.start)) (omega (arith, place.start)) (omega arith) (omega (arith, len)) first.1).1,
+    ))
     (λ (second : (2 ≤ 1) × Touches (selector_start region (length frame)) (selector_len region (length frame)) i). omega (arith, second.0))
     touched))
 ends_whole disk j region frame (suc zero) old new place len few ends told = inr (
