@@ -10,7 +10,7 @@ use std::alloc::Global;
 use std::marker::Brand;
 use std::sync::ledger::{Blank, Ledger};
 use std::test::Fail;
-use vt_arena::{ArenaBad, BackBad, Field, ReadBad};
+use vt_arena::{BackBad, ReadBad};
 use vt_base::{Bytes, Failed, FieldValue, Info, Key, Kind, Place, Scorer, Sha1Scorer, Text, Why};
 use vt_clump::{Packed, pack};
 use vt_disk::Disk;
@@ -575,99 +575,37 @@ fn crashes_and_faults_leave_a_prefix(rt: HostRuntime) -> Result<(), Fail> {
     read_again(rt.alloc())
 }
 
-/// What is changed of the second of two partitions without blocks.
-#[derive(Clone, Copy)]
-enum Change {
-    Nothing,
-    /// It has a block.
-    Block,
-    /// The head of its first arena has these bytes. Behind its magic number stands its version at 4.
-    Bytes(u64, [u8; 2]),
-}
-
-/// Commits `abc`.
-fn commit_abc<D: Disk>(alloc: Global, log: &mut TestLog<D>) -> Result<(), Fail> {
-    put(alloc, log, 13, b"abc")?;
-    commit(log)
-}
-
-fn changed<D: Disk + Drop>(alloc: Global, disk: D, change: Change) -> Result<D, Fail> {
-    let mut disk = disk;
-    match change {
-        Change::Nothing => Ok(disk),
-        Change::Block => {
-            let mut log = mounted(alloc, disk)?;
-            commit_abc(alloc, &mut log)?;
-            into_disk(log)
-        }
-        Change::Bytes(at, bytes) => {
-            if at > 100 || disk.len() < ONE {
-                return Err("outside of the head")?;
-            }
-            disk.write_at(8192 + at, &bytes)?;
-            Ok(disk)
-        }
-    }
-}
-
-/// Why there is no log on a partition named `a` and one of this name that is changed so.
+/// Why there is no log on a partition named `a` and one of this name.
 fn refusal_on<D: Disk + Drop>(
     alloc: Global,
     first: D,
     second: D,
     name: &[u8],
-    change: Change,
 ) -> Result<Option<LogBad>, Fail> {
     let first = formatted(alloc, first, b"a")?;
-    let second = changed(alloc, formatted(alloc, second, name)?, change)?;
+    let second = formatted(alloc, second, name)?;
     Ok(mounted_pair(alloc, first, second)?.err())
 }
 
 /// This is why there is no log, where the second disk fails at these calls.
-fn see_refusal(
-    alloc: Global,
-    name: &[u8],
-    failing: &[u64],
-    change: Change,
-    bad: LogBad,
-) -> Result<(), Fail> {
+fn see_refusal(alloc: Global, name: &[u8], failing: &[u64], bad: LogBad) -> Result<(), Fail> {
     let first = disk(alloc, ONE, &[])?;
     let second = disk(alloc, ONE, failing)?;
-    let found = refusal_on(alloc, first, second, name, change)?;
+    let found = refusal_on(alloc, first, second, name)?;
     see(found == Some(bad), "another refusal")
 }
 
-/// Namesakes, a block behind an empty arena, and heads that are none.
-fn refuse(alloc: Global) -> Result<(), Fail> {
+/// Namesakes, and a disk that fails. Before the calls of mounting the log, which are a sync and two
+/// reads of a head, it has 7.
+#[test]
+fn what_is_no_log_is_refused(rt: HostRuntime) -> Result<(), Fail> {
     let namesakes = PartBad::DuplicateName {
         first: 0,
         second: 1,
     };
-    see_refusal(alloc, b"a", &[], Change::Nothing, LogBad::Part(namesakes))?;
-    let order = LogBad::Order {
-        arena: 1,
-        clumps: 1,
-    };
-    see_refusal(alloc, b"b", &[], Change::Block, order)?;
-    let bad = ArenaBad::NotFormatted;
-    let none = LogBad::Arena { arena: 1, bad };
-    see_refusal(alloc, b"b", &[], Change::Bytes(0, [0, 0]), none)?;
-    let bad = ArenaBad::Torn {
-        field: Field::Version,
-        found: 2,
-        want: 1,
-    };
-    let torn = LogBad::Arena { arena: 1, bad };
-    see_refusal(alloc, b"b", &[], Change::Bytes(4, [0, 2]), torn)
-}
-
-/// The calls of the second disk before those of mounting the log are 7: a sync, and two reads of a
-/// head.
-#[test]
-fn what_is_no_log_is_refused(rt: HostRuntime) -> Result<(), Fail> {
-    refuse(rt.alloc())?;
+    see_refusal(rt.alloc(), b"a", &[], LogBad::Part(namesakes))?;
     for call in 7..10 {
-        see_refusal(rt.alloc(), b"b", &[call], Change::Nothing, LogBad::Fault)?;
+        see_refusal(rt.alloc(), b"b", &[call], LogBad::Fault)?;
     }
     Ok(())
 }
@@ -709,21 +647,6 @@ struct Sides<D: Disk> {
 }
 
 impl<D: Disk + Drop> Sides<D> {
-    /// Two partitions, with arenas 0 to 2 and 3 to 4.
-    fn new(alloc: Global, first: D, second: D) -> Result<Sides<D>, Fail> {
-        let first = formatted(alloc, first, b"a")?;
-        let second = formatted(alloc, second, b"b")?;
-        let log = mounted_pair(alloc, first, second)?;
-        let arenas = Vec::from_slice(alloc, &[ARENA_LEN as u32; 5])?;
-        let sections = Vec::from_slice(alloc, &[4000])?;
-        Ok(Sides {
-            log: log.ok().ok_or("mount the log")?,
-            plain: PlainStore::new(alloc, Sha1Scorer, arenas, 0, sections),
-            taken: Vec::new(alloc),
-            refused: 0,
-        })
-    }
-
     /// Gives both a block that neither has: both take it in, under its score, or both have no room.
     fn write(&mut self, alloc: Global, kind: u8, block: Vec<u8>) -> Result<(), Fail> {
         let key = key_of(kind, &block)?;
@@ -786,8 +709,8 @@ impl<D: Disk + Drop> Sides<D> {
     }
 }
 
-/// Writes, commits and reads one block after another.
-fn write_many<D: Disk + Drop, L: Ledger>(
+/// Writes, commits and reads one block after another, and then reads all.
+fn compare<D: Disk + Drop, L: Ledger>(
     alloc: Global,
     sides: &mut Sides<D>,
     steps: &mut Steps<L>,
@@ -801,7 +724,22 @@ fn write_many<D: Disk + Drop, L: Ledger>(
         see(advance(&mut sides.log, calls).is_ok(), "a fault")?;
         sides.read(alloc, drawn(&mut state), steps)?;
     }
-    Ok(())
+    sides.see_end(alloc, steps)
+}
+
+/// A log on two partitions, with arenas 0 to 2 and 3 to 4.
+fn log_on<D: Disk + Drop>(alloc: Global, first: D, second: D) -> Result<TestLog<D>, Fail> {
+    let first = formatted(alloc, first, b"a")?;
+    let second = formatted(alloc, second, b"b")?;
+    let log = mounted_pair(alloc, first, second)?;
+    Ok(log.ok().ok_or("mount the log")?)
+}
+
+/// The plain store with these arenas.
+fn plain_store(alloc: Global) -> Result<PlainStore<Sha1Scorer>, Fail> {
+    let arenas = Vec::from_slice(alloc, &[ARENA_LEN as u32; 5])?;
+    let sections = Vec::from_slice(alloc, &[4000])?;
+    Ok(PlainStore::new(alloc, Sha1Scorer, arenas, 0, sections))
 }
 
 fn side_by_side<D: Disk + Drop, L: Ledger>(
@@ -814,10 +752,13 @@ fn side_by_side<D: Disk + Drop, L: Ledger>(
     requires parts { blank.parts ≡ L.parts }
     requires some { 0 < L.parts }
 {
-    let mut steps = Steps::<L>::new(blank);
-    let mut sides = Sides::<D>::new(alloc, first, second)?;
-    write_many(alloc, &mut sides, &mut steps)?;
-    sides.see_end(alloc, &mut steps)
+    let mut sides = Sides {
+        log: log_on(alloc, first, second)?,
+        plain: plain_store(alloc)?,
+        taken: Vec::new(alloc),
+        refused: 0,
+    };
+    compare(alloc, &mut sides, &mut Steps::<L>::new(blank))
 }
 
 #[test]
