@@ -11,7 +11,7 @@ use vt_disk::Disk;
 
 /// Hands out partitions by name, each to one holder at a time, and takes them back.
 pub trait Parts {
-    type Disk: Disk;
+    type Disk: Disk + Drop;
 
     /// Whether partitions of this type tell what stands under which name. Those of the system don't.
     ghost tells: { Bool };

@@ -1,0 +1,14 @@
+//! Partitions in memory by name, which are kept from one run to the next.
+#![tactic(auto)]
+
+mod faults;
+mod lending;
+mod making;
+mod mem_parts;
+
+pub use lending::MemPart;
+pub use making::{Failing, MakesDisks};
+pub use mem_parts::MemParts;
+
+#[cfg(test)]
+mod tests;
