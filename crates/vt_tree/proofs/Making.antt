@@ -1,14 +1,14 @@
 -- Calls one after another.
 use Rattle.std.proofs.Common.{◌≡◌, ℕ, List, [], ◌∷◌, ◌++◌, map, refl, sym, ◌∙◌, ap, subst}
 use Rattle.std.specs.Prelude.{Ok, Err}
-use Rattle.std.specs.List.{AllByRecursion}
+use Rattle.std.specs.List.{All, AllByRecursion}
 use Rattle.std.proofs.lemmas.List.{map-append}
-use Rattle.std.proofs.lemmas.List.Elements.{filter_map-append}
+use Rattle.std.proofs.lemmas.List.Elements.{All-cons, All-nil, filter_map-append}
 use Rattle.vt_model.specs.History.{Block}
 use Rattle.vt_tree.specs.Calls.{Call, get, put, sync, write_of, asked_of, refusal_of, refusals_of, IsGet, Tells, after}
 use Rattle.vt_tree.specs.Making.{Makes, TellsEach, after_all}
-use Rattle.vt_tree.specs.MapLaws.{block_keeps}
-use Rattle.vt_tree.specs.Maps.{Maps, with_block, with_blocks, IsWithin}
+use Rattle.vt_tree.specs.MapLaws.{block_is_there, block_keeps, blocks_keep}
+use Rattle.vt_tree.specs.Maps.{Maps, with_block, with_blocks, Has, IsWithin}
 
 -- calls, and then others
 pub makes_more : {S : Type 0} (does : S → Call → S → Type 0) (a b c : S) (xs ys : List Call)
@@ -102,3 +102,40 @@ puts_leave score_of (put a (Ok score) ∷ calls) (b ∷ blocks) m asked accepted
       held = with_blocks score_of blocks (with_block score_of x m.held);
     }) same
 puts_leave score_of (put a (Err err) ∷ calls) blocks m asked accepted = cc
+
+-- and each of them is there
+pub puts_are_there : (score_of : List ℕ → List ℕ) (calls : List Call) (blocks : List Block)
+    (m : Maps) → map asked_of calls ≡ map write_of blocks → refusals_of calls ≡ []
+    → TellsEach score_of m calls
+    → All (Has score_of (with_blocks score_of blocks m.held)) blocks
+puts_are_there score_of [] [] m asked accepted tells =
+    All-nil (Has score_of (with_blocks score_of [] m.held))
+puts_are_there score_of [] (b ∷ blocks) m asked accepted tells = let never : ⊥ = cc in absurd never
+puts_are_there score_of (get kind s answer ∷ calls) [] m asked accepted tells =
+    let never : ⊥ = cc in absurd never
+puts_are_there score_of (get kind s answer ∷ calls) (b ∷ blocks) m asked accepted tells =
+    let never : ⊥ = cc in absurd never
+puts_are_there score_of (sync answer ∷ calls) [] m asked accepted tells =
+    let never : ⊥ = cc in absurd never
+puts_are_there score_of (sync answer ∷ calls) (b ∷ blocks) m asked accepted tells =
+    let never : ⊥ = cc in absurd never
+puts_are_there score_of (put a (Ok score) ∷ calls) [] m asked accepted tells =
+    let never : ⊥ = cc in absurd never
+puts_are_there score_of (put a (Ok score) ∷ calls) (b ∷ blocks) m asked accepted tells =
+    let kinds : a.kind ≡ b.kind = cc in
+    let bytes : a.bytes ≡ b.bytes = cc in
+    let others : map asked_of calls ≡ map write_of blocks = cc in
+    let same : ◌≡◌ {A = Block} a b = λ i. record { kind = kinds i; bytes = bytes i } in
+    let first : Has score_of (with_block score_of a m.held) a =
+    block_is_there score_of a m.held tells.0 in
+    let map_after = with_blocks score_of blocks (with_block score_of a m.held) in
+    subst (λ (x : Block).
+    All (Has score_of (with_blocks score_of blocks (with_block score_of x m.held))) (x ∷ blocks))
+    same
+    (All-cons (Has score_of map_after) a blocks
+    (blocks_keep score_of blocks (with_block score_of a m.held) (score_of a.bytes) a.kind a.bytes
+    first)
+    (puts_are_there score_of calls blocks (record m { held = with_block score_of a m.held }) others
+    accepted tells.1))
+puts_are_there score_of (put a (Err err) ∷ calls) blocks m asked accepted tells =
+    let never : ⊥ = cc in absurd never

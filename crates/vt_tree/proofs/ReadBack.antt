@@ -214,7 +214,7 @@ module _ (score_of : List ℕ → List ℕ) (held : BlockMap) (e : Entry)
 
 -- ---- the depth
 
-reach_7 : (shape : Shape) → FitsShape shape → 2 ^ 40 ≤ reach shape 7
+pub reach_7 : (shape : Shape) → FitsShape shape → 2 ^ 40 ≤ reach shape 7
 reach_7 shape fits =
     let many : 25 ≤ scores_in shape.psize = omega (arith, fits.psize_least) in
     let power : 25 ^ 7 ≤ scores_in shape.psize ^ 7 = pow-le-pow_left many 7 in
@@ -238,10 +238,9 @@ depth_below_8 shape size fits most = elim (cases_lt (depth_of shape size) 8) [
 ]
 
 -- it reaches so many bytes, and no smaller depth does
-pub depth_reaches : (shape : Shape) (size : ℕ) → FitsShape shape → size ≤ 2 ^ 40
+pub reaches_there : (shape : Shape) (size : ℕ) → depth_of shape size < 8
     → size ≤ reach shape (depth_of shape size)
-depth_reaches shape size fits most =
-    let below = depth_below_8 shape size fits most in
+reaches_there shape size below =
     let d : ℕ = depth_of shape size in
     let stops = prefix_len_stops (λ (k : ℕ). nat_lt (reach shape k) size) (range_with_len 0 8) 0
     (omega (arith, length-range_with_len 0 8, below)) in
@@ -249,6 +248,11 @@ depth_reaches shape size fits most =
     get_or-range_with_len 0 8 d 0 below ∙ zero-add d in
     ltb-false (reach shape d) size
     (subst (λ (k : ℕ). nat_lt (reach shape k) size ≡ false) at stops)
+
+pub depth_reaches : (shape : Shape) (size : ℕ) → FitsShape shape → size ≤ 2 ^ 40
+    → size ≤ reach shape (depth_of shape size)
+depth_reaches shape size fits most =
+    reaches_there shape size (depth_below_8 shape size fits most)
 
 pub depth_is_least : (shape : Shape) (size d : ℕ) → d < depth_of shape size → reach shape d < size
 depth_is_least shape size d below =

@@ -1,6 +1,7 @@
 pub mod Calls
 pub mod Content
 pub mod Entries
+pub mod Growing
 pub mod Making
 pub mod MapLaws
 pub mod Maps
@@ -9,3 +10,4 @@ pub mod MemoryLaws
 pub mod Reading
 pub mod Roots
 pub mod Streams
+pub mod Writing

@@ -47,14 +47,17 @@ Gives byte at len (Err errs.TooLong) = ⊤
 Gives byte at len (Err errs.NoMemory) = ⊤
 
 -- the refusal of a call that is handed on, if one is
+abbrev pub refusal_in : TreeErr → Option BlockErr
+refusal_in (errs.Block err) = Some err
+refusal_in errs.SourceFault = None
+refusal_in (errs.BadEntry bad) = None
+refusal_in (errs.BadBlock depth len) = None
+refusal_in errs.TooLong = None
+refusal_in errs.NoMemory = None
+
 abbrev pub refused_by : {X : Type 0} → Result X TreeErr → Option BlockErr
 refused_by (Ok x) = None
-refused_by (Err (errs.Block err)) = Some err
-refused_by (Err errs.SourceFault) = None
-refused_by (Err (errs.BadEntry bad)) = None
-refused_by (Err (errs.BadBlock depth len)) = None
-refused_by (Err errs.TooLong) = None
-refused_by (Err errs.NoMemory) = None
+refused_by (Err err) = refusal_in err
 
 -- just these were asked for; or, where it ended before, the first of them
 abbrev pub AsksFor : {X E : Type 0} → Result X E → (asked wanted : List Operation) → Type 0

@@ -1,15 +1,16 @@
 //! Laws of entries, roots, calls and content, each the contract of a function that does nothing.
 
 ghost use Rattle.std.specs.Prelude.{◌≡◌, ◌↔◌, ◌+◌, ◌*◌, ◌<◌, ◌≤◌, ◌^◌, ◌/◌, ◌%◌, ℕ, List, Some, Ok};
-ghost use Rattle.std.specs.Prelude.{[], length, take, drop, slice_index};
+ghost use Rattle.std.specs.Prelude.{[], length, map, take, drop, slice_index};
 ghost use Rattle.std.specs.List.{All};
+ghost use Rattle.vt_model.specs.History.{Block};
 ghost use Rattle.vt_tree.specs.declared.entry.Entry.{Entry};
 ghost use Rattle.vt_tree.specs.declared.root.Root.{Root};
-ghost use Rattle.vt_tree.specs.Calls.{Call};
+ghost use Rattle.vt_tree.specs.Calls.{Call, asked_of, write_of, refusals_of};
 ghost use Rattle.vt_tree.specs.Content.{byte_of, leaf_kind, scores_in, IsContent, AreGiven};
 ghost use Rattle.vt_tree.specs.Entries.{IsEntry, SpellsEntry};
 ghost use Rattle.vt_tree.specs.Making.{Makes, TellsEach, after_all};
-ghost use Rattle.vt_tree.specs.Maps.{BlockMap, Maps, Has, IsWithin, IsWriteOnce};
+ghost use Rattle.vt_tree.specs.Maps.{BlockMap, Maps, with_blocks, Has, IsWithin, IsWriteOnce};
 ghost use Rattle.vt_tree.specs.Memory.{Memory, DoesInMemory, HoldsInMemory};
 ghost use Rattle.vt_tree.specs.Roots.{IsRoot, spelled};
 ghost use Rattle.vt_tree.specs.Streams.{Shape, FitsShape, reach, depth_of, stream_of, entry_of};
@@ -40,6 +41,17 @@ pub fn calls_are_told<B: Blocks>()
 pub fn held_stays()
     ensures { (score_of : List ℕ → List ℕ) (calls : List Call) (m : Maps) →
         IsWithin m.held (after_all score_of calls m).held }
+{}
+
+/// Where blocks were put, and each put was answered, these are held, beside what was.
+pub fn puts_are_held()
+    ensures map { (score_of : List ℕ → List ℕ) (calls : List Call) (blocks : List Block)
+        (m : Maps) → map asked_of calls ≡ map write_of blocks → refusals_of calls ≡ [] →
+        after_all score_of calls m ≡ record m { held = with_blocks score_of blocks m.held } }
+    ensures each { (score_of : List ℕ → List ℕ) (calls : List Call) (blocks : List Block)
+        (m : Maps) → map asked_of calls ≡ map write_of blocks → refusals_of calls ≡ [] →
+        TellsEach score_of m calls →
+        All (Has score_of (with_blocks score_of blocks m.held)) blocks }
 {}
 
 /// Blocks in memory, in the words of the trait.

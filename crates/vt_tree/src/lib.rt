@@ -9,6 +9,7 @@ mod mem_blocks;
 mod plain;
 mod reading;
 mod root;
+mod writing;
 
 pub use blocks::Blocks;
 pub use entry::{BadEntry, ENTRY_LEN, Entry, EntryField};
@@ -17,6 +18,7 @@ pub use mem_blocks::{MemBlocks, Stored};
 pub use plain::{Trouble, byte_at, content};
 pub use reading::read_range;
 pub use root::{ROOT_LEN, Root, RootField};
+pub use writing::write_stream;
 
 #[cfg(test)]
 mod tests;

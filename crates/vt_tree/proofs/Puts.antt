@@ -1,0 +1,70 @@
+-- A block that is put.
+use Rattle.std.proofs.Common.{◌≡◌, ℕ, Bool, true, false, cond, Ok, Err, List, [], ◌∷◌, length, map, refl, sym, ◌∙◌, ap}
+use Rattle.std.specs.Prelude.{◌==◌}
+use Rattle.std.proofs.lemmas.List.{nil_from_length}
+use Rattle.std.proofs.lemmas.Bool.{eqb-true}
+use Rattle.vt_base.specs.declared.score.Score.{Score}
+use Rattle.vt_model.specs.History.{Block}
+use Rattle.vt_tree.specs.declared.err.BlockErr.{BlockErr}
+use Rattle.vt_tree.specs.declared.err.TreeErr.TheVariants as errs
+use Rattle.vt_tree.specs.Calls.{Call, put, write_of}
+use Rattle.vt_tree.specs.Growing.{PutsBlock}
+use Rattle.vt_tree.proofs.Making.{makes_one}
+
+module _ {S : Type 0} (does : S → Call → S → Type 0) (score_of : List ℕ → List ℕ) (s : S)
+    (b : Block) where
+  -- it has no bytes
+  pub nothing_put : (zero : Score) → zero.0 ≡ score_of [] → (length b.bytes == 0) ≡ true
+      → PutsBlock does score_of s s b (Ok zero)
+  nothing_put zero is none = record {
+    calls = [];
+    made = refl;
+    refused = refl;
+    asked = ap (λ (t : Bool). map write_of (cond t [] (b ∷ []))) (sym none);
+    scored = is
+        ∙ ap score_of (sym (nil_from_length b.bytes (eqb-true (length b.bytes) 0 none)));
+    plain = tt;
+  }
+
+  -- memory is short
+  pub no_put_for_memory : PutsBlock does score_of s s b (Err errs.NoMemory)
+  no_put_for_memory = record {
+    calls = [];
+    made = refl;
+    refused = refl;
+    asked = (map write_of (cond (length b.bytes == 0) [] (b ∷ [])), refl);
+    scored = tt;
+    plain = tt;
+  }
+
+  module _ (s' : S) (some : (length b.bytes == 0) ≡ false) where
+    alone : write_of b ∷ [] ≡ map write_of (cond (length b.bytes == 0) [] (b ∷ []))
+    alone = ap (λ (t : Bool). map write_of (cond t [] (b ∷ []))) (sym some)
+
+    pub was_put : (score : Score) → does s (put b (Ok score)) s' → score.0 ≡ score_of b.bytes
+        → PutsBlock does score_of s s' b (Ok score)
+    was_put score done scored = record {
+      calls = put b (Ok score) ∷ [];
+      made = makes_one does s s' (put b (Ok score)) done;
+      refused = refl;
+      asked = alone;
+      scored = scored;
+      plain = tt;
+    }
+
+    pub was_refused : (err : BlockErr) → does s (put b (Err err)) s'
+        → PutsBlock does score_of s s' b (Err (errs.Block err))
+    was_refused err done = record {
+      calls = put b (Err err) ∷ [];
+      made = makes_one does s s' (put b (Err err)) done;
+      refused = record {
+        before = [];
+        last = put b (Err err);
+        are = refl;
+        accepted = refl;
+        refused = refl;
+      };
+      asked = ([], alone);
+      scored = tt;
+      plain = tt;
+    }
