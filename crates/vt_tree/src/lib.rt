@@ -21,4 +21,6 @@ pub use root::{ROOT_LEN, Root, RootField};
 pub use writing::write_stream;
 
 #[cfg(test)]
+mod stream_tests;
+#[cfg(test)]
 mod tests;
