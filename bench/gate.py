@@ -1,17 +1,22 @@
 #!/usr/bin/env python3
 """Runs `rt ci`, and tells how long each crate's proof, tests, edits and runs took.
 
-Run it as bench/gate.py, at the top of the repository; what it is given goes to `rt ci`, which takes words in some
-toolchains. The lines of `rt ci` come on standard error, each behind the seconds since the start, and the table comes
-on standard output. The status is that of `rt ci`. It needs Python 3, and a Linux /proc.
+Run it as bench/gate.py, at the top of the repository. The lines of `rt ci` come on standard error, each behind the
+seconds since the start, and the table comes on standard output. The status is that of `rt ci`. It needs Python 3, and
+a Linux /proc.
 
 What it tells is processor time: it looks five times a second at the processes that `rt ci` started, and goes by their
 command lines and folders. A check of a crate in a folder rt-edit-* is one of an edit, or the one that edits begin with.
 What can't be told so, as formatting, linking, and what came between two looks, is in the row `other`.
+
+Given names of crates, it doesn't run the gate. It proves each of these from nothing, proves and runs its tests over
+that, and tries its edits, one job at a time, and prints a row of seconds of processor time for each. The gate proves a
+crate once more with its tests, and once more before its edits, which here is a part of what the edits take.
 """
 import os
 import re
 import resource
+import shutil
 import subprocess
 import sys
 import threading
@@ -139,10 +144,39 @@ def show(watch, lines, seconds, processor):
         print(f"Kept from earlier runs, in whole or in part: {', '.join(sorted(lines.kept))}.")
 
 
+def seconds_of(folder, *words):
+    """Runs rt in a folder, and gives the processor time that it took. What it prints comes on standard error."""
+    before = resource.getrusage(resource.RUSAGE_CHILDREN)
+    status = subprocess.run(["rt", *words], cwd=folder, stdin=subprocess.DEVNULL, stdout=sys.stderr).returncode
+    after = resource.getrusage(resource.RUSAGE_CHILDREN)
+    if status:
+        sys.exit(f"rt {' '.join(words)} ended with status {status} in {folder}")
+    return after.ru_utime + after.ru_stime - before.ru_utime - before.ru_stime
+
+
+def measure(names):
+    """Proves these crates, and prints what each took."""
+    print("| crate | proof | tests beside it | edits | tried |")
+    print("|---|---|---|---|---|", flush=True)
+    for name in names:
+        folder = f"{TOP}/crates/{name}"
+        # (the crates below are built first)
+        seconds_of(folder, "check", "--only=")
+        shutil.rmtree(f"{folder}/out/incremental", ignore_errors=True)
+        proof = seconds_of(folder, "check", "--jobs", "1")
+        tests = seconds_of(folder, "test", "--jobs", "1")
+        edits = seconds_of(TOP, "must-fail", name)
+        tried = sum(it.endswith(".edit") for it in os.listdir(f"{folder}/must-fail"))
+        print(f"| `{name}` | {proof:.0f} | {tests:.0f} | {edits:.0f} | {tried} |", flush=True)
+    return 0
+
+
 def main():
+    if sys.argv[1:]:
+        return measure(sys.argv[1:])
     began, lines = time.monotonic(), Lines()
     before = resource.getrusage(resource.RUSAGE_CHILDREN)
-    ran = subprocess.Popen(["rt", "ci", *sys.argv[1:]], cwd=TOP, stdin=subprocess.DEVNULL, stdout=subprocess.PIPE,
+    ran = subprocess.Popen(["rt", "ci"], cwd=TOP, stdin=subprocess.DEVNULL, stdout=subprocess.PIPE,
                            stderr=subprocess.STDOUT, text=True, errors="replace")
     watch = Watch(ran.pid)
     for line in ran.stdout:
