@@ -1,12 +1,30 @@
-//! Formatting partitions: the words of the commands that do it (venti(8)).
+//! Formatting partitions, which are taken by name: what the commands of venti(8) do that make them,
+//! and the words of these commands.
 #![tactic(auto)]
 
+mod arenas;
+mod filter;
+mod refusals;
+mod section;
 mod words;
 
-pub use words::{BadName, parse_arena_size, parse_len, parse_name};
+pub use arenas::format_arenas;
+pub use filter::format_filter;
+pub use section::format_section;
+pub use words::{
+    BadName, parse_arena_size, parse_filter_size, parse_len, parse_name, parse_positions,
+};
 
 /// The most bytes that a device has, 1 TiB.
 pub const MAX_LEN: u64 = 1 << 40;
+
+/// How many bytes a Bloom filter has at least and at most.
+pub const LEAST_FILTER: u64 = 8192;
+
+pub const MOST_FILTER: u64 = 1 << 20;
+
+/// How many bits of a Bloom filter a score has at most.
+pub const MOST_POSITIONS: u64 = 32;
 
 #[cfg(test)]
 mod tests;

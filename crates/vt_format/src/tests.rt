@@ -1,7 +1,17 @@
-//! Words that are taken and words that aren't.
+//! Words that are taken and words that aren't, and partitions that are formatted.
 
-use crate::{BadName, parse_arena_size, parse_len, parse_name};
+use crate::{
+    BadName, format_arenas, format_filter, format_section, parse_arena_size, parse_filter_size,
+    parse_len, parse_name, parse_positions,
+};
+use std::alloc::Global;
+use std::process::Abort;
+use std::test::Fail;
+use vt_base::{MountBad, MountField, Text};
 use vt_conf::BadNumber;
+use vt_memdisk::{Listed, MemDisk};
+use vt_memparts::{Failing, MemParts};
+use vt_parts::Parts;
 
 #[test]
 fn words(rt: HostRuntime) {
@@ -41,4 +51,89 @@ fn words(rt: HostRuntime) {
     for (text, size) in sizes {
         assert_eq!(rt; parse_arena_size(text), size.map_err(|at| BadNumber { at }));
     }
+
+    let filters: [(&[u8], Result<u64, usize>); 6] = [
+        (b"8192", Ok(8192)),
+        (b"1048576", Ok(1 << 20)),
+        (b"4096", Err(0)),
+        (b"2097152", Err(0)),
+        (b"8193", Err(0)),
+        (b"8k", Err(1)),
+    ];
+    for (text, size) in filters {
+        assert_eq!(rt;
+            parse_filter_size(text),
+            size.map_err(|at| BadNumber { at })
+        );
+    }
+
+    let positions: [(&[u8], Result<u8, usize>); 5] = [
+        (b"1", Ok(1)),
+        (b"32", Ok(32)),
+        (b"0", Err(0)),
+        (b"33", Err(0)),
+        (b"x", Err(0)),
+    ];
+    for (text, count) in positions {
+        assert_eq!(rt; parse_positions(text), count.map_err(|at| BadNumber { at }));
+    }
+}
+
+/// What formatting answers, for a file and a length or a size.
+#[derive(Drop)]
+struct Formats<P> {
+    alloc: Global,
+    parts: P,
+}
+
+impl<P: Parts> Formats<P> {
+    fn arenas(&mut self, file: &[u8], len: u64) -> Result<Result<u32, MountBad>, Fail> {
+        let file = Text::copy_of(self.alloc, file)?;
+        let name = Text::copy_of(self.alloc, b"a0")?;
+        let size = parse_arena_size(b"32768").ok().ok_or("size")?;
+        parse_name(name.as_slice()).ok().ok_or("name")?;
+        Ok(format_arenas(self.alloc, &mut self.parts, &file, &name, len, size))
+    }
+
+    fn section(&mut self, file: &[u8], len: u64) -> Result<Result<u32, MountBad>, Fail> {
+        let file = Text::copy_of(self.alloc, file)?;
+        let name = Text::copy_of(self.alloc, b"i0")?;
+        parse_name(name.as_slice()).ok().ok_or("name")?;
+        Ok(format_section(self.alloc, &mut self.parts, &file, &name, len))
+    }
+
+    fn filter(&mut self, file: &[u8]) -> Result<Result<(), MountBad>, Fail> {
+        let file = Text::copy_of(self.alloc, file)?;
+        let size = parse_filter_size(b"8192").ok().ok_or("size")?;
+        let positions = parse_positions(b"8").ok().ok_or("positions")?;
+        Ok(format_filter(self.alloc, &mut self.parts, &file, size, positions))
+    }
+}
+
+/// Partitions are made and grown, and those that are too short are refused.
+fn formats<P: Parts>(rt: &impl Abort, to: &mut Formats<P>) -> Result<(), Fail> {
+    let small = |len, need| Err(MountBad::TooSmall { part: 0, len, need });
+    assert_eq!(rt; to.arenas(b"a.part", 40_960)?, Ok(1));
+    assert_eq!(rt; to.arenas(b"a.part", 73_728)?, Ok(2));
+    assert_eq!(rt; to.arenas(b"a.part", 0)?, Ok(2));
+    assert_eq!(rt; to.arenas(b"small", 40_959)?, small(40_959, 40_960));
+    assert_eq!(rt; to.section(b"i.part", 92_160)?, Ok(4));
+    assert_eq!(rt; to.section(b"short", 41_471)?, small(41_471, 41_472));
+    assert_eq!(rt; to.filter(b"b.part")?, Ok(()));
+    let other = MountBad::Disagree {
+        part: 0,
+        field: MountField::M,
+        found: 16,
+        want: 18,
+    };
+    assert_eq!(rt; to.filter(b"i.part")?, Err(other));
+    Ok(())
+}
+
+#[test]
+fn partitions_are_formatted(rt: HostRuntime) -> Result<(), Fail> {
+    let alloc = rt.alloc();
+    let maker = Failing::new(Vec::new(alloc));
+    let parts = MemParts::<MemDisk<Listed>, Failing<Global>>::new(alloc, maker);
+    formats(&rt, &mut Formats { alloc, parts })
 }

@@ -2,11 +2,13 @@
 
 ghost use Rattle.std.specs.Prelude.{◌≡◌, ◌≤◌, ℕ, Ok, decimal, length, IfErr, IfOk, OnOk};
 ghost use Rattle.std.specs.List.{prefix_len};
+ghost use Rattle.vt_bloom.specs.Size.{IsSize};
 ghost use Rattle.vt_conf.specs.Numbers.{wrong_digit};
 ghost use Rattle.vt_format.specs.Words.{wrong_name};
 ghost use Rattle.vt_part.specs.Table.{IsName, IsArenaSize, is_name_byte};
 
-use crate::MAX_LEN;
+use crate::{LEAST_FILTER, MAX_LEN, MOST_FILTER, MOST_POSITIONS};
+use vt_bloom::exponent;
 use vt_conf::{BadNumber, parse_number};
 use vt_part::{LEAST_ARENA, MOST_ARENA, NAME_MAX, is_arena_size, is_name};
 
@@ -58,6 +60,32 @@ pub fn parse_arena_size(text: &[u8]) -> Result<u64, BadNumber>
     } else {
         Err(BadNumber { at: 0 })
     }
+}
+
+/// The size of a Bloom filter in bytes: a power of two from 8,192 to 1,048,576. A number that is no
+/// such size is bad at 0.
+pub fn parse_filter_size(text: &[u8]) -> Result<u64, BadNumber>
+    ensures ok { IfOk result (λ n. text.now ≡ decimal n) }
+    ensures size { IfOk result (λ n. (m : ℕ) × IsSize m n) }
+    ensures only { (n m : ℕ) → text.now ≡ decimal n → IsSize m n → result ≡ Ok n }
+    ensures bad { IfErr result (λ bad. bad.at ≡ wrong_digit text.now) }
+{
+    let size = parse_number(text, LEAST_FILTER, MOST_FILTER)?;
+    match exponent(size) {
+        Some(_) => Ok(size),
+        None => Err(BadNumber { at: 0 }),
+    }
+}
+
+/// How many bits of a Bloom filter each score has, from 1 to 32.
+pub fn parse_positions(text: &[u8]) -> Result<u8, BadNumber>
+    ensures ok { IfOk result (λ n. text.now ≡ decimal n) }
+    ensures some { IfOk result (λ n. 1 ≤ n) }
+    ensures most { IfOk result (λ n. n ≤ MOST_POSITIONS) }
+    ensures only { (n : ℕ) → text.now ≡ decimal n → 1 ≤ n → n ≤ MOST_POSITIONS → result ≡ Ok n }
+    ensures bad { IfErr result (λ bad. bad.at ≡ wrong_digit text.now) }
+{
+    Ok(parse_number(text, 1, MOST_POSITIONS)? as u8)
 }
 
 /// The place of the first byte that can't stand in a name, or where a name that is too long ends.
