@@ -41,14 +41,14 @@ means_one {offered} {greeted} {type} {tag} {parameters} (spelled m x) (spelled n
     ap (item_of offered greeted tag) (body_one m n type parameters x y)
 
 -- what is said of the frames behind one that means this
-abbrev HearsBehindFrame : Bool → Bool → ℕ → List (List ℕ) → List ℕ → List Item → Ended
+abbrev pub HearsBehindFrame : Bool → Bool → ℕ → List (List ℕ) → List ℕ → List Item → Ended
     → Option Item → Type 0
 HearsBehindFrame offered greeted behind bodies rest items ended meant =
     MatchOption meant ((items ≡ []) × (ended ≡ Goodbye))
     (λ item. (later : List Item) × (items ≡ item ∷ later)
     × Hears offered (greeted || greets item) behind bodies rest later ended)
 
-hears_one : (offered greeted : Bool) (place : ℕ) (bodies : List (List ℕ)) (rest : List ℕ)
+pub hears_one : (offered greeted : Bool) (place : ℕ) (bodies : List (List ℕ)) (rest : List ℕ)
     (items items' : List Item) (e e' : Ended)
     → Hears offered greeted place bodies rest items e
     → Hears offered greeted place bodies rest items' e' → (items ≡ items') × (e ≡ e')
@@ -290,7 +290,7 @@ hears_last offered greeted place ((type ∷ tag ∷ parameters) ∷ bodies) more
     )
 
 -- the same bytes left, and more behind them
-abbrev with_more : Unheard → List ℕ → Unheard
+abbrev pub with_more : Unheard → List ℕ → Unheard
 with_more left more = record left { bytes = left.bytes ++ more }
 
 rest_front : (left : Unheard) (more : List ℕ) (items items' : List Item) (e e' : Ended)
@@ -321,11 +321,11 @@ line_len input len offered is =
     let w = whole_is input len offered is in
     omega (arith, ap length w.4, w.5, length-append w.2 (10 ∷ drop len input))
 
-abbrev behind_line : List ℕ → ℕ → Bool → Unheard
+abbrev pub behind_line : List ℕ → ℕ → Bool → Unheard
 behind_line input len offered =
     record { offered = offered; greeted = false; place = len; bytes = drop len input }
 
-line_more : (input more : List ℕ) (len : ℕ) (offered : Bool) → line_of input ≡ Whole len offered
+pub line_more : (input more : List ℕ) (len : ℕ) (offered : Bool) → line_of input ≡ Whole len offered
     → behind_line (input ++ more) len offered ≡ with_more (behind_line input len offered) more
 line_more input more len offered is =
     ap (λ b. record { offered = offered; greeted = false; place = len; bytes = b })

@@ -7,3 +7,4 @@ pub mod Parsing
 pub mod Causes
 pub mod Numbers
 pub mod Written
+pub mod Talking

@@ -1,6 +1,7 @@
 -- What a frame comes to, and what is heard behind it.
-use Rattle.std.proofs.Common.{◌≡◌, ℕ, ◌+◌, ◌||◌, ◌<◌, ◌≤◌, Bool, List, [], ◌∷◌, ◌++◌, length, take, drop, slice_index, Some, None, refl, sym, ◌∙◌, ap, subst, arith, append_assoc}
+use Rattle.std.proofs.Common.{◌≡◌, ℕ, ◌+◌, ◌||◌, ◌<◌, ◌≤◌, Bool, List, [], ◌∷◌, ◌++◌, length, take, drop, slice_index, Some, None, refl, sym, ◌∙◌, ap, subst, arith, append_assoc, length-append}
 use Rattle.std.specs.List.{flat_map}
+use Rattle.std.proofs.Math.Seq.{drop-append_seam}
 use Rattle.std.proofs.lemmas.List.{take-append-drop, length-take-le}
 use Rattle.std.proofs.lemmas.List.Elements.{All-nil, All-cons}
 use Rattle.vt_base.specs.Bytes.{AreBytes}
@@ -17,7 +18,7 @@ use Rattle.vt_session.specs.declared.parsed.Next.{Next}
 use Rattle.vt_session.specs.declared.parsed.Next.TheVariants.{Message, Refused, End}
 use Rattle.vt_session.specs.Heard.{Item, settled, item_of, Means, spelled, greets, end_of, Unheard, HearsRest}
 use Rattle.vt_session.specs.Hearing.{going_on, behind_frame, MatchMessage, MatchNext, Gives}
-use Rattle.vt_session.specs.Parsed.{is_hello_message, is_hello, RulesGive, HearsFrame, EndsAtFrame, FrameGives}
+use Rattle.vt_session.specs.Parsed.{is_hello_message, is_hello, RulesGive, HearsFrame, EndsAtFrame, FrameGives, IsFront}
 
 -- ---- a frame
 
@@ -93,21 +94,31 @@ rules_frame left frame body tag m next first x gives =
 
 -- ---- the bytes behind it
 
--- bytes cut behind their first frame
-pub record IsCut (bytes frame behind : List ℕ) (len : ℕ) : Type 0 where
-  pub first : IsFrame frame (drop size_width frame)
-  pub parts : bytes ≡ frame ++ behind
-  pub len_is : length frame ≡ len
-
-pub cut_at : (bytes frame behind : List ℕ) (len : ℕ) → len ≤ length bytes
-    → IsFrame (take len bytes) (drop size_width (take len bytes))
-    → frame ≡ take len bytes → behind ≡ drop len bytes → IsCut bytes frame behind len
-cut_at bytes frame behind len enough first front back = record {
-  first = subst (λ f. IsFrame f (drop size_width f)) (sym front) first;
-  parts = sym (take-append-drop len bytes) ∙ ap (λ f. f ++ drop len bytes) (sym front)
-      ∙ ap (λ b. frame ++ b) (sym back);
-  len_is = ap length front ∙ length-take-le len bytes enough;
+-- the first frame, cut off
+pub front_at : (left : Unheard) (len : ℕ) (frame : List ℕ) (next : Next) → len ≤ length left.bytes
+    → IsFrame (take len left.bytes) (drop size_width (take len left.bytes))
+    → frame ≡ take len left.bytes → FrameGives left (drop size_width frame) next
+    → IsFront left next len
+front_at left len frame next enough first is gives = record {
+  body = drop size_width (take len left.bytes);
+  behind = drop len left.bytes;
+  counted = first.counted;
+  bytes_are = sym (take-append-drop len left.bytes) ∙ ap (λ f. f ++ drop len left.bytes) first.is;
+  len_is = sym (length-take-le len left.bytes enough) ∙ ap length first.is;
+  gives = subst (λ f. FrameGives left (drop size_width f) next) is gives;
 }
+
+module _ (left : Unheard) (next : Next) (len : ℕ) (x : IsFront left next len) where
+  pub front_frame : IsFrame (framed x.body) x.body
+  front_frame = record { counted = x.counted; is = refl }
+
+  pub front_behind : drop len left.bytes ≡ x.behind
+  front_behind = ap (λ n. drop n left.bytes) x.len_is
+      ∙ ap (drop (length (framed x.body))) x.bytes_are ∙ drop-append_seam (framed x.body) x.behind
+
+  pub front_enough : len ≤ length left.bytes
+  front_enough =
+      omega (arith, x.len_is, ap length x.bytes_are, length-append (framed x.body) x.behind)
 
 module _ (left : Unheard) (frame behind body : List ℕ) (first : IsFrame frame body)
     (is : left.bytes ≡ frame ++ behind) where
@@ -137,7 +148,7 @@ module _ (left : Unheard) (frame behind body : List ℕ) (first : IsFrame frame 
     abbrev new : Unheard
     new = record { offered = left.offered; greeted = greeted; place = place; bytes = behind }
 
-    item_given : (item : Item) → greeted ≡ (left.greeted || greets item)
+    pub item_given : (item : Item) → greeted ≡ (left.greeted || greets item)
         → HearsFrame left body item → (items : List Item) (ended : Ended)
         → HearsRest new items ended → HearsRest left (item ∷ items) ended
     item_given item kept hears items ended x =

@@ -4,3 +4,5 @@ pub mod Answered
 pub mod Talk
 pub mod Hearing
 pub mod Parsed
+pub mod Talking
+pub mod Talker

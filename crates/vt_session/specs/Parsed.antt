@@ -1,7 +1,7 @@
 -- What a parser keeps of an input, and what it reads of a frame.
-use Rattle.std.specs.Prelude.{ℕ, ◌≡◌, ◌+◌, ◌||◌, Bool, true, false, Some, None, List, [], ◌∷◌, length}
+use Rattle.std.specs.Prelude.{ℕ, ◌≡◌, ◌+◌, ◌||◌, Bool, true, false, Some, None, List, [], ◌∷◌, ◌++◌, length}
 use Rattle.vt_base.specs.Protocol.{TMessage, t_hello}
-use Rattle.vt_wire.specs.Frames.{framed}
+use Rattle.vt_wire.specs.Frames.{framed, IsBody}
 use Rattle.vt_wire.specs.Views.{message_of}
 use Rattle.vt_session.specs.declared.Ended.{Ended}
 use Rattle.vt_session.specs.declared.Ended.TheVariants.{Goodbye}
@@ -58,3 +58,12 @@ EndsAtFrame left body ended =
 -- what the first frame left comes to, which has this body
 abbrev pub FrameGives : Unheard → List ℕ → Next → Type 0
 FrameGives left body next = MatchNext next (HearsFrame left body) (EndsAtFrame left body)
+
+-- the first frame left is whole, has so many bytes, and comes to this
+pub record IsFront (left : Unheard) (next : Next) (len : ℕ) : Type 0 where
+  pub body : List ℕ
+  pub behind : List ℕ
+  pub counted : IsBody body
+  pub bytes_are : left.bytes ≡ framed body ++ behind
+  pub len_is : len ≡ length (framed body)
+  pub gives : FrameGives left body next

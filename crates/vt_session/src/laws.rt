@@ -21,6 +21,7 @@ ghost use Rattle.vt_session.specs.Answered.{AnsweredBy, AnsweredAlone, CountsRis
 ghost use Rattle.vt_session.specs.Answered.{NoneFell, OneRose, Faults, no_faults, AreToldBy};
 ghost use Rattle.vt_session.specs.Talk.{Talk, Alone, EndsInLast, AnswersAll, EndsByInput};
 ghost use Rattle.vt_session.specs.Talk.{TalkSoFar, ComesBehind, over_both, HasScores, spent_len};
+ghost use Rattle.vt_session.specs.Talking.{Stage, HearsStage, stage_with, fed_stage};
 ghost use Rattle.vt_session.specs.declared.Ended.{Ended};
 ghost use Rattle.vt_session.specs.declared.Ended.TheVariants.{Goodbye, Closed, Cut, Malformed};
 ghost use Rattle.vt_session.specs.declared.Ended.TheVariants.{WriteFault};
@@ -186,6 +187,15 @@ pub fn hearing_steps()
         HearsRest left [] (Malformed left.place) }
     ensures partial { (left : Unheard) →
         IsPartial left.bytes → HearsRest left [] (end_of left.bytes) }
+{}
+
+/// Bytes that were fed are heard with what comes in behind them; where nothing more comes, a stage
+/// is as it was.
+pub fn feeding_goes_on()
+    ensures fed { (stage : Stage) (piece more : List ℕ) (items : List Item) (ended : Ended) →
+        HearsStage (stage_with (fed_stage stage piece) more) items ended →
+        HearsStage (stage_with stage (piece ++ more)) items ended }
+    ensures none { (stage : Stage) → stage_with stage [] ≡ stage }
 {}
 
 /// A talk begins with no turns. What a link was told so far of a history, it was told of every

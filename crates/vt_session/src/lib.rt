@@ -4,15 +4,18 @@
 
 mod laws;
 mod parsed;
+mod talker;
+mod waiting;
 
 pub use laws::{
     added_numbers_rise, alone_adds, alone_is_determined, alone_is_talk, alone_keeps_legal,
-    bytes_tell_history, causes_join, cut_output, every_input_has_a_session, heard_goes_on,
-    heard_once, hearing_once, hearing_steps, later_turns_join, more_turns_join, one_count_rises,
-    talk_of_longer, talks_go_on, turns_tell_in_order, write_fault_in_a_reply,
+    bytes_tell_history, causes_join, cut_output, every_input_has_a_session, feeding_goes_on,
+    heard_goes_on, heard_once, hearing_once, hearing_steps, later_turns_join, more_turns_join,
+    one_count_rises, talk_of_longer, talks_go_on, turns_tell_in_order, write_fault_in_a_reply,
     written_blocks_are_held,
 };
 pub use parsed::{Next, Parsed, parse_all};
+pub use talker::{MAX_TAKEN, Talker};
 
 /// How a session ended.
 #[derive(Clone, Copy, Debug, PartialEq, Eq)]

@@ -1,8 +1,8 @@
 //! Hearing a whole input, item by item.
 
-ghost use Rattle.std.specs.Prelude.{◌≡◌, ◌+◌, ◌<◌, ◌^◌, List, drop, length};
+ghost use Rattle.std.specs.Prelude.{◌≡◌, ◌+◌, ◌<◌, ◌^◌, ◌↔◌, List, drop, length, IsNone, IfSome};
 ghost use Rattle.vt_base.specs.Bytes.{AreBytes};
-ghost use Rattle.vt_wire.specs.Frames.{size_width, IsFrame};
+ghost use Rattle.vt_wire.specs.Frames.{size_width, IsFrame, IsPartial};
 ghost use Rattle.vt_wire.specs.Views.{message_of};
 ghost use Rattle.vt_session.specs.Heard.{Item, Heard, end_of};
 ghost use Rattle.vt_session.specs.Hearing.{Hearing, going_on, HearsOn, IsHeard, Gives, TakesBytes};
@@ -34,7 +34,7 @@ impl Next<'_> {
     ghost use Rattle.vt_session.specs.Parsed.{is_hello};
 
     /// Whether the session begins here.
-    fn is_hello(&self) -> bool
+    pub(crate) fn is_hello(&self) -> bool
         ensures { result ≡ is_hello self.now }
     {
         matches!(self, Next::Message(_, Request::Hello { .. }))
@@ -56,14 +56,14 @@ enum State<'a> {
 
 /// What is left of an input, behind its line and whole frames.
 #[derive(Clone, Copy)]
-struct Left<'a> {
+pub(crate) struct Left<'a> {
     /// Whether the line offered version 02.
-    offered: bool,
+    pub(crate) offered: bool,
     /// Whether a hello was accepted.
-    greeted: bool,
+    pub(crate) greeted: bool,
     /// Where the bytes stand in the input.
-    place: u64,
-    bytes: &'a [u8],
+    pub(crate) place: u64,
+    pub(crate) bytes: &'a [u8],
     ghost are_bytes: { AreBytes bytes.now },
     ghost fits: { place + length bytes.now < 2 ^ 64 },
 }
@@ -115,7 +115,7 @@ impl<'a> Parsed<'a> {
 }
 
 impl<'a> Left<'a> {
-    ghost use Rattle.vt_session.specs.Parsed.{unheard, hearing_of, RulesGive, FrameGives};
+    ghost use Rattle.vt_session.specs.Parsed.{unheard, hearing_of, RulesGive, FrameGives, IsFront};
 
     /// What comes next, and the state behind it.
     fn next(self) -> (Next<'a>, State<'a>)
@@ -123,12 +123,10 @@ impl<'a> Left<'a> {
         ensures shorter { TakesBytes result.0 (going_on (unheard self.entry)) (hearing_of result.1) }
         ensures goes_on { IsHeard (hearing_of result.1) }
     {
-        let Some(len) = frame_len(self.bytes) else {
+        let Some((next, len)) = self.front() else {
             let ended = end_of(self.bytes);
             return (Next::End(ended), State::Over(ended));
         };
-        let (frame, behind) = self.bytes.split_at(len);
-        let next = self.next_of(frame);
         if let Next::End(ended) = next {
             return (next, State::Over(ended));
         }
@@ -136,9 +134,20 @@ impl<'a> Left<'a> {
             offered: self.offered,
             greeted: self.greeted || next.is_hello(),
             place: self.place + len as u64,
-            bytes: behind,
+            bytes: &self.bytes[len..],
         };
         (next, State::GoingOn(left))
+    }
+
+    /// What the first frame left comes to, and how many bytes it has; None exactly where none is
+    /// whole.
+    pub(crate) fn front(&self) -> Option<(Next<'a>, usize)>
+        ensures partial { IsNone result ↔ IsPartial self.now.bytes.now }
+        ensures front { IfSome result (λ it. IsFront (unheard self.now) it.0 it.1) }
+    {
+        let len = frame_len(self.bytes)?;
+        let next = self.next_of(&self.bytes[..len]);
+        Some((next, len))
     }
 
     /// What the first frame left comes to.
@@ -172,7 +181,7 @@ impl<'a> Left<'a> {
 }
 
 /// How an input ends with these bytes, which are less than a whole line or frame.
-fn end_of(rest: &[u8]) -> Ended
+pub(crate) fn end_of(rest: &[u8]) -> Ended
     ensures { result ≡ end_of rest.now }
 {
     if rest.is_empty() {

@@ -3,7 +3,7 @@
 use super::*;
 use std::alloc::{AllocError, Global};
 use std::test::Fail;
-use vt_base::Score;
+use vt_base::{NoMemory, Score};
 use vt_wire::{Request, Rule};
 
 const LINE: &[u8] = b"venti-02-test\n";
@@ -193,5 +193,121 @@ fn messages_are_refused(rt: HostRuntime) -> Result<(), Fail> {
             Ended::Closed,
         )?
     );
+    Ok(())
+}
+
+/// The next of a row of drawn numbers (an xorshift).
+fn drawn(state: u64) -> u64 {
+    let mut x = state;
+    x ^= x << 13;
+    x ^= x >> 7;
+    x ^ x << 17
+}
+
+/// A talker that is fed an input in pieces of these lengths, in turn, hears what is heard of the
+/// whole.
+fn is_heard_alike(alloc: Global, input: &[u8], lengths: &[usize]) -> Result<bool, NoMemory> {
+    let mut parsed = parse_all(input);
+    let mut talker = Talker::new(alloc)?;
+    let mut rest = input;
+    for _ in 0..1_000_000 {
+        if let Some(next) = talker.next() {
+            if parsed.next() != next {
+                return Ok(false);
+            }
+            if let Next::End(_) = next {
+                return Ok(true);
+            }
+            talker.pass();
+        } else if rest.is_empty() {
+            return Ok(parsed.next() == Next::End(talker.end()));
+        } else {
+            let turn = (talker.taken() % lengths.len().max(1) as u64) as usize;
+            let length = lengths.get(turn).copied().unwrap_or(1);
+            let took = talker.feed(&rest[..length.min(rest.len())]);
+            if took == 0 {
+                return Ok(false);
+            }
+            rest = &rest[took..];
+        }
+    }
+    Ok(false)
+}
+
+#[test]
+fn pieces_are_heard_alike(rt: HostRuntime) -> Result<(), Fail> {
+    let alloc = rt.alloc();
+    let mut lengths = Vec::new(alloc);
+    let mut state = 1;
+    for _ in 0..64 {
+        state = drawn(state);
+        lengths.push(1 + (state % 997) as usize)?;
+    }
+    let line = vec![in alloc; b'v'; 1_025]?;
+    let mut longest = vec![in alloc; b'x'; 65_537]?;
+    longest[..4].copy_from_slice(b"\xff\xff\x0e\x01");
+    let inputs: [&[&[u8]]; 9] = [
+        &[],
+        &[b"venti-02\n"],
+        &[&line],
+        &[&line[..1_024]],
+        &[LINE, b"\x00\x01\x02"],
+        &[LINE_04, HELLO, PING, LONG_READ],
+        &[
+            LINE,
+            HELLO,
+            HELLO_03,
+            WRITE,
+            READ,
+            EMPTY_WRITE,
+            SYNC,
+            READ,
+            &READ[..27],
+        ],
+        &[LINE, HELLO, PING, GOODBYE, PING],
+        &[
+            LINE,
+            HELLO,
+            &longest,
+            READ,
+            &longest,
+            b"\x00\x02\x63\x08",
+            &longest,
+            PING,
+        ],
+    ];
+    for parts in inputs {
+        let input = parts.concat(alloc)?;
+        for cuts in [[1].as_slice(), &[2], &[3], &[5], &[65_537], &lengths] {
+            assert!(rt; is_heard_alike(alloc, &input, cuts)?);
+        }
+    }
+    Ok(())
+}
+
+#[test]
+fn a_message_is_heard_before_more_is_taken(rt: HostRuntime) -> Result<(), Fail> {
+    let alloc = rt.alloc();
+    let mut talker = Talker::new(alloc)?;
+    assert_eq!(rt; talker.end(), Ended::Closed);
+    assert_eq!(rt; talker.feed(&LINE[..3]), 3);
+    assert_eq!(rt; talker.end(), Ended::Cut);
+    assert_eq!(rt; talker.feed(&LINE[3..]), 11);
+    assert_eq!(rt; talker.next(), None);
+    assert_eq!(rt; talker.room(), 65_537);
+    assert_eq!(rt; talker.feed(HELLO), 13);
+    assert_eq!(rt; talker.feed(PING), 0);
+    let hello = Next::Message(0, Request::Hello { version: b"02" });
+    assert_eq!(rt; talker.next(), Some(hello));
+    assert_eq!(rt; talker.next(), Some(hello));
+    talker.pass();
+    assert_eq!(rt; talker.next(), None);
+    talker.pass();
+    assert_eq!(rt; talker.feed(GOODBYE), 4);
+    assert_eq!(rt; talker.next(), Some(Next::End(Ended::Goodbye)));
+    talker.pass();
+    assert_eq!(rt; talker.next(), Some(Next::End(Ended::Goodbye)));
+    assert_eq!(rt; talker.feed(PING), 0);
+    assert_eq!(rt; talker.taken(), 31);
     Ok(())
 }
