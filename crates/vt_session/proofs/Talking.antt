@@ -284,7 +284,8 @@ module _ (left : Unheard) (next : Next) (len : ℕ) (x : IsFront left next len) 
         → (other : Next) → IsNext (behind_line (going_on left)) other
         → Passes other (behind_line (going_on left)) (behind_line (going_on now))
     passes_item item kept other it =
-        each_next left x.body (PassesItem (behind_line (going_on left)) (behind_line (going_on now)))
+        each_next left x.body
+        (PassesItem (behind_line (going_on left)) (behind_line (going_on now)))
         (PassesEnd (behind_line (going_on left)) (behind_line (going_on now))) other
         (subst (λ b. FrameGives left b other) (same_body left next other len it.0 x it.1)
         it.1.gives) next (next_passes next item kept x.gives)
@@ -306,8 +307,8 @@ module _ (left : Unheard) (next : Next) (len : ℕ) (x : IsFront left next len) 
         (
           refl,
           λ more bytes. rest_end (record left { bytes = left.bytes ++ more })
-              (framed x.body) (x.behind ++ more) x.body (front_frame left next len x) (with_bytes more)
-              ended (AreBytes-append x.behind more behind bytes) ends,
+              (framed x.body) (x.behind ++ more) x.body (front_frame left next len x)
+              (with_bytes more) ended (AreBytes-append x.behind more behind bytes) ends,
         ),
       )
 
@@ -372,7 +373,8 @@ pub fed_on : (phase : Phase) (place : ℕ) (bytes piece : List ℕ) → (phase �
     → talking_at phase place (bytes ++ piece) ≡ fed (talking_at phase place bytes) piece
 fed_on AtLine place bytes piece on = absurd (on refl)
 fed_on (BehindLine offered greeted) place bytes piece on =
-    ap (λ n. record { stage = stage_of (BehindLine offered greeted) place (bytes ++ piece); taken = n })
+    let stage = stage_of (BehindLine offered greeted) place (bytes ++ piece) in
+    ap (λ n. record { stage = stage; taken = n })
     (omega (arith, length-append bytes piece))
 fed_on (Over ended) place bytes piece on =
     ap (λ n. record { stage = stage_of (Over ended) place (bytes ++ piece); taken = n })
