@@ -234,54 +234,77 @@ fn is_heard_alike(alloc: Global, input: &[u8], lengths: &[usize]) -> Result<bool
     Ok(false)
 }
 
-#[test]
-fn pieces_are_heard_alike(rt: HostRuntime) -> Result<(), Fail> {
-    let alloc = rt.alloc();
+/// So it is in pieces of 1, 2, 3, 5 and 65,537 bytes, and of these lengths in turn.
+fn is_heard_in_pieces(alloc: Global, input: &[&[u8]], lengths: &[usize]) -> Result<bool, NoMemory> {
+    let input = input.concat(alloc)?;
+    let small = is_heard_alike(alloc, &input, &[1])?
+        && is_heard_alike(alloc, &input, &[2])?
+        && is_heard_alike(alloc, &input, &[3])?;
+    Ok(
+        small
+            && is_heard_alike(alloc, &input, &[5])?
+            && is_heard_alike(alloc, &input, &[65_537])?
+            && is_heard_alike(alloc, &input, lengths)?,
+    )
+}
+
+/// Drawn lengths of pieces.
+fn drawn_lengths(alloc: Global) -> Result<Vec<usize>, NoMemory> {
     let mut lengths = Vec::new(alloc);
     let mut state = 1;
     for _ in 0..64 {
         state = drawn(state);
         lengths.push(1 + (state % 997) as usize)?;
     }
-    let line = vec![in alloc; b'v'; 1_025]?;
-    let mut longest = vec![in alloc; b'x'; 65_537]?;
-    longest[..4].copy_from_slice(b"\xff\xff\x0e\x01");
-    let inputs: [&[&[u8]]; 9] = [
-        &[],
-        &[b"venti-02\n"],
-        &[&line],
-        &[&line[..1_024]],
-        &[LINE, b"\x00\x01\x02"],
-        &[LINE_04, HELLO, PING, LONG_READ],
-        &[
-            LINE,
-            HELLO,
-            HELLO_03,
-            WRITE,
-            READ,
-            EMPTY_WRITE,
-            SYNC,
-            READ,
-            &READ[..27],
-        ],
-        &[LINE, HELLO, PING, GOODBYE, PING],
-        &[
-            LINE,
-            HELLO,
-            &longest,
-            READ,
-            &longest,
-            b"\x00\x02\x63\x08",
-            &longest,
-            PING,
-        ],
+    Ok(lengths)
+}
+
+/// Inputs of all kinds are: with a line that is too long, and with frames of the longest body.
+fn each_is_heard_in_pieces(
+    alloc: Global,
+    line: &[u8],
+    body: &[u8],
+    lengths: &[usize],
+) -> Result<bool, NoMemory> {
+    let head: &[u8] = b"\xff\xff\x0e\x01";
+    let unknown: &[u8] = b"\x00\x02\x63\x08";
+    let lines = is_heard_in_pieces(alloc, &[], lengths)?
+        && is_heard_in_pieces(alloc, &[b"venti-02\n"], lengths)?
+        && is_heard_in_pieces(alloc, &[line], lengths)?;
+    let refused = is_heard_in_pieces(alloc, &[LINE, b"\x00\x01\x02"], lengths)?
+        && is_heard_in_pieces(alloc, &[LINE_04, HELLO, PING, LONG_READ], lengths)?;
+    let short: &[&[u8]] = &[
+        LINE,
+        HELLO,
+        HELLO_03,
+        WRITE,
+        READ,
+        EMPTY_WRITE,
+        SYNC,
+        READ,
+        HELLO_03,
     ];
-    for parts in inputs {
-        let input = parts.concat(alloc)?;
-        for cuts in [[1].as_slice(), &[2], &[3], &[5], &[65_537], &lengths] {
-            assert!(rt; is_heard_alike(alloc, &input, cuts)?);
-        }
-    }
+    let ended: &[&[u8]] = &[LINE, HELLO, PING, GOODBYE, PING];
+    let long: &[&[u8]] = &[
+        LINE, HELLO, head, body, READ, head, body, unknown, head, body, b"\x00",
+    ];
+    Ok(
+        lines
+            && refused
+            && is_heard_in_pieces(alloc, short, lengths)?
+            && is_heard_in_pieces(alloc, ended, lengths)?
+            && is_heard_in_pieces(alloc, long, lengths)?,
+    )
+}
+
+#[test]
+fn pieces_are_heard_alike(rt: HostRuntime) -> Result<(), Fail> {
+    let alloc = rt.alloc();
+    let lengths = drawn_lengths(alloc)?;
+    let line = vec![in alloc; b'v'; 1_025]?;
+    let body = vec![in alloc; b'x'; 65_533]?;
+    let alike = each_is_heard_in_pieces(alloc, &line, &body, &lengths)?;
+    assert!(rt; alike);
     Ok(())
 }
 
