@@ -15,7 +15,8 @@ use Rattle.vt_tree.specs.Calls.{Call, get, asked_of, refusal_of, refusals_of, Is
 use Rattle.vt_tree.specs.Content.{AreGiven, FirstTrouble, fits_at}
 use Rattle.vt_tree.specs.Making.{EndsBy}
 use Rattle.vt_tree.specs.Maps.{BlockMap, IsWriteOnce}
-use Rattle.vt_tree.specs.Reading.{Appends, AppendsBytes, AsksFor, Gives, ReadsBlock, refused_by, with_bytes}
+use Rattle.vt_tree.specs.Reading.{EndsBadly, AsksFor, Gives, refused_by}
+use Rattle.vt_tree.specs.Walking.{Appends, AppendsBytes, ReadsBlock, with_bytes}
 use Rattle.vt_tree.proofs.Givens.{gives_more, gives_no_more, gives_there}
 use Rattle.vt_tree.proofs.Making.{makes_more, makes_one}
 
@@ -54,19 +55,40 @@ ends_more (Some err) xs ys first then = record {
   refused = then.refused;
 }
 
+pub badly_more : {X : Type 0} (e : Entry) (result : Result X TreeErr) (xs ys : List Call)
+    → EndsBadly e result ys → EndsBadly e result (xs ++ ys)
+badly_more e (Ok x) xs ys bad = tt
+badly_more e (Err (errs.Block err)) xs ys bad = tt
+badly_more e (Err errs.SourceFault) xs ys bad = tt
+badly_more e (Err (errs.BadEntry field)) xs ys bad = tt
+badly_more e (Err (errs.BadBlock depth len)) xs ys bad = record {
+  before = xs ++ bad.before;
+  kind = bad.kind;
+  score = bad.score;
+  block = bad.block;
+  are = ap (λ (l : List Call). xs ++ l) bad.are
+      ∙ sym (append_assoc xs bad.before (get bad.kind bad.score (Ok bad.block) ∷ []));
+  unfit = bad.unfit;
+  len_is = bad.len_is;
+}
+badly_more e (Err errs.TooLong) xs ys bad = tt
+badly_more e (Err errs.NoMemory) xs ys bad = tt
+
 -- ---- parts joined
 
-module _ {S : Type 0} (does : S → Call → S → Type 0) (score_of : List ℕ → List ℕ) where
+module _ {S : Type 0} (does : S → Call → S → Type 0) (score_of : List ℕ → List ℕ)
+    (e : Entry) where
   -- memory was short before anything was asked for
   pub nothing_read : (s : S) (byte : BlockMap → ℕ → Result ℕ Trouble)
       (way : BlockMap → List Operation) (from len : ℕ) (old new : List ℕ)
-      → Appends does score_of s s byte way from len old new (Err errs.NoMemory)
+      → Appends does score_of e s s byte way from len old new (Err errs.NoMemory)
   nothing_read s byte way from len old new = record {
     calls = [];
     made = refl;
     gets = tt;
     refused = refl;
     about = λ of_entry. of_entry;
+    bad = tt;
     bytes = [];
     appended = tt;
     asked = λ blocks once tells. (way blocks, refl);
@@ -79,20 +101,21 @@ module _ {S : Type 0} (does : S → Call → S → Type 0) (score_of : List ℕ 
       → AppendsBytes bytes old new result → length bytes ≡ len
       → ((blocks : BlockMap) → IsWriteOnce score_of blocks → AreGiven (byte blocks) from bytes)
       → ((blocks : BlockMap) → way blocks ≡ [])
-      → Appends does score_of s s byte way from len old new result
+      → Appends does score_of e s s byte way from len old new result
   known s byte way from len old new bytes (Ok done) appended whole given none = record {
     calls = [];
     made = refl;
     gets = tt;
     refused = refl;
     about = tt;
+    bad = tt;
     bytes = bytes;
     appended = (appended, whole);
     asked = λ blocks once tells. sym (none blocks);
     gives = λ blocks once tells. (whole, given blocks once);
   }
   known s byte way from len old new bytes (Err err) appended whole given none =
-      subst (λ (e : TreeErr). Appends does score_of s s byte way from len old new (Err e))
+      subst (λ (x : TreeErr). Appends does score_of e s s byte way from len old new (Err x))
       (sym appended) (nothing_read s byte way from len old new)
 
   -- the same, by another name of the blocks asked for
@@ -100,14 +123,15 @@ module _ {S : Type 0} (does : S → Call → S → Type 0) (score_of : List ℕ 
       (way other : BlockMap → List Operation) (from len : ℕ) (old new : List ℕ)
       (result : Result (Unit {0}) TreeErr)
       → ((blocks : BlockMap) → way blocks ≡ other blocks)
-      → Appends does score_of s s' byte way from len old new result
-      → Appends does score_of s s' byte other from len old new result
+      → Appends does score_of e s s' byte way from len old new result
+      → Appends does score_of e s s' byte other from len old new result
   same_way s s' byte way other from len old new result same part = record {
     calls = part.calls;
     made = part.made;
     gets = part.gets;
     refused = part.refused;
     about = part.about;
+    bad = part.bad;
     bytes = part.bytes;
     appended = part.appended;
     asked = λ blocks once tells. subst (AsksFor result (map asked_of part.calls)) (same blocks)
@@ -120,14 +144,15 @@ module _ {S : Type 0} (does : S → Call → S → Type 0) (score_of : List ℕ 
       (way : BlockMap → List Operation) (a b len : ℕ) (old new : List ℕ)
       (result : Result (Unit {0}) TreeErr)
       → ((blocks : BlockMap) (i : ℕ) → i < len → f blocks (a + i) ≡ g blocks (b + i))
-      → Appends does score_of s s' g way b len old new result
-      → Appends does score_of s s' f way a len old new result
+      → Appends does score_of e s s' g way b len old new result
+      → Appends does score_of e s s' f way a len old new result
   same_bytes s s' f g way a b len old new result same part = record {
     calls = part.calls;
     made = part.made;
     gets = part.gets;
     refused = part.refused;
     about = part.about;
+    bad = part.bad;
     bytes = part.bytes;
     appended = part.appended;
     asked = part.asked;
@@ -138,9 +163,9 @@ module _ {S : Type 0} (does : S → Call → S → Type 0) (score_of : List ℕ 
   -- one part was read, and then a second one
   pub joined : (s mid s' : S) (byte : BlockMap → ℕ → Result ℕ Trouble)
       (way more : BlockMap → List Operation) (from n m : ℕ) (old half new : List ℕ)
-      → Appends does score_of s mid byte way from n old half (Ok tt)
-      → Appends does score_of mid s' byte more (from + n) m half new (Ok tt)
-      → Appends does score_of s s' byte (λ blocks. way blocks ++ more blocks) from (n + m) old new
+      → Appends does score_of e s mid byte way from n old half (Ok tt)
+      → Appends does score_of e mid s' byte more (from + n) m half new (Ok tt)
+      → Appends does score_of e s s' byte (λ blocks. way blocks ++ more blocks) from (n + m) old new
       (Ok tt)
   joined s mid s' byte way more from n m old half new one two = record {
     calls = one.calls ++ two.calls;
@@ -148,6 +173,7 @@ module _ {S : Type 0} (does : S → Call → S → Type 0) (score_of : List ℕ 
     gets = all_join IsGet one.calls two.calls one.gets two.gets;
     refused = accepted_join one.calls two.calls one.refused two.refused;
     about = tt;
+    bad = tt;
     bytes = one.bytes ++ two.bytes;
     appended = (
       two.appended.0 ∙ ap (λ (l : List ℕ). l ++ two.bytes) one.appended.0
@@ -171,9 +197,9 @@ module _ {S : Type 0} (does : S → Call → S → Type 0) (score_of : List ℕ 
       (err : TreeErr) → n + m ≤ len
       → ((blocks : BlockMap) → (rest : List Operation)
       × ((way blocks ++ more blocks) ++ rest ≡ all blocks))
-      → Appends does score_of s mid byte way from n old half (Ok tt)
-      → Appends does score_of mid s' byte more (from + n) m half new (Err err)
-      → Appends does score_of s s' byte all from len old new (Err err)
+      → Appends does score_of e s mid byte way from n old half (Ok tt)
+      → Appends does score_of e mid s' byte more (from + n) m half new (Err err)
+      → Appends does score_of e s s' byte all from len old new (Err err)
   given_up s mid s' byte way more all from n m len old half new err within begins one two = record {
     calls = one.calls ++ two.calls;
     made = makes_more does s mid s' one.calls two.calls one.made two.made;
@@ -181,6 +207,7 @@ module _ {S : Type 0} (does : S → Call → S → Type 0) (score_of : List ℕ 
     refused = ends_more (refused_by {X = Unit {0}} (Err err)) one.calls two.calls one.refused
         two.refused;
     about = two.about;
+    bad = badly_more {X = Unit {0}} e (Err err) one.calls two.calls two.bad;
     bytes = [];
     appended = tt;
     asked = λ blocks once tells.
@@ -211,14 +238,15 @@ module _ {S : Type 0} (does : S → Call → S → Type 0) (score_of : List ℕ 
   -- a part that was given up is where the whole was
   pub cut_short : (s s' : S) (byte : BlockMap → ℕ → Result ℕ Trouble)
       (way : BlockMap → List Operation) (from n len : ℕ) (old new : List ℕ) (err : TreeErr)
-      → n ≤ len → Appends does score_of s s' byte way from n old new (Err err)
-      → Appends does score_of s s' byte way from len old new (Err err)
+      → n ≤ len → Appends does score_of e s s' byte way from n old new (Err err)
+      → Appends does score_of e s s' byte way from len old new (Err err)
   cut_short s s' byte way from n len old new err within part = record {
     calls = part.calls;
     made = part.made;
     gets = part.gets;
     refused = part.refused;
     about = part.about;
+    bad = part.bad;
     bytes = [];
     appended = tt;
     asked = part.asked;
@@ -241,8 +269,8 @@ module _ {S : Type 0} (does : S → Call → S → Type 0) (score_of : List ℕ 
       → ((blocks : BlockMap) → blocks score kind ≡ Some block
       → way blocks ≡ read score kind MAX_BLOCK ∷ more blocks)
       → does s (get kind score (Ok block)) mid
-      → Appends does score_of mid s' by_block more from len old new result
-      → Appends does score_of s s' byte way from len old new result
+      → Appends does score_of e mid s' by_block more from len old new result
+      → Appends does score_of e s s' byte way from len old new result
   behind_block s mid s' kind score block byte by_block way more from len old new result same goes
       got part = record {
         calls = get kind score (Ok block) ∷ part.calls;
@@ -251,6 +279,7 @@ module _ {S : Type 0} (does : S → Call → S → Type 0) (score_of : List ℕ 
         refused = ends_more (refused_by result) (get kind score (Ok block) ∷ []) part.calls refl
             part.refused;
         about = part.about;
+        bad = badly_more e result (get kind score (Ok block) ∷ []) part.calls part.bad;
         bytes = part.bytes;
         appended = part.appended;
         asked = λ blocks once tells. subst
@@ -282,7 +311,7 @@ module _ {S : Type 0} (does : S → Call → S → Type 0) (score_of : List ℕ 
       no_more n = omega arith
 
   -- no block came, or one that doesn't fit
-  pub no_block_came : (s s' : S) (e : Entry) (depth kind : ℕ) (score : List ℕ)
+  pub no_block_came : (s s' : S) (depth kind : ℕ) (score : List ℕ)
       (byte : BlockMap → ℕ → Result ℕ Trouble) (way : BlockMap → List Operation) (from len : ℕ)
       (old new : List ℕ) (err : TreeErr) → 0 < len
       → ((blocks : BlockMap) → blocks score kind ≡ None → byte blocks from ≡ Err Absent)
@@ -292,8 +321,8 @@ module _ {S : Type 0} (does : S → Call → S → Type 0) (score_of : List ℕ 
       → ((blocks : BlockMap) → (rest : List Operation)
       × (read score kind MAX_BLOCK ∷ rest ≡ way blocks))
       → ReadsBlock does s s' e depth kind score (Err err)
-      → Appends does score_of s s' byte way from len old new (Err err)
-  no_block_came s s' e depth kind score byte way from len old new (errs.Block err) some absent bad
+      → Appends does score_of e s s' byte way from len old new (Err err)
+  no_block_came s s' depth kind score byte way from len old new (errs.Block err) some absent bad
       begins asked = record {
         calls = get kind score (Err err) ∷ [];
         made = makes_one does s s' (get kind score (Err err)) asked;
@@ -306,19 +335,29 @@ module _ {S : Type 0} (does : S → Call → S → Type 0) (score_of : List ℕ 
           refused = refl;
         };
         about = λ of_entry. of_entry;
+        bad = tt;
         bytes = [];
         appended = tt;
         asked = λ blocks once tells. begins blocks;
         gives = λ blocks once tells refused.
             at_first (byte blocks) from len Absent some (absent blocks (tells.0 refused));
       }
-  no_block_came s s' e depth kind score byte way from len old new (errs.BadBlock at size) some
+  no_block_came s s' depth kind score byte way from len old new (errs.BadBlock at size) some
       absent bad begins asked = record {
         calls = get kind score (Ok asked.0) ∷ [];
         made = makes_one does s s' (get kind score (Ok asked.0)) asked.1;
         gets = (tt, tt);
         refused = refl;
         about = λ of_entry. of_entry;
+        bad = record {
+          before = [];
+          kind = kind;
+          score = score;
+          block = asked.0;
+          are = refl;
+          unfit = ap (λ (k : ℕ). fits_at e k asked.0) asked.3 ∙ asked.2;
+          len_is = asked.4;
+        };
         bytes = [];
         appended = tt;
         asked = λ blocks once tells. begins blocks;
@@ -327,11 +366,11 @@ module _ {S : Type 0} (does : S → Call → S → Type 0) (score_of : List ℕ 
             (bad blocks asked.0 tells.0 asked.2
             ∙ (λ i. Err (BadBlock (sym asked.3 i) (sym asked.4 i))));
       }
-  no_block_came s s' e depth kind score byte way from len old new errs.SourceFault some absent bad
+  no_block_came s s' depth kind score byte way from len old new errs.SourceFault some absent bad
       begins asked = absurd asked
-  no_block_came s s' e depth kind score byte way from len old new (errs.BadEntry field) some absent
+  no_block_came s s' depth kind score byte way from len old new (errs.BadEntry field) some absent
       bad begins asked = absurd asked
-  no_block_came s s' e depth kind score byte way from len old new errs.TooLong some absent bad
+  no_block_came s s' depth kind score byte way from len old new errs.TooLong some absent bad
       begins asked = absurd asked
-  no_block_came s s' e depth kind score byte way from len old new errs.NoMemory some absent bad
+  no_block_came s s' depth kind score byte way from len old new errs.NoMemory some absent bad
       begins asked = absurd asked

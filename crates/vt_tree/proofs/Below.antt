@@ -15,7 +15,7 @@ use Rattle.vt_tree.specs.declared.plain.Trouble.TheVariants.{BadBlock}
 use Rattle.vt_tree.specs.Calls.{Call}
 use Rattle.vt_tree.specs.Content.{AreGiven, byte_of, byte_of_leaf, byte_below, fits_at, led, leaf_kind, pointer_kind, score_in, score_of_pointers, scores_in, through, way_below, way_through, way_to}
 use Rattle.vt_tree.specs.Maps.{BlockMap}
-use Rattle.vt_tree.specs.Reading.{Appends, AppendsBytes, ReadsBelow, ReadsEach, ReadsAt, ReadsFile, ReadsBlock, byte_under, cut_out}
+use Rattle.vt_tree.specs.Walking.{Appends, AppendsBytes, ReadsBelow, ReadsEach, ReadsAt, ReadsFile, ReadsBlock, byte_under, cut_out}
 use Rattle.vt_tree.proofs.Appending.{known, same_way, same_bytes, joined, given_up, cut_short, behind_block, no_block_came}
 use Rattle.vt_tree.proofs.Contents.{leaf_byte, pointers_lead, nothing_below, past_the_reach, mod_small}
 use Rattle.vt_tree.proofs.Places.{child_of, leaf_inside, byte_inside}
@@ -81,7 +81,7 @@ module _ {S : Type 0} (does : S → Call → S → Type 0) (score_of : List ℕ 
         → AppendsBytes (replicate len 0) old new result
         → ReadsBelow does score_of s s e depth score from len old new result
     reads_zeros s depth score from len old new result none appended =
-        known does score_of s
+        known does score_of e s
         (λ blocks p. byte_below blocks e depth score (p / e.dsize) (p % e.dsize))
         (λ blocks. way_below (score_of []) blocks e depth score (from / e.dsize)
         ((from + len - 1) / e.dsize + 1))
@@ -111,7 +111,7 @@ module _ {S : Type 0} (does : S → Call → S → Type 0) (score_of : List ℕ 
     reads_leaf s s' depth kind score block from len old new result top some is room within got
         appended =
         subst (λ (d : ℕ). ReadsBelow does score_of s s' e d score from len old new result) (sym top)
-        (behind_block does score_of s s' s' kind score block
+        (behind_block does score_of e s s' s' kind score block
         (λ blocks p. byte_below blocks e 0 score (p / e.dsize) (p % e.dsize))
         (λ blocks p. Ok (slice_index block p))
         (λ blocks. way_below (score_of []) blocks e 0 score (from / e.dsize)
@@ -124,7 +124,7 @@ module _ {S : Type 0} (does : S → Call → S → Type 0) (score_of : List ℕ 
         (mod_small (from + i) e.dsize (omega arith)))
         (λ blocks has. leaf_way blocks kind score (from / e.dsize) ((from + len - 1) / e.dsize + 1)
         some is) got.0
-        (known does score_of s' (λ blocks p. Ok (slice_index block p)) (λ blocks. []) from len old
+        (known does score_of e s' (λ blocks p. Ok (slice_index block p)) (λ blocks. []) from len old
         new
         (cut_out block from len) result appended (length-cut_out block from len)
         (λ blocks once i inside. ap (λ (b : ℕ). Ok b)
@@ -142,7 +142,7 @@ module _ {S : Type 0} (does : S → Call → S → Type 0) (score_of : List ℕ 
     no_leaf s s' depth kind score from len old new err top some other is asked =
         subst (λ (d : ℕ). ReadsBelow does score_of s s' e d score from len old new (Err err))
         (sym top)
-        (no_block_came does score_of s s' e 0 kind score
+        (no_block_came does score_of e s s' 0 kind score
         (λ blocks p. byte_below blocks e 0 score (p / e.dsize) (p % e.dsize))
         (λ blocks. way_below (score_of []) blocks e 0 score (from / e.dsize)
         ((from + len - 1) / e.dsize + 1)) from len old new err some
@@ -182,7 +182,7 @@ module _ {S : Type 0} (does : S → Call → S → Type 0) (score_of : List ℕ 
         → ReadsBelow does score_of s s' e depth score from len old new result
     reads_pointers s mid s' d depth kind score block from len old new result top some is got part =
         subst (λ (k : ℕ). ReadsBelow does score_of s s' e k score from len old new result) (sym top)
-        (behind_block does score_of s mid s' kind score block
+        (behind_block does score_of e s mid s' kind score block
         (λ blocks p. byte_below blocks e (suc d) score (p / e.dsize) (p % e.dsize))
         (λ blocks p. byte_under blocks e d block p)
         (λ blocks. way_below (score_of []) blocks e (suc d) score (from / e.dsize)
@@ -231,7 +231,7 @@ module _ {S : Type 0} (does : S → Call → S → Type 0) (score_of : List ℕ 
     no_pointers s s' d depth kind score from len old new err top some other is asked =
         subst (λ (k : ℕ). ReadsBelow does score_of s s' e k score from len old new (Err err))
         (sym top)
-        (no_block_came does score_of s s' e (suc d) kind score
+        (no_block_came does score_of e s s' (suc d) kind score
         (λ blocks p. byte_below blocks e (suc d) score (p / e.dsize) (p % e.dsize))
         (λ blocks. way_below (score_of []) blocks e (suc d) score (from / e.dsize)
         ((from + len - 1) / e.dsize + 1)) from len old new err some
@@ -327,11 +327,11 @@ module _ {S : Type 0} (does : S → Call → S → Type 0) (score_of : List ℕ 
             new result
             → ReadsAt does score_of s s' e d pointers from len old new result
         reads_there s s' below old new result is part =
-            same_way does score_of s s' (λ blocks p. byte_under blocks e d pointers p)
+            same_way does score_of e s s' (λ blocks p. byte_under blocks e d pointers p)
             (way_there (Some below)) (way_there (score_in pointers
             (from / (scores_in e.psize ^ d * e.dsize)))) from len old new result
             (λ blocks. ap (λ (o : Option (List ℕ)). way_there o blocks) is)
-            (same_bytes does score_of s s' (λ blocks p. byte_under blocks e d pointers p)
+            (same_bytes does score_of e s s' (λ blocks p. byte_under blocks e d pointers p)
             (λ blocks p. byte_below blocks e d below (p / e.dsize) (p % e.dsize))
             (way_there (Some below)) from (from % (scores_in e.psize ^ d * e.dsize)) len old new
             result
@@ -342,7 +342,7 @@ module _ {S : Type 0} (does : S → Call → S → Type 0) (score_of : List ℕ 
             → AppendsBytes (replicate len 0) old new result
             → ReadsAt does score_of s s e d pointers from len old new result
         none_there s old new result is appended =
-            known does score_of s (λ blocks p. byte_under blocks e d pointers p)
+            known does score_of e s (λ blocks p. byte_under blocks e d pointers p)
             (way_there (score_in pointers (from / (scores_in e.psize ^ d * e.dsize)))) from len old
             new
             (replicate len 0) result appended (length-replicate len 0)
@@ -358,7 +358,7 @@ module _ {S : Type 0} (does : S → Call → S → Type 0) (score_of : List ℕ 
         → AppendsBytes (replicate len 0) old new result
         → ReadsFile does score_of s s e from len old new result
     reads_past s from len old new result past appended =
-        known does score_of s (λ blocks p. byte_of blocks e p)
+        known does score_of e s (λ blocks p. byte_of blocks e p)
         (λ blocks. way_to (score_of []) blocks e from len) from len old new (replicate len 0) result
         appended (length-replicate len 0)
         (λ blocks once. zeros_given (λ p. byte_of blocks e p) from len
@@ -463,14 +463,14 @@ module _ {S : Type 0} (does : S → Call → S → Type 0) (score_of : List ℕ 
       -- the first part, as one of the file
       first_part : (s s' : S) (old new : List ℕ) (result : Result (Unit {0}) TreeErr)
           → ReadsBelow does score_of s s' e e.depth e.score.0 from reached old new result
-          → Appends does score_of s s' (λ blocks p. byte_of blocks e p)
+          → Appends does score_of e s s' (λ blocks p. byte_of blocks e p)
           (λ blocks. way_to (score_of []) blocks e from len) from reached old new result
       first_part s s' old new result part =
-          same_way does score_of s s' (λ blocks p. byte_of blocks e p)
+          same_way does score_of e s s' (λ blocks p. byte_of blocks e p)
           (λ blocks. way_below (score_of []) blocks e e.depth e.score.0 (from / e.dsize)
           ((from + reached - 1) / e.dsize + 1))
           (λ blocks. way_to (score_of []) blocks e from len) from reached old new result way_is
-          (same_bytes does score_of s s' (λ blocks p. byte_of blocks e p)
+          (same_bytes does score_of e s s' (λ blocks p. byte_of blocks e p)
           (λ blocks p. byte_below blocks e e.depth e.score.0 (p / e.dsize) (p % e.dsize))
           (λ blocks. way_below (score_of []) blocks e e.depth e.score.0 (from / e.dsize)
           ((from + reached - 1) / e.dsize + 1)) from from reached old new result byte_is part)
@@ -479,7 +479,7 @@ module _ {S : Type 0} (does : S → Call → S → Type 0) (score_of : List ℕ 
           → ReadsBelow does score_of s s' e e.depth e.score.0 from reached old new (Err err)
           → ReadsFile does score_of s s' e from len old new (Err err)
       reads_in_part s s' old new err part =
-          cut_short does score_of s s' (λ blocks p. byte_of blocks e p)
+          cut_short does score_of e s s' (λ blocks p. byte_of blocks e p)
           (λ blocks. way_to (score_of []) blocks e from len) from reached len old new err
           (omega arith) (first_part s s' old new (Err err) part)
 
@@ -489,9 +489,9 @@ module _ {S : Type 0} (does : S → Call → S → Type 0) (score_of : List ℕ 
           → ReadsFile does score_of s s' e from len old new result
       reads_all s s' old half new result part appended = of result rest
         where
-          rest : Appends does score_of s' s' (λ blocks p. byte_of blocks e p) (λ blocks. [])
+          rest : Appends does score_of e s' s' (λ blocks p. byte_of blocks e p) (λ blocks. [])
               (from + reached) (len - reached) half new result
-          rest = known does score_of s' (λ blocks p. byte_of blocks e p) (λ blocks. [])
+          rest = known does score_of e s' (λ blocks p. byte_of blocks e p) (λ blocks. [])
               (from + reached) (len - reached) half new (replicate (len - reached) 0) result
               appended
               (length-replicate (len - reached) 0)
@@ -506,22 +506,22 @@ module _ {S : Type 0} (does : S → Call → S → Type 0) (score_of : List ℕ 
           sum = omega arith
 
           of : (r : Result (Unit {0}) TreeErr)
-              → Appends does score_of s' s' (λ blocks p. byte_of blocks e p) (λ blocks. [])
+              → Appends does score_of e s' s' (λ blocks p. byte_of blocks e p) (λ blocks. [])
               (from + reached) (len - reached) half new r
               → ReadsFile does score_of s s' e from len old new r
           of (Ok done) more =
-              subst (λ (k : ℕ). Appends does score_of s s' (λ blocks p. byte_of blocks e p)
+              subst (λ (k : ℕ). Appends does score_of e s s' (λ blocks p. byte_of blocks e p)
               (λ blocks. way_to (score_of []) blocks e from len) from k old new (Ok tt)) sum
-              (same_way does score_of s s' (λ blocks p. byte_of blocks e p)
+              (same_way does score_of e s s' (λ blocks p. byte_of blocks e p)
               (λ blocks. way_to (score_of []) blocks e from len ++ [])
               (λ blocks. way_to (score_of []) blocks e from len) from (reached + (len - reached))
               old
               new (Ok tt) (λ blocks. append-nil (way_to (score_of []) blocks e from len))
-              (joined does score_of s s' s' (λ blocks p. byte_of blocks e p)
+              (joined does score_of e s s' s' (λ blocks p. byte_of blocks e p)
               (λ blocks. way_to (score_of []) blocks e from len) (λ blocks. []) from reached
               (len - reached) old half new (first_part s s' old half (Ok tt) part) more))
           of (Err err) more =
-              given_up does score_of s s' s' (λ blocks p. byte_of blocks e p)
+              given_up does score_of e s s' s' (λ blocks p. byte_of blocks e p)
               (λ blocks. way_to (score_of []) blocks e from len) (λ blocks. [])
               (λ blocks. way_to (score_of []) blocks e from len) from reached (len - reached) len
               old

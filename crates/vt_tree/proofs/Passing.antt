@@ -8,7 +8,7 @@ use Rattle.vt_tree.specs.declared.entry.Entry.{Entry}
 use Rattle.vt_tree.specs.Calls.{Call}
 use Rattle.vt_tree.specs.Content.{led, score_in, scores_in, way_below, way_through}
 use Rattle.vt_tree.specs.Maps.{BlockMap}
-use Rattle.vt_tree.specs.Reading.{Appends, ReadsEach, ReadsAt, byte_under}
+use Rattle.vt_tree.specs.Walking.{Appends, ReadsEach, ReadsAt, byte_under}
 use Rattle.vt_tree.proofs.Appending.{known, same_way, joined, given_up}
 use Rattle.vt_tree.proofs.Places.{child_of}
 use Rattle.vt_tree.proofs.Powers.{product_some}
@@ -101,7 +101,7 @@ module _ {S : Type 0} (does : S → Call → S → Type 0) (score_of : List ℕ 
     pub within : left ≤ len
     pub place : at ≡ from + (len - left)
     pub count : ℕ
-    pub part : Appends does score_of s s' (λ blocks p. byte_under blocks e d pointers p)
+    pub part : Appends does score_of e s s' (λ blocks p. byte_under blocks e d pointers p)
         (way_so count) from (len - left) old new (Ok tt)
     pub next : 0 < left → from / e.dsize / leaves + count ≡ at / (leaves * e.dsize)
     pub edge : 0 < left → (left ≡ len) ⊎ (at % (leaves * e.dsize) ≡ 0)
@@ -113,7 +113,7 @@ module _ {S : Type 0} (does : S → Call → S → Type 0) (score_of : List ℕ 
       within = omega arith;
       place = all from len;
       count = 0;
-      part = known does score_of s (λ blocks p. byte_under blocks e d pointers p) (way_so 0) from
+      part = known does score_of e s (λ blocks p. byte_under blocks e d pointers p) (way_so 0) from
           (len - len) old old [] (Ok tt) (sym (append-nil old)) (none len)
           (λ blocks once i within. absurd (omega arith)) (λ blocks. refl);
       next = λ goes_on. by_zero (from / e.dsize / leaves) ∙ sym (child_of from leaves e.dsize);
@@ -229,11 +229,11 @@ module _ {S : Type 0} (does : S → Call → S → Type 0) (score_of : List ℕ 
       moved = omega (arith, is)
 
       part_there : (n : Result (Unit {0}) TreeErr) → (m : ℕ) → m ≡ at
-          → Appends does score_of mid s' (λ blocks p. byte_under blocks e d pointers p) way_at at
+          → Appends does score_of e mid s' (λ blocks p. byte_under blocks e d pointers p) way_at at
           most half new n
-          → Appends does score_of mid s' (λ blocks p. byte_under blocks e d pointers p) way_at m
+          → Appends does score_of e mid s' (λ blocks p. byte_under blocks e d pointers p) way_at m
           most half new n
-      part_there n m same part = subst (λ (k : ℕ). Appends does score_of mid s'
+      part_there n m same part = subst (λ (k : ℕ). Appends does score_of e mid s'
           (λ blocks p. byte_under blocks e d pointers p) way_at k most half new n) (sym same) part
 
       pub step : ReadsAt does score_of mid s' e d pointers at most half new (Ok tt)
@@ -244,13 +244,13 @@ module _ {S : Type 0} (does : S → Call → S → Type 0) (score_of : List ℕ 
             let within = so.within in
             omega (arith, moved);
         count = so.count + 1;
-        part = subst (λ (k : ℕ). Appends does score_of s s'
+        part = subst (λ (k : ℕ). Appends does score_of e s s'
             (λ blocks p. byte_under blocks e d pointers p) (way_so (so.count + 1)) from k old new
             (Ok tt)) lens
-            (same_way does score_of s s' (λ blocks p. byte_under blocks e d pointers p)
+            (same_way does score_of e s s' (λ blocks p. byte_under blocks e d pointers p)
             (λ blocks. way_so so.count blocks ++ way_at blocks) (way_so (so.count + 1)) from
             (len - left + most) old new (Ok tt) one_way
-            (joined does score_of s mid s' (λ blocks p. byte_under blocks e d pointers p)
+            (joined does score_of e s mid s' (λ blocks p. byte_under blocks e d pointers p)
             (way_so so.count) way_at from (len - left) most old half new so.part
             (part_there (Ok tt) (from + (len - left)) (sym so.place) part)));
         next = λ more.
@@ -287,7 +287,7 @@ module _ {S : Type 0} (does : S → Call → S → Type 0) (score_of : List ℕ 
           → ReadsAt does score_of mid s' e d pointers at most half new (Err err)
           → ReadsEach does score_of s s' e d pointers from len old new (Err err)
       stop err part =
-          given_up does score_of s mid s' (λ blocks p. byte_under blocks e d pointers p)
+          given_up does score_of e s mid s' (λ blocks p. byte_under blocks e d pointers p)
           (way_so so.count) way_at
           (λ blocks. way_through leaves (λ place. Ok (score_in pointers place))
           (way_below (score_of []) blocks e d) (from / e.dsize) end)
@@ -303,9 +303,10 @@ module _ {S : Type 0} (does : S → Call → S → Type 0) (score_of : List ℕ 
         → SoFar s s' at left old new
         → ReadsEach does score_of s s' e d pointers from len old new (Ok tt)
     finish s s' at left old new over so =
-        subst (λ (k : ℕ). Appends does score_of s s' (λ blocks p. byte_under blocks e d pointers p)
-        (way_so places) from k old new (Ok tt)) (ap (λ (k : ℕ). len - k) over ∙ whole len)
-        (same_way does score_of s s' (λ blocks p. byte_under blocks e d pointers p)
+        subst (λ (k : ℕ). Appends does score_of e s s'
+        (λ blocks p. byte_under blocks e d pointers p) (way_so places) from k old new (Ok tt))
+        (ap (λ (k : ℕ). len - k) over ∙ whole len)
+        (same_way does score_of e s s' (λ blocks p. byte_under blocks e d pointers p)
         (way_so so.count) (way_so places) from (len - left) old new (Ok tt)
         (λ blocks. ap (λ (k : ℕ). way_so k blocks) (so.last over)) so.part)
       where

@@ -7,20 +7,22 @@ use Rattle.vt_tree.specs.Calls.{Call, Tells, after}
 use Rattle.vt_tree.specs.Content.{byte_of, way_to}
 use Rattle.vt_tree.specs.Making.{EndsBy}
 use Rattle.vt_tree.specs.Maps.{Maps, IsWriteOnce}
-use Rattle.vt_tree.specs.Reading.{Gives, ReadsFile, ReadsRange, refused_by}
+use Rattle.vt_tree.specs.Reading.{EndsBadlyBy, Gives, ReadsRange, refusal_in}
+use Rattle.vt_tree.specs.Walking.{ReadsFile}
 use Rattle.vt_tree.proofs.Making.{gets_leave, gets_tell, told}
 
 module _ {S : Type 0} (does : S → Call → S → Type 0) (score_of : List ℕ → List ℕ) where
   -- nothing was asked for
   pub unread : (s : S) (e : Entry) (at len : ℕ) (err : TreeErr)
-      → EndsBy (refused_by {X = List ℕ} (Err err)) []
+      → EndsBy (refusal_in err) [] → EndsBadlyBy e err []
       → ((byte : ℕ → Result ℕ Trouble) → Gives byte at len (Err err))
       → ReadsRange does score_of s s e at len (Err err)
-  unread s e at len err ends gives = record {
+  unread s e at len err ends bad gives = record {
     calls = [];
     made = refl;
     gets = tt;
     refused = ends;
+    bad = bad;
     asked = λ blocks once tells. (way_to (score_of []) blocks e at len, refl);
     gives = λ blocks once tells. gives (byte_of blocks e);
   }
@@ -36,6 +38,7 @@ module _ {S : Type 0} (does : S → Call → S → Type 0) (score_of : List ℕ 
         made = part.made;
         gets = part.gets;
         refused = part.refused;
+        bad = tt;
         asked = part.asked;
         gives = part.gives;
       }))
@@ -52,6 +55,7 @@ module _ {S : Type 0} (does : S → Call → S → Type 0) (score_of : List ℕ 
         made = part.made;
         gets = part.gets;
         refused = part.refused;
+        bad = part.bad;
         asked = part.asked;
         gives = part.gives;
       })

@@ -10,4 +10,5 @@ pub mod MemoryLaws
 pub mod Reading
 pub mod Roots
 pub mod Streams
+pub mod Walking
 pub mod Writing

@@ -1,5 +1,5 @@
 -- What reading a part of a file gives.
-use Rattle.std.specs.Prelude.{ℕ, ◌≡◌, ◌+◌, ◌-◌, ◌*◌, ◌/◌, ◌%◌, ◌^◌, ⊤, true, false, OnOk, nat_lt, if◌then◌else◌, Option, Some, None, Result, Ok, Err, List, [], ◌++◌, length, map, take, drop, replicate, IfErr, MatchResult}
+use Rattle.std.specs.Prelude.{ℕ, ◌≡◌, ◌^◌, ⊤, false, nat_lt, if◌then◌else◌, Option, Some, None, Result, Ok, Err, List, [], ◌∷◌, ◌++◌, length, map}
 use Rattle.std.specs.List.{AllByRecursion}
 use Rattle.vt_base.specs.Protocol.{Operation}
 use Rattle.vt_tree.specs.declared.entry.Entry.{Entry}
@@ -10,8 +10,8 @@ use Rattle.vt_tree.specs.declared.err.TreeErr.TheVariants as errs
 use Rattle.vt_tree.specs.declared.plain.Trouble.{Trouble}
 use Rattle.vt_tree.specs.declared.plain.Trouble.TheVariants.{Absent, BadBlock}
 use Rattle.vt_tree.specs.Calls.{Call, get, asked_of, IsGet, IsRefusal, Tells}
-use Rattle.vt_tree.specs.Content.{size_of, scores_in, fits_at, score_in, through, byte_below, byte_of}
-use Rattle.vt_tree.specs.Content.{AreGiven, FirstTrouble, led, way_below, way_through, way_to}
+use Rattle.vt_tree.specs.Content.{size_of, fits_at, byte_of}
+use Rattle.vt_tree.specs.Content.{AreGiven, FirstTrouble, way_to}
 use Rattle.vt_tree.specs.Entries.{entry_fault}
 use Rattle.vt_tree.specs.Making.{Makes, EndsBy}
 use Rattle.vt_tree.specs.Maps.{BlockMap, IsWriteOnce}
@@ -59,15 +59,38 @@ abbrev pub refused_by : {X : Type 0} → Result X TreeErr → Option BlockErr
 refused_by (Ok x) = None
 refused_by (Err err) = refusal_in err
 
+-- the block that came last doesn't fit the entry at this depth, and has so many bytes
+pub record IsBadLast (e : Entry) (depth len : ℕ) (calls : List Call) : Type 0 where
+  pub before : List Call
+  pub kind : ℕ
+  pub score : List ℕ
+  pub block : List ℕ
+  pub are : calls ≡ before ++ get kind score (Ok block) ∷ []
+  pub unfit : fits_at e depth block ≡ false
+  pub len_is : len ≡ length block
+
+-- where a bad block is told, it is the one that came last
+abbrev pub EndsBadlyBy : Entry → TreeErr → List Call → Type 0
+EndsBadlyBy e (errs.Block err) calls = ⊤
+EndsBadlyBy e errs.SourceFault calls = ⊤
+EndsBadlyBy e (errs.BadEntry bad) calls = ⊤
+EndsBadlyBy e (errs.BadBlock depth len) calls = IsBadLast e depth len calls
+EndsBadlyBy e errs.TooLong calls = ⊤
+EndsBadlyBy e errs.NoMemory calls = ⊤
+
+abbrev pub EndsBadly : {X : Type 0} → Entry → Result X TreeErr → List Call → Type 0
+EndsBadly e (Ok x) calls = ⊤
+EndsBadly e (Err err) calls = EndsBadlyBy e err calls
+
 -- just these were asked for; or, where it ended before, the first of them
 abbrev pub AsksFor : {X E : Type 0} → Result X E → (asked wanted : List Operation) → Type 0
 AsksFor (Ok x) asked wanted = asked ≡ wanted
 AsksFor (Err err) asked wanted = (rest : List Operation) × (asked ++ rest ≡ wanted)
 
 -- So many bytes of a file from a place on were read: blocks were asked for, and nothing else; none
--- was refused but the last, where that is told; and by each write-once map of which the answers are
--- true, just the blocks on the way to these bytes were asked for, each once, and the bytes are the
--- file's.
+-- was refused but the last, where that is told, and a bad block is the last that came; and by each
+-- write-once map of which the answers are true, just the blocks on the way to these bytes were
+-- asked for, each once, and the bytes are the file's.
 pub record ReadsRange {S : Type 0} (does : S → Call → S → Type 0)
     (score_of : List ℕ → List ℕ) (s s' : S) (e : Entry) (at len : ℕ)
     (result : Result (List ℕ) TreeErr) : Type 0 where
@@ -75,111 +98,10 @@ pub record ReadsRange {S : Type 0} (does : S → Call → S → Type 0)
   pub made : Makes does s calls s'
   pub gets : AllByRecursion IsGet calls
   pub refused : EndsBy (refused_by result) calls
+  pub bad : EndsBadly e result calls
   pub asked : (blocks : BlockMap) → IsWriteOnce score_of blocks
       → AllByRecursion (Tells score_of blocks) calls
       → AsksFor result (map asked_of calls) (way_to (score_of []) blocks e at len)
   pub gives : (blocks : BlockMap) → IsWriteOnce score_of blocks
       → AllByRecursion (Tells score_of blocks) calls
       → Gives (byte_of blocks e) at len result
-
--- ---- the parts of a reading
-
--- a block that was asked for, and whether it fits
-abbrev pub ReadsBlock : {S : Type 0} → (does : S → Call → S → Type 0) → (s s' : S) → Entry
-    → (depth kind : ℕ) → (score : List ℕ) → Result (List ℕ) TreeErr → Type 0
-ReadsBlock does s s' e depth kind score (Ok block) =
-    does s (get kind score (Ok block)) s' × (fits_at e depth block ≡ true)
-ReadsBlock does s s' e depth kind score (Err (errs.Block err)) =
-    does s (get kind score (Err err)) s'
-ReadsBlock does s s' e depth kind score (Err errs.SourceFault) = ⊥
-ReadsBlock does s s' e depth kind score (Err (errs.BadEntry bad)) = ⊥
-ReadsBlock does s s' e depth kind score (Err (errs.BadBlock at len)) =
-    (block : List ℕ) × does s (get kind score (Ok block)) s' × (fits_at e depth block ≡ false)
-    × (at ≡ depth) × (len ≡ length block)
-ReadsBlock does s s' e depth kind score (Err errs.TooLong) = ⊥
-ReadsBlock does s s' e depth kind score (Err errs.NoMemory) = ⊥
-
--- bytes of a leaf from a place on, with the zeros that were cut from its end
-abbrev pub cut_out : (leaf : List ℕ) → (from len : ℕ) → List ℕ
-cut_out leaf from len =
-    let bytes = take len (drop from leaf) in bytes ++ replicate (len - length bytes) 0
-
--- these bytes were appended to a buffer, unless memory was short
-abbrev pub AppendsBytes : (bytes old new : List ℕ) → Result (Unit {0}) TreeErr → Type 0
-AppendsBytes bytes old new result =
-    MatchResult result (λ _. new ≡ old ++ bytes) (λ err. err ≡ errs.NoMemory)
-
--- bytes where a reading went well, and else its refusal
-abbrev pub with_bytes : Result (Unit {0}) TreeErr → List ℕ → Result (List ℕ) TreeErr
-with_bytes (Ok done) bytes = Ok bytes
-with_bytes (Err err) bytes = Err err
-
--- So many bytes from a place on were appended to a buffer: those that `byte` gives, and the blocks
--- asked for are those on `way`. Both are taken from a write-once map of which the answers are true.
-pub record Appends {S : Type 0} (does : S → Call → S → Type 0) (score_of : List ℕ → List ℕ)
-    (s s' : S) (byte : BlockMap → ℕ → Result ℕ Trouble) (way : BlockMap → List Operation)
-    (from len : ℕ) (old new : List ℕ) (result : Result (Unit {0}) TreeErr) : Type 0 where
-  pub calls : List Call
-  pub made : Makes does s calls s'
-  pub gets : AllByRecursion IsGet calls
-  pub refused : EndsBy (refused_by result) calls
-  pub about : IfErr result (λ err. ¬ IsOfEntry err)
-  pub bytes : List ℕ
-  pub appended : OnOk result ((new ≡ old ++ bytes) × (length bytes ≡ len))
-  pub asked : (blocks : BlockMap) → IsWriteOnce score_of blocks
-      → AllByRecursion (Tells score_of blocks) calls
-      → AsksFor result (map asked_of calls) (way blocks)
-  pub gives : (blocks : BlockMap) → IsWriteOnce score_of blocks
-      → AllByRecursion (Tells score_of blocks) calls
-      → Gives (byte blocks) from len (with_bytes result bytes)
-
--- the same below a score
-abbrev pub ReadsBelow : {S : Type 0} → (does : S → Call → S → Type 0)
-    → (score_of : List ℕ → List ℕ) → (s s' : S) → Entry → (depth : ℕ) → (score : List ℕ)
-    → (from len : ℕ) → (old new : List ℕ) → Result (Unit {0}) TreeErr → Type 0
-ReadsBelow does score_of s s' e depth score from len old new result =
-    Appends does score_of s s'
-    (λ blocks p. byte_below blocks e depth score (p / e.dsize) (p % e.dsize))
-    (λ blocks. way_below (score_of []) blocks e depth score (from / e.dsize)
-    ((from + len - 1) / e.dsize + 1))
-    from len old new result
-
--- and below the scores of a pointer block, each of which leads d blocks further down
-abbrev pub byte_under : BlockMap → Entry → (d : ℕ) → (pointers : List ℕ) → (p : ℕ)
-    → Result ℕ Trouble
-byte_under blocks e d pointers p =
-    let leaves = scores_in e.psize ^ d in
-    through (Ok (score_in pointers (p / e.dsize / leaves)))
-    (λ s. byte_below blocks e d s (p / e.dsize % leaves) (p % e.dsize))
-
-abbrev pub ReadsEach : {S : Type 0} → (does : S → Call → S → Type 0)
-    → (score_of : List ℕ → List ℕ) → (s s' : S) → Entry → (d : ℕ) → (pointers : List ℕ)
-    → (from len : ℕ) → (old new : List ℕ) → Result (Unit {0}) TreeErr → Type 0
-ReadsEach does score_of s s' e d pointers from len old new result =
-    Appends does score_of s s'
-    (λ blocks p. byte_under blocks e d pointers p)
-    (λ blocks. way_through (scores_in e.psize ^ d) (λ place. Ok (score_in pointers place))
-    (way_below (score_of []) blocks e d) (from / e.dsize) ((from + len - 1) / e.dsize + 1))
-    from len old new result
-
--- and below one of them
-abbrev pub ReadsAt : {S : Type 0} → (does : S → Call → S → Type 0)
-    → (score_of : List ℕ → List ℕ) → (s s' : S) → Entry → (d : ℕ) → (pointers : List ℕ)
-    → (from len : ℕ) → (old new : List ℕ) → Result (Unit {0}) TreeErr → Type 0
-ReadsAt does score_of s s' e d pointers from len old new result =
-    let span = scores_in e.psize ^ d * e.dsize in
-    let inside = from % span in
-    Appends does score_of s s'
-    (λ blocks p. byte_under blocks e d pointers p)
-    (λ blocks. led (Ok (score_in pointers (from / span)))
-    (λ s. way_below (score_of []) blocks e d s (inside / e.dsize)
-    ((inside + len - 1) / e.dsize + 1)))
-    from len old new result
-
--- and of the whole file
-abbrev pub ReadsFile : {S : Type 0} → (does : S → Call → S → Type 0)
-    → (score_of : List ℕ → List ℕ) → (s s' : S) → Entry
-    → (from len : ℕ) → (old new : List ℕ) → Result (Unit {0}) TreeErr → Type 0
-ReadsFile does score_of s s' e from len old new result =
-    Appends does score_of s s' (λ blocks p. byte_of blocks e p)
-    (λ blocks. way_to (score_of []) blocks e from len) from len old new result

@@ -2,11 +2,11 @@
 
 ghost use Rattle.std.specs.Prelude.{◌≡◌, ◌↔◌, ◌+◌, ◌*◌, ◌<◌, ◌≤◌, ◌^◌, ◌/◌, ◌%◌, ℕ, List, Some, Ok};
 ghost use Rattle.std.specs.Prelude.{[], length, map, take, drop, slice_index};
-ghost use Rattle.std.specs.List.{All};
+ghost use Rattle.std.specs.List.{All, AllByRecursion};
 ghost use Rattle.vt_model.specs.History.{Block};
 ghost use Rattle.vt_tree.specs.declared.entry.Entry.{Entry};
 ghost use Rattle.vt_tree.specs.declared.root.Root.{Root};
-ghost use Rattle.vt_tree.specs.Calls.{Call, asked_of, write_of, refusals_of};
+ghost use Rattle.vt_tree.specs.Calls.{Call, asked_of, write_of, refusals_of, IsGet, Tells};
 ghost use Rattle.vt_tree.specs.Content.{byte_of, leaf_kind, scores_in, IsContent, AreGiven};
 ghost use Rattle.vt_tree.specs.Entries.{IsEntry, SpellsEntry};
 ghost use Rattle.vt_tree.specs.Making.{Makes, TellsEach, after_all};
@@ -41,6 +41,16 @@ pub fn calls_are_told<B: Blocks>()
 pub fn held_stays()
     ensures { (score_of : List ℕ → List ℕ) (calls : List Call) (m : Maps) →
         IsWithin m.held (after_all score_of calls m).held }
+{}
+
+/// Where blocks were asked for, and nothing else, what is held stays, and each answer is true of
+/// it.
+pub fn gets_change_nothing()
+    ensures left { (score_of : List ℕ → List ℕ) (calls : List Call) (m : Maps) →
+        AllByRecursion IsGet calls → after_all score_of calls m ≡ m }
+    ensures told { (score_of : List ℕ → List ℕ) (calls : List Call) (m : Maps) →
+        AllByRecursion IsGet calls → TellsEach score_of m calls →
+        AllByRecursion (Tells score_of m.held) calls }
 {}
 
 /// Where blocks were put, and each put was answered, these are held, beside what was.

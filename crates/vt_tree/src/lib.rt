@@ -1,4 +1,5 @@
-//! Files and directories as trees of blocks (venti(6)): entries and roots, and stores of blocks.
+//! Files and directories as trees of blocks (venti(6)): entries and roots, stores of blocks, and
+//! streams that are written to them and read back.
 #![tactic(auto)]
 
 mod blocks;

@@ -90,7 +90,7 @@ impl<S: Scorer> MemBlocks<S> {
         }
     }
 
-    /// From now on the calls with these numbers fail.
+    /// The calls with these numbers fail, in place of those that were named before.
     pub fn failing(self, calls: Vec<u64>) -> Self
         ensures { result ≡ record self { failing = calls.items } }
     {
@@ -99,7 +99,8 @@ impl<S: Scorer> MemBlocks<S> {
         blocks
     }
 
-    /// From now on the calls with these numbers are refused, but for those that fail.
+    /// The calls with these numbers are refused, but for those that fail, in place of those that
+    /// were named before.
     pub fn refusing(self, calls: Vec<u64>) -> Self
         ensures { result ≡ record self { refusing = calls.items } }
     {

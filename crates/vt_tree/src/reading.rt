@@ -6,9 +6,10 @@ ghost use Rattle.vt_tree.specs.declared.err.TreeErr.{TreeErr};
 ghost use Rattle.vt_tree.specs.Content.{size_of, scores_in, fits_at, byte_of};
 ghost use Rattle.vt_tree.specs.Entries.{FitsEntry};
 ghost use Rattle.vt_tree.specs.Maps.{Maps};
-ghost use Rattle.vt_tree.specs.Reading.{unfit, IsOfEntry, Gives, ReadsRange, ReadsBelow, ReadsEach};
-ghost use Rattle.vt_tree.specs.Reading.{ReadsAt, ReadsFile};
-ghost use Rattle.vt_tree.specs.Reading.{ReadsBlock, AppendsBytes, cut_out};
+ghost use Rattle.vt_tree.specs.Reading.{unfit, IsOfEntry, Gives, ReadsRange};
+ghost use Rattle.vt_tree.specs.Walking.{ReadsBelow, ReadsEach};
+ghost use Rattle.vt_tree.specs.Walking.{ReadsAt, ReadsFile};
+ghost use Rattle.vt_tree.specs.Walking.{ReadsBlock, AppendsBytes, cut_out};
 
 use crate::plain::{fits, leaf_kind, leaves_below, pointer_kind, score_in, size_of};
 use crate::{Blocks, Entry, TreeErr};

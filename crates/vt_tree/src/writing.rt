@@ -21,9 +21,11 @@ use std::alloc::Global;
 use vt_base::{Kind, NoMemory, Score, Scorer};
 use vt_out::Source;
 
-/// Writes what a source has left as a tree of blocks, and gives the entry that stands for it, with
-/// generation 0. The source is read once, front to back; one leaf, and the scores of one pointer
-/// block of each depth, are in memory. Each block is put once.
+/// Writes what a source has left as a tree of blocks (venti(6)), with leaves of dsize bytes and
+/// pointer blocks of psize bytes, and gives the entry that stands for it, with generation 0. The
+/// source is read once, front to back; one leaf, and the scores of one pointer block of each depth,
+/// are in memory. Each block is put once, behind those that it names. More than 2^40 bytes are too
+/// long; a failed source, a call of the store that isn't answered and want of memory end it too.
 pub fn write_stream<B: Blocks, R: Source>(
     alloc: Global,
     blocks: &mut B,

@@ -8,18 +8,19 @@ use Rattle.vt_tree.proofs.reading.read_range.Goals as goal
 pub returns-in-Some-clause-reads : goal.returns-in-Some-clause-reads
 returns-in-Some-clause-reads g c =
     unread g.B.Blocks.does g.B.Scorer.score_of c.args.blocks.now c.args.entry.now c.args.at _
-    (errs.BadEntry c.in-Some.bad) refl (λ byte. tt)
+    (errs.BadEntry c.in-Some.bad) refl tt (λ byte. tt)
 
 pub returns-then-size-gt-MAX_FILE-clause-reads : goal.returns-then-size-gt-MAX_FILE-clause-reads
 returns-then-size-gt-MAX_FILE-clause-reads g c =
     unread g.B.Blocks.does g.B.Scorer.score_of c.args.blocks.now c.args.entry.now c.args.at _
-    errs.TooLong refl (λ byte. tt)
+    errs.TooLong refl tt (λ byte. tt)
 
 pub returns-in_err-out-clause-reads : goal.returns-in_err-out-clause-reads
 returns-in_err-out-clause-reads g c =
     let p = err_from_is_err_and c.from_residual.result c.from_residual.ensures.1 in
     rw (p.1, p.2) (unread g.B.Blocks.does g.B.Scorer.score_of c.args.blocks.now c.args.entry.now
-    c.args.at (min c.args.n (size_of c.args.entry.now - c.args.at)) errs.NoMemory refl (λ byte. tt))
+    c.args.at (min c.args.n (size_of c.args.entry.now - c.args.at)) errs.NoMemory refl tt
+    (λ byte. tt))
 
 pub returns-in_err-append_file-clause-reads : goal.returns-in_err-append_file-clause-reads
 returns-in_err-append_file-clause-reads g c =

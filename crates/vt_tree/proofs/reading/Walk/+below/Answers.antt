@@ -3,7 +3,7 @@ use Rattle.std.specs.Str.{bytes_eq}
 use Rattle.std.proofs.Math.Nat.{pow-zero, mod-lt}
 use Rattle.std.proofs.lemmas.Result.{err_from_is_err_and}
 use Rattle.vt_tree.specs.Content.{scores_in, score_in}
-use Rattle.vt_tree.specs.Reading.{AppendsBytes, ReadsBelow, ReadsEach, cut_out}
+use Rattle.vt_tree.specs.Walking.{AppendsBytes, ReadsBelow, ReadsEach, cut_out}
 use Rattle.vt_tree.proofs.Below.{reads_zeros, reads_leaf, no_leaf, reads_pointers, no_pointers, reads_there, none_there}
 use Rattle.vt_tree.proofs.Passing.{begin, step, stop, finish}
 use Rattle.vt_tree.proofs.Powers.{power_some, product_some}

@@ -1,7 +1,7 @@
 use Rattle.std.proofs.Common.{◌≡◌, ℕ, ◌-◌, ◌*◌, ◌<◌, ◌^◌, min, Ok, Err, ◌∙◌, ap, subst, arith}
 use Rattle.std.proofs.lemmas.Result.{err_from_is_err_and}
 use Rattle.vt_tree.specs.Content.{scores_in}
-use Rattle.vt_tree.specs.Reading.{ReadsBelow}
+use Rattle.vt_tree.specs.Walking.{ReadsBelow}
 use Rattle.vt_tree.proofs.Below.{reads_past, reads_in_part, reads_all}
 use Rattle.vt_tree.proofs.reading.Walk.append_file.Goals as goal
 
