@@ -1,18 +1,16 @@
 -- The head's change of a commit, call by call, and what a crash leaves.
-use Rattle.std.proofs.Common.{◌≡◌, ◌⊎◌, inl, inr, ⊎_elim, ℕ, ◌+◌, ◌-◌, ◌*◌, ◌≤◌, Bool, true, false, if◌then◌else◌, is_some, List, [], ◌++◌, length, take, Option, Some, None, Ok, Err, Result, ◌↔◌, ◌%◌, refl, sym, ◌∙◌, ap, subst, arith, length-append, length-take, append-nil}
-use Rattle.std.specs.Prelude.{IsSome, MatchResult, replicate, slice_index}
-use Rattle.std.proofs.lemmas.Bool.{cases_eq}
+use Rattle.std.proofs.Common.{◌≡◌, ◌⊎◌, inl, inr, ⊎_elim, ℕ, ◌+◌, ◌-◌, ◌≤◌, false, is_some, List, [], ◌++◌, length, take, Option, Some, None, Ok, Err, Result, refl, sym, ◌∙◌, ap, subst, arith, length-append, length-take, append-nil}
+use Rattle.std.specs.Prelude.{IsSome, MatchResult, replicate}
 use Rattle.std.proofs.lemmas.List.{take_all, take_at, length-map}
 use Rattle.vt_disk.specs.declared.region.Region.{Region}
 use Rattle.vt_disk.specs.Disk.{SameBut, ChangesAt, Only, part}
 use Rattle.vt_twin.specs.declared.step.Step.{Step}
 use Rattle.vt_twin.specs.declared.step.Step.TheVariants.{More, Done}
 use Rattle.vt_twin.specs.declared.step.TwinErr.{TwinErr}
-use Rattle.vt_twin.specs.declared.step.TwinErr.TheVariants.{Fault, Stopped}
 use Rattle.vt_twin.specs.Frames.{current_frame}
-use Rattle.vt_twin.specs.Twin.{TwinState, Change, calls_made, calls_begun, next_frame, with_change, without_spare, after_last as twin_after_last}
-use Rattle.vt_twin.specs.Calls.{IsSync}
+use Rattle.vt_twin.specs.Twin.{TwinState, calls_made, next_frame, with_change, without_spare, after_last as twin_after_last}
 use Rattle.vt_twin.specs.Sound.{IsSound as IsSoundTwin}
+use Rattle.vt_twin.proofs.Changes.{none_made, begun_made, is_changing}
 use Rattle.vt_twin.proofs.Steps.{sound_gives}
 use Rattle.vt_clump.specs.Spelling.{Stored, spelled}
 use Rattle.vt_clump.specs.Clumps.{stored_of}
@@ -25,7 +23,6 @@ use Rattle.vt_arena.specs.Layout.{Content, IsContent, IsArena, HasBlocks, Stands
 use Rattle.vt_arena.specs.Places.{directory_room, arena_room}
 use Rattle.vt_arena.specs.Sound.{IsSound, HasPieces, GivesOldOrNext, HasBegunSelector, clumps_made, entries_made}
 use Rattle.vt_arena.proofs.Layouts.{stands-sum, stands_same, flat_map-append, directory-append, length-clumps, length-directory, content_fits, All-stored}
-use Rattle.vt_arena.proofs.Pieces.{no_calls}
 
 -- the fields of a frame
 pub length-fields : (h : ArenaHead) → length h.chain.0 ≡ 20 → length (fields_of h) ≡ FIELDS_LEN
@@ -33,28 +30,6 @@ length-fields h chain = omega (arith, chain)
 
 pub frame_fields : (h : ArenaHead) → length h.chain.0 ≡ 20 → take FIELDS_LEN (frame_of h) ≡ fields_of h
 frame_fields h chain = take_at (fields_of h) (replicate (FRAME_LEN - FIELDS_LEN) 0) FIELDS_LEN (length-fields h chain)
-
--- a call that was made is one of a change
-pub some_change : (change : Option Change) → change ≡ None ⊎ IsSome change
-some_change None = inl refl
-some_change (Some it) = inr refl
-
-pub begun_made : (t : TwinState) → 3 ≤ calls_begun t → 2 ≤ calls_made t
-begun_made t begun = bound (is_some t.stopped) begun
-  where
-    bound : (b : Bool) → 3 ≤ calls_made t + (if b then 1 else 0) → 2 ≤ calls_made t
-    bound true begun = omega (arith, begun)
-    bound false begun = omega (arith, begun)
-
-pub made_begun : (t : TwinState) → calls_begun t ≤ calls_made t + 1
-made_begun t = bound (is_some t.stopped)
-  where
-    bound : (b : Bool) → calls_made t + (if b then 1 else 0) ≤ calls_made t + 1
-    bound true = omega arith
-    bound false = omega arith
-
-pub is_changing : (t : TwinState) → 1 ≤ calls_made t → IsSome t.change
-is_changing t made = ⊎_elim (λ none. absurd (omega (arith, made, no_calls t none))) (λ some. some) (some_change t.change)
 
 -- old and new clumps, old and new entries
 module _ (score_of : List ℕ → List ℕ) (a : ArenaState) (region : Region) (old : Content) (read : List ℕ) (images : List ℕ → Type 0)
@@ -115,7 +90,7 @@ module _ (score_of : List ℕ → List ℕ) (a : ArenaState) (region : Region) (
       (sound_gives a.twin region sound.frame read images sound.twin c left)
 
   pub rest_gives : a.twin.change ≡ None → IsArena score_of region a.number old c
-  rest_gives rest = ⊎_elim (λ is. gives_old is) (λ is. absurd (omega (arith, begun_made a.twin is.0, no_calls a.twin rest)))
+  rest_gives rest = ⊎_elim (λ is. gives_old is) (λ is. absurd (omega (arith, begun_made a.twin is.0, none_made a.twin rest)))
       (sound_gives a.twin region sound.frame read images sound.twin c left)
 
 -- the head's change is begun
@@ -136,7 +111,7 @@ begin_sound score_of a region old read images rest written sound = record {
   twin = record {
     number = sound.twin.number;
     kept = sound.twin.kept;
-    named = λ waits. sound.twin.named (λ begun. omega (arith, begun_made a.twin begun, no_calls a.twin rest));
+    named = λ waits. sound.twin.named (λ begun. omega (arith, begun_made a.twin begun, none_made a.twin rest));
     written = λ made. absurd (omega (arith, made));
     synced = λ made. absurd (omega (arith, made));
     selected = λ made. absurd (omega (arith, made));
@@ -238,33 +213,6 @@ module _ (score_of : List ℕ → List ℕ) (a : ArenaState) (region : Region) (
   pub done_gives : (k : ℕ) → IsSound score_of (record (after_last a) { calls = k }) region (next_content a old) reads after
       → (c : List ℕ) → after c → IsArena score_of region a.number (next_content a old) c
   done_gives k later c left = rest_gives score_of (record (after_last a) { calls = k }) region (next_content a old) reads after later c left refl
-
--- a twin is found by its region's start
-pub twin_moved : (t : TwinState) (r s : Region) (old read : List ℕ) (images : List ℕ → Type 0) → r.start ≡ s.start → IsSoundTwin t r old read images → IsSoundTwin t s old read images
-twin_moved t r s old read images same sound = record {
-  number = sound.number;
-  kept = λ c left. ap (λ (p : ℕ). part (p + t.frame_len * t.current) t.frame_len c) (sym same) ∙ sound.kept c left;
-  named = λ waits c left. ap (λ (p : ℕ). slice_index c (p + 2 * t.frame_len) % 2) (sym same) ∙ sound.named waits c left;
-  written = λ made. ap (λ (p : ℕ). part (p + t.frame_len * (1 - t.current)) t.frame_len read) (sym same) ∙ sound.written made;
-  synced = λ made c left. ap (λ (p : ℕ). part (p + t.frame_len * (1 - t.current)) t.frame_len c) (sym same) ∙ sound.synced made c left;
-  selected = λ made. ap (λ (p : ℕ). slice_index read (p + 2 * t.frame_len) % 2) (sym same) ∙ sound.selected made;
-}
-
--- a twin that runs isn't refused as stopped
-pub fault_only : (r : Result Step TwinErr) (stopped : Option ℕ) → stopped ≡ None → ((n : ℕ) → (r ≡ Err (Stopped n)) ↔ (stopped ≡ Some n)) → (e : TwinErr) → r ≡ Err e → e ≡ Fault
-fault_only r stopped runs only Fault is = refl
-fault_only r stopped runs only (Stopped n) is = absurd (none_some (sym runs ∙ (only n).0 is))
-  where
-    none_some : {n : ℕ} → None ≡ Some n → ⊥
-    none_some is = cc
-
--- the second call of a change syncs
-pub sync_or_before : (t : TwinState) (reads : List ℕ) (after : List ℕ → Type 0) → (IsSync (calls_made t) → Only reads after)
-    → 2 ≤ calls_made t + 1 → (2 ≤ calls_made t) ⊎ Only reads after
-sync_or_before t reads after settled made = ⊎_elim
-    (λ (first : calls_made t ≡ 1). inr (settled (inl first)))
-    (λ (other : calls_made t ≡ 1 → ⊥). inl (omega (arith, made, other)))
-    (cases_eq (calls_made t) 1)
 
 -- what a step makes of the content doesn't depend on the twin, and a piece makes nothing of it
 pub content_twin : (r : Result Step TwinErr) (a : ArenaState) (t : TwinState) (old : Content) → content_after r (record a { twin = t }) old ≡ content_after r a old

@@ -11,7 +11,8 @@ use Rattle.vt_arena.specs.Arena.{ArenaState, pieces, commit_calls, calls_made, c
 use Rattle.vt_arena.specs.Heads.{frame_of}
 use Rattle.vt_arena.specs.Layout.{Content, IsArena}
 use Rattle.vt_arena.specs.Sound.{IsSound, HasBegunSelector, GivesOldOrNext}
-use Rattle.vt_arena.proofs.Commits.{begun_made, is_changing, arena_gives, rest_gives}
+use Rattle.vt_twin.proofs.Changes.{begun_made, is_changing}
+use Rattle.vt_arena.proofs.Commits.{arena_gives, rest_gives}
 
 -- the head's twin, its change begun
 runs_on : (b : Bool) (frame : List ℕ) (t : TwinState) → (if b then t else with_change frame t).stopped ≡ t.stopped

@@ -1,7 +1,6 @@
 -- A commit writes clumps behind the committed ones, and entries below the committed ones.
 use Rattle.std.proofs.Common.{◌≡◌, ℕ, ◌+◌, ◌-◌, ◌<◌, ◌≤◌, List, [], ◌∷◌, ◌++◌, length, take, map, Option, Some, None, refl, sym, ◌∙◌, ap, subst, arith, length-take, get_or}
 use Rattle.std.specs.Prelude.{All, IsSome}
-use Rattle.std.specs.Option.{option_map_or}
 use Rattle.std.proofs.lemmas.List.{take-map, map-append, take_more, take_all, length-take-le, length-map}
 use Rattle.vt_disk.specs.declared.region.Region.{Region}
 use Rattle.vt_disk.specs.Disk.{Touches, SameBut, ChangesAt, part}
@@ -10,8 +9,9 @@ use Rattle.vt_disk.specs.Members.{DiskOf}
 use Rattle.vt_disk.specs.Region.{Inside}
 use Rattle.vt_disk.proofs.Calls.{writes_wider}
 use Rattle.vt_twin.specs.Frames.{HasRoom}
-use Rattle.vt_twin.specs.Twin.{TwinState, Change, calls_made}
+use Rattle.vt_twin.specs.Twin.{TwinState, Change}
 use Rattle.vt_twin.specs.Sound.{IsSound as IsSoundTwin}
+use Rattle.vt_twin.proofs.Changes.{none_made}
 use Rattle.vt_twin.proofs.Sound.{sound_elsewhere}
 use Rattle.vt_clump.specs.declared.packed.Packed.{Packed}
 use Rattle.vt_clump.specs.Spelling.{Stored, IsStored, spelled}
@@ -47,10 +47,6 @@ twin_elsewhere t region size is frame_len P apart old read reads before after sa
     (λ i here inside. apart i here inside.0 inside.1) old read reads before after same changes
     (record { number = sound.number; kept = sound.kept; named = sound.named; written = sound.written; synced = sound.synced; selected = sound.selected }) in
     record { number = kept.number; kept = kept.kept; named = kept.named; written = kept.written; synced = kept.synced; selected = kept.selected }
-
--- with no change under way no call of one was made
-pub no_calls : (t : TwinState) → t.change ≡ None → calls_made t ≡ 0
-no_calls t is = ap (λ (change : Option Change). option_map_or (λ it. it.made) change 0) is
 
 -- what is done at places that hold nothing of the arena
 module _ (score_of : List ℕ → List ℕ) (s : ArenaState) (region : Region) (size : ℕ) (old : Content) (read reads : List ℕ) (before after : List ℕ → Type 0)
@@ -99,7 +95,7 @@ module _ (score_of : List ℕ → List ℕ) (s : ArenaState) (region : Region) (
     fields = sound.fields;
     kept = blocks_stay;
     written = record { clumps = clumps_stay; directory = entries_stay };
-    synced = λ made. absurd (omega (arith, made, no_calls s.twin rest));
+    synced = λ made. absurd (omega (arith, made, none_made s.twin rest));
   }
 
   -- one that wrote the next piece
@@ -119,7 +115,7 @@ module _ (score_of : List ℕ → List ℕ) (s : ArenaState) (region : Region) (
     fields = sound.fields;
     kept = blocks_stay;
     written = made;
-    synced = λ calls. absurd (omega (arith, calls, no_calls s.twin rest));
+    synced = λ calls. absurd (omega (arith, calls, none_made s.twin rest));
   }
     where
       none_some : (change : Option Change) → change ≡ None → IsSome change → ⊥

@@ -15,7 +15,8 @@ use Rattle.vt_arena.specs.Layout.{Content, StandsAt, entry_bytes, entry_of, clum
 use Rattle.vt_arena.specs.Places.{block_room, directory_room, arena_room, lengths_of}
 use Rattle.vt_arena.specs.Sound.{IsSound}
 use Rattle.vt_arena.proofs.Layouts.{fit_of, All-stored}
-use Rattle.vt_arena.proofs.Pieces.{entry_is, no_calls}
+use Rattle.vt_twin.proofs.Changes.{none_made}
+use Rattle.vt_arena.proofs.Pieces.{entry_is}
 
 -- with no commit under way nothing was written, and the head doesn't change
 pub record IsResting (a : ArenaState) : Type 0 where
@@ -88,7 +89,7 @@ module _ (score_of : List ℕ → List ℕ) (a : ArenaState) (p : Packed) (regio
           clumps = subst (λ (w : ℕ). StandsAt (clumps_place region old.stored) (clumps_of (take w (map stored_of (a.staged ++ p ∷ [])))) read) (sym rests.written) refl;
           directory = no_entries (a.written - length (a.staged ++ p ∷ [])) (omega (arith, rests.written));
         };
-        synced = λ made. absurd (omega (arith, made, no_calls a.twin rests.change));
+        synced = λ made. absurd (omega (arith, made, none_made a.twin rests.change));
       }
     where
       one : All (IsPacked score_of) (p ∷ [])

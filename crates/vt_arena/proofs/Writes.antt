@@ -1,12 +1,11 @@
 -- What a step of a commit writes, whatever the disk holds.
-use Rattle.std.proofs.Common.{◌≡◌, ℕ, ◌+◌, ◌-◌, ◌*◌, ◌<◌, ◌≤◌, Bool, List, ◌∷◌, ◌++◌, length, take, get_or, Option, None, Result, Ok, Err, refl, sym, ◌∙◌, ap, arith, length-append}
-use Rattle.std.specs.Prelude.{◌==◌, IsSome, OnOk, is_some, if◌then◌else◌}
+use Rattle.std.proofs.Common.{◌≡◌, ℕ, ◌+◌, ◌-◌, ◌<◌, ◌≤◌, Bool, List, ◌∷◌, ◌++◌, length, take, get_or, Option, None, Result, Ok, Err, refl, sym, ◌∙◌, ap, arith, length-append}
+use Rattle.std.specs.Prelude.{IsSome, OnOk, is_some, if◌then◌else◌}
 use Rattle.std.proofs.Math.Seq.{get_or-append_seam}
 use Rattle.std.proofs.lemmas.List.{take_at}
 use Rattle.vt_disk.specs.declared.region.Region.{Region}
 use Rattle.vt_disk.specs.Disk.{with_bytes}
 use Rattle.vt_twin.specs.Calls.{bytes_after}
-use Rattle.vt_twin.specs.Frames.{selector_bytes}
 use Rattle.vt_twin.specs.Twin.{Change, TwinState, calls_made, next_frame, with_change}
 use Rattle.vt_clump.specs.declared.packed.Packed.{Packed}
 use Rattle.vt_model.specs.declared.TheConstants.{HEAD_LEN}

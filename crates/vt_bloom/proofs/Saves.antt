@@ -1,59 +1,18 @@
 -- What the device keeps of a filter.
-use Rattle.std.proofs.Common.{◌≡◌, ◌↔◌, inl, inr, ⊎_elim, ℕ, ◌+◌, ◌≤◌, Bool, true, false, List, [], length, None, Some, Err, refl, sym, ap, ◌∙◌, subst, arith}
-use Rattle.std.specs.Prelude.{IsSome, is_some, Option, Result, if◌then◌else◌}
-use Rattle.std.specs.Option.{ForSome, option_map_or}
-use Rattle.vt_disk.specs.Disk.{AreAmong, ChangesAt}
-use Rattle.vt_disk.specs.declared.region.Region.{Region}
+use Rattle.std.proofs.Common.{◌≡◌, ◌↔◌, inl, inr, ⊎_elim, ℕ, List, length, None, Some, Err, refl, sym, ap, ◌∙◌, subst, arith}
+use Rattle.std.specs.Prelude.{IsSome, is_some, Result}
+use Rattle.vt_disk.specs.Disk.{ChangesAt}
 use Rattle.vt_twin.specs.Frames.{current_frame}
 use Rattle.vt_twin.specs.Sound.{HasBegunSelector, GivesOldOrNew, IsSound as IsTwinSound}
-use Rattle.vt_twin.specs.Twin.{Change, TwinState, next_frame, after_call, without_spare, Advances as TwinAdvances}
+use Rattle.vt_twin.specs.Twin.{TwinState, next_frame, without_spare, Advances as TwinAdvances}
 use Rattle.vt_twin.specs.declared.step.Step.{Step}
 use Rattle.vt_twin.specs.declared.step.TwinErr.{TwinErr}
 use Rattle.vt_twin.specs.declared.step.TwinErr.TheVariants.{Fault, Stopped}
+use Rattle.vt_twin.proofs.Changes.{begun_some, some_none}
 use Rattle.vt_twin.proofs.Steps.{sound_gives}
 use Rattle.vt_bloom.specs.Bloom.{BloomState, Advances, IsSound, HasCounts, HasOldOrNew, with_save}
 use Rattle.vt_bloom.specs.Frame.{Saved, Covers, IsFrame, HasSaved, spelled, current_of}
 use Rattle.vt_bloom.specs.Size.{frame_len, region_of, IsLargest}
-
--- only a change under way has begun its selector
-begun_some : (change : Option Change) (stopped : Bool)
-    → 3 ≤ option_map_or (λ it. it.made) change 0 + (if stopped then 1 else 0) → IsSome change
-begun_some None true begun = absurd (omega arith)
-begun_some None false begun = absurd (omega arith)
-begun_some (Some it) stopped begun = refl
-
-pub some_none : (change : Option Change) → IsSome change → change ≡ None → ⊥
-some_none change some none = cc
-
--- the frame of a change under way
-pub brings_length : (change : Option Change) (n : ℕ) → IsSome change
-    → ForSome change (λ it. length it.frame ≡ n)
-    → length (option_map_or (λ it. it.frame) change []) ≡ n
-brings_length None n some each = absurd (cc)
-brings_length (Some it) n some each = each it refl
-
--- what the twin makes of a change
-abbrev HasLength : (n : ℕ) → TwinState → Type 0
-HasLength n t = ForSome t.change (λ it. length it.frame ≡ n)
-
-pub call_length : (n : ℕ) (old new : TwinState) → new ≡ after_call old → IsSome old.change
-    → HasLength n old → HasLength n new
-call_length n old new steps some each = subst (HasLength n) (sym steps)
-    (λ it is. sym (ap (λ (o : Option Change). option_map_or (λ x. length x.frame) o 0) is)
-    ∙ brings_length old.change n some each)
-
-pub call_changes : (old new : TwinState) → new ≡ after_call old → IsSome new.change
-call_changes old new steps = subst (λ (t : TwinState). IsSome t.change) (sym steps) refl
-
-pub refusal_change : (e : TwinErr) (old new : TwinState) → TwinAdvances (Err e) old new
-    → new.change ≡ old.change
-refusal_change Fault old new steps = ap (λ (t : TwinState). t.change) steps
-refusal_change (Stopped n) old new steps = ap (λ (t : TwinState). t.change) steps
-
-pub refusal_frame : (e : TwinErr) (old new : TwinState) → TwinAdvances (Err e) old new
-    → next_frame new ≡ next_frame old
-refusal_frame Fault old new steps = ap (λ (t : TwinState). next_frame t) steps
-refusal_frame (Stopped n) old new steps = ap (λ (t : TwinState). next_frame t) steps
 
 abbrev refused : TwinErr → Result Step TwinErr
 refused e = Err e
@@ -69,20 +28,6 @@ refusal_steps (Stopped n) b disk t steps stopped same =
     let is : b.twin.stopped ≡ Some n = (stopped n).0 refl in
     let untouched : disk ≡ b.disk = same (ap is_some is) in
     λ i. record b { disk = untouched i; twin = steps i }
-
--- a read leaves what was sound
-pub sound_read : (t : TwinState) (region : Region) (old read reads : List ℕ)
-    (images after : List ℕ → Type 0) → reads ≡ read → AreAmong after images
-    → IsTwinSound t region old read images → IsTwinSound t region old reads after
-sound_read t region old read reads images after same among sound =
-    subst (λ (l : List ℕ). IsTwinSound t region old l after) (sym same) (record {
-      number = sound.number;
-      kept = λ c left. sound.kept c (among c left);
-      named = λ waits c left. sound.named waits c (among c left);
-      written = sound.written;
-      synced = λ made c left. sound.synced made c (among c left);
-      selected = sound.selected;
-    })
 
 -- a file whose current frame is that of a filter
 has_saved : (m n : ℕ) (s : Saved) (frame file : List ℕ) → s.filter.m ≡ m → n ≡ frame_len m

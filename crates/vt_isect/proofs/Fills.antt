@@ -1,6 +1,6 @@
 -- Buckets that are written whole: what a read gives of them, and what stands behind the next sync.
 use Rattle.std.proofs.Common.{◌≡◌, ◌≢◌, ◌⊎◌, inl, inr, ⊎_elim, ℕ, zero, suc, ◌+◌, ◌-◌, ◌*◌, ◌%◌, ◌<◌, ◌≤◌, Bool, true, false, cond, List, [], length, Option, Some, None, min, ◌^◌, IsTrue, refl, sym, ◌∙◌, ap, subst, arith}
-use Rattle.std.specs.Prelude.{IsSome, nat_le, nat_lt, ◌&&◌, if◌then◌else◌}
+use Rattle.std.specs.Prelude.{IsSome, nat_le, nat_lt, ◌&&◌}
 use Rattle.std.specs.List.{Contains}
 use Rattle.std.proofs.lemmas.Bool.{cases_eq, cases_lt, le-leb, leb-true}
 use Rattle.std.proofs.lemmas.Bool.Decides.{Decides-ltb}
@@ -18,17 +18,17 @@ use Rattle.vt_model.specs.History.{History}
 use Rattle.vt_model.specs.Places.{Setup, bucket_of, bucket_count}
 use Rattle.vt_twin.specs.Formatting.{EndsFormat, TouchedByFirst}
 use Rattle.vt_twin.specs.Frames.{HasRoom, frame_of, frame_start, named_number, current_frame, selector_of, selector_start, selector_len}
-use Rattle.vt_twin.proofs.Places.{InFrame, frame_inside, selector_inside, frame_same, named_same}
+use Rattle.vt_twin.proofs.Places.{frame_inside, selector_inside, frame_same, named_same}
 use Rattle.vt_isect.specs.declared.head.Head.{Head}
 use Rattle.vt_isect.specs.declared.phase.Phase.TheVariants.{Rest, ChangeBucket}
 use Rattle.vt_isect.specs.Agreement.{KnownAgrees, IsOfBlock}
 use Rattle.vt_isect.specs.Filling.{AreCleared, Fills, HasSelectorOf, InBuckets, IsAmong, Reads, with_buckets}
 use Rattle.vt_isect.specs.Layout.{head_place, IsPlaceOf, InRange}
-use Rattle.vt_isect.specs.Section.{SectionState, IsChanging}
-use Rattle.vt_isect.specs.Sound.{Known, DiskHolds, IsReadFrom, IsSoundSection, with_bucket, nothing_known}
+use Rattle.vt_isect.specs.Section.{SectionState}
+use Rattle.vt_isect.specs.Sound.{Known, DiskHolds, IsSoundSection, with_bucket, nothing_known}
 use Rattle.vt_isect.proofs.WithBucket.{settled_holds, with_here, with_there}
 use Rattle.vt_isect.proofs.Places.{one_place, head_apart, places_apart}
-use Rattle.vt_isect.proofs.IsSoundSection.{twin_reads_only}
+use Rattle.vt_twin.proofs.Sound.{reads_sound}
 use Rattle.vt_isect.proofs.IsReadFrom.{reads_known}
 
 some_same : (a b : List Entry) → Some a ≡ Some b → a ≡ b
@@ -157,7 +157,7 @@ pub synced_sound : {D : Type 0} (t : SectionState D) (d : D) (known : Known) (re
 synced_sound t d known read reads images after same among sound = record {
   head_frame = sound.head_frame;
   head_len = sound.head_len;
-  head_twin = twin_reads_only t.head_twin head_place sound.head_frame _ _ _ _ same among sound.head_twin;
+  head_twin = reads_sound t.head_twin head_place sound.head_frame _ _ _ _ same among sound.head_twin;
   head = sound.head;
   head_rest = sound.head_rest;
   head_changing = sound.head_changing;
@@ -170,7 +170,7 @@ synced_sound t d known read reads images after same among sound = record {
         twin = it.twin;
         frame = it.frame;
         frame_len = it.frame_len;
-        sound = twin_reads_only it.twin it.region it.frame _ _ _ _ same among it.sound;
+        sound = reads_sound it.twin it.region it.frame _ _ _ _ same among it.sound;
         spelled = it.spelled;
         rest = it.rest;
         changing = it.changing;

@@ -22,7 +22,8 @@ use Rattle.vt_isect.specs.Section.{SectionState, HasBucket, bucket_number, entri
 use Rattle.vt_isect.specs.Sound.{Known, IsSoundSection}
 use Rattle.vt_isect.proofs.AreNext.{of_group}
 use Rattle.vt_isect.proofs.Crowd.{blocks_most}
-use Rattle.vt_isect.proofs.IsSoundSection.{begun_bound, none_made, rests_fresh}
+use Rattle.vt_twin.proofs.Changes.{begun_bound, none_made}
+use Rattle.vt_twin.proofs.Sound.{rests_fresh}
 
 module _ {D : Type 0} (score : List ℕ → List ℕ) (c : Setup) (h : History) (t : SectionState D)
     (known : Known) (agrees : KnownAgrees score c h t known) (s : ℕ) (phase : t.phase ≡ ReadFrame s)

@@ -10,7 +10,7 @@ use Rattle.vt_isect.specs.Layout.{IsPlaceOf, InRange}
 use Rattle.vt_isect.specs.Section.{SectionState, IsChanging}
 use Rattle.vt_isect.specs.Sound.{Known, IsReadFrom, IsSoundSection}
 use Rattle.vt_isect.proofs.LeavesSection.{changing}
-use Rattle.vt_isect.proofs.IsSoundSection.{begun_bound, none_made}
+use Rattle.vt_twin.proofs.Changes.{begun_bound, none_made}
 use Rattle.vt_isect.proofs.Places.{one_place}
 
 -- what was read at the number of the current frame

@@ -1,16 +1,13 @@
 -- What stays sound where nothing is written, or something else.
-use Rattle.std.proofs.Common.{◌≡◌, ◌≢◌, ℕ, ◌+◌, ◌-◌, ◌%◌, ◌≤◌, List, Option, Some, None, refl, sym, ap, subst, arith, is_some, if◌then◌else◌, Bool, true, false}
+use Rattle.std.proofs.Common.{◌≡◌, ◌≢◌, ℕ, ◌-◌, ◌%◌, List, Option, refl, sym, subst}
 use Rattle.vt_base.specs.declared.place.Entry.{Entry}
 use Rattle.vt_disk.specs.declared.region.Region.{Region}
 use Rattle.vt_disk.specs.Disk.{SameBut, AreAmong, ChangesAt}
 use Rattle.vt_disk.specs.Region.{Inside}
 use Rattle.vt_twin.specs.Frames.{HasRoom, named_number}
-use Rattle.std.specs.Option.{option_map_or}
-use Rattle.vt_twin.specs.Twin.{Change, TwinState, fresh, with_change, without_spare, calls_made, calls_begun}
+use Rattle.vt_twin.specs.Twin.{TwinState, with_change}
 use Rattle.vt_twin.specs.Sound.{IsSound}
-use Rattle.vt_twin.specs.declared.step.TwinErr.{TwinErr}
-use Rattle.vt_twin.specs.declared.step.TwinErr.TheVariants.{Fault, Stopped}
-use Rattle.vt_twin.proofs.Sound.{sound_elsewhere}
+use Rattle.vt_twin.proofs.Sound.{sound_elsewhere, reads_sound, begins_sound}
 use Rattle.vt_isect.specs.declared.head.Head.{Head}
 use Rattle.vt_isect.specs.declared.phase.Phase.{Phase}
 use Rattle.vt_isect.specs.declared.phase.Phase.TheVariants.{ReadFrame, ChangeBucket, ChangeHead}
@@ -20,77 +17,13 @@ use Rattle.vt_isect.specs.Layout.{head_place, IsPlaceOf}
 use Rattle.vt_isect.specs.Section.{SectionState, IsChanging}
 use Rattle.vt_isect.specs.Sound.{Known, HoldsBucket, IsSoundSection}
 
--- a twin at rest has begun one call at most
-pub begun_bound : (t : TwinState) → calls_begun t ≤ calls_made t + 1
-begun_bound t = bound (is_some t.stopped)
-  where
-    bound : (b : Bool) → calls_made t + (if b then 1 else 0) ≤ calls_made t + 1
-    bound true = omega arith
-    bound false = omega arith
-
-pub none_made : (t : TwinState) → t.change ≡ None → calls_made t ≡ 0
-none_made t none = ap (λ (change : Option Change). option_map_or (λ it. it.made) change 0) none
-
--- it is sound as a fresh one
-pub rests_fresh : (t : TwinState) (region : Region) (old read : List ℕ) (images : List ℕ → Type 0) → t.change ≡ None
-    → IsSound t region old read images → IsSound (fresh t.frame_len t.current) region old read images
-rests_fresh t region old read images none sound = record {
-  number = sound.number;
-  kept = sound.kept;
-  named = λ waits. sound.named (λ begun. omega (arith, begun, begun_bound t, none_made t none));
-  written = λ made. absurd (omega (arith, made));
-  synced = λ made. absurd (omega (arith, made));
-  selected = λ made. absurd (omega (arith, made));
-}
-
--- a read or a sync
-pub twin_reads_only : (t : TwinState) (region : Region) (old read reads : List ℕ) (images after : List ℕ → Type 0) → reads ≡ read → AreAmong after images
-    → IsSound t region old read images → IsSound t region old reads after
-twin_reads_only t region old read reads images after same among sound = record {
-  number = sound.number;
-  kept = λ c left. sound.kept c (among c left);
-  named = λ waits c left. sound.named waits c (among c left);
-  written = λ made. rw same (sound.written made);
-  synced = λ made c left. sound.synced made c (among c left);
-  selected = λ made. rw same (sound.selected made);
-}
-
--- a change of it begins
-pub begins_sound : (t : TwinState) (frame : List ℕ) (region : Region) (old read : List ℕ) (images : List ℕ → Type 0) → t.change ≡ None
-    → IsSound t region old read images → IsSound (with_change frame t) region old read images
-begins_sound t frame region old read images none it = record {
-  number = it.number;
-  kept = it.kept;
-  named = λ waits. it.named (λ begun. omega (arith, begun, begun_bound t, none_made t none));
-  written = λ made. absurd (omega (arith, made));
-  synced = λ made. absurd (omega (arith, made));
-  selected = λ made. absurd (omega (arith, made));
-}
-
--- its buffer is handed back
-pub idle_sound : (t : TwinState) (region : Region) (old read : List ℕ) (images : List ℕ → Type 0)
-    → IsSound t region old read images → IsSound (without_spare t) region old read images
-idle_sound t region old read images it = record {
-  number = it.number;
-  kept = it.kept;
-  named = it.named;
-  written = it.written;
-  synced = it.synced;
-  selected = it.selected;
-}
-
--- a call that failed, on a twin that wasn't stopped
-pub is_fault : (e : TwinErr) (stopped : Option ℕ) → stopped ≡ None → ((n : ℕ) → e ≡ Stopped n → stopped ≡ Some n) → e ≡ Fault
-is_fault Fault stopped none tells = refl
-is_fault (Stopped n) stopped none tells = absurd (let is = tells n refl in cc)
-
 -- how the soundness of twins passes from one moment to another, in a region
 abbrev pub Passes : Region → (read reads : List ℕ) → (images after : List ℕ → Type 0) → Type 0
 Passes region read reads images after = (t : TwinState) (old : List ℕ) → t.frame_len ≡ 8192
     → IsSound t region old read images → IsSound t region old reads after
 
 pub reads_pass : (region : Region) (read reads : List ℕ) (images after : List ℕ → Type 0) → reads ≡ read → AreAmong after images → Passes region read reads images after
-reads_pass region read reads images after same among t old len sound = twin_reads_only t region old read reads images after same among sound
+reads_pass region read reads images after same among t old len sound = reads_sound t region old read reads images after same among sound
 
 -- what is done in another region
 pub others_pass : (region other : Region) (size : ℕ) (read reads : List ℕ) (images after : List ℕ → Type 0) → HasRoom region 8192 size

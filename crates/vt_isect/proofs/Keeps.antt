@@ -2,7 +2,7 @@
 use Rattle.std.proofs.Common.{◌≡◌, ◌≢◌, ◌⊎◌, inl, inr, ⊎_elim, ℕ, ◌+◌, ◌-◌, ◌*◌, ◌%◌, ◌<◌, ◌≤◌, Bool, true, false, List, length, drop, Option, Some, None, Ok, refl, sym, ◌∙◌, ap, subst, arith, cond, eqb}
 use Rattle.std.specs.Prelude.{IsSome}
 use Rattle.std.specs.List.{Contains}
-use Rattle.std.proofs.lemmas.Bool.{cases_eq, cases_lt, cases_Bool, false≢true}
+use Rattle.std.proofs.lemmas.Bool.{cases_eq, cases_Bool, false≢true}
 use borrow.Author.Tests.{eqb-true, eqb-false}
 use Rattle.vt_base.specs.declared.place.Entry.{Entry}
 use Rattle.vt_bucket.specs.Frame.{IsFrame}
@@ -26,7 +26,9 @@ use Rattle.vt_isect.specs.Merging.{Merges}
 use Rattle.vt_isect.specs.Section.{SectionState, AreNext, HasBucket, IsChanging, IsOfGroup, IsTodo, entries_of, group_of, bucket_number}
 use Rattle.vt_isect.specs.Sound.{Known, HoldsBucket, IsSoundSection, with_bucket, nothing_known}
 use Rattle.vt_isect.proofs.AgreesWith.{merged_blocks, merged_has}
-use Rattle.vt_isect.proofs.IsSoundSection.{section_moves, head_begins, Passes, reads_pass, others_pass, bucket_passes, twin_reads_only, rests_fresh, begins_sound, begun_bound, none_made}
+use Rattle.vt_twin.proofs.Changes.{begun_bound, none_made}
+use Rattle.vt_twin.proofs.Sound.{reads_sound, rests_fresh, begins_sound}
+use Rattle.vt_isect.proofs.IsSoundSection.{section_moves, head_begins, Passes, reads_pass, others_pass, bucket_passes}
 use Rattle.vt_isect.proofs.Places.{one_place, head_room, place_room, head_apart, apart_from_head, places_apart}
 use Rattle.vt_isect.specs.Writeback.{BeginsBehind, Follows, GoesOn, NextPhase}
 use Rattle.vt_isect.proofs.AreNext.{behind, group_or_behind, none_behind}
@@ -98,7 +100,7 @@ bucket_begins t d calls s frame region known read reads images after phase same 
           twin = with_change frame (fresh 8192 (s % 2));
           frame = it.frame;
           frame_len = refl;
-          sound = twin_reads_only (with_change frame (fresh 8192 (s % 2))) it.region it.frame read reads images after same among
+          sound = reads_sound (with_change frame (fresh 8192 (s % 2))) it.region it.frame read reads images after same among
               (begins_sound (fresh 8192 (s % 2)) frame it.region it.frame read images refl fresh_sound);
           spelled = it.spelled;
           rest = λ no. absurd (no (refl, here));

@@ -17,7 +17,7 @@ use Rattle.vt_isect.specs.Layout.{head_place, IsPlaceOf, InRange}
 use Rattle.vt_isect.specs.Merging.{Merges}
 use Rattle.vt_isect.specs.Section.{SectionState, IsChanging, IsOfGroup}
 use Rattle.vt_isect.specs.Sound.{Known, IsWhole, HoldsBucket, IsSoundSection, LeavesHead, LeavesSection}
-use Rattle.vt_isect.proofs.IsSoundSection.{begun_bound, none_made}
+use Rattle.vt_twin.proofs.Changes.{begun_bound, none_made}
 
 pub is_changing_phase : (p : Phase) → (p ≡ ChangeBucket) ⊎ (p ≢ ChangeBucket)
 is_changing_phase Rest = inr (λ e. cc)

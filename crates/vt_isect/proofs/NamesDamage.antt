@@ -1,7 +1,6 @@
 -- The two values of a damage are of one form, and differ.
-use Rattle.std.proofs.Common.{◌≡◌, ◌≢◌, ⊎_elim, ℕ, ◌<◌, List, codes, sym, ◌∙◌, subst, arith}
+use Rattle.std.proofs.Common.{◌≡◌, ◌≢◌, ⊎_elim, ℕ, List, codes, sym, ◌∙◌, subst, arith}
 use Rattle.vt_base.specs.declared.place.Entry.{Entry}
-use Rattle.vt_base.specs.declared.why.FieldValue.{FieldValue}
 use Rattle.vt_base.specs.declared.why.FieldValue.TheVariants as value
 use Rattle.vt_bucket.specs.declared.decoding.BucketBad.{BucketBad}
 use Rattle.vt_bucket.specs.declared.decoding.BucketBad.TheVariants.{Magic, Number, Count, Order}

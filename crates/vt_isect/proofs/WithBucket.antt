@@ -1,7 +1,5 @@
 -- A bucket that is cleared, and what was known of the others.
 use Rattle.std.proofs.Common.{◌≡◌, ◌≢◌, ⊎_elim, ℕ, ◌+◌, ◌-◌, ◌*◌, ◌≤◌, Bool, true, false, List, Option, Some, None, refl, sym, ◌∙◌, ap, subst, arith, cond, eqb}
-use Rattle.std.specs.Prelude.{IsSome}
-use Rattle.std.specs.List.{Contains}
 use Rattle.std.proofs.lemmas.Bool.{cases_eq, cases_Bool}
 use borrow.Author.Tests.{eqb-true, eqb-false}
 use Rattle.vt_base.specs.declared.place.Entry.{Entry}
@@ -9,12 +7,9 @@ use Rattle.vt_bucket.specs.Frame.{IsFrame}
 use Rattle.vt_disk.specs.declared.region.Region.{Region}
 use Rattle.vt_disk.specs.Disk.{SameBut, Only}
 use Rattle.vt_disk.specs.Region.{Inside, ChangesWithin}
-use Rattle.vt_model.specs.History.{History}
-use Rattle.vt_model.specs.Places.{Setup}
 use Rattle.vt_twin.specs.Frames.{frame_of, named_number, current_frame}
 use Rattle.vt_twin.specs.Twin.{fresh}
 use Rattle.vt_isect.specs.declared.phase.Phase.TheVariants.{Rest}
-use Rattle.vt_isect.specs.Agreement.{KnownAgrees}
 use Rattle.vt_isect.specs.Layout.{head_place, IsPlaceOf, InRange}
 use Rattle.vt_isect.specs.Section.{SectionState, IsChanging}
 use Rattle.vt_isect.specs.Sound.{Known, HoldsBucket, IsSoundSection, with_bucket}

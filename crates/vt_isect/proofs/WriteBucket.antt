@@ -1,5 +1,5 @@
 -- The bytes of a bucket's place behind the two writes of its frame and its selector.
-use Rattle.std.proofs.Common.{◌≡◌, ℕ, ◌+◌, ◌-◌, ◌*◌, ◌<◌, List, length, replicate, refl, sym, ◌∙◌, ap, subst, arith}
+use Rattle.std.proofs.Common.{◌≡◌, ℕ, ◌+◌, List, length, replicate, sym, ◌∙◌, ap, subst, arith}
 use Rattle.vt_disk.specs.declared.region.Region.{Region}
 use Rattle.vt_disk.specs.Calls.{WritesAt, WritesWithin}
 use Rattle.vt_disk.specs.Disk.{Touches, SameBut, with_bytes, part}

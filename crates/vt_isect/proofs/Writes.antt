@@ -1,9 +1,7 @@
 -- What stands where something was written.
-use Rattle.std.proofs.Common.{◌≡◌, ℕ, ◌-◌, ◌*◌, List, [], length, sym, ap, ◌∙◌, subst, arith}
-use Rattle.vt_bucket.specs.Frame.{frame_of as bucket_frame}
+use Rattle.std.proofs.Common.{◌≡◌, ℕ, ◌-◌, List, sym, subst}
 use Rattle.vt_disk.specs.declared.region.Region.{Region}
 use Rattle.vt_twin.specs.Calls.{bytes_after}
-use Rattle.vt_twin.specs.Frames.{frame_of, selector_of, selector_bytes, selector_len}
 use Rattle.vt_twin.specs.Twin.{calls_made, next_frame}
 use Rattle.vt_isect.specs.declared.phase.Phase.{Phase}
 use Rattle.vt_isect.specs.declared.phase.Phase.TheVariants.{ChangeBucket, ChangeHead}

@@ -1,3 +1,4 @@
+pub mod Changes
 pub mod EndsFormat
 pub mod Places
 pub mod Sound

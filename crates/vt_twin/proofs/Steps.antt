@@ -1,5 +1,5 @@
 -- What each call of a change leaves of a sound twin.
-use Rattle.std.proofs.Common.{◌≡◌, ⊎_elim, inl, inr, ℕ, ◌+◌, ◌-◌, ◌%◌, ◌<◌, ◌≤◌, Bool, true, false, is_some, if◌then◌else◌, List, get_or, Some, length, sym, ◌∙◌, ap, subst, arith}
+use Rattle.std.proofs.Common.{◌≡◌, ⊎_elim, inl, inr, ℕ, ◌+◌, ◌-◌, ◌%◌, ◌<◌, ◌≤◌, List, get_or, Some, length, sym, ◌∙◌, ap, subst, arith}
 use Rattle.std.proofs.lemmas.Bool.{cases_lt, cases_eq}
 use Rattle.std.proofs.lemmas.List.{length-replicate}
 use Rattle.vt_disk.specs.declared.region.Region.{Region}
@@ -11,6 +11,7 @@ use Rattle.vt_twin.specs.Frames.{HasRoom, frame_start, selector_start, selector_
 use Rattle.vt_twin.specs.Twin.{TwinState, calls_made, calls_begun, next_frame, after_call, after_fault}
 use Rattle.vt_twin.specs.Calls.{bytes_after, next_call, IsSync, TouchedBy, number_of}
 use Rattle.vt_twin.specs.Sound.{HasFrame, Names, IsSound, HasBegunSelector, GivesOldOrNew}
+use Rattle.vt_twin.proofs.Changes.{begun_bound}
 use Rattle.vt_twin.proofs.Places.{current_free, idle_free, selector_free, frame_same, named_same, has_same, names_same, frame_bound}
 
 -- the call behind this one has the next number
@@ -19,14 +20,6 @@ next_number WriteFrame later is = cc
 next_number SyncFrame later is = cc
 next_number WriteSelector later is = cc
 next_number SyncSelector later is = cc
-
--- at most one call that was begun has failed
-begun_bound : (t : TwinState) → calls_begun t ≤ calls_made t + 1
-begun_bound t = bound (is_some t.stopped)
-  where
-    bound : (b : Bool) → calls_made t + (if b then 1 else 0) ≤ calls_made t + 1
-    bound true = omega arith
-    bound false = omega arith
 
 -- what a crash between two calls leaves
 pub sound_gives : (t : TwinState) (region : Region) (old read : List ℕ) (images : List ℕ → Type 0) → IsSound t region old read images

@@ -1,6 +1,5 @@
 use Rattle.std.proofs.Common.{◌≡◌, ⊎_elim, inl, inr, ℕ, List, Result, Ok, Err, refl, sym, ◌∙◌, ap, subst}
 use Rattle.vt_disk.specs.Region.{region_bytes}
-use Rattle.vt_disk.specs.Calls.{IsSynced, MadeCalls}
 use Rattle.vt_disk.proofs.Calls.{made_then}
 use Rattle.vt_twin.specs.Frames.{named_number}
 use Rattle.vt_arena.specs.declared.TheConstants.{FRAME_LEN}

@@ -6,7 +6,7 @@ use Rattle.vt_twin.specs.Frames.{HasRoom, named_number}
 use Rattle.vt_bloom.specs.Frame.{Saved, IsFrame, HaveWords, current_of}
 use Rattle.vt_bloom.specs.Size.{frame_len, filter_len, region_of, IsLargest}
 use Rattle.vt_bloom.proofs.Powers.{shifted, words_fill, bytes_fill, has_room}
-use Rattle.vt_bloom.proofs.Saves.{sound_read}
+use Rattle.vt_twin.proofs.Sound.{reads_sound}
 use Rattle.vt_bloom.proofs.mounting.find.Goals as goal
 
 pub mount-requires : goal.mount-requires
@@ -120,7 +120,7 @@ returns-clause-twin g c told =
     let whole : c.len.result ≡ frame_len m = c.len.ensures ∙ c.in_ok-frame.ensures.len ∙
     c.frame_len.ensures in
     let sound = rw (c.region-region.ensures, whole) at (c.in_ok-twin.ensures.sound told) in
-    sound_read c.in_ok-twin.twin (region_of m) _ _ _ _ _ c.read_at.ensures.reads.bytes
+    reads_sound c.in_ok-twin.twin (region_of m) _ _ _ _ _ c.read_at.ensures.reads.bytes
     c.read_at.ensures.reads.images sound
 
 pub returns-clause-settled : goal.returns-clause-settled

@@ -1,4 +1,4 @@
-use Rattle.std.proofs.Common.{◌≡◌, ◌+◌, ◌∷◌, [], ◌++◌, ℕ, List, length, length-take, take, drop, refl, sym, ap, ◌∙◌, subst, arith}
+use Rattle.std.proofs.Common.{◌≡◌, ◌+◌, ◌∷◌, [], ◌++◌, ℕ, List, length, length-take, take, drop, sym, ap, ◌∙◌, subst, arith}
 use Rattle.std.proofs.lemmas.List.{take_more, take_all, drop_all, drop-append-le}
 use Rattle.std.proofs.lemmas.Option.{get_or_from_slice_get, slice_get_past}
 use Rattle.vt_base.specs.declared.place.Entry.{Entry}

@@ -1,4 +1,3 @@
-use Rattle.std.proofs.Common.{ap, subst}
 use Rattle.vt_isect.proofs.Fills.{known_reads, settled_sound, reads_beside}
 use Rattle.vt_isect.proofs.laws.what_is_read_is_settled.Goals as goal
 

@@ -2,7 +2,7 @@ use Rattle.std.proofs.Common.{◌≡◌, ◌+◌, ◌∷◌, [], ◌++◌, ℕ, 
 use Rattle.std.specs.List.{Contains}
 use Rattle.std.proofs.lemmas.List.{take_more, take_all}
 use Rattle.vt_base.specs.declared.place.Entry.{Entry}
-use Rattle.vt_bucket.specs.Buckets.{number_of, entries_of}
+use Rattle.vt_bucket.specs.Buckets.{entries_of}
 use Rattle.vt_isect.specs.Merging.{Merges, HasKeys, IsAbsent}
 use Rattle.vt_isect.proofs.Merges.{merges_none, merges_more, some_keys, keys_joined, first_of_rest}
 use Rattle.vt_isect.proofs.merging.merge.Goals as goal

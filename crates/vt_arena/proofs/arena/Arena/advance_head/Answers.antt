@@ -11,7 +11,9 @@ use Rattle.vt_twin.specs.Calls.{IsSync}
 use Rattle.vt_twin.specs.Twin.{TwinState, is_fault, Advances, calls_made, next_frame, after_last, without_spare}
 use Rattle.vt_twin.specs.Sound.{IsSound as IsSoundTwin, frame_after}
 use Rattle.vt_arena.specs.Arena.{ArenaState}
-use Rattle.vt_arena.proofs.Commits.{twin_moved, fault_only, sync_or_before, head_sound, done_sound}
+use Rattle.vt_twin.proofs.Changes.{only_fault, sync_or_before}
+use Rattle.vt_twin.proofs.Sound.{sound_moved}
+use Rattle.vt_arena.proofs.Commits.{head_sound, done_sound}
 use Rattle.vt_arena.proofs.Memory.{more_whole}
 use Rattle.vt_arena.specs.Written.{Writes}
 use Rattle.vt_arena.proofs.Pieces.{writes_in_head}
@@ -34,8 +36,8 @@ returns-in-Ok-More-clause-sound g c score_of old told sound =
     let steps : Advances (Ok More) t c.advance.new.self = subst (λ (r : Result Step TwinErr). Advances r t c.advance.new.self) is c.advance.ensures.steps in
     let settled : IsSync (calls_made t) → Only (g.D.Disk.bytes c.advance.new.disk) (g.D.Disk.images c.advance.new.disk) =
     λ sync. subst (λ (r : Result Step TwinErr). OnOk r (IsSynced g.D.Disk c.advance.new.disk)) is (c.advance.ensures.settled sync) told in
-    let twin = c.advance.ensures.sound held.frame told (twin_moved t c.args.region _ held.frame _ _ refl held.twin) in
-    let moved = twin_moved c.advance.new.self _ c.args.region _ _ _ refl twin in
+    let twin = c.advance.ensures.sound held.frame told (sound_moved t c.args.region _ held.frame _ _ refl held.twin) in
+    let moved = sound_moved c.advance.new.self _ c.args.region _ _ _ refl twin in
     let ended : IsSoundTwin c.advance.new.self c.args.region held.frame (g.D.Disk.bytes c.advance.new.disk) (g.D.Disk.images c.advance.new.disk) =
     subst (λ (r : Result Step TwinErr). IsSoundTwin c.advance.new.self c.args.region (frame_after r t held.frame) (g.D.Disk.bytes c.advance.new.disk) (g.D.Disk.images c.advance.new.disk)) is moved in
     head_sound score_of _ c.args.region old _ _ _ _ c.requires.region.len.0 c.advance.ensures.within.images (c.advance.ensures.within.bytes told) held
@@ -48,11 +50,11 @@ returns-in-Err-clause-sound g c score_of old told sound =
     let t = c.self.inside.twin in
     let held = rw (← c.self.view_is) at sound in
     let runs : t.stopped ≡ None = c.self.invariant.runs (rw (← c.self.view_is) at c.requires.runs) in
-    let fault = fault_only c.advance.result t.stopped runs c.advance.ensures.stopped _ c.in-Err.is in
+    let fault = only_fault _ t.stopped runs (λ n is. (c.advance.ensures.stopped n).0 (c.in-Err.is ∙ ap Err is)) in
     let is : c.advance.result ≡ Err Fault = c.in-Err.is ∙ ap (λ (e : TwinErr). Err e) fault in
     let steps : Advances (Err Fault) t c.advance.new.self = subst (λ (r : Result Step TwinErr). Advances r t c.advance.new.self) is c.advance.ensures.steps in
-    let twin = c.advance.ensures.sound held.frame told (twin_moved t c.args.region _ held.frame _ _ refl held.twin) in
-    let moved = twin_moved c.advance.new.self _ c.args.region _ _ _ refl twin in
+    let twin = c.advance.ensures.sound held.frame told (sound_moved t c.args.region _ held.frame _ _ refl held.twin) in
+    let moved = sound_moved c.advance.new.self _ c.args.region _ _ _ refl twin in
     let ended : IsSoundTwin c.advance.new.self c.args.region held.frame (g.D.Disk.bytes c.advance.new.disk) (g.D.Disk.images c.advance.new.disk) =
     subst (λ (r : Result Step TwinErr). IsSoundTwin c.advance.new.self c.args.region (frame_after r t held.frame) (g.D.Disk.bytes c.advance.new.disk) (g.D.Disk.images c.advance.new.disk)) is moved in
     head_sound score_of _ c.args.region old _ _ _ _ c.requires.region.len.0 c.advance.ensures.within.images (c.advance.ensures.within.bytes told) held
@@ -67,8 +69,8 @@ returns-in-Ok-Done-clause-sound g c score_of old told sound =
     let is : c.advance.result ≡ Ok Done = c.in-Ok-Done.is ∙ ap (λ (s : Step). Ok s) c.in-Ok-Done.field-0-is in
     let steps : Advances (Ok Done) t c.advance.new.self = subst (λ (r : Result Step TwinErr). Advances r t c.advance.new.self) is c.advance.ensures.steps in
     let last : (Done ≡ Done) ↔ (calls_made t ≡ 3) = subst (λ (r : Result Step TwinErr). IfOk r (λ step. (step ≡ Done) ↔ (calls_made t ≡ 3))) is c.advance.ensures.done in
-    let twin = c.advance.ensures.sound held.frame told (twin_moved t c.args.region _ held.frame _ _ refl held.twin) in
-    let moved = twin_moved c.advance.new.self _ c.args.region _ _ _ refl twin in
+    let twin = c.advance.ensures.sound held.frame told (sound_moved t c.args.region _ held.frame _ _ refl held.twin) in
+    let moved = sound_moved c.advance.new.self _ c.args.region _ _ _ refl twin in
     let ended : IsSoundTwin c.advance.new.self c.args.region (next_frame t) (g.D.Disk.bytes c.advance.new.disk) (g.D.Disk.images c.advance.new.disk) =
     subst (λ (r : Result Step TwinErr). IsSoundTwin c.advance.new.self c.args.region (frame_after r t held.frame) (g.D.Disk.bytes c.advance.new.disk) (g.D.Disk.images c.advance.new.disk)) is moved in
     let here : IsSoundTwin (after_last t) c.args.region (next_frame t) (g.D.Disk.bytes c.advance.new.disk) (g.D.Disk.images c.advance.new.disk) =
@@ -84,7 +86,7 @@ pub returns-in-Err-clause-steps : goal.returns-in-Err-clause-steps
 returns-in-Err-clause-steps g c =
     let t = c.self.inside.twin in
     let runs : t.stopped ≡ None = c.self.invariant.runs (rw (← c.self.view_is) at c.requires.runs) in
-    let fault = fault_only c.advance.result t.stopped runs c.advance.ensures.stopped _ c.in-Err.is in
+    let fault = only_fault _ t.stopped runs (λ n is. (c.advance.ensures.stopped n).0 (c.in-Err.is ∙ ap Err is)) in
     let is : c.advance.result ≡ Err Fault = c.in-Err.is ∙ ap (λ (e : TwinErr). Err e) fault in
     let steps : Advances (Err Fault) t c.advance.new.self = subst (λ (r : Result Step TwinErr). Advances r t c.advance.new.self) is c.advance.ensures.steps in
     rw (← c.self.view_is, c.saturating_add-self-inside.ensures, steps) refl
@@ -93,7 +95,7 @@ pub returns-in-Err-clause-faults : goal.returns-in-Err-clause-faults
 returns-in-Err-clause-faults g c =
     let t = c.self.inside.twin in
     let runs : t.stopped ≡ None = c.self.invariant.runs (rw (← c.self.view_is) at c.requires.runs) in
-    let fault = fault_only c.advance.result t.stopped runs c.advance.ensures.stopped _ c.in-Err.is in
+    let fault = only_fault _ t.stopped runs (λ n is. (c.advance.ensures.stopped n).0 (c.in-Err.is ∙ ap Err is)) in
     subst (λ (r : Result Step TwinErr). CountsFault is_fault r (g.D.Disk.faults c.args.disk.now) (g.D.Disk.faults c.advance.new.disk)) (c.in-Err.is ∙ ap (λ (e : TwinErr). Err e) fault) c.advance.ensures.faults
 
 pub returns-in-Ok-More-clause-written : goal.returns-in-Ok-More-clause-written

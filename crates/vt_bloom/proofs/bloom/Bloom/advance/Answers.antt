@@ -6,7 +6,8 @@ use Rattle.vt_twin.specs.Frames.{HasRoom}
 use Rattle.vt_twin.specs.Twin.{Change, TwinState, next_frame, without_spare}
 use Rattle.vt_bloom.specs.Size.{frame_len, filter_len, region_of, IsLargest}
 use Rattle.vt_bloom.proofs.Powers.{has_room}
-use Rattle.vt_bloom.proofs.Saves.{step_sound, last_sound, has_either, either_covers, has_new, largest_stays, brings_length, call_length, call_changes, refusal_change, refusal_frame, refusal_steps, some_none}
+use Rattle.vt_twin.proofs.Changes.{brings_length, call_length, call_changes, refusal_change, refusal_frame, some_none}
+use Rattle.vt_bloom.proofs.Saves.{step_sound, last_sound, has_either, either_covers, has_new, largest_stays, refusal_steps}
 use Rattle.vt_bloom.proofs.bloom.Bloom.advance.Goals as goal
 
 pub advance-requires-clause-room : goal.advance-requires-clause-room

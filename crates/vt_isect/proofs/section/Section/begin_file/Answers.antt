@@ -1,9 +1,8 @@
-use Rattle.std.proofs.Common.{◌≡◌, ◌≤◌, ℕ, ◌+◌, ◌*◌, List, length, Option, refl, sym, ⊎_elim, ap, subst}
+use Rattle.std.proofs.Common.{◌≡◌, ◌≤◌, ℕ, ◌+◌, ◌*◌, Option, refl, sym, ⊎_elim, ap, subst}
 use Rattle.std.specs.List.{Contains}
 use Rattle.std.proofs.lemmas.List.Sorted.{Contains-permutation, IsPermutation-sym, length_permutation}
 use Rattle.vt_base.specs.declared.place.Entry.{Entry}
 use Rattle.vt_isect.specs.Entries.{EntriesState, Orders}
-use Rattle.vt_isect.specs.Section.{SectionState}
 use Rattle.vt_isect.specs.Sound.{IsSoundSection}
 use Rattle.vt_isect.specs.Writeback.{calls_left}
 use Rattle.vt_isect.specs.View.{state_of}

@@ -1,4 +1,4 @@
-use Rattle.std.proofs.Common.{◌≡◌, ◌≢◌, ℕ, ◌+◌, List, Option, Ok, Err, inl, inr, ⊎_elim, refl, sym, ap, ◌∙◌, subst, arith}
+use Rattle.std.proofs.Common.{◌≡◌, ◌≢◌, ℕ, List, Option, Ok, Err, inl, inr, ⊎_elim, refl, sym, ap, ◌∙◌, subst, arith}
 use Rattle.vt_disk.specs.Calls.{WritesAt}
 use Rattle.vt_disk.proofs.Calls.{writes_wider}
 use Rattle.vt_twin.specs.Twin.{TwinState, calls_made, next_frame, without_spare}
@@ -9,7 +9,8 @@ use Rattle.vt_isect.specs.Section.{HasBucket, IsHere}
 use Rattle.vt_isect.specs.Writeback.{IsRead, MayWrite, Writes}
 use Rattle.vt_isect.specs.View.{state_of}
 use Rattle.vt_isect.proofs.HasFrames.{at_phase, lent_len}
-use Rattle.vt_isect.proofs.IsSoundSection.{idle_sound, is_fault}
+use Rattle.vt_twin.proofs.Changes.{only_fault}
+use Rattle.vt_twin.proofs.Sound.{idle_sound}
 use Rattle.vt_isect.proofs.Follows.{KeepsAt, keeps_quiet, agrees_moves, next_of, place_written}
 use Rattle.vt_isect.proofs.Keeps.{bucket_goes, keeps_next, goes_next}
 use Rattle.vt_isect.proofs.Writes.{bucket_writes}
@@ -118,7 +119,7 @@ returns-in-Err-clause-sound g c told =
     let phase = rw (← c.self.view_is) at c.requires.phase in
     let goes = rw (← c.self.view_is) at c.requires.goes in
     let way : HasBucket s.phase = subst HasBucket (sym phase) tt in
-    let fault : c.in-Err.field-0 ≡ Fault = is_fault c.in-Err.field-0 s.bucket_twin.stopped (c.self.invariant.goes goes).1 (λ n is. (c.in-Err.ensures.stopped n).0 (ap Err is)) in
+    let fault : c.in-Err.field-0 ≡ Fault = only_fault c.in-Err.field-0 s.bucket_twin.stopped (c.self.invariant.goes goes).1 (λ n is. (c.in-Err.ensures.stopped n).0 (ap Err is)) in
     let steps = rw fault at c.in-Err.ensures.steps in
     rw (← c.self.view_is)
     (keeps_quiet _ _ _ _ _ _ _ (λ n done. let e = done.0 in cc)
@@ -150,7 +151,7 @@ pub returns-in-Err-clause-faults : goal.returns-in-Err-clause-faults
 returns-in-Err-clause-faults g c =
     let s = c.self.inside in
     let goes = rw (← c.self.view_is) at c.requires.goes in
-    let fault : c.in-Err.field-0 ≡ Fault = is_fault c.in-Err.field-0 s.bucket_twin.stopped (c.self.invariant.goes goes).1 (λ n is. (c.in-Err.ensures.stopped n).0 (ap Err is)) in
+    let fault : c.in-Err.field-0 ≡ Fault = only_fault c.in-Err.field-0 s.bucket_twin.stopped (c.self.invariant.goes goes).1 (λ n is. (c.in-Err.ensures.stopped n).0 (ap Err is)) in
     rw (← c.self.view_is) (rw fault at c.in-Err.ensures.faults)
 
 pub returns-in-Ok-More-clause-writes : goal.returns-in-Ok-More-clause-writes

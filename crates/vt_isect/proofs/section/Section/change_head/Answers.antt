@@ -4,7 +4,8 @@ use Rattle.vt_twin.specs.Twin.{TwinState, calls_made, next_frame, without_spare}
 use Rattle.vt_twin.specs.declared.step.TwinErr.TheVariants.{Fault}
 use Rattle.vt_isect.specs.declared.phase.Phase.TheVariants.{ChangeHead}
 use Rattle.vt_isect.specs.Writeback.{IsRead}
-use Rattle.vt_isect.proofs.IsSoundSection.{idle_sound, is_fault}
+use Rattle.vt_twin.proofs.Changes.{only_fault}
+use Rattle.vt_twin.proofs.Sound.{idle_sound}
 use Rattle.vt_isect.proofs.Follows.{keeps_quiet, agrees_moves, next_of, head_written}
 use Rattle.vt_isect.proofs.Keeps.{head_goes, keeps_head}
 use Rattle.vt_isect.proofs.Writes.{head_writes}
@@ -77,7 +78,7 @@ returns-in-Err-clause-sound g c told =
     let s = c.self.inside in
     let phase = rw (← c.self.view_is) at c.requires.phase in
     let goes = rw (← c.self.view_is) at c.requires.goes in
-    let fault : c.in-Err.field-0 ≡ Fault = is_fault c.in-Err.field-0 s.head_twin.stopped (c.self.invariant.goes goes).0 (λ n is. (c.in-Err.ensures.stopped n).0 (ap Err is)) in
+    let fault : c.in-Err.field-0 ≡ Fault = only_fault c.in-Err.field-0 s.head_twin.stopped (c.self.invariant.goes goes).0 (λ n is. (c.in-Err.ensures.stopped n).0 (ap Err is)) in
     let steps = rw fault at c.in-Err.ensures.steps in
     rw (← c.self.view_is)
     (keeps_quiet _ _ _ _ _ _ _ (λ n done. let e = done.0 in cc)
@@ -108,7 +109,7 @@ pub returns-in-Err-clause-faults : goal.returns-in-Err-clause-faults
 returns-in-Err-clause-faults g c =
     let s = c.self.inside in
     let goes = rw (← c.self.view_is) at c.requires.goes in
-    let fault : c.in-Err.field-0 ≡ Fault = is_fault c.in-Err.field-0 s.head_twin.stopped (c.self.invariant.goes goes).0 (λ n is. (c.in-Err.ensures.stopped n).0 (ap Err is)) in
+    let fault : c.in-Err.field-0 ≡ Fault = only_fault c.in-Err.field-0 s.head_twin.stopped (c.self.invariant.goes goes).0 (λ n is. (c.in-Err.ensures.stopped n).0 (ap Err is)) in
     rw (← c.self.view_is) (rw fault at c.in-Err.ensures.faults)
 
 pub returns-in-Ok-More-clause-writes : goal.returns-in-Ok-More-clause-writes

@@ -1,4 +1,4 @@
-use Rattle.std.proofs.Common.{◌≡◌, ◌+◌, ◌-◌, ◌*◌, ◌≤◌, ℕ, List, [], Some, None, sym, ◌∙◌, ap, subst, arith}
+use Rattle.std.proofs.Common.{◌≡◌, ◌+◌, ◌*◌, ℕ, List, [], Some, None, sym, ◌∙◌, ap, subst, arith}
 use Rattle.vt_disk.proofs.Calls.{on_err, writes_wider}
 use Rattle.vt_isect.specs.Agreement.{KnownAgrees}
 use Rattle.vt_isect.specs.Filling.{Fills, Reads, StopsClearing, with_buckets}

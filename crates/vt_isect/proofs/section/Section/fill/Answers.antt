@@ -1,11 +1,9 @@
-use Rattle.std.proofs.Common.{◌≡◌, ◌-◌, ◌<◌, ℕ, List, IsTrue, sym, ◌∙◌, ap, subst, arith}
-use Rattle.std.proofs.lemmas.Result.{on_ok_weaker}
+use Rattle.std.proofs.Common.{◌-◌, ◌<◌, ℕ, List, sym, subst, arith}
 use Rattle.vt_disk.specs.declared.region.Region.{Region}
 use Rattle.vt_disk.proofs.Calls.{on_err, writes_wider}
 use Rattle.vt_bucket.specs.Buckets.{number_of, entries_of}
 use Rattle.vt_bucket.specs.Frame.{IsFrame, frame_of as bucket_frame}
 use Rattle.vt_twin.specs.Formatting.{EndsFormat}
-use Rattle.vt_twin.specs.Frames.{current_frame}
 use Rattle.vt_isect.specs.Layout.{IsPlaceOf}
 use Rattle.vt_isect.specs.View.{state_of}
 use Rattle.vt_isect.proofs.WithBucket.{others_sound}

@@ -1,4 +1,4 @@
-use Rattle.std.proofs.Common.{◌≡◌, ◌<◌, ◌≤◌, ℕ, List, [], length, inl, inr, sym, ap, ◌∙◌, refl, subst, arith}
+use Rattle.std.proofs.Common.{◌≡◌, List, [], length, inl, inr, sym, ap, refl, subst, arith}
 use Rattle.std.specs.Option.{option_map_or}
 use Rattle.vt_base.specs.declared.place.Entry.{Entry}
 use Rattle.vt_isect.specs.declared.phase.Phase.TheVariants.{Rest}

@@ -1,4 +1,4 @@
-use Rattle.std.proofs.Common.{◌≡◌, ◌+◌, ◌-◌, ◌*◌, ◌≤◌, ℕ, [], Some, None, sym, ap, subst, arith}
+use Rattle.std.proofs.Common.{◌≡◌, ◌+◌, ◌-◌, ◌*◌, ◌≤◌, ℕ, [], Some, sym, ap, subst, arith}
 use Rattle.vt_bucket.specs.Buckets.{number_of}
 use Rattle.vt_bucket.specs.Frame.{frame_of as bucket_frame}
 use Rattle.vt_disk.specs.Calls.{WritesAt}

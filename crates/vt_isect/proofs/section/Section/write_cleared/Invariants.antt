@@ -1,4 +1,3 @@
-use Rattle.std.proofs.Common.{◌≡◌}
 use Rattle.vt_isect.proofs.Fills.{HasCleared}
 use Rattle.vt_isect.proofs.section.Section.write_cleared.Given as goal
 

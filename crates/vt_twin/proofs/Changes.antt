@@ -1,0 +1,88 @@
+-- What holds of a twin with a change under way, and of one without.
+use Rattle.std.proofs.Common.{◌≡◌, ◌⊎◌, inl, inr, ⊎_elim, ℕ, ◌+◌, ◌≤◌, Bool, true, false, is_some, if◌then◌else◌, List, [], length, Option, Some, None, Err, refl, sym, ◌∙◌, ap, subst, arith}
+use Rattle.std.specs.Prelude.{IsSome}
+use Rattle.std.specs.Option.{ForSome, option_map_or}
+use Rattle.std.proofs.lemmas.Bool.{cases_eq}
+use Rattle.vt_disk.specs.Disk.{Only}
+use Rattle.vt_twin.specs.Calls.{IsSync}
+use Rattle.vt_twin.specs.Twin.{Change, TwinState, calls_made, calls_begun, next_frame, after_call, Advances}
+use Rattle.vt_twin.specs.declared.step.TwinErr.{TwinErr}
+use Rattle.vt_twin.specs.declared.step.TwinErr.TheVariants.{Fault, Stopped}
+
+-- at most one call that was begun has failed
+pub begun_bound : (t : TwinState) → calls_begun t ≤ calls_made t + 1
+begun_bound t = bound (is_some t.stopped)
+  where
+    bound : (b : Bool) → calls_made t + (if b then 1 else 0) ≤ calls_made t + 1
+    bound true = omega arith
+    bound false = omega arith
+
+-- a selector's write that was begun is behind two calls
+pub begun_made : (t : TwinState) → 3 ≤ calls_begun t → 2 ≤ calls_made t
+begun_made t begun = omega (arith, begun, begun_bound t)
+
+-- with no change under way no call of one was made
+pub none_made : (t : TwinState) → t.change ≡ None → calls_made t ≡ 0
+none_made t none = ap (λ (change : Option Change). option_map_or (λ it. it.made) change 0) none
+
+pub some_change : (change : Option Change) → change ≡ None ⊎ IsSome change
+some_change None = inl refl
+some_change (Some it) = inr refl
+
+pub some_none : (change : Option Change) → IsSome change → change ≡ None → ⊥
+some_none change some none = cc
+
+-- a call that was made is one of a change
+pub is_changing : (t : TwinState) → 1 ≤ calls_made t → IsSome t.change
+is_changing t made = ⊎_elim (λ none. absurd (omega (arith, made, none_made t none))) (λ some. some) (some_change t.change)
+
+-- so is a selector's write that was begun
+pub begun_some : (change : Option Change) (stopped : Bool)
+    → 3 ≤ option_map_or (λ it. it.made) change 0 + (if stopped then 1 else 0) → IsSome change
+begun_some None true begun = absurd (omega arith)
+begun_some None false begun = absurd (omega arith)
+begun_some (Some it) stopped begun = refl
+
+-- the frame of a change under way
+pub brings_length : (change : Option Change) (n : ℕ) → IsSome change
+    → ForSome change (λ it. length it.frame ≡ n)
+    → length (option_map_or (λ it. it.frame) change []) ≡ n
+brings_length None n some each = absurd (cc)
+brings_length (Some it) n some each = each it refl
+
+abbrev HasLength : (n : ℕ) → TwinState → Type 0
+HasLength n t = ForSome t.change (λ it. length it.frame ≡ n)
+
+-- a call that was made leaves the change and its frame's length
+pub call_length : (n : ℕ) (old new : TwinState) → new ≡ after_call old → IsSome old.change
+    → HasLength n old → HasLength n new
+call_length n old new steps some each = subst (HasLength n) (sym steps)
+    (λ it is. sym (ap (λ (o : Option Change). option_map_or (λ x. length x.frame) o 0) is)
+    ∙ brings_length old.change n some each)
+
+pub call_changes : (old new : TwinState) → new ≡ after_call old → IsSome new.change
+call_changes old new steps = subst (λ (t : TwinState). IsSome t.change) (sym steps) refl
+
+-- and so does one that failed
+pub refusal_change : (e : TwinErr) (old new : TwinState) → Advances (Err e) old new
+    → new.change ≡ old.change
+refusal_change Fault old new steps = ap (λ (t : TwinState). t.change) steps
+refusal_change (Stopped n) old new steps = ap (λ (t : TwinState). t.change) steps
+
+pub refusal_frame : (e : TwinErr) (old new : TwinState) → Advances (Err e) old new
+    → next_frame new ≡ next_frame old
+refusal_frame Fault old new steps = ap (λ (t : TwinState). next_frame t) steps
+refusal_frame (Stopped n) old new steps = ap (λ (t : TwinState). next_frame t) steps
+
+-- a twin that wasn't stopped refuses nothing but by a fault
+pub only_fault : (e : TwinErr) (stopped : Option ℕ) → stopped ≡ None → ((n : ℕ) → e ≡ Stopped n → stopped ≡ Some n) → e ≡ Fault
+only_fault Fault stopped none tells = refl
+only_fault (Stopped n) stopped none tells = absurd (let is = tells n refl in cc)
+
+-- the second call of a change syncs
+pub sync_or_before : (t : TwinState) (reads : List ℕ) (after : List ℕ → Type 0) → (IsSync (calls_made t) → Only reads after)
+    → 2 ≤ calls_made t + 1 → (2 ≤ calls_made t) ⊎ Only reads after
+sync_or_before t reads after settled made = ⊎_elim
+    (λ (first : calls_made t ≡ 1). inr (settled (inl first)))
+    (λ (other : calls_made t ≡ 1 → ⊥). inl (omega (arith, made, other)))
+    (cases_eq (calls_made t) 1)
