@@ -41,6 +41,7 @@ pub fn mount<D: Disk>(alloc: Global, disk: D) -> Result<(Bloom<D>, Bits), (Bloom
 
     // So much is known of a device that doesn't tell what it holds, too.
     ensures rest { IfOk result (λ it. it.0.twin.change ≡ None) }
+    ensures next { IfOk result (λ it. it.0.next ≡ it.0.mark) }
     ensures stopped { IfOk result (λ it. it.0.twin.stopped ≡ None) }
     ensures largest { IfOk result (λ it. IsLargest (D.size disk) it.0.m) }
     ensures filter { IfOk result (λ it. IsFilter it.1) }

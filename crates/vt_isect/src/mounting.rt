@@ -75,6 +75,7 @@ pub fn mount<D: Disk>(alloc: Global, mut disk: D) -> Result<Section<D>, (SectBad
         (λ refusal. (refusal.0 ≡ SectBad.Fault) ⊎ (refusal.0 ≡ SectBad.NoMemory)) }
 
     // So much is known of a disk that doesn't tell what it holds, too.
+    ensures room { OnOk result (LEAST_LEN ≤ D.size disk) }
     ensures differs { IfErr result (λ refusal. NamesItsCause (D.size disk) refusal.0) }
 
     // It takes its memory first, syncs, and makes two reads, and changes nothing.

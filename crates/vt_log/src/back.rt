@@ -62,9 +62,11 @@ impl<D: Disk, S: Scorer> Log<D, S> {
     ghost use Rattle.vt_log.specs.Faults.{CountsFaults};
     ghost use Rattle.vt_log.specs.Log.{front, packed_of};
     ghost use Rattle.vt_log.specs.Sound.{IsSound, IsAt};
+    ghost use Rattle.vt_log.specs.Whole.{IsWhole};
 
     /// A walk that has all blocks before it.
     pub fn tail(&self) -> Tail
+        ensures whole { IsWhole D.Disk self.now }
         ensures tail { IsTailOf self.now result }
         ensures all { result.left ≡ front self.now }
         ensures behind { (h : History)

@@ -21,7 +21,7 @@ ghost use Rattle.vt_log.specs.Logs.{IsLog, arena_count};
 ghost use Rattle.vt_log.specs.Mounting.{IsTold, IsEarly, StopsSyncing, AreRead, AreFieldsAt, FindsNext, refused_by, IsFound, AreFound, RefusesArenas, ArePassed, IsFirstOpen, IsRoomFor};
 ghost use Rattle.vt_log.specs.Queue.{no_queue};
 ghost use Rattle.vt_log.specs.Sound.{IsSound, AreImages};
-ghost use Rattle.vt_log.specs.Whole.{IsOnDisk};
+ghost use Rattle.vt_log.specs.Whole.{IsOnDisk, IsWhole};
 
 use crate::bad::LogBad;
 use crate::filling::Filling;
@@ -102,6 +102,7 @@ pub fn mount<D: Disk, S: Scorer + Drop>(
         × (log.base ≡ base) × (log.durable ≡ length h))
         (λ refusal. (refusal.0 ≡ LogBad.Fault) ⊎ (refusal.0 ≡ LogBad.NoMemory)) }
     ensures mounted { IfOk result IsMounted }
+    ensures whole { IfOk result (IsWhole D.Disk) }
     ensures layout { IfOk result (λ log. (log.layout ≡ layout_of (tables_of parts.items))
         × (log.tables ≡ tables_of parts.items)) }
 
@@ -146,7 +147,6 @@ struct Opened {
 impl Opened {
     ghost use Rattle.vt_log.specs.Mounting.{found_log};
     ghost use Rattle.vt_log.specs.Queue.{no_queue};
-    ghost use Rattle.vt_log.specs.Whole.{IsWhole};
 
     fn into_log<D: Disk, S: Scorer>(self, parts: Vec<Part<D>>, scorer: S) -> Log<D, S>
         requires queue { self.queue ≡ no_queue }

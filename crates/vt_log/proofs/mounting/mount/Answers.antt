@@ -26,6 +26,20 @@ into_log-requires-clause-whole g c =
     subst (λ (ps : List (Part _)). IsWhole g.D.Disk (found_log (disks_of ps) (tables_of ps) o.layout o.heads.items o.base o.arena)) (sym back)
     (found_whole g.D.Disk (disks_of new) (tables_of new) o.layout (map g.D.Disk.bytes (disks_of items)) answer.0 o.heads.items o.base o.arena it)
 
+pub returns-in-Ok-clause-whole : goal.returns-in-Ok-clause-whole
+returns-in-Ok-clause-whole g c =
+    let new = c.find_log.new.parts in
+    let items = c.args.parts.items in
+    let o = c.in-Ok.opened in
+    let back : take c.args.parts.len (new ++ drop (length new) items) ≡ new = given_back c.args.parts.len new items (omega arith) (omega arith) in
+    let l_is : c.into_log.result ≡ found_log (disks_of new) (tables_of new) o.layout o.heads.items o.base o.arena =
+    c.into_log.ensures ∙ ap (λ (ps : List (Part _)). found_log (disks_of ps) (tables_of ps) o.layout o.heads.items o.base o.arena) back in
+    let answer = c.in-Ok.ensures.answer in
+    let it = found_of g.D.Disk _ items c.deref_mut.result.now new answer.0 o.layout o.heads.items o.base o.arena
+    c.deref_mut.ensures.value c.requires.rooms c.requires.few c.find_log.ensures.read c.in-Ok.ensures.layout c.in-Ok.ensures.found answer.2 c.in-Ok.ensures.base c.in-Ok.ensures.arena in
+    subst (λ (l : LogState _). IsWhole g.D.Disk l) (sym l_is)
+    (found_whole g.D.Disk (disks_of new) (tables_of new) o.layout (map g.D.Disk.bytes (disks_of items)) answer.0 o.heads.items o.base o.arena it)
+
 pub returns-in-Ok-clause-found : goal.returns-in-Ok-clause-found
 returns-in-Ok-clause-found g c h base told distinct log =
     let new = c.find_log.new.parts in
