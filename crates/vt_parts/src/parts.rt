@@ -25,7 +25,8 @@ pub trait Parts {
     /// Hands out the partition of this name. With a length to grow to, one that isn't there is made
     /// of zero bytes, and one that is shorter is filled up with them; none is made shorter. Failed
     /// is the answer where there is none, where it was handed out already, and where the call fails;
-    /// then nothing changes but that a made or grown partition may be there.
+    /// then nothing is made, and a partition that stands there keeps its length and its bytes, so
+    /// far as this type tells what stands there.
     fn part(
         &mut self,
         alloc: Global,
