@@ -59,7 +59,8 @@ pub trait Disk {
         // A crash may leave what it might leave before, with anything where the write touches.
         // Since the write's start is a moment within it, what a crash might leave before it may
         // leave afterwards.
-        ensures images { ChangesAt (Touches start (length chunk.now)) (images self.old) (images self.new) }
+        ensures images { ChangesAt (Touches start (length chunk.now))
+            (images self.old) (images self.new) }
         ensures kept { AreAmong (images self.old) (images self.new) }
 
         ensures size { size self.new ≡ size self.old }

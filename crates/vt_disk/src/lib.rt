@@ -19,3 +19,19 @@ const _: () = prove!(SECTOR_LEN == 512);
 pub const BLOCK_LEN: usize = 16 * SECTOR_LEN;
 
 const _: () = prove!(BLOCK_LEN == 8192);
+
+/// How many bytes the head of a partition or a section keeps for its name, with the zeros that fill
+/// it up.
+pub const NAME_LEN: usize = 64;
+
+const _: () = prove!(NAME_LEN == 64);
+
+/// The least bytes of an arena.
+pub const LEAST_ARENA: u64 = 4 * BLOCK_LEN as u64;
+
+const _: () = prove!(LEAST_ARENA == 32_768);
+
+/// The most bytes of an arena.
+pub const MOST_ARENA: u64 = 1 << 30;
+
+const _: () = prove!(MOST_ARENA == 1_073_741_824);

@@ -3,6 +3,7 @@
 
 ghost use Rattle.std.specs.Prelude.{◌≡◌, ◌+◌, ◌^◌, ◌<◌, ◌≤◌, [], ◌∷◌, ◌++◌, length, take, drop};
 ghost use Rattle.byteorder.specs.Endian.{big_bytes, big_number};
+ghost use Rattle.vt_fields.specs.Filled.{filled};
 
 use byteorder::{BigEndian, ByteOrder};
 
@@ -16,6 +17,17 @@ pub fn put(buf: &mut [u8], at: usize, field: &[u8]) -> usize
     let end = at + field.len();
     buf[at..end].copy_from_slice(field);
     end
+}
+
+/// These bytes, and zeros that fill them up to the length of a field.
+pub fn filled<const N: usize>(bytes: &[u8]) -> [u8; N]
+    requires { length bytes.now ≤ N }
+    ensures bytes { result ≡ filled N bytes.now }
+    ensures len { length result ≡ N }
+{
+    let mut field = [0; N];
+    put(&mut field, 0, bytes);
+    field
 }
 
 /// Writes a field of one byte at this place, and gives the place behind it.

@@ -28,6 +28,13 @@ fn a_field_leaves_what_is_behind_it(rt: HostRuntime) {
 }
 
 #[test]
+fn fields_are_filled_up_with_zeros(rt: HostRuntime) {
+    assert_eq!(rt; filled::<8>(b"arenas0"), *b"arenas0\0");
+    assert_eq!(rt; filled::<4>(b"VPRT"), *b"VPRT");
+    assert_eq!(rt; filled::<3>(b""), [0; 3]);
+}
+
+#[test]
 fn fields_are_read_at_their_places(rt: HostRuntime) {
     let bytes = b"\x00\x01\x02\x03\x04\x05\x06\x07\x08\x09";
     assert_eq!(rt; u16_at(bytes, 1), 0x0102);
