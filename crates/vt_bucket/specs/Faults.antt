@@ -34,4 +34,5 @@ FaultIs (Count found) number bytes =
     × (BUCKET_ROOM < found)
 FaultIs (Order entry count) number bytes =
     HasMagic bytes × (number_in bytes ≡ number) × (count ≡ count_in bytes)
-    × (count ≤ BUCKET_ROOM) × (entry < count) × HasEntries entry bytes × ¬ HasEntries (entry + 1) bytes
+    × (count ≤ BUCKET_ROOM) × (entry < count)
+    × HasEntries entry bytes × ¬ HasEntries (entry + 1) bytes

@@ -1,17 +1,9 @@
 -- Names, and the zeros that fill them up.
 use Rattle.std.proofs.Common.{◌≡◌, ◌≢◌, ⊎_elim, ℕ, zero, suc, ◌+◌, ◌-◌, ◌<◌, ◌≤◌, List, ◌∷◌, ◌++◌, length, take, drop, get_or, replicate, refl, sym, ◌∙◌, ap, arith, sub-one, drop-cons, length-append, length-take, take-append-drop}
-use Rattle.std.proofs.lemmas.List.{drop-replicate, length-replicate, get_or_append_left, get_or-append_right, get_or-replicate, get_or-take, take_at, drop_all}
+use Rattle.std.proofs.lemmas.List.{length-replicate, get_or_append_left, get_or-append_right, get_or-replicate, get_or-take, take_at, drop_all}
 use Rattle.std.proofs.lemmas.Bool.{cases_lt}
-use Rattle.vt_part.specs.Table.{filled, HasNoFill}
-
--- what begins with these bytes, and goes on with zeros
-pub filled_of : (n len : ℕ) (bytes buf : List ℕ) → len ≡ length bytes → take len buf ≡ bytes
-    → drop len buf ≡ drop len (replicate n 0) → buf ≡ filled n bytes
-filled_of n len bytes buf same front back =
-    sym (take-append-drop len buf)
-    ∙ (λ i. front i ++ back i)
-    ∙ ap (λ (l : List ℕ). bytes ++ l) (drop-replicate len n 0)
-    ∙ ap (λ (k : ℕ). bytes ++ replicate (n - k) 0) same
+use Rattle.vt_fields.specs.Filled.{filled}
+use Rattle.vt_part.specs.Table.{HasNoFill}
 
 pub length-filled : (n : ℕ) (bytes : List ℕ) → length bytes ≤ n → length (filled n bytes) ≡ n
 length-filled n bytes most =

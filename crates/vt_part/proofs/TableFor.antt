@@ -6,7 +6,8 @@ use Rattle.std.proofs.lemmas.List.{take_at, take-take}
 use Rattle.byteorder.specs.Endian.{big_bytes}
 use Rattle.vt_disk.specs.Disk.{with_bytes}
 use Rattle.vt_disk.proofs.Bytes.{length-with_bytes, part-with_bytes}
-use Rattle.vt_part.specs.Table.{Table, IsTable, IsName, IsArenaSize, IsPartition, is_name_byte, count_for, filled, spelled, block_of, end_of}
+use Rattle.vt_fields.specs.Filled.{filled}
+use Rattle.vt_part.specs.Table.{Table, IsTable, IsName, IsArenaSize, IsPartition, is_name_byte, count_for, spelled, block_of, end_of}
 use Rattle.vt_part.proofs.Names.{length-filled}
 use Rattle.vt_part.proofs.Tables.{size_least}
 

@@ -15,7 +15,8 @@ use Rattle.vt_fields.specs.Fields.{drop-field, drop-number}
 use Rattle.vt_part.specs.declared.bad.PartBad.{PartBad}
 use Rattle.vt_part.specs.declared.bad.PartBad.TheVariants.{Fault}
 use Rattle.vt_part.specs.Faults.{version_in, arena_size_in, count_in, end_in, first_bad, RefusesMount}
-use Rattle.vt_part.specs.Table.{Table, IsTable, IsArenaSize, IsPartition, is_arena_size, filled, spelled, head_of, end_of}
+use Rattle.vt_fields.specs.Filled.{filled}
+use Rattle.vt_part.specs.Table.{Table, IsTable, IsArenaSize, IsPartition, is_arena_size, spelled, head_of, end_of}
 use Rattle.vt_part.proofs.Names.{length-filled, name_unique, Named, named}
 
 -- what the tests want

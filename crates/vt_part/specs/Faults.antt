@@ -2,12 +2,11 @@
 use Rattle.std.specs.Prelude.{◌≡◌, ◌≢◌, ◌==◌, ◌⊎◌, ℕ, ◌+◌, ◌<◌, ◌≤◌, nat_lt, Bool, true, false, not, if◌then◌else◌, Option, Some, None, List, codes, take, drop}
 use Rattle.std.specs.Str.{bytes_eq}
 use Rattle.byteorder.specs.Endian.{big_number}
-use Rattle.vt_disk.specs.declared.TheConstants.{BLOCK_LEN}
+use Rattle.vt_disk.specs.declared.TheConstants.{BLOCK_LEN, LEAST_ARENA}
 use Rattle.vt_part.specs.declared.bad.Field.{Field}
 use Rattle.vt_part.specs.declared.bad.Field.TheVariants.{Version, ArenaSize, Count}
 use Rattle.vt_part.specs.declared.bad.PartBad.{PartBad}
 use Rattle.vt_part.specs.declared.bad.PartBad.TheVariants.{Fault, TooSmall, NotFormatted, Torn, DuplicateName, NoMemory}
-use Rattle.vt_part.specs.declared.TheConstants.{LEAST_ARENA}
 use Rattle.vt_part.specs.Table.{is_arena_size, IsArenaSize, start_by}
 
 -- What the fields say, by their places.
@@ -62,7 +61,8 @@ IsEnd place = (arena_size : ℕ) × (count : ℕ) × IsArenaSize arena_size × (
 -- holds: the values that the refusal names make it one.
 abbrev pub NamesItsCause : (size : ℕ) → PartBad → Type 0
 NamesItsCause size (TooSmall len need) =
-    (len ≡ size) × (size < need) × (size < BLOCK_LEN → need ≡ BLOCK_LEN) × (BLOCK_LEN ≤ size → IsEnd need)
+    (len ≡ size) × (size < need) × (size < BLOCK_LEN → need ≡ BLOCK_LEN)
+    × (BLOCK_LEN ≤ size → IsEnd need)
 NamesItsCause size Fault = BLOCK_LEN ≤ size
 NamesItsCause size NotFormatted = BLOCK_LEN ≤ size
 NamesItsCause size (Torn field found want) = (BLOCK_LEN ≤ size) × Differs field found want

@@ -46,7 +46,8 @@ IsArena tables arena = (t : Table) × (slice_get tables arena.part ≡ Some t)
 
 -- an arena of an earlier partition, or a region that ends before the other one begins
 abbrev pub IsBefore : (a b : ArenaRegion) → Type 0
-IsBefore a b = (a.part < b.part) ⊎ ((a.part ≡ b.part) × (a.region.start + a.region.len ≤ b.region.start))
+IsBefore a b = (a.part < b.part)
+    ⊎ ((a.part ≡ b.part) × (a.region.start + a.region.len ≤ b.region.start))
 
 abbrev pub LayoutsHaveArenas : Type 0
 LayoutsHaveArenas = (tables : List Table) → All (IsArena tables) (layout_of tables)

@@ -3,11 +3,12 @@
 --   magic[4] version[2] name[64] arenasize[8] count[4]
 -- Numbers have their highest byte first, and zeros fill up the name. What lies behind the table in
 -- its block isn't read, and is written as zero.
-use Rattle.std.specs.Prelude.{◌≡◌, ◌≢◌, ◌==◌, ℕ, ◌+◌, ◌-◌, ◌*◌, ◌/◌, ◌%◌, ◌^◌, ◌<◌, ◌≤◌, min, Bool, ◌&&◌, ◌||◌, nat_le, IsTrue, List, ◌++◌, All, codes, length, take, replicate, slice_index}
+use Rattle.std.specs.Prelude.{◌≡◌, ◌≢◌, ◌==◌, ℕ, ◌+◌, ◌-◌, ◌*◌, ◌/◌, ◌%◌, ◌^◌, ◌<◌, ◌≤◌, min, Bool, ◌&&◌, ◌||◌, nat_le, IsTrue, List, ◌++◌, All, codes, length, take, slice_index}
 use Rattle.std.specs.Char.{is_ascii_alphanumeric}
 use Rattle.byteorder.specs.Endian.{big_bytes}
-use Rattle.vt_disk.specs.declared.TheConstants.{BLOCK_LEN}
-use Rattle.vt_part.specs.declared.TheConstants.{TABLE_LEN, NAME_MAX, LEAST_ARENA, MOST_ARENA}
+use Rattle.vt_disk.specs.declared.TheConstants.{BLOCK_LEN, NAME_LEN, LEAST_ARENA, MOST_ARENA}
+use Rattle.vt_fields.specs.Filled.{filled}
+use Rattle.vt_part.specs.declared.TheConstants.{TABLE_LEN}
 
 -- what the table says: the partition's name, the size of its arenas, and how many there are
 pub record Table : Type 0 where
@@ -22,7 +23,7 @@ is_name_byte b = is_ascii_alphanumeric b || b == 46 || b == 45 || b == 95
 -- the names that a partition is given
 pub record IsName (name : List ℕ) : Type 0 where
   pub some : 0 < length name
-  pub most : length name ≤ NAME_MAX
+  pub most : length name ≤ NAME_LEN
   pub each : All (λ b. IsTrue (is_name_byte b)) name
 
 -- whole blocks, from 32 KiB to 1 GiB
@@ -38,19 +39,15 @@ HasNoFill name = 0 < length name → slice_index name (length name - 1) ≢ 0
 
 -- what a table may say; its name may have any bytes
 pub record IsTable (t : Table) : Type 0 where
-  pub name_len : length t.name ≤ NAME_MAX
+  pub name_len : length t.name ≤ NAME_LEN
   pub name_end : HasNoFill t.name
   pub arena_size : IsArenaSize t.arena_size
   pub some : 0 < t.count
   pub count : t.count < 2 ^ 32
 
--- bytes, and zeros that fill them up to this length
-abbrev pub filled : (len : ℕ) → List ℕ → List ℕ
-filled len bytes = bytes ++ replicate (len - length bytes) 0
-
 -- the table's bytes
 abbrev pub spelled : Table → List ℕ
-spelled t = codes "VPRT" ++ (big_bytes 2 1 ++ (filled NAME_MAX t.name
+spelled t = codes "VPRT" ++ (big_bytes 2 1 ++ (filled NAME_LEN t.name
     ++ (big_bytes 8 t.arena_size ++ big_bytes 4 t.count)))
 
 -- the bytes of a disk that the table stands in

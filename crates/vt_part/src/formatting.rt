@@ -6,13 +6,13 @@ ghost use Rattle.vt_base.specs.Faults.{CountsFault};
 ghost use Rattle.vt_disk.specs.Calls.{WritesAt, MadeCalls, IsSynced};
 ghost use Rattle.vt_disk.specs.Disk.{Touches, with_bytes};
 ghost use Rattle.vt_part.specs.Faults.{RefusesFormat, is_fault};
-ghost use Rattle.vt_part.specs.Table.{IsName, IsArenaSize, IsPartition, block_of, count_for, filled, table_for};
+ghost use Rattle.vt_part.specs.Table.{IsName, IsArenaSize, IsPartition, block_of, count_for, table_for};
 
+use crate::TABLE_LEN;
 use crate::bad::PartBad;
-use crate::{LEAST_ARENA, MOST_ARENA, NAME_MAX, TABLE_LEN};
 use vt_base::Text;
-use vt_disk::{BLOCK_LEN, Disk};
-use vt_fields::{put, put_u16, put_u32, put_u64};
+use vt_disk::{BLOCK_LEN, Disk, LEAST_ARENA, MOST_ARENA, NAME_LEN};
+use vt_fields::{filled, put, put_u16, put_u32, put_u64};
 
 /// Whether a partition may be given this name. It has 1 to 64 bytes, each a letter or a digit of
 /// ASCII, a dot, a dash or an underscore.
@@ -20,7 +20,7 @@ pub fn is_name(name: &[u8]) -> bool
     ensures { IsTrue result ↔ IsName name.now }
 {
     !name.is_empty()
-        && name.len() <= NAME_MAX
+        && name.len() <= NAME_LEN
         && name.iter().all(|b| b.is_ascii_alphanumeric() || *b == b'.' || *b == b'-' || *b == b'_')
 }
 
@@ -73,7 +73,7 @@ pub fn format<D: Disk>(disk: &mut D, name: &Text, arena_size: u64) -> Result<u32
 
 /// The bytes of block 0.
 fn encode(name: &[u8], arena_size: u64, count: u32) -> [u8; BLOCK_LEN]
-    requires { length name.now ≤ NAME_MAX }
+    requires { length name.now ≤ NAME_LEN }
     ensures { result
         ≡ block_of (record { name = name.now; arena_size = arena_size; count = count }) }
 {
@@ -82,8 +82,8 @@ fn encode(name: &[u8], arena_size: u64, count: u32) -> [u8; BLOCK_LEN]
 }
 
 /// The bytes of a table with this field of a name.
-fn encode_head(name: &[u8; NAME_MAX], arena_size: u64, count: u32) -> [u8; TABLE_LEN]
-    requires { length name.now ≡ NAME_MAX }
+fn encode_head(name: &[u8; NAME_LEN], arena_size: u64, count: u32) -> [u8; TABLE_LEN]
+    requires { length name.now ≡ NAME_LEN }
     ensures { result ≡ codes "VPRT" ++ (big_bytes 2 1
         ++ (name.now ++ (big_bytes 8 arena_size ++ big_bytes 4 count))) }
 {
@@ -94,15 +94,4 @@ fn encode_head(name: &[u8; NAME_MAX], arena_size: u64, count: u32) -> [u8; TABLE
     let at = put_u64(&mut head, at, arena_size);
     put_u32(&mut head, at, count);
     head
-}
-
-/// These bytes, and zeros behind them.
-fn filled<const N: usize>(bytes: &[u8]) -> [u8; N]
-    requires { length bytes.now ≤ N }
-    ensures bytes { result ≡ filled N bytes.now }
-    ensures len { length result ≡ N }
-{
-    let mut buf = [0; N];
-    put(&mut buf, 0, bytes);
-    buf
 }

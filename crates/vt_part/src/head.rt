@@ -1,25 +1,26 @@
 //! The table in block 0.
 
 ghost use Rattle.std.specs.Prelude.{◌≡◌, ◌<◌, ◌≤◌, None, Some, MatchResult, IfOk, IfErr, length, take};
-ghost use Rattle.vt_part.specs.declared.TheConstants.{NAME_MAX};
-ghost use Rattle.vt_part.specs.Table.{end_of, filled, spelled, HasNoFill, IsTable};
+ghost use Rattle.vt_disk.specs.declared.TheConstants.{NAME_LEN};
+ghost use Rattle.vt_fields.specs.Filled.{filled};
+ghost use Rattle.vt_part.specs.Table.{end_of, spelled, HasNoFill, IsTable};
 ghost use Rattle.vt_part.specs.Faults.{first_bad, NamesItsCause};
 
+use crate::TABLE_LEN;
 use crate::bad::{Field, PartBad};
 use crate::formatting::is_arena_size;
-use crate::{LEAST_ARENA, NAME_MAX, TABLE_LEN};
-use vt_disk::BLOCK_LEN;
+use vt_disk::{BLOCK_LEN, LEAST_ARENA, NAME_LEN};
 use vt_fields::{u16_at, u32_at, u64_at};
 
 /// The table of a partition's arenas.
 #[derive(Drop)]
 pub struct Head {
     /// The name, filled up with zeros.
-    pub field: [u8; NAME_MAX],
+    pub field: [u8; NAME_LEN],
     pub name_len: usize,
     pub arena_size: u64,
     pub count: u32,
-    ghost within: { name_len ≤ NAME_MAX },
+    ghost within: { name_len ≤ NAME_LEN },
     ghost allowed: { IsTable (record {
       name = take name_len field;
       arena_size = arena_size;
@@ -59,7 +60,7 @@ impl Head {
         if len < need {
             return Err(PartBad::TooSmall { len, need });
         }
-        let mut field = [0; NAME_MAX];
+        let mut field = [0; NAME_LEN];
         field.copy_from_slice(&head[6..70]);
         Ok(Head {
             field,
@@ -77,12 +78,12 @@ fn torn(field: Field, found: u64, want: u64) -> PartBad
 }
 
 /// How many bytes of a name stand before the zeros that fill it up.
-fn name_len(field: &[u8; NAME_MAX]) -> usize
-    ensures within { result ≤ NAME_MAX }
-    ensures filled { field.now ≡ filled NAME_MAX (take result field.now) }
+fn name_len(field: &[u8; NAME_LEN]) -> usize
+    ensures within { result ≤ NAME_LEN }
+    ensures filled { field.now ≡ filled NAME_LEN (take result field.now) }
     ensures end { HasNoFill (take result field.now) }
 {
-    let mut len = NAME_MAX;
+    let mut len = NAME_LEN;
     while len > 0 && field[len - 1] == 0 {
         len -= 1;
     }
