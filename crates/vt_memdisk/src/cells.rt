@@ -90,8 +90,10 @@ impl Cells {
     /// Writes, and makes pending what the write touches.
     pub fn write(&mut self, start: usize, chunk: &[u8])
         requires { start + length chunk.now ≤ length self.old.content.items }
-        ensures content { self.new.content.items ≡ with_bytes start chunk.now self.old.content.items }
-        ensures marks { Marks start (length chunk.now) self.old.pending.items self.new.pending.items }
+        ensures content { self.new.content.items
+            ≡ with_bytes start chunk.now self.old.content.items }
+        ensures marks { Marks start (length chunk.now)
+            self.old.pending.items self.new.pending.items }
         ensures synced { self.new.synced ≡ self.old.synced }
     {
         self.mark(start, chunk.len());

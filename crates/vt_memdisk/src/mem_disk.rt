@@ -184,8 +184,10 @@ impl<P: Plan> Disk for MemDisk<P> {
         ensures fails { IsErr result
             ↔ Contains (P.listed (memory_plan self.old)) (P.calls (memory_plan self.old)) }
         ensures listed { P.listed (memory_plan self.new) ≡ P.listed (memory_plan self.old) }
-        ensures calls { IsOneMore (P.calls (memory_plan self.old)) (P.calls (memory_plan self.new)) }
-        ensures cause { HasCause result (P.faults (memory_plan self.old)) (P.faults (memory_plan self.new)) }
+        ensures calls { IsOneMore
+            (P.calls (memory_plan self.old)) (P.calls (memory_plan self.new)) }
+        ensures cause { HasCause result
+            (P.faults (memory_plan self.old)) (P.faults (memory_plan self.new)) }
     {
         if self.plan.next_fails() {
             return Err(Failed);
@@ -200,13 +202,16 @@ impl<P: Plan> Disk for MemDisk<P> {
         ensures written { OnOk result
             (memory_bytes self.new ≡ with_bytes start chunk.now (memory_bytes self.old)) }
         ensures failed { OnErr result (memory_bytes self.new ≡ memory_bytes self.old) }
-        ensures pending { Marks start (length chunk.now) (memory_pending self.old) (memory_pending self.new) }
+        ensures pending { Marks start (length chunk.now)
+            (memory_pending self.old) (memory_pending self.new) }
         ensures synced { memory_synced self.new ≡ memory_synced self.old }
         ensures fails { IsErr result
             ↔ Contains (P.listed (memory_plan self.old)) (P.calls (memory_plan self.old)) }
         ensures listed { P.listed (memory_plan self.new) ≡ P.listed (memory_plan self.old) }
-        ensures calls { IsOneMore (P.calls (memory_plan self.old)) (P.calls (memory_plan self.new)) }
-        ensures cause { HasCause result (P.faults (memory_plan self.old)) (P.faults (memory_plan self.new)) }
+        ensures calls { IsOneMore
+            (P.calls (memory_plan self.old)) (P.calls (memory_plan self.new)) }
+        ensures cause { HasCause result
+            (P.faults (memory_plan self.old)) (P.faults (memory_plan self.new)) }
     {
         if self.plan.next_fails() {
             self.cells.mark(start as usize, chunk.len());
@@ -225,8 +230,10 @@ impl<P: Plan> Disk for MemDisk<P> {
         ensures fails { IsErr result
             ↔ Contains (P.listed (memory_plan self.old)) (P.calls (memory_plan self.old)) }
         ensures listed { P.listed (memory_plan self.new) ≡ P.listed (memory_plan self.old) }
-        ensures calls { IsOneMore (P.calls (memory_plan self.old)) (P.calls (memory_plan self.new)) }
-        ensures cause { HasCause result (P.faults (memory_plan self.old)) (P.faults (memory_plan self.new)) }
+        ensures calls { IsOneMore
+            (P.calls (memory_plan self.old)) (P.calls (memory_plan self.new)) }
+        ensures cause { HasCause result
+            (P.faults (memory_plan self.old)) (P.faults (memory_plan self.new)) }
     {
         if self.plan.next_fails() {
             return Err(Failed);
