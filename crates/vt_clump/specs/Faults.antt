@@ -2,9 +2,11 @@
 use Rattle.std.specs.Prelude.{◌≡◌, ◌⊎◌, ℕ, ◌-◌, ◌==◌, nat_lt, not, if◌then◌else◌, Option, Some, None, Result, MatchResult, List, codes, length, take, slice_index}
 use Rattle.std.specs.Str.{bytes_eq}
 use Rattle.vt_base.specs.Kind.{is_kind}
+use Rattle.vt_base.specs.declared.TheConstants.{MAX_BLOCK}
 use Rattle.vt_clump.specs.declared.reading.ClumpBad.{ClumpBad}
 use Rattle.vt_clump.specs.declared.reading.ClumpBad.TheVariants.{Short, Magic, Kind, Encoding as BadEncoding, Size, Score as BadScore, NoMemory}
 use Rattle.vt_clump.specs.declared.reading.Encoding.TheVariants.{Compressed, Unknown}
+use Rattle.vt_clump.specs.declared.header.TheConstants.{HEADER_LEN}
 use Rattle.vt_clump.specs.Spelling.{Stored, stored_in, size_in, uncsize_in}
 
 -- the first fault of two tests
@@ -24,21 +26,21 @@ abbrev pub bad_size : (size uncsize room : ℕ) → Option ClumpBad
 bad_size size uncsize room =
     if not (uncsize == size) then Some (Size size uncsize)
     else if size == 0 then Some (Size 1 0)
-    else if nat_lt 57344 size then Some (Size 57344 size)
+    else if nat_lt MAX_BLOCK size then Some (Size MAX_BLOCK size)
     else if nat_lt room size then Some (Size room size)
     else None
 
 -- the first test of a header that fails, where so many bytes stand behind it
 abbrev pub bad_fields : (header : List ℕ) → (room : ℕ) → Option ClumpBad
 bad_fields header room =
-    if nat_lt (length header) 38 then Some Short
+    if nat_lt (length header) HEADER_LEN then Some Short
     else if not (bytes_eq (take 4 header) (codes "VCLP")) then Some (Magic (take 4 header))
     else if not (is_kind (slice_index header 4)) then Some (Kind (slice_index header 4))
     else or_else (bad_encoding (slice_index header 29))
     (bad_size (size_in header) (uncsize_in header) room)
 
 abbrev pub bad_header : List ℕ → Option ClumpBad
-bad_header bytes = bad_fields bytes (length bytes - 38)
+bad_header bytes = bad_fields bytes (length bytes - HEADER_LEN)
 
 -- the test of the score
 abbrev pub other_score : (want found : List ℕ) → Option ClumpBad

@@ -5,6 +5,8 @@
 use Rattle.std.specs.Prelude.{◌≡◌, ℕ, ◌+◌, ◌^◌, ◌<◌, ◌≤◌, List, ◌∷◌, ◌++◌, codes, length, take, drop, slice_index}
 use Rattle.byteorder.specs.Endian.{big_bytes, big_number}
 use Rattle.vt_base.specs.Kind.{IsKind}
+use Rattle.vt_base.specs.declared.TheConstants.{MAX_BLOCK}
+use Rattle.vt_clump.specs.declared.header.TheConstants.{HEADER_LEN}
 
 -- a stored block, and what its header says beside it
 pub record Stored : Type 0 where
@@ -22,11 +24,11 @@ pub record IsStored (score_of : List ℕ → List ℕ) (s : Stored) : Type 0 whe
   pub creator_len : length s.creator ≡ 4
   pub time : s.time < 2 ^ 32
   pub some : 0 < length s.block
-  pub most : length s.block ≤ 57344
+  pub most : length s.block ≤ MAX_BLOCK
 
 -- how many bytes the clump of a block of n bytes has
 abbrev pub clump_len : ℕ → ℕ
-clump_len n = 38 + n
+clump_len n = HEADER_LEN + n
 
 -- size and uncsize of a block of n bytes, which is stored as it is
 abbrev pub sizes : ℕ → List ℕ
@@ -60,5 +62,5 @@ stored_in bytes = record {
   score = take 20 (drop 9 bytes);
   creator = take 4 (drop 30 bytes);
   time = big_number 4 (drop 34 bytes);
-  block = take (size_in bytes) (drop 38 bytes);
+  block = take (size_in bytes) (drop HEADER_LEN bytes);
 }

@@ -10,12 +10,14 @@ use crate::{ClumpBad, Encoding};
 use vt_base::{Kind, MAX_BLOCK, Score};
 use vt_fields::{put, put_u8, put_u16, put_u32, u16_at, u32_at};
 
-/// How many bytes a header has.
-pub const HEADER_LEN: usize = 38;
+/// How many bytes a header has: magic, type, two sizes, score, encoding, creator and time.
+pub const HEADER_LEN: usize = 4 + 1 + 2 + 2 + 20 + 1 + 4 + 4;
+
+const _: () = prove!(HEADER_LEN == 38);
 
 /// How many bytes the block of a clump has, by the clump's header, which isn't tested.
 pub fn block_len(header: &[u8]) -> u16
-    requires { 38 ≤ length header.now }
+    requires { HEADER_LEN ≤ length header.now }
     ensures { result ≡ size_in header.now }
 {
     u16_at(header, 5)

@@ -1,6 +1,7 @@
 //! A clump in memory, on its way to an arena.
 
 ghost use Rattle.std.specs.Prelude.{◌≡◌, ◌<◌, ◌≤◌, length};
+ghost use Rattle.vt_base.specs.declared.TheConstants.{MAX_BLOCK};
 ghost use Rattle.vt_clump.specs.Spelling.{clump_len};
 
 use vt_base::{Bytes, Kind, Score};
@@ -16,5 +17,5 @@ pub struct Packed {
     pub bytes: Bytes,
     ghost whole: { length bytes ≡ clump_len len },
     ghost some: { 0 < len },
-    ghost most: { len ≤ 57344 },
+    ghost most: { len ≤ MAX_BLOCK },
 }

@@ -7,7 +7,7 @@ ghost use Rattle.vt_clump.specs.Spelling.{spelled};
 use crate::Packed;
 use crate::header::{HEADER_LEN, Header};
 use std::alloc::Global;
-use vt_base::{Bytes, Kind, NoMemory, Score};
+use vt_base::{Bytes, Kind, MAX_BLOCK, NoMemory, Score};
 
 /// The clump of a block of 1 to 57,344 bytes. The score is taken as given.
 pub fn pack(
@@ -18,7 +18,7 @@ pub fn pack(
     time: u32,
 ) -> Result<Packed, NoMemory>
     requires some { 0 < length block.now }
-    requires most { length block.now ≤ 57344 }
+    requires most { length block.now ≤ MAX_BLOCK }
     ensures kind { IfOk result (λ packed. packed.kind ≡ kind) }
     ensures score { IfOk result (λ packed. packed.score ≡ score) }
     ensures len { IfOk result (λ packed. packed.len ≡ length block.now) }

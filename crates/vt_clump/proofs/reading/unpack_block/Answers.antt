@@ -1,7 +1,7 @@
 use Rattle.std.proofs.Common.{◌∙◌}
 use Rattle.std.proofs.lemmas.Result.{err_from_is_err_and}
 use Rattle.vt_clump.proofs.ReadBack.{header_fault}
-use Rattle.vt_clump.proofs.Joined.{bad_header-joined, joined, joined_read, score_is_left-joined}
+use Rattle.vt_clump.proofs.UnpackBlock.{bad_header-joined, joined, joined_read, score_is_left-joined}
 use Rattle.vt_clump.proofs.reading.unpack_block.Goals as goal
 
 pub returns-in_err-header-clause-refused : goal.returns-in_err-header-clause-refused
