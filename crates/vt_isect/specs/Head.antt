@@ -2,9 +2,11 @@
 --   magic[4] version[2] state[1] name[64] first[4] count[4] total[4] mark[8]
 -- Numbers have their highest byte first, and zeros fill up the name. What lies behind the mark
 -- isn't read, and is written as zero.
-use Rattle.std.specs.Prelude.{◌≡◌, ℕ, ◌-◌, ◌^◌, ◌<◌, List, ◌∷◌, ◌++◌, codes, length, take, replicate}
+use Rattle.std.specs.Prelude.{◌≡◌, ℕ, ◌^◌, ◌<◌, List, ◌∷◌, ◌++◌, codes, length, take}
 use Rattle.byteorder.specs.Endian.{big_bytes}
-use Rattle.vt_isect.specs.declared.TheConstants.{FRAME_LEN, NAME_LEN, FIELDS_LEN}
+use Rattle.vt_disk.specs.declared.TheConstants.{NAME_LEN}
+use Rattle.vt_fields.specs.Filled.{filled}
+use Rattle.vt_isect.specs.declared.TheConstants.{FRAME_LEN, FIELDS_LEN}
 use Rattle.vt_isect.specs.declared.head.Head.{Head}
 
 -- the bytes of a head with this field of a name
@@ -30,10 +32,6 @@ pub record IsHeadFrame (name : List ℕ) (head : Head) (frame : List ℕ) : Type
   pub fits : IsHead head
   pub name_len : length name ≡ NAME_LEN
   pub spelling : head_of frame ≡ spelled name head
-
--- bytes, and zeros that fill them up to this length
-abbrev pub filled : (len : ℕ) → List ℕ → List ℕ
-filled len bytes = bytes ++ replicate (len - length bytes) 0
 
 -- the frame that is written
 abbrev pub encoded : (name : List ℕ) → Head → List ℕ

@@ -3,9 +3,10 @@ use Rattle.std.specs.Prelude.{◌≡◌, ◌≢◌, ⊤, ℕ, ◌+◌, ◌*◌, 
 use Rattle.std.specs.Option.{option_map_or}
 use Rattle.std.specs.List.{Contains}
 use Rattle.vt_base.specs.declared.place.Entry.{Entry}
+use Rattle.vt_disk.specs.declared.TheConstants.{NAME_LEN}
 use Rattle.vt_model.specs.Places.{bucket_of}
 use Rattle.vt_twin.specs.Twin.{Change, TwinState, fresh}
-use Rattle.vt_isect.specs.declared.TheConstants.{FRAME_LEN, NAME_LEN, HEAD_PLACE_LEN, BUCKET_PLACE_LEN}
+use Rattle.vt_isect.specs.declared.TheConstants.{FRAME_LEN, HEAD_PLACE_LEN, BUCKET_PLACE_LEN}
 use Rattle.vt_isect.specs.declared.bad.SectBad.{SectBad}
 use Rattle.vt_isect.specs.declared.head.Head.{Head}
 use Rattle.vt_isect.specs.declared.phase.Phase.{Phase}

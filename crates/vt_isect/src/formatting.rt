@@ -5,17 +5,18 @@ ghost use Rattle.vt_base.specs.Faults.{CountsFault};
 ghost use Rattle.vt_disk.specs.Calls.{WritesWithin, MadeCalls, IsSynced};
 ghost use Rattle.vt_twin.specs.Formatting.{EndsFormat};
 ghost use Rattle.vt_twin.specs.Frames.{selector_of, selector_bytes, current_frame};
+ghost use Rattle.vt_fields.specs.Filled.{filled};
 ghost use Rattle.vt_isect.specs.Faults.{RefusesFormat, refuses_by_fault};
-ghost use Rattle.vt_isect.specs.Head.{encoded, filled, IsHeadFrame};
+ghost use Rattle.vt_isect.specs.Head.{encoded, IsHeadFrame};
 ghost use Rattle.vt_isect.specs.Layout.{head_place, buckets_in, formatted};
 
 use crate::bad::SectBad;
 use crate::head::{Head, encode_head};
 use crate::place::{buckets_in, head_place};
-use crate::{FRAME_LEN, LEAST_LEN, NAME_LEN};
+use crate::{FRAME_LEN, LEAST_LEN};
 use vt_base::Text;
-use vt_disk::{BLOCK_LEN, Disk};
-use vt_fields::put;
+use vt_disk::{BLOCK_LEN, Disk, NAME_LEN};
+use vt_fields::filled;
 
 /// Makes the disk a section in state 0, with mark 0 and without a place among others: writes its
 /// head and syncs it. Gives the count of its buckets.
@@ -69,15 +70,4 @@ pub fn format<D: Disk>(disk: &mut D, name: &Text) -> Result<u32, SectBad>
     encode_head(&filled(name.as_slice()), &head, &mut frame);
     vt_twin::format(disk, head_place(), &frame)?;
     Ok(count)
-}
-
-/// A name, and zeros that fill it up.
-fn filled(name: &[u8]) -> [u8; NAME_LEN]
-    requires { length name.now ≤ NAME_LEN }
-    ensures bytes { result ≡ filled NAME_LEN name.now }
-    ensures len { length result ≡ NAME_LEN }
-{
-    let mut field = [0; NAME_LEN];
-    put(&mut field, 0, name);
-    field
 }

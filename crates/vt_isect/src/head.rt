@@ -7,7 +7,8 @@ ghost use Rattle.vt_isect.specs.Faults.{first_bad, NamesItsCause, TellsOfHead, r
 ghost use Rattle.vt_isect.specs.Head.{IsHead, IsHeadFrame, encoded, spelled};
 
 use crate::bad::{Field, SectBad};
-use crate::{FIELDS_LEN, FRAME_LEN, LEAST_LEN, NAME_LEN};
+use crate::{FIELDS_LEN, FRAME_LEN, LEAST_LEN};
+use vt_disk::NAME_LEN;
 use vt_fields::{put, put_u8, put_u16, put_u32, put_u64, u16_at, u32_at, u64_at};
 
 /// What a section's head says.

@@ -28,7 +28,7 @@ pub use laws::{
 pub use mounting::mount;
 pub use place::bucket_number;
 pub use section::Section;
-use vt_disk::{BLOCK_LEN, SECTOR_LEN};
+use vt_disk::{BLOCK_LEN, NAME_LEN, SECTOR_LEN};
 
 /// How many bytes a frame has, that of the head and that of a bucket.
 pub const FRAME_LEN: usize = BLOCK_LEN;
@@ -49,11 +49,6 @@ const _: () = prove!(BUCKET_PLACE_LEN == 16_896);
 pub const LEAST_LEN: u64 = HEAD_PLACE_LEN + BUCKET_PLACE_LEN;
 
 const _: () = prove!(LEAST_LEN == 41_472);
-
-/// How many bytes a section's name has, with the zeros that fill it up.
-pub const NAME_LEN: usize = 64;
-
-const _: () = prove!(NAME_LEN == 64);
 
 /// How many bytes of a frame the head's fields are: magic, version, state, name, first, count,
 /// total and mark.

@@ -24,10 +24,10 @@ use crate::head::{Head, decode_head};
 use crate::phase::Phase;
 use crate::place::{buckets_in, head_place};
 use crate::section::Section;
-use crate::{FRAME_LEN, LEAST_LEN, NAME_LEN};
+use crate::{FRAME_LEN, LEAST_LEN};
 use std::alloc::Global;
 use vt_base::Failed;
-use vt_disk::Disk;
+use vt_disk::{Disk, NAME_LEN};
 use vt_twin::Twin;
 
 /// Finds the section of a disk: syncs, and reads its head. A refusal hands the disk back. What the

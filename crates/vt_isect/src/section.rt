@@ -26,12 +26,12 @@ use crate::merging::decode_bucket;
 use crate::mounting::Opened;
 use crate::phase::Phase;
 use crate::place::{bucket_number, bucket_place};
-use crate::{BUCKET_PLACE_LEN, FRAME_LEN, HEAD_PLACE_LEN, NAME_LEN};
+use crate::{BUCKET_PLACE_LEN, FRAME_LEN, HEAD_PLACE_LEN};
 use std::marker::Model;
 use std::sync::ledger::Ledger;
 use vt_base::{Entry, Failed};
 use vt_bucket::Bucket;
-use vt_disk::Disk;
+use vt_disk::{Disk, NAME_LEN};
 use vt_steps::Steps;
 use vt_twin::Twin;
 
