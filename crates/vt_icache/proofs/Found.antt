@@ -9,9 +9,9 @@ use Rattle.vt_base.specs.Kind.{IsKind}
 use Rattle.vt_base.specs.declared.key.Key.{Key}
 use Rattle.vt_base.specs.declared.place.Entry.{Entry}
 use Rattle.vt_base.specs.declared.place.Info.{Info}
-use Rattle.indexmap.specs.IndexMap.{IndexMap}
-use Rattle.lru.specs.LruCache.{LruCache}
 use Rattle.vt_icache.specs.Keeping.{IsWell, dirty_infos, clean_entries}
+use Rattle.vt_icache.specs.View.{state_of}
+use Rattle.vt_icache.specs.declared.cache.IndexCache.TheInside.{Inside}
 use Rattle.vt_icache.specs.Index.{IndexState, IsKept, entry_of, entry_in, is_info_of, is_entry_of, dirty_info, clean_entry}
 use Rattle.vt_icache.proofs.Pairs.{AreKeyed, values, same_as_itself}
 
@@ -85,18 +85,16 @@ kept_is_found key s entry own kept is = by (dirty_info key s) refl is
         kept
 
 -- each entry that is kept has one of the types of blocks
-pub kept_kind : {S : Type 0} (room : ℕ) (infos : IndexMap Key Info S) (dirty : ℕ) (blank : IndexMap Key Info S) (clean : LruCache Key Entry)
-    → IsWell room infos dirty blank clean → (entry : Entry)
-    → IsKept (record { dirty = dirty_infos infos dirty; room = room; clean = clean_entries clean; clean_room = clean.cap }) entry
-    → IsKind entry.key.kind
-kept_kind room infos dirty blank clean was entry kept = ⊎_elim
-    (λ (it : (info : Info) × Contains (dirty_infos infos dirty) info × (entry_of info ≡ entry)).
+pub kept_kind : (s : Inside) → IsWell s.room s.infos s.dirty s.blank s.clean → (entry : Entry)
+    → IsKept (state_of s) entry → IsKind entry.key.kind
+kept_kind s was entry kept = ⊎_elim
+    (λ (it : (info : Info) × Contains (dirty_infos s.infos s.dirty) info × (entry_of info ≡ entry)).
     subst (λ (x : Entry). IsKind x.key.kind) it.2
-    (contained (λ (x : Info). IsKind x.key.kind) (dirty_infos infos dirty) it.0
-    (kinds_front (λ (x : Info). x.key) infos.entries dirty was.info_keys was.info_kinds) it.1))
-    (λ (it : Contains (clean_entries clean) entry).
-    contained (λ (x : Entry). IsKind x.key.kind) (clean_entries clean) entry
-    (kinds_all (λ (x : Entry). x.key) clean.entries was.entry_keys was.entry_kinds) it)
+    (contained (λ (x : Info). IsKind x.key.kind) (dirty_infos s.infos s.dirty) it.0
+    (kinds_front (λ (x : Info). x.key) s.infos.entries s.dirty was.info_keys was.info_kinds) it.1))
+    (λ (it : Contains (clean_entries s.clean) entry).
+    contained (λ (x : Entry). IsKind x.key.kind) (clean_entries s.clean) entry
+    (kinds_all (λ (x : Entry). x.key) s.clean.entries was.entry_keys was.entry_kinds) it)
     kept
 
 -- where nothing is kept for a key, nothing is dirty

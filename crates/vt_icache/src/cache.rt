@@ -35,16 +35,12 @@ pub struct IndexCache {
 
 impl Model for IndexCache {
     ghost use Rattle.vt_icache.specs.Index.{IndexState};
-    ghost use Rattle.vt_icache.specs.Keeping.{IsWell, dirty_infos, clean_entries};
+    ghost use Rattle.vt_icache.specs.Keeping.{IsWell};
+    ghost use Rattle.vt_icache.specs.View.{state_of};
 
     ghost Value = { IndexState };
 
-    ghost view = { λ s. record {
-      dirty = dirty_infos s.infos s.dirty;
-      room = s.room;
-      clean = clean_entries s.clean;
-      clean_room = s.clean.cap;
-    } };
+    ghost view = { state_of };
 
     ghost invariant = { λ s. IsWell s.room s.infos s.dirty s.blank s.clean };
 }
@@ -98,8 +94,9 @@ impl IndexCache {
         ensures none { IfNone result ((entry : Entry) → IsKept self.now entry
             → entry.key.score.0 ≢ score.now.0) }
     {
+        // The check looks into the cache here, in which each entry has a type that there is: these
+        // have numbers up to 13.
         let _ = &self.room;
-        // block types have numbers up to 13
         for number in 1..14 {
             if let Some(kind) = Kind::from_wire(number) {
                 let found = self.get(&Key {

@@ -9,6 +9,7 @@ use Rattle.vt_base.specs.declared.place.Entry.{Entry}
 use Rattle.vt_base.specs.declared.place.Info.{Info}
 use Rattle.vt_icache.specs.Index.{IndexState, is_info_of, is_entry_of, entry_of, entry_in, after_look_up, dirty_info}
 use Rattle.vt_icache.specs.Keeping.{dirty_infos}
+use Rattle.vt_icache.specs.View.{state_of}
 use Rattle.vt_icache.proofs.Pairs.{found, equal_keys, values, values_promoted, keyed_promoted, all_promoted, AreKeyed, own_key}
 use Rattle.vt_icache.proofs.cache.IndexCache.find.Goals as goal
 
@@ -43,14 +44,8 @@ returns-in-None-clause-found c =
 pub returns-in-None-clause-used : goal.returns-in-None-clause-used
 returns-in-None-clause-used c =
     let is = none c in
-    let state : IndexState = record {
-      dirty = dirty_infos c.self.inside.infos c.self.inside.dirty;
-      room = c.self.inside.room;
-      clean = values (λ (x : Entry). x.key) c.self.inside.clean.entries;
-      clean_room = c.self.inside.clean.cap;
-    } in
     rw (← c.self.view_is, is, c.promote.ensures.entries)
-    (ap (λ (l : List Entry). record state { clean = l })
+    (ap (λ (l : List Entry). record (state_of c.self.inside) { clean = l })
     (values_promoted (λ (x : Entry). x.key) (same_key c.args.key.now) c.self.inside.clean.entries c.self.invariant.entry_keys))
 
 pub returns-in-None-clause-key : goal.returns-in-None-clause-key

@@ -21,7 +21,7 @@ one_key entry score kind n scores kinds is =
 
 pub loop-number-init : goal.loop-number-init
 loop-number-init c = λ entry kept small scores.
-    let it = kind_bounds entry.key.kind (kept_kind _ _ _ _ _ c.self.invariant entry (subst (λ (s : IndexState). IsKept s entry) (sym c.self.view_is) kept)) in
+    let it = kind_bounds entry.key.kind (kept_kind _ c.self.invariant entry (subst (λ (s : IndexState). IsKept s entry) (sym c.self.view_is) kept)) in
     omega (arith, it.0, small)
 
 found_at : (key : Key) (s : IndexState) (o : Option Entry) → o ≡ entry_in key s → IfSome o (λ entry. entry.key ≡ key)
@@ -40,7 +40,7 @@ none_of (Some entry) is = absurd (true≢false is)
 
 pub loop-number-preserved : goal.loop-number-preserved
 loop-number-preserved c = λ entry kept small scores.
-    let kind = kept_kind _ _ _ _ _ c.self.invariant entry (subst (λ (s : IndexState). IsKept s entry) (sym c.self.view_is) kept) in
+    let kind = kept_kind _ c.self.invariant entry (subst (λ (s : IndexState). IsKept s entry) (sym c.self.view_is) kept) in
     ⊎_elim
     (λ (lt : entry.key.kind < c.loop-number.number). c.loop-number.invariant entry kept lt scores)
     (λ (ge : c.loop-number.number ≤ entry.key.kind).
@@ -59,5 +59,5 @@ loop-number-preserved c = λ entry kept small scores.
 
 pub returns-clause-none : goal.returns-clause-none
 returns-clause-none c = λ entry kept scores.
-    let it = kind_bounds entry.key.kind (kept_kind _ _ _ _ _ c.self.invariant entry (subst (λ (s : IndexState). IsKept s entry) (sym c.self.view_is) kept)) in
+    let it = kind_bounds entry.key.kind (kept_kind _ c.self.invariant entry (subst (λ (s : IndexState). IsKept s entry) (sym c.self.view_is) kept)) in
     c.loop-number.invariant entry kept (omega (arith, it.1)) scores

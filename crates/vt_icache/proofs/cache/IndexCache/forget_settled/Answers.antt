@@ -2,8 +2,7 @@ use Rattle.std.proofs.Common.{◌≡◌, ◌≤◌, List, length, take, refl, sy
 use Rattle.vt_base.specs.Kind.{IsKind}
 use Rattle.vt_base.specs.declared.key.Key.{Key}
 use Rattle.vt_base.specs.declared.place.Info.{Info}
-use Rattle.vt_icache.specs.Index.{IndexState}
-use Rattle.vt_icache.specs.Keeping.{dirty_infos, clean_entries}
+use Rattle.vt_icache.specs.View.{state_of}
 use Rattle.vt_icache.proofs.Pairs.{values, values_take, keyed_take, all_take}
 use Rattle.vt_icache.proofs.Fronts.{take_twice}
 use Rattle.vt_icache.proofs.cache.IndexCache.forget_settled.Goals as goal
@@ -32,16 +31,10 @@ invariant_of-self c =
 
 pub returns : goal.returns
 returns c =
-    let state : IndexState = record {
-      dirty = dirty_infos c.self.inside.infos c.self.inside.dirty;
-      room = c.self.inside.room;
-      clean = clean_entries c.self.inside.clean;
-      clean_room = c.self.inside.clean.cap;
-    } in
     let n = c.self.inside.dirty in
     let es = c.self.inside.infos.entries in
     let same : take n (values (λ (x : Info). x.key) c.drop_behind.new.infos.entries) ≡ take n (values (λ (x : Info). x.key) es) =
     ap (λ l. take n (values (λ (x : Info). x.key) l)) c.drop_behind.ensures.entries
     ∙ ap (take n) (values_take (λ (x : Info). x.key) n es)
     ∙ take_twice (values (λ (x : Info). x.key) es) n in
-    ap (λ (l : List Info). record state { dirty = l }) same ∙ c.self.view_is
+    ap (λ (l : List Info). record (state_of c.self.inside) { dirty = l }) same ∙ c.self.view_is

@@ -10,7 +10,7 @@ use Rattle.vt_base.specs.Kind.{IsKind}
 use Rattle.vt_base.specs.declared.key.Key.{Key}
 use Rattle.vt_base.specs.declared.place.Info.{Info}
 use Rattle.vt_icache.specs.Index.{IndexState, dirty_info}
-use Rattle.vt_icache.specs.Keeping.{dirty_infos, clean_entries}
+use Rattle.vt_icache.specs.View.{state_of}
 use Rattle.vt_icache.proofs.Pairs.{values, values_take, values_length, values_push, found, from_ok, keyed_take, keyed_push, all_take, all_push, all_permuted, last_of}
 use Rattle.vt_icache.proofs.Fronts.{take_twice, take_swap_behind}
 use Rattle.vt_icache.proofs.cache.IndexCache.put_dirty.Goals as goal
@@ -121,14 +121,8 @@ returns c =
     ∙ ap (λ (l : List (Key × Info)). l ++ get_or (made.entries ++ pair ∷ []) (length made.entries) pair ∷ [])
     (take-append-le n made.entries (pair ∷ []) front ∙ same_front c.self.inside.infos.entries made.entries n c.make_room.ensures.entries)
     ∙ ap (λ (e : Key × Info). take n c.self.inside.infos.entries ++ e ∷ []) (last_of made.entries pair pair) in
-    let state : IndexState = record {
-      dirty = dirty_infos c.self.inside.infos n;
-      room = c.self.inside.room;
-      clean = clean_entries c.self.inside.clean;
-      clean_room = c.self.inside.clean.cap;
-    } in
     rw (← c.self.view_is)
-    (ap (λ (l : List Info). record state { dirty = l })
+    (ap (λ (l : List Info). record (state_of c.self.inside) { dirty = l })
     (sym (values_take key (n + 1) c.swap_indices.new.self.entries) ∙ ap (values key) pairs
     ∙ values_push key (take n c.self.inside.infos.entries) pair
     ∙ ap (λ (l : List Info). l ++ c.args.info ∷ []) (values_take key n c.self.inside.infos.entries)))

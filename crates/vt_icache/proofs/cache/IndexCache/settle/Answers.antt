@@ -14,7 +14,8 @@ use Rattle.vt_base.specs.declared.key.Key.{Key}
 use Rattle.vt_base.specs.declared.place.Entry.{Entry}
 use Rattle.vt_base.specs.declared.place.Info.{Info}
 use Rattle.vt_icache.specs.Index.{IndexState, Settles, dirty_info, entry_of, with_clean}
-use Rattle.vt_icache.specs.Keeping.{dirty_infos, clean_entries}
+use Rattle.vt_icache.specs.Keeping.{clean_entries}
+use Rattle.vt_icache.specs.View.{state_of}
 use Rattle.vt_icache.proofs.Pairs.{AreKeyed, values, values_take, values_put, found, equal_keys, keyed_take, all_permuted, all_put, pair_at, none_before, slice_get_front}
 use Rattle.vt_icache.proofs.Fronts.{take_swap_out}
 use Rattle.vt_icache.proofs.cache.IndexCache.settle.Goals as goal
@@ -64,21 +65,12 @@ swapped_last es new n at d lt le is =
     ap (λ (l : List (Key × Info)). get_or l (n - 1) d) (is ∙ sym (swap_is es at (n - 1) d (omega (arith, lt, le)) (omega (arith, lt, le))))
     ∙ get_or-set_same (set es at v) (n - 1) (get_or es at d) d (omega (arith, len, lt, le))
 
-abbrev state_before : goal.After-put → IndexState
-state_before c = record {
-  dirty = dirty_infos c.self.inside.infos c.self.inside.dirty;
-  room = c.self.inside.room;
-  clean = clean_entries c.self.inside.clean;
-  clean_room = c.self.inside.clean.cap;
-}
-
 abbrev state_after : goal.After-put → IndexState
-state_after c = record {
-  dirty = dirty_infos c.swap_indices.new.self (c.self.inside.dirty - 1);
-  room = c.self.inside.room;
-  clean = clean_entries c.put.new.self;
-  clean_room = c.put.new.self.cap;
-}
+state_after c = state_of (record c.self.inside {
+  infos = c.swap_indices.new.self;
+  dirty = c.self.inside.dirty - 1;
+  clean = c.put.new.self;
+})
 
 pub invariant_of-self : goal.invariant_of-self
 invariant_of-self c =
@@ -158,7 +150,7 @@ returns-clause-settled c = λ info yes found_is.
     ⊎ (c.put.new.self ≡ c.self.inside.clean) =
     subst (λ (e : Entry). (c.put.new.self ≡ lru_cache (put_entries same_key c.self.inside.clean c.in-Some.info.key e) c.self.inside.clean.cap)
     ⊎ (c.put.new.self ≡ c.self.inside.clean)) c.entry_of.ensures put in
-    let it : Settles c.in-Some.info (state_before c) (state_after c) = record {
+    let it : Settles c.in-Some.info (state_of c.self.inside) (state_after c) = record {
       dirty = subst (λ (l : List Info). IsPermutation l (c.in-Some.info ∷ take (n - 1) (values key new))) (values_take key n es)
           (subst (λ (l : List Info). IsPermutation (values key (take n es)) (c.in-Some.info ∷ l)) (values_take key (n - 1) new) infos);
       gone = gone;

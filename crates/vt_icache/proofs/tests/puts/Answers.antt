@@ -1,7 +1,7 @@
 use Rattle.std.proofs.Common.{◌≡◌, None, sym, ap, ◌∙◌}
 use Rattle.vt_icache.specs.Index.{IndexState, dirty_info}
 use Rattle.vt_icache.proofs.Found.{none_dirty}
-use Rattle.vt_icache.proofs.tests.put.Goals as goal
+use Rattle.vt_icache.proofs.tests.puts.Goals as goal
 
 pub put_dirty-requires-clause-absent : goal.put_dirty-requires-clause-absent
 put_dirty-requires-clause-absent c =
