@@ -10,7 +10,8 @@ ghost use Rattle.vt_part.specs.Table.{IsName, IsArenaSize, is_name_byte};
 use crate::{LEAST_FILTER, MAX_LEN, MOST_FILTER, MOST_POSITIONS};
 use vt_bloom::exponent;
 use vt_conf::{BadNumber, parse_number};
-use vt_part::{LEAST_ARENA, MOST_ARENA, NAME_MAX, is_arena_size, is_name};
+use vt_disk::{LEAST_ARENA, MOST_ARENA, NAME_LEN};
+use vt_part::{is_arena_size, is_name};
 
 /// A word is no name of a partition.
 #[derive(Clone, Copy, Debug, PartialEq, Eq)]
@@ -93,10 +94,10 @@ fn wrong_name(text: &[u8]) -> usize
     ensures { result ≡ wrong_name text.now }
 {
     let len = name_len(text);
-    if len == text.len() && len <= NAME_MAX {
+    if len == text.len() && len <= NAME_LEN {
         0
     } else {
-        len.min(NAME_MAX)
+        len.min(NAME_LEN)
     }
 }
 
