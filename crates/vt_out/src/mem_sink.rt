@@ -97,7 +97,8 @@ impl Sink for MemSink {
         ensures failing { IsErr result
             ↔ (Contains (sink_failing self.old) (sink_calls self.old)
             ⊎ (sink_room self.old < length (sink_written self.old) + length piece.now)) }
-        ensures appended { OnOk result (sink_written self.new ≡ sink_written self.old ++ piece.now) }
+        ensures appended { OnOk result
+            (sink_written self.new ≡ sink_written self.old ++ piece.now) }
         ensures half { OnErr result
             (let spare = sink_room self.old - length (sink_written self.old) in
             sink_written self.new
