@@ -33,10 +33,11 @@ abbrev pub syncs_of : (grow_to : Option ℕ) → List FileCall
 syncs_of None = []
 syncs_of (Some len) = synced true ∷ []
 
--- A folder is read alone. That of a name without one is the working folder, and the top is its own.
-abbrev pub folder_options : OpenOptions
-folder_options = with_read new_options true
+-- a folder, and a file that is read whole, is read alone: it is never made, written or emptied
+abbrev pub read_options : OpenOptions
+read_options = with_read new_options true
 
+-- the folder of a name without one is the working folder, and that of the top is the top
 abbrev pub folder_in : Option (List ℕ) → List ℕ
 folder_in None = codes "."
 folder_in (Some []) = codes "."
@@ -46,7 +47,7 @@ abbrev pub folder_of : (name : List ℕ) → List ℕ
 folder_of name = folder_in (path_parent name)
 
 abbrev pub folder_opening : (name : List ℕ) (ok : Bool) → Opening
-folder_opening name ok = record { how = folder_options; name = folder_of name; ok = ok }
+folder_opening name ok = record { how = read_options; name = folder_of name; ok = ok }
 
 -- all that is opened for a disk
 abbrev pub openings : (name : List ℕ) → (grow_to : Option ℕ) → List Opening
@@ -67,7 +68,29 @@ StopsShort grow_to calls = (calls ≡ locked false ∷ [])
     ⊎ ((grown : List FileCall) × (len : ℕ) × Grows (wanted_length grow_to) grown (Some len)
     × (calls ≡ locked true ∷ (grown ++ synced false ∷ [])))
 
--- The calls of a file of which these bytes are the front: all of it, or one byte more than the limit.
+-- What was opened where no disk came of it: the last opening failed, or a call of what was opened
+-- last did.
+abbrev pub StopsOpening : {F : Type 0} → (made : F → List FileCall) → (name : List ℕ)
+    → (grow_to : Option ℕ) → (old new : List Opening) → Type 0
+StopsOpening {F = F} made name grow_to old new =
+    (new ≡ old ++ opening name grow_to false ∷ [])
+    ⊎ ((new ≡ old ++ opening name grow_to true ∷ [])
+    × ((file : F) × StopsShort grow_to (made file)))
+    ⊎ (new ≡ old ++ opening name grow_to true ∷ folder_opening name false ∷ [])
+    ⊎ ((new ≡ old ++ opening name grow_to true ∷ folder_opening name true ∷ [])
+    × ((folder : F) × (made folder ≡ synced false ∷ [])))
+
+-- the opening of the file of this name, which is read whole
+abbrev pub file_opening : (name : List ℕ) (ok : Bool) → Opening
+file_opening name ok = record { how = read_options; name = name; ok = ok }
+
+-- what was opened where no bytes of the file came: nothing or that file alone
+abbrev pub StopsReading : (name : List ℕ) → (old new : List Opening) → Type 0
+StopsReading name old new = (new ≡ old)
+    ⊎ ((ok : Bool) × (new ≡ old ++ file_opening name ok ∷ []))
+
+-- The calls of a file of which these bytes are the front: all of it, or one byte more than the
+-- limit.
 abbrev pub ReadsFront : (limit : ℕ) (bytes : List ℕ) (calls : List FileCall) → Type 0
 ReadsFront limit bytes calls = (len : ℕ) × (length bytes ≡ min len (limit + 1))
     × (calls ≡ measured (Some len) ∷ read 0 bytes true ∷ [])

@@ -4,7 +4,7 @@ ghost use Rattle.std.specs.Prelude.{◌≡◌, ◌⊎◌, ◌<◌, ◌≤◌, �
 ghost use Rattle.std.specs.Prelude.{IsTrue, IfOk, IfSome, OnOk, OnErr};
 ghost use Rattle.std.specs.Result.{result_ok};
 ghost use Rattle.vt_host.specs.Calls.{FileCall, synced};
-ghost use Rattle.vt_host.specs.Opening.{disk_options, folder_options, folder_of, folder_opening};
+ghost use Rattle.vt_host.specs.Opening.{disk_options, read_options, folder_of, folder_opening};
 ghost use Rattle.vt_host.specs.Opening.{Grows, BecomesDisk, StopsShort};
 
 use crate::faults::Faults;
@@ -33,9 +33,9 @@ fn options(create: bool) -> OpenOptions
     options
 }
 
-/// How a folder is opened.
-fn folder_options() -> OpenOptions
-    ensures { result ≡ folder_options }
+/// How a folder, and a file that is read whole, is opened.
+pub(crate) fn read_options() -> OpenOptions
+    ensures { result ≡ read_options }
 {
     let mut options = OpenOptions::new();
     options.read(true);
@@ -79,7 +79,7 @@ fn sync_folder<F: FileCalls + Drop, O: Opener<File = F>>(
         ⊎ ((O.opened files.new ≡ O.opened files.old ++ folder_opening name.now true ∷ [])
         × ((folder : F) × (F.made folder ≡ synced false ∷ [])))) }
 {
-    let mut folder = files.open(&folder_options(), folder_of(name))?;
+    let mut folder = files.open(&read_options(), folder_of(name))?;
     folder.sync()
 }
 
@@ -104,14 +104,13 @@ impl<F: FileCalls + Drop> FileDisk<F> {
     ghost use Rattle.std.specs.Prelude.{Some, None, IfOk, IfSome, OnOk, OnErr};
     ghost use Rattle.vt_host.specs.Calls.{synced};
     ghost use Rattle.vt_host.specs.Disks.{disk_file, disk_size, disk_faults};
-    ghost use Rattle.vt_host.specs.Opening.{opening, openings, folder_opening};
-    ghost use Rattle.vt_host.specs.Opening.{BecomesDisk, StopsShort};
+    ghost use Rattle.vt_host.specs.Opening.{openings, BecomesDisk, StopsOpening};
 
-    /// Opens what has this name, and takes its exclusive lock, which goes with the disk: a file that
-    /// is open as a disk already, here or in another process, is Failed. With a length to grow to, a
-    /// file that isn't there is made, and one that is shorter is filled up with zero bytes; none is
-    /// made shorter. Then the file and its entry in its folder are synced. Failed is the answer where
-    /// one of these calls fails.
+    /// Opens what has this name, and takes its exclusive lock, which goes with the disk: a file
+    /// that is open as a disk already, here or in another process, is Failed. With a length to grow
+    /// to, a file that isn't there is made, and one that is shorter is filled up with zero bytes;
+    /// none is made shorter. Then the file and its entry in its folder are synced. Failed is the
+    /// answer where one of these calls fails.
     pub fn open<O: Opener<File = F>>(
         files: &mut O,
         name: &str,
@@ -125,15 +124,8 @@ impl<F: FileCalls + Drop> FileDisk<F> {
             BecomesDisk grow_to (F.made (disk_file disk)) (disk_size disk)) }
         ensures entry { OnOk result (IsTrue F.tells → IsSome grow_to →
             (folder : F) × (F.made folder ≡ synced true ∷ [])) }
-        ensures failed { OnErr result (IsTrue F.tells →
-            (O.opened files.new ≡ O.opened files.old ++ opening name.now grow_to false ∷ [])
-            ⊎ ((O.opened files.new ≡ O.opened files.old ++ opening name.now grow_to true ∷ [])
-            × ((file : F) × StopsShort grow_to (F.made file)))
-            ⊎ ((O.opened files.new ≡ O.opened files.old ++ opening name.now grow_to true
-            ∷ folder_opening name.now false ∷ []))
-            ⊎ ((O.opened files.new ≡ O.opened files.old ++ opening name.now grow_to true
-            ∷ folder_opening name.now true ∷ [])
-            × ((folder : F) × (F.made folder ≡ synced false ∷ [])))) }
+        ensures failed { OnErr result (IsTrue F.tells → StopsOpening F.made name.now grow_to
+            (O.opened files.old) (O.opened files.new)) }
     {
         let Ok(mut file) = files.open(&options(grow_to.is_some()), name) else {
             return Err(Failed);

@@ -1,12 +1,12 @@
 //! Files that are read whole, by name.
 
-ghost use Rattle.std.specs.Prelude.{◌≡◌, ◌≤◌, ◌+◌, ◌++◌, ◌∷◌, [], IsTrue, IfOk, length};
-ghost use Rattle.vt_host.specs.Opening.{ReadsFront};
+ghost use Rattle.std.specs.Prelude.{◌≡◌, ◌≤◌, ◌+◌, ◌++◌, ◌∷◌, [], true, IsTrue, IfOk, OnOk, OnErr, length};
+ghost use Rattle.vt_host.specs.Opening.{file_opening, ReadsFront, StopsReading};
 
+use crate::disk::read_options;
 use crate::faults::Faults;
 use crate::system::{FileCalls, Opener};
 use std::alloc::Global;
-use std::fs::OpenOptions;
 use std::str;
 use vt_base::{Bytes, Text};
 use vt_out::{Files, OutErr};
@@ -43,13 +43,17 @@ fn read_front<O: Opener>(
 where
     O::File: Drop,
     ensures bound { IfOk result (λ bytes. length bytes ≤ limit + 1) }
+    ensures opened { OnOk result (IsTrue O.File.tells
+        → O.opened files.new ≡ O.opened files.old ++ file_opening name.now true ∷ []) }
     ensures made { IfOk result (λ bytes. IsTrue O.File.tells → (file : O.File)
         × ReadsFront limit bytes (O.File.made file)) }
+    ensures failed { OnErr result (IsTrue O.File.tells
+        → StopsReading name.now (O.opened files.old) (O.opened files.new)) }
 {
     let name = str::from_utf8(name.as_slice()).map_err(|_| OutErr::Failed)?;
-    let mut how = OpenOptions::new();
-    how.read(true);
-    let mut file = files.open(&how, name).map_err(|_| OutErr::Failed)?;
+    let mut file = files
+        .open(&read_options(), name)
+        .map_err(|_| OutErr::Failed)?;
     let len = file.measure().map_err(|_| OutErr::Failed)?;
     let front = len.min(u64::from(limit) + 1) as usize;
     let mut bytes = vec![in alloc; 0; front].map_err(|_| OutErr::NoMemory)?;
@@ -61,10 +65,10 @@ impl<O: Opener> Files for StdFiles<O>
 where
     O::File: Drop,
 {
-    ghost use Rattle.std.specs.Prelude.{◌≡◌, ◌≤◌, ◌+◌, false, None, IsTrue, IfOk, length};
+    ghost use Rattle.std.specs.Prelude.{◌≡◌, ◌≤◌, ◌+◌, ◌++◌, ◌∷◌, [], true, false, None, IsTrue, IfOk, OnOk, OnErr, length};
     ghost use Rattle.vt_base.specs.Faults.{CountsFault};
-    ghost use Rattle.vt_host.specs.Named.{files_faults};
-    ghost use Rattle.vt_host.specs.Opening.{ReadsFront};
+    ghost use Rattle.vt_host.specs.Named.{files_faults, files_opener};
+    ghost use Rattle.vt_host.specs.Opening.{file_opening, ReadsFront, StopsReading};
     ghost use Rattle.vt_out.specs.Files.{is_fault};
 
     ghost tells = { false };
@@ -77,9 +81,14 @@ where
 
     fn read(&mut self, alloc: Global, name: &Text, limit: u32) -> Result<Bytes, OutErr>
         ensures bound { IfOk result (λ bytes. length bytes ≤ limit + 1) }
+        ensures opened { OnOk result (IsTrue O.File.tells → O.opened (files_opener self.new)
+            ≡ O.opened (files_opener self.old) ++ file_opening name.now true ∷ []) }
         ensures made { IfOk result (λ bytes. IsTrue O.File.tells → (file : O.File)
             × ReadsFront limit bytes (O.File.made file)) }
-        ensures cause { CountsFault is_fault result (files_faults self.old) (files_faults self.new) }
+        ensures failed { OnErr result (IsTrue O.File.tells → StopsReading name.now
+            (O.opened (files_opener self.old)) (O.opened (files_opener self.new))) }
+        ensures cause { CountsFault is_fault result
+            (files_faults self.old) (files_faults self.new) }
     {
         let read = read_front(alloc, &mut self.files, name, limit);
         if matches!(read, Err(OutErr::Failed)) {

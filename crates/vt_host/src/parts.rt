@@ -37,11 +37,11 @@ impl<O: Opener> Parts for FileParts<O>
 where
     O::File: Drop,
 {
-    ghost use Rattle.std.specs.Prelude.{◌≡◌, ◌≤◌, ◌++◌, false, IsTrue, IfOk, IfSome, OnOk};
+    ghost use Rattle.std.specs.Prelude.{◌≡◌, ◌≤◌, ◌⊎◌, ◌++◌, false, IsTrue, IfOk, IfSome, OnOk, OnErr};
     ghost use Rattle.vt_base.specs.Faults.{HasCause};
     ghost use Rattle.vt_host.specs.Disks.{disk_file, disk_size};
     ghost use Rattle.vt_host.specs.Named.{parts_files, parts_faults};
-    ghost use Rattle.vt_host.specs.Opening.{openings, BecomesDisk};
+    ghost use Rattle.vt_host.specs.Opening.{openings, BecomesDisk, StopsOpening};
     ghost use Rattle.vt_parts.specs.Parts.{nothing};
 
     type Disk = FileDisk<O::File>;
@@ -64,6 +64,10 @@ where
         ensures grown { IfOk result (λ disk. IfSome grow_to (λ least. least ≤ disk_size disk)) }
         ensures opened { OnOk result (IsTrue O.File.tells → O.opened (parts_files self.new)
             ≡ O.opened (parts_files self.old) ++ openings name.now grow_to) }
+        ensures failed { OnErr result (IsTrue O.File.tells
+            → (O.opened (parts_files self.new) ≡ O.opened (parts_files self.old))
+            ⊎ StopsOpening O.File.made name.now grow_to
+            (O.opened (parts_files self.old)) (O.opened (parts_files self.new))) }
         ensures made { IfOk result (λ disk. IsTrue O.File.tells
             → BecomesDisk grow_to (O.File.made (disk_file disk)) (disk_size disk)) }
         ensures cause { HasCause result (parts_faults self.old) (parts_faults self.new) }

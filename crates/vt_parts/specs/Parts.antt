@@ -1,7 +1,8 @@
 -- What is handed out under a name.
-use Rattle.std.specs.Prelude.{ℕ, ◌≡◌, ◌⊎◌, ◌-◌, ◌<◌, ◌≤◌, List, [], ◌++◌, length, replicate, Option, Some, unwrap_or}
+use Rattle.std.specs.Prelude.{ℕ, ◌≡◌, ◌⊎◌, ◌<◌, ◌≤◌, List, [], Option, Some, unwrap_or}
 use Rattle.vt_disk.specs.Disk.{Only}
 use Rattle.vt_disk.specs.Members.{DiskOf}
+use Rattle.vt_fields.specs.Filled.{filled}
 
 -- what stands under a name: nothing, a partition that was handed out, or this one
 pub data Standing (D : Type 0) : Type 0 where
@@ -9,14 +10,10 @@ pub data Standing (D : Type 0) : Type 0 where
   lent : Standing D
   there : (disk : D) → Standing D
 
--- bytes, filled up with zeros to this length
-abbrev pub filled_to : (len : ℕ) → List ℕ → List ℕ
-filled_to len bytes = bytes ++ replicate (len - length bytes) 0
-
 -- a partition of this length that a crash leaves so: with these bytes at its front, and zeros
 pub record IsMade {D : Type 0} (disk : DiskOf D) (front : List ℕ) (len : ℕ) (made : D) : Type 0 where
   pub size : disk.size made ≡ len
-  pub bytes : disk.bytes made ≡ filled_to len front
+  pub bytes : disk.bytes made ≡ filled len front
   pub settled : Only (disk.bytes made) (disk.images made)
 
 -- What stood under the name is handed out as it is, or filled up to the length that is wanted; where

@@ -1,4 +1,4 @@
-use Rattle.std.proofs.Common.{◌≡◌, inl, inr, true, List, [], ◌∷◌, ◌++◌, sym, ◌∙◌, ap, subst}
+use Rattle.std.proofs.Common.{inl, inr, true, List, [], ◌∷◌, ◌++◌, sym, ◌∙◌, ap, subst}
 use Rattle.vt_host.specs.Calls.{Opening, FileCall}
 use Rattle.vt_host.specs.Opening.{disk_options, StopsShort}
 use Rattle.vt_host.proofs.disk.FileDisk.open.Goals as goal
