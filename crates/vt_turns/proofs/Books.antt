@@ -14,7 +14,7 @@ use Rattle.vt_turns.specs.Views.{KnowsAll, turn_of, mark_of, stop_of, faults_of,
 use Rattle.vt_turns.specs.Rule.{Placed, Holds, Knows, Counted, Stands, HasBit, Rule}
 use Rattle.vt_turns.specs.Calls.{MayBook}
 use Rattle.vt_turns.specs.Steps.{TellsBooked}
-use Rattle.vt_turns.proofs.Knowing.{knows_booked}
+use Rattle.vt_turns.proofs.KnowsAll.{knows_booked}
 use Rattle.vt_turns.proofs.Moves.{is_log, positive, Some-same, St, of_turn, has_share, bits_stay, bits_stood, bits_known, no_others_on, alone_with}
 use Rattle.vt_turns.proofs.Lists.{total_set, total_same, at_put_here, at_put_else, inside}
 

@@ -2,9 +2,9 @@ pub mod Lists
 pub mod Moves
 pub mod Books
 pub mod Front
-pub mod Knowing
-pub mod Sharing
-pub mod Closing
+pub mod KnowsAll
+pub mod SplitsAndJoins
+pub mod OpensAndCloses
 pub mod Slots
 pub mod BitWords
 pub mod Sole

@@ -1,5 +1,5 @@
--- What each atomic step tells the pass that makes it. There are twelve kinds of step; those that cut
--- a view in two, or put two together, are in Views: less_one and split_off, noted, joined.
+-- What each atomic step tells the pass that makes it. There are twelve kinds of step; those that
+-- cut a view in two, or put two together, are in Views: less_one and split_off, noted, joined.
 use Rattle.std.specs.Prelude.{◌≡◌, ◌≢◌, ℕ, suc, ◌<◌, ◌≤◌, List, [], ◌∷◌, length, Option, Some, None, true, ◌%◌}
 use Rattle.std.specs.Int.{bit_at}
 use mathlib.Core.Option.{some}

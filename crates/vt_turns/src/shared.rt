@@ -33,6 +33,7 @@ pub struct Turns<P: Held<B>, B> {
     pub table: Table<Option<P>, View<P, B>, Fixed<P, B>, Law, Global>,
     pub(crate) parts: usize,
     pub ghost counted: { parts ≡ table.shared.table_id.slots },
-    pub ghost sized: { table.shared.table_id.words ≡ suc table.shared.table_id.slots + table.shared.key.bit_words },
+    pub ghost sized: { table.shared.table_id.words
+        ≡ suc table.shared.table_id.slots + table.shared.key.bit_words },
     pub ghost fits: { table.shared.table_id.words < 2 ^ 64 },
 }

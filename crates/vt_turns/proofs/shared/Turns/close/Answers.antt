@@ -1,7 +1,7 @@
 use Rattle.std.proofs.Common.{sym, subst}
 use Rattle.std.specs.Mem.Slots.{slots_items}
 use Rattle.vt_turns.specs.Calls.{Closes}
-use Rattle.vt_turns.proofs.Closing.{closes}
+use Rattle.vt_turns.proofs.OpensAndCloses.{closes}
 use Rattle.vt_turns.proofs.shared.Turns.close.Goals as goal
 
 pub gather-requires-clause-full : goal.gather-requires-clause-full

@@ -1,6 +1,6 @@
 use Rattle.std.proofs.Common.{rules, arith}
-use Rattle.vt_turns.proofs.Sharing.{joins}
-use Rattle.vt_turns.proofs.Knowing.{knows_joined}
+use Rattle.vt_turns.proofs.SplitsAndJoins.{joins}
+use Rattle.vt_turns.proofs.KnowsAll.{knows_joined}
 use Rattle.vt_turns.proofs.shared.Turns.join.Goals as goal
 
 pub join_seat-requires : goal.join_seat-requires

@@ -6,7 +6,7 @@ use Rattle.std.specs.Prelude.{Some}
 use Rattle.vt_turns.specs.declared.shared.Fixed.{Fixed}
 use Rattle.vt_turns.specs.Rule.{Rule}
 use Rattle.vt_turns.specs.Views.{first_view}
-use Rattle.vt_turns.proofs.Closing.{opens, first_are, same_length}
+use Rattle.vt_turns.proofs.OpensAndCloses.{opens, first_are, same_length}
 use Rattle.vt_turns.proofs.shared.Turns.new.Goals as goal
 
 pub new-requires : goal.new-requires

@@ -1,5 +1,5 @@
 use Rattle.std.proofs.Common.{arith}
-use Rattle.vt_turns.proofs.Sharing.{splits}
+use Rattle.vt_turns.proofs.SplitsAndJoins.{splits}
 use Rattle.vt_turns.proofs.shared.Turns.split.Goals as goal
 
 pub split_seat-requires : goal.split_seat-requires

@@ -4,7 +4,7 @@ use Rattle.atomic_table.specs.Table.{rest}
 use Rattle.vt_turns.specs.Views.{taking}
 use Rattle.vt_turns.proofs.Lists.{at_put_here}
 use Rattle.vt_turns.proofs.Moves.{goes_home, takes_home, same_head}
-use Rattle.vt_turns.proofs.Knowing.{knows_taken}
+use Rattle.vt_turns.proofs.KnowsAll.{knows_taken}
 use Rattle.vt_turns.proofs.Sole.{sole_takes}
 use Rattle.vt_turns.proofs.shared.Turns.take.Goals as goal
 

@@ -1,4 +1,4 @@
--- How passes are split and joined, and how the rule begins and ends.
+-- How passes are split, joined and noted.
 use Rattle.std.proofs.Common.{◌≡◌, ◌≢◌, ◌⊎◌, inl, inr, ℕ, zero, suc, ◌+◌, ◌-◌, ◌<◌, List, [], ◌∷◌, ◌++◌, length, set, sym, refl, ap, ◌∙◌, subst, ⊎_elim, arith}
 use Rattle.std.specs.Prelude.{Option, Some, None, max}
 use mathlib.Core.Option.{some, some-injective, some-ne-none}
