@@ -7,7 +7,7 @@ use Rattle.byteorder.specs.Numbers.{big_number-reads_back}
 use Rattle.vt_disk.specs.declared.region.Region.{Region}
 use Rattle.vt_disk.specs.Disk.{part}
 use Rattle.vt_clump.specs.Spelling.{Stored, IsStored, header, spelled, size_in}
-use Rattle.vt_model.specs.declared.TheConstants.{HEAD_LEN}
+use Rattle.vt_model.specs.declared.TheConstants.{ARENA_HEAD_LEN}
 use Rattle.vt_arena.specs.Layout.{Content, IsContent, HasBlocks, StandsAt, entry_of, clumps_of, directory_of, directory_place, used_of}
 use Rattle.vt_arena.specs.Places.{block_room, directory_room, offset_of}
 use Rattle.vt_arena.specs.Reading.{HasHeader, header_at, clump_at}
@@ -58,8 +58,8 @@ module _ (score_of : List ℕ → List ℕ) (region : Region) (old : Content) (b
   clump_stands =
       subst (λ (at : ℕ). StandsAt at (spelled s) file)
       (omega (arith, length-clumps score_of before (all_front (IsStored score_of) before (s ∷ behind) all)))
-      (stands-part (region.start + HEAD_LEN) (clumps_of before) (spelled s) (clumps_of behind) file
-      (subst (λ (l : List ℕ). StandsAt (region.start + HEAD_LEN) l file)
+      (stands-part (region.start + ARENA_HEAD_LEN) (clumps_of before) (spelled s) (clumps_of behind) file
+      (subst (λ (l : List ℕ). StandsAt (region.start + ARENA_HEAD_LEN) l file)
       (ap clumps_of is ∙ flat_map-append spelled before (s ∷ behind)) blocks.clumps))
 
   entries : directory_of old.stored ≡ directory_of behind ++ (entry_of s ++ directory_of before)

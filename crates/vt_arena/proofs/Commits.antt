@@ -14,7 +14,7 @@ use Rattle.vt_twin.proofs.Changes.{none_made, begun_made, is_changing}
 use Rattle.vt_twin.proofs.Steps.{sound_gives}
 use Rattle.vt_clump.specs.Spelling.{Stored, spelled}
 use Rattle.vt_clump.specs.Clumps.{stored_of}
-use Rattle.vt_model.specs.declared.TheConstants.{HEAD_LEN}
+use Rattle.vt_model.specs.declared.TheConstants.{ARENA_HEAD_LEN}
 use Rattle.vt_arena.specs.declared.TheConstants.{FRAME_LEN, FIELDS_LEN}
 use Rattle.vt_arena.specs.declared.head.ArenaHead.{ArenaHead}
 use Rattle.vt_arena.specs.Arena.{ArenaState, added_by, next_content, pieces, after_last, content_after}
@@ -55,8 +55,8 @@ module _ (score_of : List ℕ → List ℕ) (a : ArenaState) (region : Region) (
       subst (λ (l : List Stored). StandsAt (clumps_place region old.stored) (clumps_of l) file) all_clumps made.clumps in
       let entries : StandsAt (directory_place region (length old.stored + length more)) (directory_of more) file =
       subst (λ (l : List Stored). StandsAt (directory_place region (length old.stored + length l)) (directory_of l) file) all_entries made.directory in record {
-        clumps = subst (λ (l : List ℕ). StandsAt (region.start + HEAD_LEN) l file) (sym (flat_map-append spelled old.stored more))
-            (stands-sum (region.start + HEAD_LEN) (clumps_of old.stored) (clumps_of more) file blocks.clumps
+        clumps = subst (λ (l : List ℕ). StandsAt (region.start + ARENA_HEAD_LEN) l file) (sym (flat_map-append spelled old.stored more))
+            (stands-sum (region.start + ARENA_HEAD_LEN) (clumps_of old.stored) (clumps_of more) file blocks.clumps
             (subst (λ (at : ℕ). StandsAt at (clumps_of more) file) (omega (arith, clumps_len)) clumps));
         directory = subst (λ (l : List ℕ). StandsAt (directory_place region (length (old.stored ++ more))) l file) (sym (directory-append old.stored more))
             (subst (λ (k : ℕ). StandsAt (directory_place region k) (directory_of more ++ directory_of old.stored) file) (sym counted)
@@ -132,14 +132,14 @@ module _ (score_of : List ℕ → List ℕ) (a : ArenaState) (region : Region) (
   counted : length (old.stored ++ added_by a) ≡ length old.stored + length (added_by a)
   counted = length-append old.stored (added_by a)
 
-  stays : (place : ℕ) (bytes file files : List ℕ) → region.start + HEAD_LEN ≤ place → SameBut (InHead region) file files → StandsAt place bytes file → StandsAt place bytes files
+  stays : (place : ℕ) (bytes file files : List ℕ) → region.start + ARENA_HEAD_LEN ≤ place → SameBut (InHead region) file files → StandsAt place bytes file → StandsAt place bytes files
   stays place bytes file files behind but = stands_same (InHead region) place bytes file files but (λ i above below here. omega (arith, above, behind, here.1))
 
   blocks_after : (c : List ℕ) → after c → HasBlocks region old.stored c
   blocks_after c left =
       let from = changes c left in
       let blocks = sound.kept from.0 from.1 in record {
-        clumps = stays (region.start + HEAD_LEN) (clumps_of old.stored) from.0 c (omega arith) from.2 blocks.clumps;
+        clumps = stays (region.start + ARENA_HEAD_LEN) (clumps_of old.stored) from.0 c (omega arith) from.2 blocks.clumps;
         directory = stays (directory_place region (length old.stored)) (directory_of old.stored) from.0 c (omega (arith, fits, counted, least)) from.2 blocks.directory;
       }
 

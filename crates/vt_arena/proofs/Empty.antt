@@ -5,7 +5,7 @@ use Rattle.std.proofs.lemmas.List.{length-replicate, drop-replicate}
 use Rattle.vt_disk.specs.declared.region.Region.{Region}
 use Rattle.vt_disk.specs.Disk.{part}
 use Rattle.vt_twin.specs.Frames.{frame_of as frame_at, current_frame, selector_start, selector_bytes}
-use Rattle.vt_model.specs.declared.TheConstants.{HEAD_LEN}
+use Rattle.vt_model.specs.declared.TheConstants.{ARENA_HEAD_LEN}
 use Rattle.vt_arena.specs.declared.TheConstants.{FRAME_LEN, FIELDS_LEN}
 use Rattle.vt_arena.specs.declared.head.ArenaHead.{ArenaHead}
 use Rattle.vt_arena.specs.Heads.{fields_of, frame_of}
@@ -32,11 +32,11 @@ module _ (region : Region) (n : ℕ) (n_is : n ≡ FRAME_LEN) (file : List ℕ) 
   pub current_there : current_frame region FRAME_LEN file ≡ current_frame region n file
   current_there i = part (region.start + sym n_is i * (slice_index file (region.start + 2 * sym n_is i) % 2)) (sym n_is i) file
 
-  pub selector_there : part (region.start + 2 * n) (HEAD_LEN - 2 * n) file ≡ selector_bytes 0 (HEAD_LEN - 2 * n)
-      → StandsAt (selector_start region FRAME_LEN) (selector_bytes 0 (HEAD_LEN - 2 * FRAME_LEN)) file
+  pub selector_there : part (region.start + 2 * n) (ARENA_HEAD_LEN - 2 * n) file ≡ selector_bytes 0 (ARENA_HEAD_LEN - 2 * n)
+      → StandsAt (selector_start region FRAME_LEN) (selector_bytes 0 (ARENA_HEAD_LEN - 2 * FRAME_LEN)) file
   selector_there is =
-      let whole : length (selector_bytes 0 (HEAD_LEN - 2 * FRAME_LEN)) ≡ HEAD_LEN - 2 * n = omega (arith, length-replicate {A = ℕ} 8191 0, n_is) in
-      let short : HEAD_LEN - 2 * n ≡ HEAD_LEN - 2 * FRAME_LEN = omega (arith, n_is) in
+      let whole : length (selector_bytes 0 (ARENA_HEAD_LEN - 2 * FRAME_LEN)) ≡ ARENA_HEAD_LEN - 2 * n = omega (arith, length-replicate {A = ℕ} 8191 0, n_is) in
+      let short : ARENA_HEAD_LEN - 2 * n ≡ ARENA_HEAD_LEN - 2 * FRAME_LEN = omega (arith, n_is) in
       (λ i. part (region.start + 2 * sym n_is i) (whole i) file) ∙ is ∙ ap (selector_bytes 0) short
 
 -- the empty arena

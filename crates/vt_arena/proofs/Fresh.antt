@@ -7,7 +7,7 @@ use Rattle.vt_disk.specs.Disk.{SameBut}
 use Rattle.vt_disk.specs.Region.{Inside, ChangesWithin, region_bytes}
 use Rattle.vt_disk.proofs.Bytes.{part_same}
 use Rattle.vt_twin.specs.Frames.{current_frame, frame_of, named_number}
-use Rattle.vt_model.specs.declared.TheConstants.{HEAD_LEN}
+use Rattle.vt_model.specs.declared.TheConstants.{ARENA_HEAD_LEN}
 use Rattle.vt_arena.specs.declared.TheConstants.{FRAME_LEN}
 use Rattle.vt_arena.specs.declared.head.ArenaHead.{ArenaHead}
 use Rattle.vt_arena.specs.Arena.{fresh_arena}
@@ -56,7 +56,7 @@ fresh_sound score_of region size number current old head read images is settled 
   synced = λ made. absurd (omega (arith, made));
 }
   where
-    least : HEAD_LEN ≤ region.len
+    least : ARENA_HEAD_LEN ≤ region.len
     least = omega (arith, is.len.0)
 
     two : current < 2

@@ -7,7 +7,7 @@ use Rattle.std.proofs.lemmas.List.Sums.{sum_by_more_le}
 use Rattle.std.specs.Option.{ForSome, option_map_or}
 use Rattle.vt_twin.specs.Twin.{TwinState, Change, fresh, after_call, calls_made}
 use Rattle.vt_clump.specs.declared.packed.Packed.{Packed}
-use Rattle.vt_model.specs.declared.TheConstants.{HEAD_LEN}
+use Rattle.vt_model.specs.declared.TheConstants.{ARENA_HEAD_LEN}
 use Rattle.vt_arena.specs.declared.TheConstants.{FRAME_LEN, FIELDS_LEN, STAGED_MAX}
 use Rattle.vt_arena.specs.declared.head.ArenaHead.{ArenaHead}
 use Rattle.vt_arena.specs.declared.arena.Arena.TheInside.{Inside}
@@ -24,7 +24,7 @@ at_rest a is below = rest a.twin.change is.begun
 
 -- the next clump fits behind what was written
 pub clump_room : (a : Inside) → IsWhole a → (p : Packed) → a.written < length a.staged.items → p ≡ get_or a.staged.items a.written p
-    → a.end + length p.bytes + directory_room a.head.clumps + HEAD_LEN ≤ a.len
+    → a.end + length p.bytes + directory_room a.head.clumps + ARENA_HEAD_LEN ≤ a.len
 clump_room a whole p below is =
     let more : staged_room (take a.written a.staged.items) + block_room (get_or a.staged.items a.written p).len ≤ staged_room a.staged.items =
     sum_by_more_le (λ (q : Packed). block_room q.len) a.staged.items a.written p below in
@@ -32,7 +32,7 @@ clump_room a whole p below is =
     omega (arith, more, same, whole.room, whole.used, whole.clumps, whole.end_is, whole.len_is.0, p.whole)
 
 -- the entries of what is staged fit below those that stand
-pub entry_room : (a : Inside) → IsWhole a → directory_room (a.head.clumps + length a.staged.items) + a.head.used + staged_room a.staged.items + HEAD_LEN ≤ a.len
+pub entry_room : (a : Inside) → IsWhole a → directory_room (a.head.clumps + length a.staged.items) + a.head.used + staged_room a.staged.items + ARENA_HEAD_LEN ≤ a.len
 entry_room a whole = omega (arith, whole.room, whole.used, whole.clumps, whole.len_is.0)
 
 -- the buffer is the frame of the change under way

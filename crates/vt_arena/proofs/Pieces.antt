@@ -16,7 +16,7 @@ use Rattle.vt_twin.proofs.Sound.{sound_elsewhere}
 use Rattle.vt_clump.specs.declared.packed.Packed.{Packed}
 use Rattle.vt_clump.specs.Spelling.{Stored, IsStored, spelled}
 use Rattle.vt_clump.specs.Clumps.{IsPacked, stored_of}
-use Rattle.vt_model.specs.declared.TheConstants.{HEAD_LEN}
+use Rattle.vt_model.specs.declared.TheConstants.{ARENA_HEAD_LEN}
 use Rattle.vt_arena.specs.declared.TheConstants.{FRAME_LEN}
 use Rattle.vt_arena.specs.Arena.{ArenaState, added_by}
 use Rattle.vt_arena.specs.Layout.{Content, HasBlocks, StandsAt, entry_bytes, entry_of, clumps_of, directory_of, clumps_place, directory_place, head_place, used_of}
@@ -38,7 +38,7 @@ head_room region size n is n_is = subst (λ (k : ℕ). HasRoom (head_place regio
 
 -- what is done behind the head leaves its twin sound
 pub twin_elsewhere : (t : TwinState) (region : Region) (size : ℕ) → IsRegion region size → t.frame_len ≡ FRAME_LEN
-    → (P : ℕ → Type 0) → ((i : ℕ) → P i → region.start ≤ i → i < region.start + HEAD_LEN → ⊥)
+    → (P : ℕ → Type 0) → ((i : ℕ) → P i → region.start ≤ i → i < region.start + ARENA_HEAD_LEN → ⊥)
     → (old read reads : List ℕ) (before after : List ℕ → Type 0) → SameBut P read reads → ChangesAt P before after
     → IsSoundTwin t region old read before → IsSoundTwin t region old reads after
 twin_elsewhere t region size is frame_len P apart old read reads before after same changes sound =
@@ -64,7 +64,7 @@ module _ (score_of : List ℕ → List ℕ) (s : ArenaState) (region : Region) (
   blocks_stay c left =
       let from = changes c left in
       let blocks = sound.kept from.0 from.1 in record {
-        clumps = stands_same (Touches place n) (region.start + HEAD_LEN) (clumps_of old.stored) from.0 c from.2
+        clumps = stands_same (Touches place n) (region.start + ARENA_HEAD_LEN) (clumps_of old.stored) from.0 c from.2
             (λ i over under touched. omega (arith, under, (touched_within place n i touched).0, length-clumps score_of old.stored sound.content.stored, low)) blocks.clumps;
         directory = stands_same (Touches place n) (directory_place region (length old.stored)) (directory_of old.stored) from.0 c from.2
             (λ i over under touched. omega (arith, over, (touched_within place n i touched).1, high)) blocks.directory;
@@ -149,8 +149,8 @@ module _ (score_of : List ℕ → List ℕ) (s : ArenaState) (region : Region) (
     (sound : IsSound score_of s region old read before)
     (below : s.written < length s.staged) (p : Packed) (is : p ≡ get_or s.staged s.written p) (n_is : n ≡ length p.bytes)
     (end room : ℕ) (end_is : end ≡ s.head.used + staged_room (take s.written s.staged))
-    (place_is : place ≡ region.start + (HEAD_LEN + end))
-    (fits : end + length p.bytes + directory_room s.head.clumps + HEAD_LEN ≤ region.len) where
+    (place_is : place ≡ region.start + (ARENA_HEAD_LEN + end))
+    (fits : end + length p.bytes + directory_room s.head.clumps + ARENA_HEAD_LEN ≤ region.len) where
   few_entries : length (entries_made s) ≡ 0
   few_entries = omega (arith, length-take (s.written - length s.staged) (added_by s), below)
 
@@ -191,7 +191,7 @@ module _ (score_of : List ℕ → List ℕ) (s : ArenaState) (region : Region) (
     (sound : IsSound score_of s region old read before)
     (j : ℕ) (written : s.written ≡ length s.staged + j) (below : j < length s.staged) (p : Packed) (is : p ≡ get_or s.staged j p)
     (n_is : n ≡ 25) (place_is : place ≡ region.start + (region.len - directory_room (s.head.clumps + j + 1)))
-    (fits : directory_room (s.head.clumps + length s.staged) + s.head.used + staged_room s.staged + HEAD_LEN ≤ region.len) where
+    (fits : directory_room (s.head.clumps + length s.staged) + s.head.used + staged_room s.staged + ARENA_HEAD_LEN ≤ region.len) where
   count : length (added_by s) ≡ length s.staged
   count = length-map s.staged stored_of
 
@@ -250,7 +250,7 @@ module _ {D : Type 0} (disk : DiskOf D) (region : Region) where
       writes_wider disk (Touches place n) (Inside region) (λ i touched. let here = touched_within place n i touched in (omega (arith, here.0, above), omega (arith, here.1, below))) 1 1 (omega arith)
 
   -- a call of the head's change
-  pub writes_in_head : HEAD_LEN ≤ region.len → (old new : D) → WritesWithin disk (head_place region) 1 old new → WritesWithin disk region 1 old new
+  pub writes_in_head : ARENA_HEAD_LEN ≤ region.len → (old new : D) → WritesWithin disk (head_place region) 1 old new → WritesWithin disk region 1 old new
   writes_in_head least = writes_wider disk (Inside (head_place region)) (Inside region) (λ i here. (here.0, omega (arith, here.1, least))) 1 1 (omega arith)
 
 pub entry_is : (score_of : List ℕ → List ℕ) (p : Packed) → IsPacked score_of p → entry_bytes p.kind p.len p.score.0 ≡ entry_of (stored_of p)

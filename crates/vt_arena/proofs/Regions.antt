@@ -5,12 +5,12 @@ use Rattle.std.proofs.Math.Nat.{mod-lt}
 use Rattle.vt_disk.specs.declared.region.Region.{Region}
 use Rattle.vt_disk.specs.Region.{region_bytes}
 use Rattle.vt_twin.specs.Frames.{current_frame, frame_of, named_number}
-use Rattle.vt_model.specs.declared.TheConstants.{HEAD_LEN}
+use Rattle.vt_model.specs.declared.TheConstants.{ARENA_HEAD_LEN}
 use Rattle.vt_arena.specs.declared.TheConstants.{FRAME_LEN}
 use Rattle.vt_arena.specs.Layout.{Content, IsContent, IsArena, HasBlocks, clumps_of, directory_of, directory_place}
 use Rattle.vt_arena.proofs.Layouts.{part_inside, byte_inside, stands_inside, length-clumps, length-directory, content_fits}
 
-module _ (region : Region) (old new : List ℕ) (least : HEAD_LEN ≤ region.len) (same : region_bytes region new ≡ region_bytes region old) where
+module _ (region : Region) (old new : List ℕ) (least : ARENA_HEAD_LEN ≤ region.len) (same : region_bytes region new ≡ region_bytes region old) where
   -- a frame, and the number of the current one
   pub frame_in_region : (number : ℕ) → number < 2 → frame_of region FRAME_LEN number new ≡ frame_of region FRAME_LEN number old
   frame_in_region number two =
@@ -24,17 +24,17 @@ module _ (region : Region) (old new : List ℕ) (least : HEAD_LEN ≤ region.len
       ap (λ (k : ℕ). frame_of region FRAME_LEN k new) named_in_region
       ∙ frame_in_region (named_number region FRAME_LEN old) (mod-lt (slice_index old (region.start + 2 * FRAME_LEN)) (omega arith))
 
-pub blocks_in_region : (score_of : List ℕ → List ℕ) (region : Region) (a : Content) (old new : List ℕ) → HEAD_LEN ≤ region.len
+pub blocks_in_region : (score_of : List ℕ → List ℕ) (region : Region) (a : Content) (old new : List ℕ) → ARENA_HEAD_LEN ≤ region.len
     → region_bytes region new ≡ region_bytes region old → IsContent score_of region.len a → HasBlocks region a.stored old → HasBlocks region a.stored new
 blocks_in_region score_of region a old new least same content blocks =
     let fits = content_fits score_of region.len a content in record {
-      clumps = stands_inside region old new same (region.start + HEAD_LEN) (clumps_of a.stored) (omega arith)
+      clumps = stands_inside region old new same (region.start + ARENA_HEAD_LEN) (clumps_of a.stored) (omega arith)
           (omega (arith, fits, least, length-clumps score_of a.stored content.stored)) blocks.clumps;
       directory = stands_inside region old new same (directory_place region (length a.stored)) (directory_of a.stored) (omega (arith, fits, least))
           (omega (arith, fits, least, length-directory score_of a.stored content.stored)) blocks.directory;
     }
 
-pub arena_in_region : (score_of : List ℕ → List ℕ) (region : Region) (number : ℕ) (a : Content) (old new : List ℕ) → HEAD_LEN ≤ region.len
+pub arena_in_region : (score_of : List ℕ → List ℕ) (region : Region) (number : ℕ) (a : Content) (old new : List ℕ) → ARENA_HEAD_LEN ≤ region.len
     → region_bytes region new ≡ region_bytes region old → IsArena score_of region number a old → IsArena score_of region number a new
 arena_in_region score_of region number a old new least same arena = record {
   content = arena.content;

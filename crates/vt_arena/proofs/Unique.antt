@@ -8,7 +8,7 @@ use Rattle.vt_disk.specs.declared.region.Region.{Region}
 use Rattle.vt_disk.specs.Disk.{part}
 use Rattle.vt_clump.specs.Spelling.{Stored, IsStored, spelled, stored_in}
 use Rattle.vt_clump.proofs.ReadBack.{stored_in-spelled}
-use Rattle.vt_model.specs.declared.TheConstants.{HEAD_LEN}
+use Rattle.vt_model.specs.declared.TheConstants.{ARENA_HEAD_LEN}
 use Rattle.vt_arena.specs.declared.head.ArenaHead.{ArenaHead}
 use Rattle.vt_arena.specs.Faults.{CanStand}
 use Rattle.vt_arena.specs.Heads.{fields_of, flag_of, clumps_in, used_in, IsHeadOf}
@@ -54,7 +54,7 @@ one_content score_of region number a b file most is_a is_b =
     sym (read_used score_of region.len number most a is_a.content) ∙ ap (λ (l : List ℕ). used_in l) heads ∙ read_used score_of region.len number most b is_b.content in
     let lens : length (clumps_of a.stored) ≡ length (clumps_of b.stored) =
     length-clumps score_of a.stored is_a.content.stored ∙ used ∙ sym (length-clumps score_of b.stored is_b.content.stored) in
-    let bytes : clumps_of a.stored ≡ clumps_of b.stored = sym is_a.blocks.clumps ∙ ap (λ (n : ℕ). part (region.start + HEAD_LEN) n file) lens ∙ is_b.blocks.clumps in
+    let bytes : clumps_of a.stored ≡ clumps_of b.stored = sym is_a.blocks.clumps ∙ ap (λ (n : ℕ). part (region.start + ARENA_HEAD_LEN) n file) lens ∙ is_b.blocks.clumps in
     let stored : a.stored ≡ b.stored = same_stored score_of a.stored b.stored is_a.content.stored is_b.content.stored many bytes in
     (λ i. record { sealed = sealed i; stored = stored i })
 

@@ -8,7 +8,7 @@ use Rattle.vt_disk.specs.Disk.{with_bytes}
 use Rattle.vt_twin.specs.Calls.{bytes_after}
 use Rattle.vt_twin.specs.Twin.{Change, TwinState, calls_made, next_frame, with_change}
 use Rattle.vt_clump.specs.declared.packed.Packed.{Packed}
-use Rattle.vt_model.specs.declared.TheConstants.{HEAD_LEN}
+use Rattle.vt_model.specs.declared.TheConstants.{ARENA_HEAD_LEN}
 use Rattle.vt_arena.specs.declared.TheConstants.{FRAME_LEN}
 use Rattle.vt_arena.specs.Arena.{ArenaState, pieces}
 use Rattle.vt_arena.specs.Heads.{frame_of}
@@ -36,7 +36,7 @@ module _ (a : ArenaState) (region : Region) (old new bytes : List ℕ) (q : Pack
 
   pub writes_clump : a.written < length a.staged → q ≡ get_or a.staged a.written q
       → bytes ≡ q.bytes
-      → place ≡ region.start + (HEAD_LEN + (a.head.used + staged_room (take a.written a.staged)))
+      → place ≡ region.start + (ARENA_HEAD_LEN + (a.head.used + staged_room (take a.written a.staged)))
       → Writes a region old new
   writes_clump below is bytes_is place_is = record {
     clump = λ p before behind split at.
@@ -46,7 +46,7 @@ module _ (a : ArenaState) (region : Region) (old new bytes : List ℕ) (q : Pack
         (piece_is a.staged before behind p q a.written split at is) in
         let front : take a.written a.staged ≡ before =
         (λ i. take (at i) (split i)) ∙ take_at before (p ∷ behind) (length before) refl in
-        let there : place ≡ region.start + HEAD_LEN + a.head.used + staged_room before =
+        let there : place ≡ region.start + ARENA_HEAD_LEN + a.head.used + staged_room before =
         omega (arith, place_is, ap staged_room front) in
         write ∙ (λ i. with_bytes (there i) (same i) old);
     entry = λ p before behind split at. absurd (omega (arith, below, at));

@@ -9,7 +9,7 @@ use Rattle.vt_base.specs.declared.why.FieldValue.TheVariants.{Number}
 use Rattle.vt_disk.specs.declared.region.Region.{Region}
 use Rattle.vt_disk.specs.Disk.{part}
 use Rattle.vt_clump.specs.Spelling.{Stored}
-use Rattle.vt_model.specs.declared.TheConstants.{HEAD_LEN, DIRECTORY_ENTRY_LEN}
+use Rattle.vt_model.specs.declared.TheConstants.{ARENA_HEAD_LEN, DIRECTORY_ENTRY_LEN}
 use Rattle.vt_arena.specs.declared.bad.BackBad.{BackBad}
 use Rattle.vt_arena.specs.declared.bad.BackBad.TheVariants.{Fault, Damaged}
 use Rattle.vt_arena.specs.declared.directory.At.{At}
@@ -58,7 +58,7 @@ pub record IsInfoOf (number : ℕ) (at : At) (entry : List ℕ) (info : Info) : 
   pub score : info.key.score.0 ≡ score_in entry
   pub size : info.size ≡ size_in entry
   pub arena : info.place.arena ≡ number
-  pub offset : info.place.offset ≡ HEAD_LEN + (at.end - block_room (size_in entry))
+  pub offset : info.place.offset ≡ ARENA_HEAD_LEN + (at.end - block_room (size_in entry))
   pub number_is : info.number ≡ at.index - 1
 
 -- the walk stands at the block behind these

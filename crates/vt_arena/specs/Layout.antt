@@ -8,7 +8,7 @@ use Rattle.vt_disk.specs.Disk.{part}
 use Rattle.vt_disk.specs.Region.{Inside}
 use Rattle.vt_twin.specs.Frames.{current_frame}
 use Rattle.vt_clump.specs.Spelling.{Stored, IsStored, spelled, sizes}
-use Rattle.vt_model.specs.declared.TheConstants.{HEAD_LEN}
+use Rattle.vt_model.specs.declared.TheConstants.{ARENA_HEAD_LEN}
 use Rattle.vt_arena.specs.declared.head.ArenaHead.{ArenaHead}
 use Rattle.vt_arena.specs.declared.TheConstants.{FRAME_LEN, FIELDS_LEN}
 use Rattle.vt_arena.specs.Heads.{fields_of}
@@ -62,14 +62,14 @@ StandsAt place bytes file = part place (length bytes) file ≡ bytes
 
 -- where the clumps behind those of these blocks stand, and a directory of so many entries
 abbrev pub clumps_place : Region → (before : List Stored) → ℕ
-clumps_place region before = region.start + HEAD_LEN + used_of before
+clumps_place region before = region.start + ARENA_HEAD_LEN + used_of before
 
 abbrev pub directory_place : Region → (entries : ℕ) → ℕ
 directory_place region entries = region.start + region.len - directory_room entries
 
 -- where the head of the region's arena stands
 abbrev pub head_place : Region → Region
-head_place region = record { start = region.start; len = HEAD_LEN }
+head_place region = record { start = region.start; len = ARENA_HEAD_LEN }
 
 -- place i of the disk lies in it
 abbrev pub InHead : Region → ℕ → Type 0
@@ -77,7 +77,7 @@ InHead region i = Inside (head_place region) i
 
 -- the clumps of these blocks and their directory stand in the region
 pub record HasBlocks (region : Region) (stored : List Stored) (file : List ℕ) : Type 0 where
-  pub clumps : StandsAt (region.start + HEAD_LEN) (clumps_of stored) file
+  pub clumps : StandsAt (region.start + ARENA_HEAD_LEN) (clumps_of stored) file
   pub directory : StandsAt (directory_place region (length stored)) (directory_of stored) file
 
 -- each of them is a block with its score, and an arena of this length has room for them

@@ -1,5 +1,6 @@
 -- Where the blocks of one arena go: the rule is vt_model's, which this file alone takes over.
-use Rattle.std.specs.Prelude.{ℕ, ◌+◌, ◌^◌, ◌≤◌, nat_le, Bool, List, [], ◌∷◌, length, map}
+use Rattle.std.specs.Prelude.{ℕ, ◌+◌, ◌≤◌, nat_le, Bool, List, [], ◌∷◌, length, map}
+use Rattle.vt_disk.specs.declared.TheConstants.{LEAST_ARENA, MOST_ARENA}
 use Rattle.vt_clump.specs.Spelling.{Stored}
 use Rattle.vt_model.specs.Places.{Setup, room_of, needed, clump_len, directory_len, offset_behind}
 
@@ -21,7 +22,7 @@ arena_room len = room_of (alone len) 0
 
 -- the lengths that an arena may have: 32 KiB to 1 GiB
 abbrev pub IsArenaLen : (len : ℕ) → Type 0
-IsArenaLen len = (32768 ≤ len) × (len ≤ 2 ^ 30)
+IsArenaLen len = (LEAST_ARENA ≤ len) × (len ≤ MOST_ARENA)
 
 -- A block of n bytes fits an arena of this length, behind so many clumps of `used` bytes in all.
 abbrev pub has_room : (len used clumps n : ℕ) → Bool

@@ -11,13 +11,13 @@ use Rattle.vt_clump.specs.declared.reading.ClumpBad.TheVariants.{Short, Magic, K
 use Rattle.vt_clump.specs.Faults.{first_bad}
 use Rattle.vt_clump.specs.Spelling.{clump_len, size_in, stored_in}
 use Rattle.vt_clump.specs.Clumps.{IsRead}
-use Rattle.vt_model.specs.declared.TheConstants.{HEAD_LEN, CLUMP_HEADER_LEN}
+use Rattle.vt_model.specs.declared.TheConstants.{ARENA_HEAD_LEN, CLUMP_HEADER_LEN}
 use Rattle.vt_arena.specs.declared.bad.ReadBad.{ReadBad}
 use Rattle.vt_arena.specs.declared.bad.ReadBad.TheVariants.{Fault, Damaged, NoMemory}
 
 -- a clump's header at this offset lies in a region of this length, behind the head
 abbrev pub HasHeader : (len offset : ℕ) → Type 0
-HasHeader len offset = (HEAD_LEN ≤ offset) × (offset + CLUMP_HEADER_LEN ≤ len)
+HasHeader len offset = (ARENA_HEAD_LEN ≤ offset) × (offset + CLUMP_HEADER_LEN ≤ len)
 
 -- the header at an offset, and the clump that it begins, cut at the region's end
 abbrev pub header_at : Region → (offset : ℕ) → (file : List ℕ) → List ℕ

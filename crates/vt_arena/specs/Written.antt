@@ -5,7 +5,7 @@ use Rattle.vt_disk.specs.Disk.{with_bytes}
 use Rattle.vt_twin.specs.Calls.{bytes_after}
 use Rattle.vt_twin.specs.Twin.{next_frame, calls_made as twin_calls_made}
 use Rattle.vt_clump.specs.declared.packed.Packed.{Packed}
-use Rattle.vt_model.specs.declared.TheConstants.{HEAD_LEN}
+use Rattle.vt_model.specs.declared.TheConstants.{ARENA_HEAD_LEN}
 use Rattle.vt_arena.specs.declared.TheConstants.{FRAME_LEN}
 use Rattle.vt_arena.specs.Arena.{ArenaState, pieces, changing}
 use Rattle.vt_arena.specs.Layout.{entry_bytes, directory_place, head_place}
@@ -18,7 +18,8 @@ use Rattle.vt_arena.specs.Whole.{staged_room}
 pub record Writes (a : ArenaState) (region : Region) (old new : List ℕ) : Type 0 where
   pub clump : (p : Packed) (before behind : List Packed) → a.staged ≡ before ++ p ∷ behind
       → a.written ≡ length before
-      → new ≡ with_bytes (region.start + HEAD_LEN + a.head.used + staged_room before) p.bytes old
+      → new ≡ with_bytes (region.start + ARENA_HEAD_LEN + a.head.used + staged_room before)
+      p.bytes old
   pub entry : (p : Packed) (before behind : List Packed) → a.staged ≡ before ++ p ∷ behind
       → a.written ≡ length a.staged + length before
       → new ≡ with_bytes (directory_place region (a.head.clumps + length before + 1))

@@ -11,7 +11,7 @@ use vt_base::{Bytes, Failed};
 use vt_clump::Packed;
 use vt_disk::{Disk, Region};
 use vt_fields::{put, put_u8, put_u16};
-use vt_model::{DIRECTORY_ENTRY_LEN, HEAD_LEN};
+use vt_model::{ARENA_HEAD_LEN, DIRECTORY_ENTRY_LEN};
 use vt_twin::{Step, TwinErr};
 
 impl Arena {
@@ -81,7 +81,7 @@ impl Arena {
     {
         let packed = &self.staged[self.written];
         let room = block_room(packed.len);
-        let place = HEAD_LEN as u64 + self.end;
+        let place = ARENA_HEAD_LEN as u64 + self.end;
         let outcome = region.write_at(disk, place, packed.bytes.as_slice());
         let number = self.calls;
         self.calls = number.saturating_add(1);
@@ -177,7 +177,7 @@ impl Arena {
     {
         let head = Region {
             start: region.start,
-            len: HEAD_LEN as u64,
+            len: ARENA_HEAD_LEN as u64,
         };
         let number = self.calls;
         self.calls = number.saturating_add(1);

@@ -15,7 +15,7 @@ use crate::{block_room, directory_room};
 use vt_base::{FieldValue, Info, Key, Kind, MAX_BLOCK, Place, Score};
 use vt_disk::{Disk, Region};
 use vt_fields::u16_at;
-use vt_model::{DIRECTORY_ENTRY_LEN, HEAD_LEN};
+use vt_model::{ARENA_HEAD_LEN, DIRECTORY_ENTRY_LEN};
 
 /// Where a walk of the directory stands. It starts at the head's `clumps` and `used`, and only
 /// `info` moves it. All blocks were given when `index` is 0.
@@ -132,7 +132,7 @@ fn decode(entry: &[u8; DIRECTORY_ENTRY_LEN], head: &ArenaHead, at: At) -> Result
         size,
         place: Place {
             arena: head.number,
-            offset: (HEAD_LEN as u64 + (at.end - room)) as u32,
+            offset: (ARENA_HEAD_LEN as u64 + (at.end - room)) as u32,
         },
         number: u64::from(at.index) - 1,
     })

@@ -8,7 +8,7 @@ ghost use Rattle.vt_clump.specs.declared.packed.Packed.{Packed};
 ghost use Rattle.vt_clump.specs.Spelling.{Stored, spelled};
 ghost use Rattle.vt_clump.specs.Clumps.{IsPacked};
 ghost use Rattle.vt_model.specs.Places.{Setup, room_of, fits as fits_by_lengths, offset_behind};
-ghost use Rattle.vt_model.specs.declared.TheConstants.{HEAD_LEN};
+ghost use Rattle.vt_model.specs.declared.TheConstants.{ARENA_HEAD_LEN};
 ghost use Rattle.vt_arena.specs.Arena.{ArenaState, fresh_arena, fits, is_committing, with_staged, with_seal, next_content};
 ghost use Rattle.vt_arena.specs.Layout.{Content, IsContent, IsArena, HasBlocks, StandsAt, head_of, used_of};
 ghost use Rattle.vt_arena.specs.Places.{lengths_of, offset_of, arena_room, has_room};
@@ -50,11 +50,11 @@ pub fn crash_gives_old_or_next<D: Disk>()
 /// leaves it what it is.
 pub fn arenas_are_in_their_regions()
     ensures region { (score_of : List ℕ → List ℕ) (region : Region) (number : ℕ) (a : Content)
-        (old new : List ℕ) → HEAD_LEN ≤ region.len
+        (old new : List ℕ) → ARENA_HEAD_LEN ≤ region.len
         → region_bytes region new ≡ region_bytes region old
         → IsArena score_of region number a old → IsArena score_of region number a new }
     ensures blocks { (score_of : List ℕ → List ℕ) (region : Region) (a : Content)
-        (old new : List ℕ) → HEAD_LEN ≤ region.len
+        (old new : List ℕ) → ARENA_HEAD_LEN ≤ region.len
         → region_bytes region new ≡ region_bytes region old
         → IsContent score_of region.len a → HasBlocks region a.stored old
         → HasBlocks region a.stored new }
@@ -88,7 +88,7 @@ pub fn settled_regions<D: Disk>()
         → IsSound score_of (fresh_arena region.len current head) region old
         (D.bytes disk) (D.images disk) }
     ensures image { (score_of : List ℕ → List ℕ) (region : Region) (number : ℕ) (old : Content)
-        (disk : D) → HEAD_LEN ≤ region.len → IsSettled region (D.bytes disk) (D.images disk)
+        (disk : D) → ARENA_HEAD_LEN ≤ region.len → IsSettled region (D.bytes disk) (D.images disk)
         → IsArena score_of region number old (D.bytes disk)
         → (c : List ℕ) → D.images disk c → IsArena score_of region number old c }
 {}

@@ -23,12 +23,17 @@ pub use laws::{
 pub use mounting::{find, format, mount};
 pub use reading::{has_header, read};
 use vt_disk::BLOCK_LEN;
-use vt_model::{CLUMP_HEADER_LEN, DIRECTORY_ENTRY_LEN, HEAD_LEN};
+use vt_model::{ARENA_HEAD_LEN, CLUMP_HEADER_LEN, DIRECTORY_ENTRY_LEN};
 
 /// How many bytes a frame of the head has.
 pub const FRAME_LEN: usize = BLOCK_LEN;
 
 const _: () = prove!(FRAME_LEN == 8192);
+
+// The model's numbers are those of the heads and clumps of this disk.
+const _: () = prove!(ARENA_HEAD_LEN == 2 * FRAME_LEN + BLOCK_LEN);
+
+const _: () = prove!(CLUMP_HEADER_LEN == vt_clump::HEADER_LEN);
 
 /// How many bytes of a frame the head's fields are: magic, version, number, sealed, clumps, used
 /// and chain.
@@ -60,7 +65,7 @@ fn directory_room(blocks: u64) -> u64
 fn arena_room(len: u64) -> u64
     ensures { result ≡ arena_room len }
 {
-    len.saturating_sub(HEAD_LEN as u64)
+    len.saturating_sub(ARENA_HEAD_LEN as u64)
 }
 
 /// Whether a block of `n` bytes fits an arena of this length, behind so many clumps of `used` bytes

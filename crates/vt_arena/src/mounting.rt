@@ -18,7 +18,7 @@ use crate::{FIELDS_LEN, FRAME_LEN};
 use std::alloc::Global;
 use vt_base::{Failed, NoMemory, Score};
 use vt_disk::{Disk, Region};
-use vt_model::HEAD_LEN;
+use vt_model::ARENA_HEAD_LEN;
 
 /// Writes the head of an arena without blocks, and syncs. The head's other frame and what lies
 /// behind the head stay as they are.
@@ -35,7 +35,7 @@ pub fn format<D: Disk>(disk: &mut D, region: Region, number: u32) -> Result<(), 
         (frame_at region FRAME_LEN 0 (D.bytes disk.new)
         ≡ frame_of (head_of score_of number empty)) }
     ensures selector { IsTrue D.tells → OnOk result (StandsAt (selector_start region FRAME_LEN)
-        (selector_bytes 0 (HEAD_LEN - 2 * FRAME_LEN)) (D.bytes disk.new)) }
+        (selector_bytes 0 (ARENA_HEAD_LEN - 2 * FRAME_LEN)) (D.bytes disk.new)) }
     ensures idle { IsTrue D.tells → OnOk result (frame_at region FRAME_LEN 1 (D.bytes disk.new)
         ≡ frame_at region FRAME_LEN 1 (D.bytes disk.old)) }
 
@@ -59,7 +59,7 @@ pub fn format<D: Disk>(disk: &mut D, region: Region, number: u32) -> Result<(), 
     head.encode(&mut frame);
     let place = Region {
         start: region.start,
-        len: HEAD_LEN as u64,
+        len: ARENA_HEAD_LEN as u64,
     };
     vt_twin::format(disk, place, &frame)
 }

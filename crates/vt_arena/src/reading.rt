@@ -16,7 +16,7 @@ use std::alloc::Global;
 use vt_base::{Bytes, Failed, FieldValue, Scorer};
 use vt_clump::{Clump, ClumpBad, Encoding, block_len, unpack_block};
 use vt_disk::{Disk, Region};
-use vt_model::{CLUMP_HEADER_LEN, HEAD_LEN};
+use vt_model::{ARENA_HEAD_LEN, CLUMP_HEADER_LEN};
 
 /// Reads the clump at an offset of an arena's region: its header, which says how long its block is,
 /// and then the block.
@@ -38,7 +38,8 @@ pub fn read<D: Disk, S: Scorer>(
         × (IsTrue D.tells → bytes ≡ clump_at region offset (D.bytes disk.old))
         × ReadsAs S.score_of bytes result }
     ensures outside { ¬ HasHeader region.len offset
-        → result ≡ Err (ReadBad.Damaged (FieldValue.Number HEAD_LEN) (FieldValue.Number offset)) }
+        → result ≡ Err (ReadBad.Damaged (FieldValue.Number ARENA_HEAD_LEN)
+        (FieldValue.Number offset)) }
     ensures whole { IfOk result (λ clump. (s : Stored)
         × IsStored S.score_of s × IsRead s clump) }
 
@@ -58,7 +59,7 @@ pub fn read<D: Disk, S: Scorer>(
 {
     if !has_header(region.len, offset) {
         return Err(ReadBad::Damaged {
-            want: FieldValue::Number(HEAD_LEN as u128),
+            want: FieldValue::Number(ARENA_HEAD_LEN as u128),
             found: FieldValue::Number(u128::from(offset)),
         });
     }
@@ -82,7 +83,7 @@ pub fn has_header(len: u64, offset: u64) -> bool
     ensures { IsTrue result ↔ HasHeader len offset }
 {
     let header_len = CLUMP_HEADER_LEN as u64;
-    offset >= HEAD_LEN as u64 && len >= header_len && offset <= len - header_len
+    offset >= ARENA_HEAD_LEN as u64 && len >= header_len && offset <= len - header_len
 }
 
 /// Reads the block that stands behind this header, cut at the region's end.

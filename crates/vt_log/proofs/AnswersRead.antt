@@ -10,7 +10,7 @@ use Rattle.vt_disk.specs.Members.{DiskOf}
 use Rattle.vt_clump.specs.declared.packed.Packed.{Packed}
 use Rattle.vt_clump.specs.declared.reading.Clump.{Clump}
 use Rattle.vt_clump.specs.Spelling.{stored_in}
-use Rattle.vt_model.specs.declared.TheConstants.{HEAD_LEN}
+use Rattle.vt_model.specs.declared.TheConstants.{ARENA_HEAD_LEN}
 use Rattle.vt_part.specs.declared.layout.ArenaRegion.{ArenaRegion}
 use Rattle.vt_arena.specs.declared.bad.ReadBad.{ReadBad}
 use Rattle.vt_arena.specs.declared.bad.ReadBad.TheVariants.{Fault, Damaged, NoMemory}
@@ -128,7 +128,7 @@ pub answers_there : {D : Type 0} (score_of : List ℕ → List ℕ) (disk : Disk
     → IsNowhere l.queue.places place → place.arena < length l.layout
     → ((r : ArenaRegion) → slice_get l.layout place.arena ≡ Some r
     → ¬ HasHeader r.region.len place.offset
-    → result ≡ Err (Damaged (Number HEAD_LEN) (Number place.offset)))
+    → result ≡ Err (Damaged (Number ARENA_HEAD_LEN) (Number place.offset)))
     → ((r : ArenaRegion) (device : D) → IsAt l place.arena r device
     → HasHeader r.region.len place.offset → (clump : List ℕ)
     × (IsTrue disk.tells → clump ≡ clump_at r.region place.offset (disk.bytes device))

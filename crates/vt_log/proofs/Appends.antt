@@ -11,7 +11,7 @@ use Rattle.vt_base.specs.declared.place.Place.{Place}
 use Rattle.vt_disk.specs.Members.{DiskOf}
 use Rattle.vt_clump.specs.declared.packed.Packed.{Packed}
 use Rattle.vt_clump.specs.Clumps.{IsPacked, stored_of}
-use Rattle.vt_model.specs.declared.TheConstants.{HEAD_LEN}
+use Rattle.vt_model.specs.declared.TheConstants.{ARENA_HEAD_LEN}
 use Rattle.vt_model.specs.History.{Accepted, History}
 use Rattle.vt_model.specs.Places.{fits, lengths_in, Spot, last_arena, next_arena, place_of, offset_behind}
 use Rattle.vt_model.proofs.Adding.{lengths_in-this}
@@ -144,7 +144,7 @@ lengths_none a (e ∷ h) all =
 pub fits_same : {D : Type 0} (l : LogState D) (f : Filling) (lengths : List ℕ) (n : ℕ) → IsFilledBy lengths f
     → fits_in l.layout f n ≡ fits (setup_of l) f.arena (lengths ++ n ∷ [])
 fits_same l f lengths n filled =
-    ap (λ (k : ℕ). nat_le k (slice_index (setup_of l).arenas f.arena - HEAD_LEN))
+    ap (λ (k : ℕ). nat_le k (slice_index (setup_of l).arenas f.arena - ARENA_HEAD_LEN))
     (omega (arith, filled.used, filled.clumps, sum_by-append block_room lengths (n ∷ []), length-append lengths (n ∷ [])))
 
 -- ---- where disks are sound for a history

@@ -4,6 +4,11 @@ use Rattle.std.specs.Prelude.{All, slice_get}
 use Rattle.std.proofs.lemmas.Option.{slice_get_within, slice_get-map, same_Some, get_or_from_slice_get}
 use Rattle.std.proofs.lemmas.List.Elements.{All-get_or}
 use Rattle.std.proofs.lemmas.List.{get_or-drop, get_or-take, length-take, length-drop, length-map}
+use Rattle.vt_part.specs.declared.layout.ArenaRegion.{ArenaRegion}
+
+-- what an index reads where a list of regions has none
+abbrev pub no_region : ArenaRegion
+no_region = record { part = 0; number = 0; region = record { start = 0; len = 0 } }
 
 -- lists of one length have elements at the same places
 pub slice_get_other : {X Y : Type 0} (xs : List X) (ys : List Y) (i : ℕ) (y : Y) → length ys ≡ length xs → slice_get ys i ≡ Some y → (x : X) × (slice_get xs i ≡ Some x)

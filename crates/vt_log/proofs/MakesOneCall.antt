@@ -43,7 +43,7 @@ use Rattle.vt_log.proofs.CallsArena.{KeepsArena, ChangesRegion, step_keeps, faul
 use Rattle.vt_log.proofs.Disks.{parts_disks, parts_tables}
 use Rattle.vt_log.proofs.EndsCommit.{EndsArena, last_ends, ended, ended_whole, ended_sound, turned, turned_whole, turned_sound, IsEnding, next_there}
 use Rattle.vt_log.proofs.HoldTheSame.{with_disk, part_there}
-use Rattle.vt_log.proofs.Lists.{slice_get_other, at_slice, slice_get_set_same, slice_get_set_other}
+use Rattle.vt_log.proofs.Lists.{no_region, slice_get_other, at_slice, slice_get_set_same, slice_get_set_other}
 use Rattle.vt_log.proofs.Owed.{step_made, call_owed, ended_owed, turned_owed}
 
 -- what a call of an arena's commit tells
@@ -295,7 +295,7 @@ parts_state {D = D} ps i p e v disks tables at =
 
 -- the region of an arena, as an index reads it
 abbrev pub region_at : List ArenaRegion → ℕ → ArenaRegion
-region_at rs i = get_or rs i (record { part = 0; number = 0; region = record { start = 0; len = 0 } })
+region_at rs i = get_or rs i no_region
 
 -- the partitions' disks, and the one of an arena's partition
 pub record AreParts {D : Type 0} (ps : List (Part D)) (i : ℕ) (p : Part D) (v : LogState D) : Type 0 where

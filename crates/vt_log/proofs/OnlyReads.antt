@@ -21,10 +21,6 @@ use Rattle.vt_log.proofs.Disks.{spares_set, calls_set}
 use Rattle.vt_log.proofs.HoldTheSame.{IsReadOnly, read_only, with_disk, part_there}
 use Rattle.vt_log.proofs.Lists.{at_slice}
 
--- a value to read an arena's region by
-abbrev pub no_region : ArenaRegion
-no_region = record { part = 0; number = 0; region = record { start = 0; len = 0 } }
-
 -- a disk of which no call was made
 pub none_read : {D : Type 0} (disk : DiskOf D) (d : D) → OnlyReadsDisk disk 0 d d
 none_read disk d = record { bytes = refl; images = λ c left. left; size = refl; calls = λ told. omega arith }

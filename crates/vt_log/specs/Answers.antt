@@ -8,7 +8,7 @@ use Rattle.vt_clump.specs.Clumps.{stored_of}
 use Rattle.vt_disk.specs.Calls.{WritesWithin, MadeCalls}
 use Rattle.vt_disk.specs.Disk.{AreAmong}
 use Rattle.vt_twin.specs.Twin.{one_more}
-use Rattle.vt_model.specs.declared.TheConstants.{HEAD_LEN}
+use Rattle.vt_model.specs.declared.TheConstants.{ARENA_HEAD_LEN}
 use Rattle.vt_model.specs.History.{History}
 use Rattle.vt_model.specs.Places.{next_arena, place_of}
 use Rattle.vt_part.specs.declared.layout.ArenaRegion.{ArenaRegion}
@@ -45,7 +45,7 @@ pub record TakesIn {D : Type 0} (packed : Packed) (place : Place) (old new : Log
   pub filling : Filling
   pub next : next_filling old packed.len ≡ Some filling
   pub arena : place.arena ≡ filling.arena
-  pub offset : place.offset ≡ HEAD_LEN + filling.used
+  pub offset : place.offset ≡ ARENA_HEAD_LEN + filling.used
   pub new_is : new ≡ record old {
     queue = with_block (record { arena = place.arena; packed = packed }) place old.queue;
     filling = with_room_taken packed.len filling;

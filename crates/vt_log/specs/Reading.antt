@@ -8,7 +8,7 @@ use Rattle.vt_disk.specs.Members.{DiskOf}
 use Rattle.vt_clump.specs.declared.packed.Packed.{Packed}
 use Rattle.vt_clump.specs.Faults.{first_bad}
 use Rattle.vt_clump.specs.Spelling.{Stored, stored_in}
-use Rattle.vt_model.specs.declared.TheConstants.{HEAD_LEN, CLUMP_HEADER_LEN}
+use Rattle.vt_model.specs.declared.TheConstants.{ARENA_HEAD_LEN, CLUMP_HEADER_LEN}
 use Rattle.vt_part.specs.declared.layout.ArenaRegion.{ArenaRegion}
 use Rattle.vt_arena.specs.declared.bad.ReadBad.{ReadBad}
 use Rattle.vt_arena.specs.declared.bad.ReadBad.TheVariants.{Fault, Damaged, NoMemory}
@@ -68,7 +68,7 @@ pub record AnswersRead {D : Type 0} (score_of : List ℕ → List ℕ) (disk : D
       → result ≡ Err (Damaged (Number (length l.layout - 1)) (Number place.arena))
   pub outside : (r : ArenaRegion) → IsNowhere l.queue.places place
       → slice_get l.layout place.arena ≡ Some r → ¬ HasHeader r.region.len place.offset
-      → result ≡ Err (Damaged (Number HEAD_LEN) (Number place.offset))
+      → result ≡ Err (Damaged (Number ARENA_HEAD_LEN) (Number place.offset))
   pub stored : (r : ArenaRegion) (device : D) → IsNowhere l.queue.places place
       → IsAt l place.arena r device → HasHeader r.region.len place.offset → (clump : List ℕ)
       × (IsTrue disk.tells → clump ≡ clump_at r.region place.offset (disk.bytes device))

@@ -4,7 +4,7 @@ ghost use Rattle.std.specs.Prelude.{◌≡◌, ◌≢◌, ◌↔◌, ◌⊎◌, 
 ghost use Rattle.vt_base.specs.declared.place.Info.{Info};
 ghost use Rattle.vt_base.specs.declared.place.Place.{Place};
 ghost use Rattle.vt_clump.specs.declared.packed.Packed.{Packed};
-ghost use Rattle.vt_model.specs.declared.TheConstants.{HEAD_LEN};
+ghost use Rattle.vt_model.specs.declared.TheConstants.{ARENA_HEAD_LEN};
 ghost use Rattle.vt_model.specs.History.{History};
 ghost use Rattle.vt_part.specs.declared.layout.ArenaRegion.{ArenaRegion};
 ghost use Rattle.vt_arena.specs.declared.directory.At.{At};
@@ -20,7 +20,7 @@ use std::sync::ledger::Ledger;
 use vt_arena::{At, BackBad, info};
 use vt_base::{Info, Key, Place, Scorer};
 use vt_disk::Disk;
-use vt_model::HEAD_LEN;
+use vt_model::ARENA_HEAD_LEN;
 use vt_steps::Steps;
 
 /// Where a walk of a log stands, from its last block to the first.
@@ -81,19 +81,19 @@ impl<D: Disk, S: Scorer> Log<D, S> {
         }
     }
 
-    /// Where the arena's blocks end that a walk has before it, and so where the block ends that comes
-    /// next, if it isn't queued and the walk needn't turn to another arena for it.
+    /// Where the arena's blocks end that a walk has before it, and so where the block ends that
+    /// comes next, if it isn't queued and the walk needn't turn to another arena for it.
     pub fn tail_place(&self, tail: &Tail) -> Place
         requires { IsTailOf self.now tail.now }
         ensures { result ≡ record {
           arena = tail.now.arena;
-          offset = HEAD_LEN + tail.now.at.end;
+          offset = ARENA_HEAD_LEN + tail.now.at.end;
         } }
     {
         let _durable = self.durable;
         Place {
             arena: tail.arena,
-            offset: (HEAD_LEN as u64 + tail.at.end) as u32,
+            offset: (ARENA_HEAD_LEN as u64 + tail.at.end) as u32,
         }
     }
 

@@ -7,8 +7,7 @@ ghost use Rattle.vt_log.specs.Log.{LogState};
 ghost use Rattle.vt_log.specs.Logs.{IsLog};
 ghost use Rattle.vt_log.specs.Sound.{IsSound, AreImages, StandForPrefix};
 
-use vt_disk::Disk;
-use vt_part::MOST_ARENA;
+use vt_disk::{Disk, MOST_ARENA};
 
 /// Between two calls a crash leaves disks that, taken together, stand for a prefix of the history
 /// that has all durable blocks.

@@ -21,7 +21,7 @@ use vt_arena::{Arena, ArenaHead, Found, has_room};
 use vt_base::{Failed, Place, Score, Scorer};
 use vt_clump::Packed;
 use vt_disk::Disk;
-use vt_model::HEAD_LEN;
+use vt_model::ARENA_HEAD_LEN;
 use vt_part::{ArenaRegion, Layout, Part};
 
 /// The arenas of all partitions as one log, in the order of the partitions, and a queue of at most
@@ -196,7 +196,7 @@ impl<D: Disk, S: Scorer> Log<D, S> {
         };
         let place = Place {
             arena: filling.arena,
-            offset: (HEAD_LEN as u64 + filling.used) as u32,
+            offset: (ARENA_HEAD_LEN as u64 + filling.used) as u32,
         };
         self.filling = filling.with(packed.len);
         self.queue.push(packed, place);

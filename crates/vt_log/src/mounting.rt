@@ -30,8 +30,8 @@ use crate::queue::Queue;
 use std::alloc::Global;
 use vt_arena::{Arena, ArenaBad, ArenaHead, Field, Found, find};
 use vt_base::{Failed, NoMemory, Score, Scorer};
-use vt_disk::Disk;
-use vt_part::{ArenaRegion, LEAST_ARENA, Layout, Part, PartBad};
+use vt_disk::{Disk, LEAST_ARENA};
+use vt_part::{ArenaRegion, Layout, Part, PartBad};
 
 /// Makes each arena of these partitions one without blocks. Its head is written and synced; other
 /// bytes stay. Failed says that a device call failed.

@@ -7,7 +7,7 @@ ghost use Rattle.vt_base.specs.declared.why.FieldValue.{FieldValue};
 ghost use Rattle.vt_clump.specs.declared.packed.Packed.{Packed};
 ghost use Rattle.vt_clump.specs.Spelling.{Stored};
 ghost use Rattle.vt_clump.specs.Clumps.{IsRead};
-ghost use Rattle.vt_model.specs.declared.TheConstants.{HEAD_LEN, CLUMP_HEADER_LEN};
+ghost use Rattle.vt_model.specs.declared.TheConstants.{ARENA_HEAD_LEN, CLUMP_HEADER_LEN};
 ghost use Rattle.vt_model.specs.History.{Accepted, History};
 ghost use Rattle.vt_model.specs.Places.{place_of};
 ghost use Rattle.vt_part.specs.declared.layout.ArenaRegion.{ArenaRegion};
@@ -103,7 +103,7 @@ impl<D: Disk, S: Scorer> Log<D, S> {
         requires { place.arena < length self.old.layout }
         ensures outside { (r : ArenaRegion) → slice_get self.old.layout place.arena ≡ Some r
             → ¬ HasHeader r.region.len place.offset → (result ≡ Err (ReadBad.Damaged
-            (FieldValue.Number HEAD_LEN) (FieldValue.Number place.offset)))
+            (FieldValue.Number ARENA_HEAD_LEN) (FieldValue.Number place.offset)))
             × (self.new ≡ self.old) × (steps.new ≡ steps.old) }
         ensures stored { (r : ArenaRegion) (disk : D) → IsAt self.old place.arena r disk
             → HasHeader r.region.len place.offset → (bytes : List ℕ)

@@ -1,5 +1,5 @@
-//! Logs on disks in memory: filled to the end, mounted again, crashed at each call of a commit, with
-//! calls that fail, and side by side with the plain store.
+//! Logs on disks in memory: filled to the end, mounted again, crashed at each call of a commit,
+//! with calls that fail, and side by side with the plain store.
 
 ghost use Rattle.std.specs.Prelude.{◌≡◌, ◌<◌, ◌≤◌, IfOk};
 ghost use Rattle.vt_part.specs.Parts.{disk_of, table_of};

@@ -8,7 +8,7 @@ use Rattle.std.proofs.lemmas.Bool.Decides.{Decides-eqb}
 use Rattle.std.proofs.lemmas.List.{take-append-le, take-append-drop, length-take}
 use Rattle.std.proofs.lemmas.List.Sums.{sum_by-cons, sum_by_more, sum_by-take-le}
 use Rattle.std.proofs.lemmas.Option.{slice_get_within, get_or_from_slice_get}
-use Rattle.vt_model.specs.declared.TheConstants.{HEAD_LEN}
+use Rattle.vt_model.specs.declared.TheConstants.{ARENA_HEAD_LEN}
 use Rattle.vt_model.specs.History.{History, Accepted}
 use Rattle.vt_model.specs.Places.{Setup, Spot, StandsAt, room_of, clump_len, directory_len, needed, lengths_in, offset_behind, place_of}
 use Rattle.vt_model.specs.Legal.{IsLegal}
@@ -99,7 +99,7 @@ module _ (c : Setup) (h : History) where
       ≡ offset_behind c s.arena (lengths_in s.arena (take (i + 1) h)))
       (sym (spot_is i e s at)) (omega (arith, more, own))
 
-  pub behind_head : (i : ℕ) (e : Accepted) (s : Spot) → StandsAt c h i e s → HEAD_LEN ≤ s.offset
+  pub behind_head : (i : ℕ) (e : Accepted) (s : Spot) → StandsAt c h i e s → ARENA_HEAD_LEN ≤ s.offset
   behind_head i e s at = omega (arith, ap (λ (s : Spot). s.offset) (spot_is i e s at))
 
   pub behind_earlier : (i j : ℕ) (e f : Accepted) (s t : Spot) → StandsAt c h i e s

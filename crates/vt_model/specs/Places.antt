@@ -3,7 +3,7 @@
 use Rattle.std.specs.Prelude.{ℕ, ◌≡◌, ◌<◌, ◌≤◌, ◌+◌, ◌-◌, ◌*◌, ◌/◌, ◌^◌, ◌==◌, max, nat_le, nat_lt, Bool, if◌then◌else◌, Option, Some, None, List, [], ◌∷◌, ◌++◌, length, take, map, filter, sum, sum_by, count_by, slice_get, slice_index}
 use Rattle.std.specs.Option.{option_map}
 use Rattle.std.specs.Int.{w32, from_be_bytes}
-use Rattle.vt_model.specs.declared.TheConstants.{HEAD_LEN, CLUMP_HEADER_LEN, DIRECTORY_ENTRY_LEN}
+use Rattle.vt_model.specs.declared.TheConstants.{ARENA_HEAD_LEN, CLUMP_HEADER_LEN, DIRECTORY_ENTRY_LEN}
 use Rattle.vt_model.specs.History.{History, Accepted}
 
 -- What a store was opened with: the length of each arena's region, the first arena that was not
@@ -17,7 +17,7 @@ pub record Setup : Type 0 where
 
 -- the bytes of a region behind its head; none past the last arena
 abbrev pub room_of : Setup → ℕ → ℕ
-room_of c arena = slice_index c.arenas arena - HEAD_LEN
+room_of c arena = slice_index c.arenas arena - ARENA_HEAD_LEN
 
 -- what a block of n bytes takes in this arena: a header, and itself
 abbrev pub clump_len : Setup → ℕ → ℕ → ℕ
@@ -64,7 +64,7 @@ pub record Spot : Type 0 where
 
 -- the offset of a clump behind those of blocks of these lengths
 abbrev pub offset_behind : Setup → ℕ → List ℕ → ℕ
-offset_behind c arena lengths = HEAD_LEN + sum_by (clump_len c arena) lengths
+offset_behind c arena lengths = ARENA_HEAD_LEN + sum_by (clump_len c arena) lengths
 
 -- where block i stands: in its arena, behind the arena's earlier blocks
 abbrev pub place_of : Setup → History → ℕ → Option Spot

@@ -5,7 +5,7 @@ ghost use Rattle.std.specs.Prelude.{◌≡◌, ◌≢◌, ◌↔◌, ◌⊎◌, 
 ghost use Rattle.std.specs.List.{AllPairs};
 ghost use Rattle.vt_base.specs.Bytes.{AreBytes};
 ghost use Rattle.vt_base.specs.Protocol.{Operation, write, r_write, r_error};
-ghost use Rattle.vt_model.specs.declared.TheConstants.{HEAD_LEN, CLUMP_HEADER_LEN, DIRECTORY_ENTRY_LEN, BUCKET_ROOM};
+ghost use Rattle.vt_model.specs.declared.TheConstants.{ARENA_HEAD_LEN, CLUMP_HEADER_LEN, DIRECTORY_ENTRY_LEN, BUCKET_ROOM};
 ghost use Rattle.vt_model.specs.History.{History, Accepted, held, HasScoreAt, HasKeyAt};
 ghost use Rattle.vt_model.specs.Places.{Setup, Spot, StandsAt, clump_len, directory_len, lengths_in, offset_behind, place_of, current_arena, next_arena};
 ghost use Rattle.vt_model.specs.Places.{bucket_of, section_of_bucket, LiesIn};
@@ -70,7 +70,7 @@ pub fn refusals_add_nothing()
 /// directory has room between the end of each and the arena's end.
 pub fn blocks_dont_overlap()
     ensures head { (c : Setup) (h : History) (i : ℕ) (e : Accepted) (s : Spot) →
-        StandsAt c h i e s → HEAD_LEN ≤ s.offset }
+        StandsAt c h i e s → ARENA_HEAD_LEN ≤ s.offset }
     ensures behind { (c : Setup) (h : History) (i j : ℕ) (e f : Accepted) (s t : Spot) →
         StandsAt c h i e s → StandsAt c h j f t → s.arena ≡ t.arena → i < j →
         s.offset + clump_len c s.arena (length e.block.bytes) ≤ t.offset }
@@ -183,7 +183,7 @@ pub fn held_stays()
 
 /// The sizes of an arena's parts, and how many blocks a bucket of 8,192 bytes has room for.
 pub fn sizes_are_fixed()
-    ensures head { HEAD_LEN ≡ 24576 }
+    ensures head { ARENA_HEAD_LEN ≡ 24576 }
     ensures header { CLUMP_HEADER_LEN ≡ 38 }
     ensures entry { DIRECTORY_ENTRY_LEN ≡ 25 }
     ensures bucket { BUCKET_ROOM ≡ 263 }

@@ -4,7 +4,7 @@ ghost use Rattle.std.specs.Prelude.{◌≡◌, ◌+◌, ◌-◌, ◌^◌, ◌<�
 ghost use Rattle.std.specs.Option.{SomeIff};
 ghost use Rattle.vt_model.specs.Places.{room_of, bucket_of, bucket_count};
 
-use crate::{CLUMP_HEADER_LEN, DIRECTORY_ENTRY_LEN, HEAD_LEN};
+use crate::{ARENA_HEAD_LEN, CLUMP_HEADER_LEN, DIRECTORY_ENTRY_LEN};
 use std::marker::Model;
 use vt_base::Score;
 
@@ -63,7 +63,7 @@ impl Layout {
         ensures { result ≡ room_of self.now arena }
     {
         match self.arenas.get(arena) {
-            Some(len) => (*len as usize).saturating_sub(HEAD_LEN),
+            Some(len) => (*len as usize).saturating_sub(ARENA_HEAD_LEN),
             None => 0,
         }
     }
@@ -91,7 +91,8 @@ pub fn bucket_of(buckets: u128, score: &Score) -> u128
     u32::from_be_bytes([a, b, c, d]) as u128 * buckets / 4_294_967_296
 }
 
-/// What is left of an arena's room when a block of `len` bytes and its directory entry are put there
+/// What is left of an arena's room when a block of `len` bytes and its directory entry are put
+/// there
 /// too; None where they don't fit.
 pub fn room_after(room: usize, len: usize) -> Option<usize>
     ensures { let needed = CLUMP_HEADER_LEN + len + DIRECTORY_ENTRY_LEN in

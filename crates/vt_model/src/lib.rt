@@ -10,14 +10,16 @@ mod stored;
 pub use layout::bucket_of;
 pub use plain::PlainStore;
 
-/// How many bytes the head of an arena takes, and so where its first block stands.
-pub const HEAD_LEN: usize = 24_576;
+/// How many bytes the head of an arena takes, and so where its first block stands: two frames and a
+/// block.
+pub const ARENA_HEAD_LEN: usize = 2 * 8_192 + 8_192;
 
-/// How many bytes stand before a block in its arena.
-pub const CLUMP_HEADER_LEN: usize = 38;
+/// How many bytes stand before a block in its arena: magic, type, two sizes, score, encoding,
+/// creator and time.
+pub const CLUMP_HEADER_LEN: usize = 4 + 1 + 2 + 2 + 20 + 1 + 4 + 4;
 
-/// How many bytes an arena's directory keeps of a block.
-pub const DIRECTORY_ENTRY_LEN: usize = 25;
+/// How many bytes an arena's directory keeps of a block: type, two sizes and score.
+pub const DIRECTORY_ENTRY_LEN: usize = 1 + 2 + 2 + 20;
 
 /// How many blocks a bucket of the index has room for.
 pub const BUCKET_ROOM: usize = 263;

@@ -11,13 +11,10 @@ use Rattle.vt_log.specs.Faults.{AreFields, bad_arena}
 use Rattle.vt_log.specs.Log.{disks_of}
 use Rattle.vt_log.specs.Mounting.{AreFieldsAt, AreFound}
 use Rattle.vt_log.specs.Whole.{IsOnDisk}
-use Rattle.vt_log.proofs.Lists.{at_slice}
+use Rattle.vt_log.proofs.Lists.{at_slice, no_region}
 use Rattle.vt_log.proofs.AreFound.{read_then, fields_there, fields_are, fields_of_all, Passes, passes_more, passes_all, stops, found_more, on_held, found_file, fields_more}
 use Rattle.vt_log.proofs.mounting.find_all.Goals as goal
 use Rattle.vt_log.proofs.mounting.find_all.Goals.{then-behind, else-behind}
-
-abbrev no_region : ArenaRegion
-no_region = record { part = 0; number = 0; region = record { start = 0; len = 0 } }
 
 there : (regions layout : List ArenaRegion) (i : ℕ) → regions ≡ layout → i < length layout → slice_get layout i ≡ Some (get_or regions i no_region)
 there regions layout i same within = slice_get-get_or layout i no_region within ∙ ap (λ (rs : List ArenaRegion). Some (get_or rs i no_region)) (sym same)

@@ -7,10 +7,8 @@ use Rattle.vt_arena.specs.declared.head.Found.{Found}
 use Rattle.vt_arena.specs.Arena.{fresh_arena}
 use Rattle.vt_log.specs.Mounting.{IsRoomFor}
 use Rattle.vt_log.proofs.AreFound.{room_there}
+use Rattle.vt_log.proofs.Lists.{no_region}
 use Rattle.vt_log.proofs.mounting.room_for.Goals as goal
-
-abbrev no_region : ArenaRegion
-no_region = record { part = 0; number = 0; region = record { start = 0; len = 0 } }
 
 abbrev no_found : Found
 no_found = record { head = record { version = 0; number = 0; sealed = false; clumps = 0; used = 0; chain = record { 0 = [] } }; selector = 0 }

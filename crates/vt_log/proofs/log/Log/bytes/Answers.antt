@@ -3,7 +3,8 @@ use Rattle.std.proofs.Common.{rules, true, List, refl, ap, subst, get_or}
 use Rattle.vt_part.specs.declared.layout.ArenaRegion.{ArenaRegion}
 use Rattle.vt_log.specs.Whole.{IsWhole}
 use Rattle.vt_log.proofs.Disks.{tells_set}
-use Rattle.vt_log.proofs.OnlyReads.{no_region, lent}
+use Rattle.vt_log.proofs.Lists.{no_region}
+use Rattle.vt_log.proofs.OnlyReads.{lent}
 use Rattle.vt_log.proofs.log.Log.bytes.Goals as goal
 
 pub invariant_of-self : goal.invariant_of-self

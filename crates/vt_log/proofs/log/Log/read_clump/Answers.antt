@@ -4,11 +4,12 @@ use Rattle.vt_arena.specs.declared.bad.ReadBad.TheVariants.{Damaged}
 use Rattle.vt_arena.specs.Layout.{IsContent, HasBlocks}
 use Rattle.vt_arena.specs.Reading.{HasHeader, clump_at, is_fault, ReadsAs}
 use Rattle.vt_base.specs.declared.why.FieldValue.TheVariants.{Number}
-use Rattle.vt_model.specs.declared.TheConstants.{HEAD_LEN}
+use Rattle.vt_model.specs.declared.TheConstants.{ARENA_HEAD_LEN}
 use Rattle.vt_part.specs.declared.layout.ArenaRegion.{ArenaRegion}
 use Rattle.vt_log.specs.Whole.{IsWhole}
 use Rattle.vt_log.proofs.Disks.{tells_set}
-use Rattle.vt_log.proofs.OnlyReads.{no_region, lent, none_read, read_whole, unchanged}
+use Rattle.vt_log.proofs.Lists.{no_region}
+use Rattle.vt_log.proofs.OnlyReads.{lent, none_read, read_whole, unchanged}
 use Rattle.vt_log.proofs.log.Log.read_clump.Goals as goal
 use Rattle.vt_log.proofs.log.Log.read_clump.Goals.{then-has_header, else-has_header}
 
@@ -48,7 +49,7 @@ returns g c =
           (subst (λ (x : ArenaRegion). HasHeader x.region.len c.args.place.offset) (it.r_one q at)
           (subst (λ (n : ℕ). HasHeader r.region.len n) offset has)) in (
             c.read.ensures.outside none_there
-                ∙ ap (λ (n : ℕ). Err (Damaged (Number HEAD_LEN) (Number n))) offset,
+                ∙ ap (λ (n : ℕ). Err (Damaged (Number ARENA_HEAD_LEN) (Number n))) offset,
             unchanged g.S.Scorer.score_of g.D.Disk r.part _
                 c.read.new.disk c.args.self.now _ it.only (c.read.ensures.untouched none_there),
             elim c.if-has_header.branch [

@@ -8,7 +8,8 @@ use Rattle.vt_part.specs.declared.layout.ArenaRegion.{ArenaRegion}
 use Rattle.vt_log.specs.Log.{LogState}
 use Rattle.vt_log.specs.Whole.{IsWhole}
 use Rattle.vt_log.proofs.Disks.{tells_set}
-use Rattle.vt_log.proofs.OnlyReads.{no_region, lent}
+use Rattle.vt_log.proofs.Lists.{no_region}
+use Rattle.vt_log.proofs.OnlyReads.{lent}
 use Rattle.vt_log.proofs.log.Log.read_entry.Goals as goal
 
 pub invariant_of-self : goal.invariant_of-self
