@@ -3,3 +3,4 @@ pub mod Taking
 pub mod Items
 pub mod Heard
 pub mod Inputs
+pub mod Links

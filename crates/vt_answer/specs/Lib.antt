@@ -5,3 +5,5 @@ pub mod Taking
 pub mod Asking
 pub mod Writing
 pub mod Sessions
+pub mod Clients
+pub mod Links

@@ -22,8 +22,8 @@ use vt_wire::{Reply, rule_text};
 /// One session's answers: the replies that wait to be written, and why the store failed first.
 #[derive(Drop)]
 pub struct Answering {
-    output: Output,
-    failure: Option<Why>,
+    pub(crate) output: Output,
+    pub(crate) failure: Option<Why>,
 }
 
 impl Model for Answering {

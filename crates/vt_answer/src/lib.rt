@@ -6,11 +6,14 @@
 
 mod answering;
 mod asking;
+mod client;
 mod output;
+mod serving;
 mod store;
 
 pub use answering::Answering;
 pub use asking::{Said, ask, reply};
+pub use client::Client;
 pub use output::Output;
 pub use store::Store;
 

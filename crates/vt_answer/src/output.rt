@@ -1,12 +1,13 @@
 //! Replies on their way out.
 
-ghost use Rattle.std.specs.Prelude.{◌≡◌, ◌+◌, ◌≤◌, [], ◌++◌, length, take, IsTrue, IfOk};
+ghost use Rattle.std.specs.Prelude.{◌≡◌, ◌≢◌, ◌+◌, ◌≤◌, [], ◌++◌, length, take, false, IsTrue, IfOk, OnErr};
 ghost use Rattle.vt_base.specs.Faults.{HasCause};
 ghost use Rattle.vt_session.specs.Turns.{server_line};
 ghost use Rattle.vt_wire.specs.Messages.{spelled, FitsReply};
 ghost use Rattle.vt_wire.specs.Views.{reply_of};
 ghost use Rattle.vt_answer.specs.Writing.{Writes};
 
+use crate::Client;
 use std::alloc::Global;
 use std::marker::Model;
 use vt_base::{Failed, MAX_BLOCK, NoMemory};
@@ -62,6 +63,32 @@ impl Output {
         sink.put(&self.buffer[..used])
     }
 
+    /// Writes all that waits to a client, if anything does.
+    pub fn flush_to<C: Client>(&mut self, client: &mut C) -> Result<(), Failed>
+        ensures written { IsTrue C.tells →
+            Writes result (C.written client.old) self.old (C.written client.new) self.new [] }
+        ensures empty { self.new ≡ [] }
+        ensures some { OnErr result (self.old ≢ []) }
+        ensures kept { IsTrue C.tells → (C.sent client.new ≡ C.sent client.old)
+            × (C.left client.new ≡ C.left client.old) }
+        ensures cause { HasCause result (C.write_faults client.old) (C.write_faults client.new) }
+        ensures read_faults { C.read_faults client.new ≡ C.read_faults client.old }
+    {
+        let used = self.used;
+        self.used = 0;
+        if used == 0 {
+            return Ok(());
+        }
+        client.put(&self.buffer[..used])
+    }
+
+    /// Whether there may be no room for a reply.
+    pub fn is_full(&self) -> bool
+        ensures { result ≡ false → length self.now + 57348 ≤ 131072 }
+    {
+        ROOM - self.used < MAX_REPLY
+    }
+
     /// Puts a reply behind what waits. What waits is written first where there is no room for it.
     pub fn add<K: Sink>(&mut self, sink: &mut K, tag: u8, reply: &Reply) -> Result<(), Failed>
         requires { FitsReply (reply_of reply.now) }
@@ -78,7 +105,7 @@ impl Output {
     }
 
     /// Puts a reply behind what waits.
-    fn push(&mut self, tag: u8, reply: &Reply)
+    pub fn push(&mut self, tag: u8, reply: &Reply)
         requires fits { FitsReply (reply_of reply.now) }
         requires room { length self.old + 57348 ≤ 131072 }
         ensures { self.new ≡ self.old ++ spelled tag (reply_of reply.now) }

@@ -1,0 +1,715 @@
+-- A session over a link, part by part, and as a whole.
+use Rattle.std.proofs.Common.{◌≡◌, ◌≢◌, ℕ, ◌+◌, ◌<◌, ◌≤◌, ◌⊎◌, inl, inr, List, [], ◌∷◌, ◌++◌, length, take, refl, sym, ◌∙◌, ap, subst, arith, append-nil, append_assoc, length-append, length-drop, length-take, Result, Ok, Err, Option, Some, None}
+use Rattle.std.specs.Prelude.{◌-◌, min, Bool, true, false, if◌then◌else◌, IsTrue, IfOk, IfSome}
+use Rattle.std.specs.List.{flat_map}
+use Rattle.std.specs.Option.{option_or}
+use Rattle.vt_base.specs.Bytes.{AreBytes, AreBytes-none, AreBytes-append}
+use Rattle.vt_base.specs.declared.why.Failed.{Failed}
+use Rattle.vt_base.specs.Protocol.{RMessage, TMessage, t_hello, t_goodbye, t_ask, r_hello, r_error}
+use Rattle.vt_model.specs.History.{History}
+use Rattle.vt_wire.specs.Lines.{line_of}
+use Rattle.vt_wire.specs.declared.line.Line.{Line}
+use Rattle.vt_wire.specs.declared.line.Line.TheVariants.{Whole, More, Bad}
+use Rattle.vt_wire.specs.Messages.{spelled}
+use Rattle.vt_wire.specs.Rules.{rule_words}
+use Rattle.vt_wire.specs.Views.{message_of}
+use Rattle.vt_session.specs.declared.Ended.{Ended}
+use Rattle.vt_session.specs.declared.Ended.TheVariants.{Goodbye, Closed, Cut, Malformed, Spent, ReadFault, WriteFault, NoMemory}
+use Rattle.vt_session.specs.declared.parsed.Next.{Next}
+use Rattle.vt_session.specs.declared.parsed.Next.TheVariants.{Message, Refused, End}
+use Rattle.vt_session.specs.Heard.{Item, settled, asked, end_of, Heard}
+use Rattle.vt_session.specs.Hearing.{going_on, over, MatchMessage, MatchNext}
+use Rattle.vt_session.specs.Talk.{EndsInLast, HearsAll, BreaksOff, Carries, Took, spent_len}
+use Rattle.vt_session.specs.Talking.{Stage, at_line, behind_line, HearsStage, IsHeardStage, stage_with, line_heard, fed_stage, fed, Talking, needs_more, room, unheard_len, ended_at, IsOpen, EndsAnyhow, Passes, PassesItem, PassesEnd}
+use Rattle.vt_session.specs.Turns.{Turn, items_of, pieces_of, output_of, spelled_turn, server_line, causes_of, first_why}
+use Rattle.vt_session.proofs.Pieces.{turns_cut}
+use Rattle.vt_session.proofs.Talking.{fed_heard, none_more}
+use Rattle.vt_answer.specs.Clients.{tag_of, AreReplies, IsAnswered}
+use Rattle.vt_answer.specs.Links.{Advances, Comes, Goes, SaysNext, EndsSo, EndsHere, TookAll, AllSaid, ReadCause, left_to_do, SaysOver, AnswersLink}
+use Rattle.vt_answer.specs.Members.{StoreOf}
+use Rattle.vt_answer.specs.Sessions.{Spoken, AnswersItems, AnswersNext}
+use Rattle.vt_answer.specs.Taking.{Takes}
+use Rattle.vt_answer.specs.Writing.{Writes}
+use Rattle.vt_answer.proofs.Items.{no_item, more_items}
+use Rattle.vt_answer.proofs.Written.{waits_more, writes_more}
+
+-- ---- replies
+
+replies_more : (items more : List Item) (said later : List ℕ) → AreReplies items said
+    → AreReplies more later → AreReplies (items ++ more) (said ++ later)
+replies_more [] more said later x y = subst (λ l. AreReplies more (l ++ later)) (sym x) y
+replies_more (item ∷ items) more said later x y = (
+  x.0,
+  x.1 ++ later,
+  ap (λ l. l ++ later) x.2 ∙ append_assoc (spelled (tag_of item) x.0) x.1 later,
+  replies_more items more x.1 later x.3 y,
+)
+
+-- what is said of bytes that went out and wait, where no write failed
+abbrev pub Wrote : Type 0 → (written waiting written' waiting' : List ℕ) → List ℕ → Type 0
+Wrote P written waiting written' waiting' said =
+    P → Writes (Ok (tt {0})) written waiting written' waiting' said
+
+module _ {S : Type 0} (T : StoreOf S) where
+  -- ---- one part behind another
+
+  pub none_advances : {P : Type 0} (s : S) (spoken : Spoken) (written : List ℕ) (stage : Stage)
+      → Advances T s s spoken spoken (Wrote P written spoken.waiting written spoken.waiting)
+      stage stage []
+  none_advances s spoken written stage = record {
+    items = [];
+    hears = λ more later ended are it. it;
+    answers = λ h hold. no_item T s h spoken.failure _ hold
+        (λ p. waits_more (tt {0}) written spoken.waiting spoken.waiting []
+        (sym (append-nil spoken.waiting)));
+    said = [];
+    replies = refl;
+    written = λ p. waits_more (tt {0}) written spoken.waiting spoken.waiting []
+        (sym (append-nil spoken.waiting));
+  }
+
+  pub advances_more : {V P : Type 0} (r : Result V Failed) (s s' s'' : S) (old mid new : Spoken)
+      (written written' written'' : List ℕ) (stage stage' stage'' : Stage) (came more : List ℕ)
+      → AreBytes more
+      → Advances T s s' old mid (Wrote P written old.waiting written' mid.waiting) stage stage' came
+      → Advances T s' s'' mid new
+      (λ said. P → Writes r written' mid.waiting written'' new.waiting said) stage' stage'' more
+      → Advances T s s'' old new
+      (λ said. P → Writes r written old.waiting written'' new.waiting said) stage stage''
+      (came ++ more)
+  advances_more {P = P} r s s' s'' old mid new written written' written''
+      stage stage' stage'' came more bytes x y = record {
+        items = x.items ++ y.items;
+        hears = λ behind later ended are heard.
+            let z = x.hears (more ++ behind) (y.items ++ later) ended
+            (AreBytes-append more behind bytes are) (y.hears behind later ended are heard) in
+            subst (λ b. HearsStage (stage_with stage b) ((x.items ++ y.items) ++ later) ended)
+            (sym (append_assoc came more behind))
+            (subst (λ i. HearsStage (stage_with stage (came ++ (more ++ behind))) i ended)
+            (sym (append_assoc x.items y.items later)) z);
+        answers = λ h hold.
+            let before = x.answers h hold in
+            more_items T r (tt {0}) s s' s'' h old.failure mid.failure new.failure
+            written old.waiting written' mid.waiting written'' new.waiting x.items y.items
+            before (y.answers before.takes.new before.takes.holds_it);
+        said = x.said ++ y.said;
+        replies = replies_more x.items y.items x.said y.said x.replies y.replies;
+        written = λ p. writes_more r (tt {0}) written old.waiting written' mid.waiting x.said
+            written'' new.waiting y.said (x.written p) (y.written p);
+      }
+
+  -- bytes that came in
+  pub comes_advances : {P Q : Type 0} {V : Type 0} (r : Result V Failed) (s : S) (old new : Spoken)
+      (written written' sent sent' left left' : List ℕ) (talking talking' : Talking)
+      → new.failure ≡ old.failure → (x : Comes P sent sent' left left' talking talking')
+      → (Q → Writes r written old.waiting written' new.waiting [])
+      → Advances T s s old new
+      (λ said. Q → Writes r written old.waiting written' new.waiting said)
+      talking.stage talking'.stage x.came
+  comes_advances {Q = Q} r s old new written written' sent sent' left left' talking talking'
+      failure x wrote = record {
+        items = [];
+        hears = λ more later ended are heard. elim x.new_is [
+          | inl same ↦
+              subst (λ b. HearsStage (stage_with talking.stage (b ++ more)) later ended)
+              (sym same.0)
+              (subst (λ (t : Talking). HearsStage (stage_with t.stage more) later ended) same.1
+              heard)
+          | inr is ↦ fed_heard talking.stage x.came more later ended
+              (subst (λ (t : Talking). HearsStage (stage_with t.stage more) later ended) is heard)
+        ];
+        answers = λ h hold.
+            subst (λ f. AnswersItems T s s h old.failure f
+            (λ said. Q → Writes r written old.waiting written' new.waiting said) [])
+            (sym failure) (no_item T s h old.failure _ hold wrote);
+        said = [];
+        replies = refl;
+        written = wrote;
+      }
+
+  -- nothing was heard
+  pub nothing_said : {V P : Type 0} (r : Result V Failed) (s : S) (old new : Spoken)
+      (written written' : List ℕ) (stage : Stage) → new.failure ≡ old.failure
+      → (P → Writes r written old.waiting written' new.waiting [])
+      → Advances T s s old new
+      (λ said. P → Writes r written old.waiting written' new.waiting said) stage stage []
+  nothing_said {P = P} r s old new written written' stage failure wrote = record {
+    items = [];
+    hears = λ more later ended are it. it;
+    answers = λ h hold. subst (λ f. AnswersItems T s s h old.failure f
+        (λ said. P → Writes r written old.waiting written' new.waiting said) []) (sym failure)
+        (no_item T s h old.failure _ hold wrote);
+    said = [];
+    replies = refl;
+    written = wrote;
+  }
+
+  -- ---- what comes next
+
+  module _ (s s' : S) (old new : Spoken) (stage stage' : Stage) where
+    abbrev Waits : List ℕ → Type 0
+    Waits said = new.waiting ≡ old.waiting ++ said
+
+    abbrev SaysIt : Type 0
+    SaysIt = Advances T s s' old new Waits stage stage' []
+
+    item_advances : (item : Item) → PassesItem stage stage' item
+        → ((h : History) → T.holds s h
+        → AnswersItems T s s' h old.failure new.failure Waits (item ∷ []))
+        → (reply : RMessage) × (new.waiting ≡ old.waiting ++ spelled (tag_of item) reply) → SaysIt
+    item_advances item passes answers says = record {
+      items = item ∷ [];
+      hears = λ more later ended are heard. passes.1 more later ended heard;
+      answers = answers;
+      said = spelled (tag_of item) says.0;
+      replies = (says.0, [], sym (append-nil (spelled (tag_of item) says.0)), refl);
+      written = says.1;
+    }
+
+    message_advances : (tag : ℕ) (m : TMessage) → MatchMessage tag m (PassesItem stage stage')
+        → ((h : History) → T.holds s h → MatchMessage tag m
+        (λ item. AnswersItems T s s' h old.failure new.failure Waits (item ∷ [])))
+        → MatchMessage tag m (λ item. (reply : RMessage)
+        × (new.waiting ≡ old.waiting ++ spelled (tag_of item) reply)) → SaysIt
+    message_advances tag (t_hello version) passes answers says =
+        item_advances _ passes answers says
+    message_advances tag t_goodbye passes answers says = absurd passes
+    message_advances tag (t_ask m) passes answers says = item_advances _ passes answers says
+
+    pub next_advances : (next : Next) → Passes next stage stage'
+        → AnswersNext T s s' old new Waits next → SaysNext next old.waiting new.waiting → SaysIt
+    next_advances (Message tag request) passes answers says =
+        message_advances tag (message_of request) passes answers says
+    next_advances (Refused rule tag) passes answers says = item_advances _ passes answers says
+    next_advances (End ended) passes answers says = record {
+      items = [];
+      hears = λ more later end are heard.
+          let at_end = subst (λ z. HearsStage (stage_with z more) later end) passes.0 heard in
+          subst (λ i. HearsStage (stage_with stage more) i end) (sym at_end.0)
+          (subst (HearsStage (stage_with stage more) []) (sym at_end.1) (passes.1 more are));
+      answers = answers;
+      said = [];
+      replies = refl;
+      written = says ∙ sym (append-nil old.waiting);
+    }
+
+  -- what waits, once what waited went out
+  pub advances_out : {P : Type 0} (s s' : S) (old mid new : Spoken) (written written' : List ℕ)
+      (stage stage' : Stage) (came : List ℕ)
+      → (P → Writes (Ok (tt {0})) written old.waiting written' mid.waiting [])
+      → mid.failure ≡ old.failure
+      → Advances T s s' mid new (λ said. new.waiting ≡ mid.waiting ++ said) stage stage' came
+      → Advances T s s' old new
+      (λ said. P
+      → Writes {T = Option Ended} (Ok None) written old.waiting written' new.waiting said)
+      stage stage' came
+  advances_out {P = P} s s' old mid new written written' stage stage' came wrote failure x =
+      let so : (said : List ℕ) → new.waiting ≡ mid.waiting ++ said
+      → P → Writes {T = Option Ended} (Ok None) written old.waiting written' new.waiting said =
+      λ said waits p. let w = wrote p in (
+        w.0,
+        w.1,
+        ap (λ l. w.0 ++ l) waits ∙ sym (append_assoc w.0 mid.waiting said)
+            ∙ ap (λ l. l ++ said) (w.2 ∙ append-nil old.waiting),
+      ) in record {
+        items = x.items;
+        hears = x.hears;
+        answers = λ h hold. let a = x.answers h hold in record {
+          turns = a.turns;
+          items_are = a.items_are;
+          takes = a.takes;
+          written = so _ a.written;
+          failure_is = a.failure_is
+              ∙ ap (λ f. option_or f (first_why (causes_of a.turns))) failure;
+        };
+        said = x.said;
+        replies = x.replies;
+        written = so _ x.written;
+      }
+
+-- ---- a step
+
+module _ {S V P : Type 0} (T : StoreOf S) (r : Result V Failed) where
+  -- nothing came
+  pub none_came : (s s' : S) (old new : Spoken) (written written' sent sent' left left' : List ℕ)
+      (talking talking' : Talking) → (P → (sent' ≡ sent) × (left' ≡ left))
+      → talking'.taken ≡ talking.taken
+      → Advances T s s' old new
+      (λ said. P → Writes r written old.waiting written' new.waiting said)
+      talking.stage talking'.stage []
+      → Goes T P r s s' old new written written' sent sent' left left' talking talking'
+  none_came s s' old new written written' sent sent' left left' talking talking' kept taken x =
+      record {
+        came = [];
+        bytes = AreBytes-none;
+        sent_is = λ p. (kept p).0 ∙ sym (append-nil sent);
+        left_is = λ p. sym (kept p).1;
+        taken = omega (arith, taken);
+        advances = x;
+      }
+
+  -- what waited went out
+  pub went_out : (s : S) (old new : Spoken) (written written' sent sent' left left' : List ℕ)
+      (talking : Talking) → new.failure ≡ old.failure → (P → (sent' ≡ sent) × (left' ≡ left))
+      → (P → Writes r written old.waiting written' new.waiting [])
+      → Goes T P r s s old new written written' sent sent' left left' talking talking
+  went_out s old new written written' sent sent' left left' talking failure kept wrote =
+      none_came s s old new written written' sent sent' left left' talking talking kept refl
+      (nothing_said T r s old new written written' talking.stage failure wrote)
+
+  came_taken : (sent sent' left left' : List ℕ) (talking talking' : Talking)
+      (x : Comes P sent sent' left left' talking talking')
+      → talking'.taken ≡ talking.taken + length x.came
+  came_taken sent sent' left left' talking talking' x = elim x.new_is [
+    | inl same ↦ omega (arith, ap length same.0, ap (λ (t : Talking). t.taken) same.1)
+    | inr is ↦ ap (λ (t : Talking). t.taken) is
+  ]
+
+  -- what waited went out, and then bytes came
+  pub some_came : (s : S) (old new : Spoken)
+      (written written' sent mid sent' left rest left' : List ℕ) (talking talking' : Talking)
+      → new.failure ≡ old.failure → (P → (mid ≡ sent) × (rest ≡ left))
+      → Comes P mid sent' rest left' talking talking'
+      → (P → Writes r written old.waiting written' new.waiting [])
+      → Goes T P r s s old new written written' sent sent' left left' talking talking'
+  some_came s old new written written' sent mid sent' left rest left' talking talking'
+      failure kept x wrote = record {
+        came = x.came;
+        bytes = x.bytes;
+        sent_is = λ p. x.sent_is p ∙ ap (λ l. l ++ x.came) (kept p).0;
+        left_is = λ p. sym (kept p).1 ∙ x.left_is p;
+        taken = came_taken mid sent' rest left' talking talking' x;
+        advances = comes_advances T r s old new written written' mid sent' rest left' talking
+            talking' failure x wrote;
+      }
+
+-- what went out behind what waited
+pub all_out : (sent sent' written waiting written' waiting' : List ℕ) → sent' ≡ sent
+    → waiting' ≡ [] → Writes (Ok (tt {0})) written waiting written' waiting' []
+    → IsAnswered sent (written ++ waiting) → IsAnswered sent' written'
+all_out sent sent' written waiting written' waiting' same none w x =
+    let all : w.0 ++ [] ≡ waiting ++ [] = subst (λ l. w.0 ++ l ≡ waiting ++ []) none w.2 in
+    let out : written' ≡ written ++ waiting =
+    w.1 ∙ ap (λ l. written ++ l) (sym (append-nil w.0) ∙ all ∙ append-nil waiting) in
+    subst (λ b. IsAnswered b written') (sym same)
+    (subst (IsAnswered sent) (sym out) x)
+
+-- ---- where it ends
+
+ends_over : (ended : Ended) (stage : Stage) (taken : ℕ) → EndsAnyhow ended
+    → stage ≡ behind_line (over ended) → EndsSo ended stage taken
+ends_over Goodbye stage taken ends is =
+    subst (λ s. HearsStage s [] Goodbye) (sym is) (refl, refl)
+ends_over (Malformed place) stage taken ends is =
+    subst (λ s. HearsStage s [] (Malformed place)) (sym is) (refl, refl)
+ends_over Closed stage taken ends is = absurd ends
+ends_over Cut stage taken ends is = absurd ends
+ends_over Spent stage taken ends is = absurd ends
+ends_over ReadFault stage taken ends is = absurd ends
+ends_over WriteFault stage taken ends is = absurd ends
+ends_over NoMemory stage taken ends is = absurd ends
+
+no_end : (result : Option Ended) (t : Talking) → result ≡ None → EndsHere (Ok result) t
+no_end result t is = subst (λ r. EndsHere (Ok r) t) (sym is) tt
+
+message_ends : (tag : ℕ) (m : TMessage) (result : Option Ended) (t : Talking)
+    → MatchMessage tag m (λ item. result ≡ None) → EndsHere (Ok result) t
+message_ends tag (t_hello version) result t is = no_end result t is
+message_ends tag t_goodbye result t is = absurd is
+message_ends tag (t_ask m) result t is = no_end result t is
+
+pub next_ends : (next : Next) (result : Option Ended) (stage : Stage) (t : Talking)
+    → Passes next stage t.stage
+    → MatchNext next (λ item. result ≡ None) (λ ended. result ≡ Some ended)
+    → ((ended : Ended) → next ≡ End ended → EndsAnyhow ended) → EndsHere (Ok result) t
+next_ends (Message tag request) result stage t passes is ends =
+    message_ends tag (message_of request) result t is
+next_ends (Refused rule tag) result stage t passes is ends = no_end result t is
+next_ends (End ended) result stage t passes is ends =
+    subst (λ r. EndsHere (Ok r) t) (sym is)
+    (ends_over ended t.stage t.taken (ends ended refl) passes.0)
+
+-- what ends anyhow is neither an end of the input nor a failed read
+module _ (left waiting : List ℕ) where
+  abbrev IsNoneOfTheInput : Result (Option Ended) Failed → Type 0
+  IsNoneOfTheInput result = TookAll result left × AllSaid result waiting
+
+  anyhow_none : (ended : Ended) → EndsAnyhow ended → IsNoneOfTheInput (Ok (Some ended))
+  anyhow_none Goodbye ends = (tt, tt)
+  anyhow_none (Malformed place) ends = (tt, tt)
+  anyhow_none Closed ends = absurd ends
+  anyhow_none Cut ends = absurd ends
+  anyhow_none Spent ends = absurd ends
+  anyhow_none ReadFault ends = absurd ends
+  anyhow_none WriteFault ends = absurd ends
+  anyhow_none NoMemory ends = absurd ends
+
+  pub none_of_the_input : (result : Result (Option Ended) Failed)
+      → IfOk result (λ ended. IfSome ended EndsAnyhow) → IsNoneOfTheInput result
+  none_of_the_input (Ok None) ends = (tt, tt)
+  none_of_the_input (Ok (Some ended)) ends = anyhow_none ended ends
+  none_of_the_input (Err failed) ends = (tt, tt)
+
+-- a session that still has something to say has met no failed read
+pub no_read_fault : (ended : Ended) (waiting : List ℕ) (old new : ℕ) → ReadCause ended old new
+    → AllSaid (Ok (Some ended)) waiting → (waiting ≡ [] → ⊥) → new ≡ old
+no_read_fault Goodbye waiting old new same said some = same
+no_read_fault (Malformed place) waiting old new same said some = same
+no_read_fault Closed waiting old new same said some = same
+no_read_fault Cut waiting old new same said some = same
+no_read_fault Spent waiting old new same said some = same
+no_read_fault ReadFault waiting old new rose said some = absurd (some said)
+no_read_fault WriteFault waiting old new same said some = same
+no_read_fault NoMemory waiting old new same said some = same
+
+-- ---- where more comes
+
+most_left : (b : Bool) (x y taken : ℕ) → 0 < (if b then min x (y - taken) else 0)
+    → (if b then min x (y - taken) else 0) + taken ≤ y
+most_left true x y taken some = omega arith
+most_left false x y taken some = absurd (omega arith)
+
+pub room_most : (t : Talking) → 0 < room t → room t + t.taken ≤ spent_len
+room_most t some = most_left (needs_more t.stage) _ spent_len t.taken some
+
+below : (a b : ℕ) → 0 < a → a ≤ b → 0 < b
+below a b some fits = omega arith
+
+at_most : (r n taken y : ℕ) → r + taken ≤ y → n ≤ r → n + taken ≤ y
+at_most r n taken y both fits = omega arith
+
+left_if : (b : Bool) (x y taken : ℕ) → 0 < (if b then min x (y - taken) else 0) → taken < y
+left_if true x y taken some = omega arith
+left_if false x y taken some = absurd (omega arith)
+
+pub some_left : (t : Talking) → 0 < room t → t.taken < spent_len
+some_left t some = left_if (needs_more t.stage) _ spent_len t.taken some
+
+ends_so : (rest : List ℕ) (stage : Stage) (taken : ℕ) → HearsStage stage [] (end_of rest)
+    → taken < spent_len → EndsSo (end_of rest) stage taken
+ends_so [] stage taken heard less = (heard, less)
+ends_so (b ∷ rest) stage taken heard less = (heard, less)
+
+at_stage : (stage : Stage) (taken : ℕ) → IsTrue (needs_more stage)
+    → HearsStage stage [] (ended_at stage) → taken < spent_len → EndsSo (ended_at stage) stage taken
+at_stage (at_line bytes) taken needs heard less = ends_so bytes (at_line bytes) taken heard less
+at_stage (behind_line (going_on left)) taken needs heard less =
+    ends_so left.bytes (behind_line (going_on left)) taken heard less
+at_stage (behind_line (over ended)) taken needs heard less = absurd (cc)
+
+pub ends_at : (t : Talking) → IsTrue (needs_more t.stage)
+    → HearsStage t.stage [] (ended_at t.stage) → t.taken < spent_len
+    → EndsSo (ended_at t.stage) t.stage t.taken
+ends_at t needs heard less = at_stage t.stage t.taken needs heard less
+
+heard_len : (input : List ℕ) (line : Line) → unheard_len (line_heard input line) ≤ length input
+heard_len input (Whole len offered) = omega (arith, length-drop len input)
+heard_len input More = omega arith
+heard_len input (Bad place) = omega arith
+
+fed_len : (stage : Stage) (piece : List ℕ)
+    → unheard_len (fed_stage stage piece) ≤ unheard_len stage + length piece
+fed_len (at_line bytes) piece = omega (
+  arith,
+  heard_len (bytes ++ piece) (line_of (bytes ++ piece)),
+  length-append bytes piece,
+)
+fed_len (behind_line (going_on left)) piece = omega (arith, length-append left.bytes piece)
+fed_len (behind_line (over ended)) piece = omega arith
+
+-- what is left to do gets less by what comes
+pub fed_less : (t : Talking) (piece : List ℕ) → 0 < length piece
+    → t.taken + length piece ≤ spent_len → left_to_do (fed t piece) < left_to_do t
+fed_less t piece some fits = omega (arith, fed_len t.stage piece, some, fits)
+
+-- so less is left to do
+pub came_less : (t t' : Talking) (came : List ℕ) → t' ≡ fed t came → 0 < length came
+    → length came ≤ room t → left_to_do t' < left_to_do t
+came_less t t' came is some fits =
+    let most : length came + t.taken ≤ spent_len = at_most (room t) (length came) t.taken spent_len
+    (room_most t (below (length came) (room t) some fits)) fits in
+    subst (λ z. left_to_do z < left_to_do t) (sym is)
+    (fed_less t came some (omega (arith, most)))
+
+-- ---- as a whole
+
+-- a session so far, from its first byte on
+abbrev pub first : Spoken
+first = record { waiting = server_line; failure = None }
+
+module _ {S : Type 0} (T : StoreOf S) (s s' : S) (new : Spoken) (written sent : List ℕ)
+    (stage : Stage) where
+  abbrev SoFar : (List ℕ → Type 0) → Type 0
+  SoFar writes = Advances T s s' first new writes (at_line []) stage sent
+
+  heard_then : (writes : List ℕ → Type 0) (x : SoFar writes) (later : List Item) (ended : Ended)
+      → HearsStage stage later ended → Heard sent (x.items ++ later) ended
+  heard_then writes x later ended h =
+      subst (λ b. Heard b (x.items ++ later) ended) (append-nil sent)
+      (x.hears [] later ended (λ i. omega arith)
+      (subst (λ t. HearsStage t later ended) (sym (none_more stage)) h))
+
+  heard_here : (writes : List ℕ → Type 0) (x : SoFar writes) (ended : Ended)
+      → HearsStage stage [] ended → Heard sent x.items ended
+  heard_here writes x ended h =
+      subst (λ i. Heard sent i ended) (append-nil x.items) (heard_then writes x [] ended h)
+
+  -- what came was answered, once what waits went out
+  pub all_answered : {P : Type 0} → SoFar (Wrote P [] server_line written new.waiting)
+      → IsOpen stage → P → IsAnswered sent (written ++ new.waiting)
+  all_answered x unfinished p =
+      let w = x.written p in
+      let out : written ++ new.waiting ≡ server_line ++ x.said =
+      ap (λ l. l ++ new.waiting) w.1 ∙ w.2 in
+      elim unfinished [
+        | inl closed ↦ record {
+          items = x.items;
+          ended = Closed;
+          said = x.said;
+          heard = heard_here _ x Closed closed;
+          goes_on = inl refl;
+          replies = x.replies;
+          written_is = out;
+        }
+        | inr cut ↦ record {
+          items = x.items;
+          ended = Cut;
+          said = x.said;
+          heard = heard_here _ x Cut cut;
+          goes_on = inr refl;
+          replies = x.replies;
+          written_is = out;
+        }
+      ]
+
+  -- ---- to its end
+
+  module _ (h : History) (hold : T.holds s h) where
+    breaks : (turns : List Turn)
+        → ((e : Ended) → HearsStage stage [] e → HearsAll sent written turns e)
+        → IsOpen stage → BreaksOff sent written turns
+    breaks turns all unfinished = elim unfinished [
+      | inl closed ↦ inl (all Closed closed)
+      | inr cut ↦ inr (all Cut cut)
+    ]
+
+    carries : (turns : List Turn) (ended : Ended)
+        → ((e : Ended) → HearsStage stage [] e → HearsAll sent written turns e)
+        → EndsSo ended stage (length sent) → SaysOver ended sent turns [] written
+    carries turns Goodbye all ends = (refl, all Goodbye ends)
+    carries turns (Malformed place) all ends = (refl, all (Malformed place) ends)
+    carries turns Closed all ends = (refl, (all Closed ends.0, ends.1))
+    carries turns Cut all ends = (refl, (all Cut ends.0, ends.1))
+    carries turns Spent all ends = (refl, (breaks turns all ends.0, ends.1))
+    carries turns ReadFault all ends = (refl, (breaks turns all ends.0, ends.1))
+    carries turns WriteFault all ends = absurd ends
+    carries turns NoMemory all ends = absurd ends
+
+    pub to_its_end : {P : Type 0} (ended : Ended) → SoFar (Wrote P [] server_line written [])
+        → EndsSo ended stage (length sent) → P
+        → AnswersLink T s s' h new.failure sent written ended
+    to_its_end ended x ends p =
+        let a = x.answers h hold in
+        let w = a.written p in
+        let is : written ≡ output_of a.turns = w.1 ∙ sym (append-nil w.0) ∙ w.2 in
+        record {
+          turns = a.turns;
+          unsaid = [];
+          says = carries a.turns ended (λ e heard. (
+            subst (λ i. Heard sent i e) (sym a.items_are) (heard_here _ x e heard),
+            is,
+          )) ends;
+          takes = subst (Takes T s s' h) (sym (append-nil a.turns)) a.takes;
+          failure_is = a.failure_is
+              ∙ ap (λ (t : List Turn). first_why (causes_of t)) (sym (append-nil a.turns));
+        }
+
+    -- ---- to a write that failed
+
+    pub to_a_fault : {P : Type 0} (failed : Failed)
+        → SoFar (λ said. P
+        → Writes {T = Unit {0}} (Err failed) [] server_line written new.waiting said)
+        → IsHeardStage stage → P
+        → AnswersLink T s s' h new.failure sent written WriteFault
+    to_a_fault failed x left p =
+        let a = x.answers h hold in
+        let w = a.written p in
+        let cut = turns_cut a.turns w.0 w.2.0 (sym w.2.1) in
+        let later = left.0 in
+        let items : x.items ++ later ≡ items_of (cut.0 ++ cut.1) ++ later =
+        ap (λ (i : List Item). i ++ later) (sym a.items_are ∙ ap items_of cut.2) in
+        record {
+          turns = cut.0;
+          unsaid = cut.1;
+          says = (
+            later,
+            left.1,
+            subst (λ i. Heard sent i left.1) items (heard_then _ x later left.1 left.2),
+            subst (EndsInLast (pieces_of cut.0)) (sym w.1) cut.3,
+          );
+          takes = subst (Takes T s s' h) cut.2 a.takes;
+          failure_is = a.failure_is ∙ ap (λ (t : List Turn). first_why (causes_of t)) cut.2;
+        }
+
+-- ---- a session that goes on
+
+-- So much came, and so much of it was answered, from the session's first byte on.
+pub record InSession {S : Type 0} (T : StoreOf S) (s s' : S) (new : Spoken) (P : Type 0)
+    (left left' sent written : List ℕ) (talking : Talking) : Type 0 where
+  pub came : List ℕ
+  pub so_far : Advances T s s' first new (Wrote P [] server_line written new.waiting) (at_line [])
+      talking.stage came
+  pub taken : talking.taken ≡ length came
+  pub sent_is : P → sent ≡ came
+  pub left_is : P → left ≡ came ++ left'
+
+module _ {S : Type 0} (T : StoreOf S) where
+  pub session_begins : {P : Type 0} (s : S) (left sent written : List ℕ)
+      → (P → (sent ≡ []) × (written ≡ []))
+      → InSession T s s first P left left sent written (record { stage = at_line []; taken = 0 })
+  session_begins {P = P} s left sent written begins =
+      let wrote : Wrote P [] server_line written server_line [] =
+      λ p. ([], (begins p).1, sym (append-nil server_line)) in record {
+        came = [];
+        so_far = record {
+          items = [];
+          hears = λ more later ended are it. it;
+          answers = λ h hold. no_item T s h None _ hold wrote;
+          said = [];
+          replies = refl;
+          written = wrote;
+        };
+        taken = refl;
+        sent_is = λ p. (begins p).0;
+        left_is = λ p. refl;
+      }
+
+  module _ {P : Type 0} (s s' : S) (new : Spoken) (left left' sent written : List ℕ)
+      (talking : Talking) (x : InSession T s s' new P left left' sent written talking) where
+    -- what came was answered, once what waits went out
+    pub session_answered : P → IsOpen talking.stage → IsAnswered sent (written ++ new.waiting)
+    session_answered p unfinished =
+        subst (λ b. IsAnswered b (written ++ new.waiting)) (sym (x.sent_is p))
+        (all_answered T s s' new written x.came talking.stage {P = P} x.so_far unfinished p)
+
+  module _ {P V : Type 0} (s s' s'' : S) (mid new : Spoken)
+      (left left' left'' sent sent' written written' : List ℕ) (talking talking' : Talking)
+      (x : InSession T s s' mid P left left' sent written talking) where
+    abbrev Going : Result V Failed → Type 0
+    Going r = Goes T P r s' s'' mid new written written' sent sent' left' left'' talking talking'
+
+    sent_now : (r : Result V Failed) (g : Going r) → P → sent' ≡ x.came ++ g.came
+    sent_now r g p = g.sent_is p ∙ ap (λ l. l ++ g.came) (x.sent_is p)
+
+    left_now : (r : Result V Failed) (g : Going r) → P → left ≡ (x.came ++ g.came) ++ left''
+    left_now r g p =
+        x.left_is p ∙ ap (λ l. x.came ++ l) (g.left_is p) ∙ sym (append_assoc x.came g.came left'')
+
+    -- a step that went well
+    pub session_on : (done : V) → Going (Ok done)
+        → InSession T s s'' new P left left'' sent' written' talking'
+    session_on done g = record {
+      came = x.came ++ g.came;
+      so_far = advances_more T {V = V} {P = P} (Ok done) s s' s'' first mid new [] written written'
+          (at_line []) talking.stage talking'.stage x.came g.came g.bytes x.so_far g.advances;
+      taken = g.taken ∙ ap (λ n. n + length g.came) x.taken ∙ sym (length-append x.came g.came);
+      sent_is = sent_now (Ok done) g;
+      left_is = left_now (Ok done) g;
+    }
+
+    -- one in which a write failed
+    pub session_fails : (failed : Failed) → Going (Err failed) → IsHeardStage talking'.stage
+        → (h : History) → T.holds s h → P
+        → AnswersLink T s s'' h new.failure sent' written' WriteFault
+    session_fails failed g heard h hold p =
+        subst (λ b. AnswersLink T s s'' h new.failure b written' WriteFault)
+        (sym (sent_now (Err failed) g p))
+        (to_a_fault T s s'' new written' (x.came ++ g.came) talking'.stage h hold {P = P} failed
+        (advances_more T {V = V} {P = P} (Err failed) s s' s'' first mid new [] written written'
+        (at_line []) talking.stage talking'.stage x.came g.came g.bytes x.so_far g.advances)
+        heard p)
+
+    pub took_fails : (failed : Failed) → Going (Err failed) → P → Took left sent' left'' WriteFault
+    took_fails failed g p = record {
+      parts = left_now (Err failed) g p
+          ∙ ap (λ l. l ++ left'') (sym (sent_now (Err failed) g p));
+      closed = λ e. absurd (cc);
+      cut = λ e. absurd (cc);
+    }
+
+  -- its end, with nothing left to write
+  pub session_ends : {P : Type 0} (s s' : S) (new : Spoken) (left left' sent written : List ℕ)
+      (talking : Talking) (ended : Ended)
+      (x : InSession T s s' new P left left' sent written talking)
+      → new.waiting ≡ [] → EndsSo ended talking.stage talking.taken
+      → (h : History) → T.holds s h → P → AnswersLink T s s' h new.failure sent written ended
+  session_ends {P = P} s s' new left left' sent written talking ended x none ends h hold p =
+      subst (λ b. AnswersLink T s s' h new.failure b written ended) (sym (x.sent_is p))
+      (to_its_end T s s' new written x.came talking.stage h hold {P = P} ended
+      (subst (λ w. Advances T s s' first new (Wrote P [] server_line written w) (at_line [])
+      talking.stage x.came) none x.so_far)
+      (subst (EndsSo ended talking.stage) x.taken ends) p)
+
+module _ {S : Type 0} (T : StoreOf S) where
+  -- what waits goes out at the end, or the write of it fails
+  module _ {P : Type 0} (s s' : S) (old new : Spoken)
+      (left left' left'' sent sent' written written' : List ℕ) (talking : Talking)
+      (x : InSession T s s' old P left left' sent written talking)
+      (same : new.failure ≡ old.failure) (kept : P → (sent' ≡ sent) × (left'' ≡ left')) where
+    out : {V : Type 0} (r : Result V Failed)
+        → (P → Writes r written old.waiting written' new.waiting [])
+        → Goes T P r s' s' old new written written' sent sent' left' left'' talking talking
+    out {V} r wrote = went_out {V = V} {P = P} T r s' old new written written' sent sent' left'
+        left'' talking same kept wrote
+
+    pub out_ends : {V : Type 0} (done : V) (ended : Ended)
+        → (P → Writes (Ok done) written old.waiting written' new.waiting [])
+        → new.waiting ≡ [] → EndsSo ended talking.stage talking.taken
+        → (h : History) → T.holds s h → P → AnswersLink T s s' h new.failure sent' written' ended
+    out_ends {V} done ended wrote none ends =
+        session_ends T {P = P} s s' new left left'' sent' written' talking ended
+        (session_on T {P = P} {V = V} s s' s' old new left left' left'' sent sent' written written'
+        talking talking x done (out (Ok done) wrote)) none ends
+
+    pub out_fails : (failed : Failed)
+        → (P → Writes {T = Unit {0}} (Err failed) written old.waiting written' new.waiting [])
+        → IsHeardStage talking.stage
+        → (h : History) → T.holds s h → P
+        → AnswersLink T s s' h new.failure sent' written' WriteFault
+    out_fails failed wrote heard =
+        session_fails T {P = P} {V = Unit {0}} s s' s' old new left left' left'' sent sent' written
+        written' talking talking x failed (out {V = Unit {0}} (Err failed) wrote) heard
+
+took_all : (ended : Ended) (left : List ℕ) → TookAll (Ok (Some ended)) left
+    → ((ended ≡ Closed) → left ≡ []) × ((ended ≡ Cut) → left ≡ [])
+took_all Goodbye left it = (λ e. absurd (cc), λ e. absurd (cc))
+took_all Closed left it = (λ e. it, λ e. absurd (cc))
+took_all Cut left it = (λ e. absurd (cc), λ e. it)
+took_all (Malformed place) left it = (λ e. absurd (cc), λ e. absurd (cc))
+took_all Spent left it = (λ e. absurd (cc), λ e. absurd (cc))
+took_all ReadFault left it = (λ e. absurd (cc), λ e. absurd (cc))
+took_all WriteFault left it = (λ e. absurd (cc), λ e. absurd (cc))
+took_all NoMemory left it = (λ e. absurd (cc), λ e. absurd (cc))
+
+pub took_ends : {S : Type 0} (T : StoreOf S) {P : Type 0} (s s' : S) (new : Spoken)
+    (left left' sent written : List ℕ) (talking : Talking) (ended : Ended)
+    → InSession T s s' new P left left' sent written talking
+    → (P → TookAll (Ok (Some ended)) left') → P → Took left sent left' ended
+took_ends T s s' new left left' sent written talking ended x it p =
+    let all = took_all ended left' (it p) in record {
+      parts = x.left_is p ∙ ap (λ l. l ++ left') (sym (x.sent_is p));
+      closed = all.0;
+      cut = all.1;
+    }
+
+-- want of memory is no end of a session that began
+pub ends_known : (ended : Ended) (stage : Stage) (taken : ℕ) → EndsSo ended stage taken
+    → ended ≢ NoMemory
+ends_known Goodbye stage taken it e = absurd (cc)
+ends_known Closed stage taken it e = absurd (cc)
+ends_known Cut stage taken it e = absurd (cc)
+ends_known (Malformed place) stage taken it e = absurd (cc)
+ends_known Spent stage taken it e = absurd (cc)
+ends_known ReadFault stage taken it e = absurd (cc)
+ends_known WriteFault stage taken it e = absurd it
+ends_known NoMemory stage taken it e = absurd it
