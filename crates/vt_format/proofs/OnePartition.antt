@@ -1,6 +1,6 @@
 -- One partition as a list of them, and what formatting makes of it.
-use Rattle.std.proofs.Common.{◌≡◌, ◌⊎◌, inl, inr, ⊎_elim, ℕ, zero, suc, ◌+◌, ◌*◌, ◌<◌, ◌≤◌, List, [], ◌∷◌, ◌++◌, Some, None, Ok, Err, Result, length, map, take, drop, refl, sym, ◌∙◌, ap, subst, arith, length-append}
-use Rattle.std.specs.Prelude.{All, IsTrue, IfOk, IfErr, OnOk, slice_get}
+use Rattle.std.proofs.Common.{◌≡◌, ◌≢◌, ◌⊎◌, inl, inr, ⊎_elim, ℕ, zero, suc, ◌+◌, ◌*◌, ◌<◌, ◌≤◌, List, [], ◌∷◌, ◌++◌, Some, None, Ok, Err, Result, length, map, take, drop, refl, sym, ◌∙◌, ap, subst, arith, length-append}
+use Rattle.std.specs.Prelude.{All, IsTrue, IfOk, IfErr, OnOk, MatchBool, slice_get}
 use Rattle.std.proofs.Math.Seq.{take-append_seam}
 use Rattle.std.proofs.lemmas.List.{length-map}
 use Rattle.std.proofs.lemmas.List.Elements.{All-head}
@@ -16,11 +16,16 @@ use Rattle.vt_log.specs.Formatting.{InFirstHeads, WritesInHeads}
 use Rattle.vt_log.specs.Log.{disks_of}
 use Rattle.vt_log.specs.Logs.{IsLog}
 use Rattle.vt_log.specs.Sound.{AreImages}
+use Rattle.vt_part.specs.declared.bad.Field.TheVariants.{Version, ArenaSize, Count}
+use Rattle.vt_part.specs.declared.bad.PartBad.{PartBad}
+use Rattle.vt_part.specs.declared.bad.PartBad.TheVariants as part_bad
 use Rattle.vt_part.specs.declared.part.Part.{Part}
+use Rattle.vt_part.specs.Faults.{NamesItsCause, is_fault}
 use Rattle.vt_part.specs.Layout.{layout_of}
 use Rattle.vt_part.specs.Parts.{disk_of, table_of, tables_of}
-use Rattle.vt_part.specs.Table.{Table, IsPartition, count_for, table_for}
-use Rattle.vt_format.specs.Arenas.{BecomesArenas, IsEmptyLog, RefusesArenas}
+use Rattle.vt_part.specs.Table.{Table, IsArenaSize, IsPartition, count_for, table_for}
+use Rattle.vt_format.specs.Arenas.{BecomesArenas, IsEmptyLog, RefusesArenas, RefusesTable}
+use Rattle.vt_format.specs.Refusals.{of_part}
 
 -- what is popped of one partition is all
 one_part : {D : Type 0} (ps rest : List (Part D)) (part popped : Part D) → tables_of ps ≡ tables_of (part ∷ [])
@@ -114,3 +119,26 @@ refuses disk arena_size old mid new (Err bad) same refused = ⊎_elim
     (λ memory. inr (inr (inl memory)))
     (λ fault. inr (inl (fault.0, subst (λ (n : ℕ). HasRisen n (disk.faults new)) same fault.1)))
     refused
+
+-- a table is refused that was just written: a call failed, or the disk doesn't tell what it holds
+module _ {D : Type 0} (disk : DiskOf D) (arena_size : ℕ) (old mid new : D) (same : disk.faults mid ≡ disk.faults old) where
+  abbrev Refused : PartBad → Type 0
+  Refused bad = RefusesArenas disk arena_size (of_part 0 bad) old new
+
+  misread : (bad : PartBad) → (IsTrue disk.tells → bad ≡ part_bad.Fault) → bad ≢ part_bad.Fault → RefusesTable (of_part 0 bad) → Refused bad
+  misread bad told other refused = inr (inr (inr (λ tells. other (told tells), refused)))
+
+  pub refuses_table : (size : ℕ) (bad : PartBad) → (IsTrue disk.tells → bad ≡ part_bad.Fault) → NamesItsCause size bad
+      → MatchBool (is_fault bad) (HasRisen (disk.faults mid) (disk.faults new)) (disk.faults new ≡ disk.faults mid) → Refused bad
+  refuses_table size part_bad.Fault told names rose = inr (inl (refl, subst (λ (n : ℕ). HasRisen n (disk.faults new)) same rose))
+  refuses_table size (part_bad.TooSmall len need) told names rose =
+      misread (part_bad.TooSmall len need) told (λ is. cc) (refl, subst (λ (n : ℕ). n < need) (sym names.0) names.1)
+  refuses_table size part_bad.NotFormatted told names rose = misread part_bad.NotFormatted told (λ is. cc) refl
+  refuses_table size (part_bad.Torn Version found want) told names rose =
+      misread (part_bad.Torn Version found want) told (λ is. cc) (refl, λ is. names.1.0 (is ∙ names.1.1))
+  refuses_table size (part_bad.Torn ArenaSize found want) told names rose =
+      misread (part_bad.Torn ArenaSize found want) told (λ is. cc) (refl, λ is. names.1.0 (subst IsArenaSize (sym (is ∙ names.1.1)) refl))
+  refuses_table size (part_bad.Torn Count found want) told names rose =
+      misread (part_bad.Torn Count found want) told (λ is. cc) (refl, λ is. let wrong = sym names.1.0 ∙ is ∙ names.1.1 in cc)
+  refuses_table size (part_bad.DuplicateName first second) told names rose = absurd names
+  refuses_table size part_bad.NoMemory told names rose = absurd names

@@ -1,8 +1,8 @@
 -- What formatting makes of a partition of arenas (venti(8), fmtarenas).
-use Rattle.std.specs.Prelude.{ℕ, ◌≡◌, ◌⊎◌, ◌+◌, ◌*◌, ◌<◌, ◌≤◌, IsTrue, List, [], ◌∷◌, Result, IfOk, IfErr}
+use Rattle.std.specs.Prelude.{ℕ, ◌≡◌, ◌≢◌, ◌⊎◌, ◌+◌, ◌*◌, ◌<◌, ◌≤◌, IsTrue, List, [], ◌∷◌, Result, IfOk, IfErr}
 use Rattle.vt_base.specs.Faults.{HasRisen}
 use Rattle.vt_base.specs.declared.mount.MountBad.{MountBad}
-use Rattle.vt_base.specs.declared.mount.MountBad.TheVariants.{Fault, TooSmall, NoMemory}
+use Rattle.vt_base.specs.declared.mount.MountBad.TheVariants.{Disagree, Fault, NoMemory, NotFormatted, TooSmall}
 use Rattle.vt_disk.specs.Calls.{IsSynced}
 use Rattle.vt_disk.specs.Members.{DiskOf}
 use Rattle.vt_disk.specs.declared.TheConstants.{BLOCK_LEN}
@@ -25,9 +25,16 @@ pub record BecomesArenas {D : Type 0} (disk : DiskOf D) (name : List ℕ) (arena
       → IsEmptyLog (table_for name (disk.size old) arena_size) c
   pub settled : IsSynced disk new
 
+-- why a table is refused that is read from the one partition: two values differ, if it has one
+abbrev pub RefusesTable : MountBad → Type 0
+RefusesTable (NotFormatted part) = part ≡ 0
+RefusesTable (TooSmall part len need) = (part ≡ 0) × (len < need)
+RefusesTable (Disagree part field found want) = (part ≡ 0) × (found ≢ want)
+RefusesTable bad = ⊥
+
 -- It is refused where it has no room for an arena, and is as it was; or one of its calls failed, or
 -- memory ran out. A disk that doesn't tell what it holds may also give back another table than was
--- written.
+-- written, which is then refused.
 abbrev pub RefusesArenas : {D : Type 0} → DiskOf D → (arena_size : ℕ) → MountBad → (old new : D)
     → Type 0
 RefusesArenas disk arena_size bad old new =
@@ -35,7 +42,7 @@ RefusesArenas disk arena_size bad old new =
     × (bad ≡ TooSmall 0 (disk.size old) (BLOCK_LEN + arena_size)) × (new ≡ old))
     ⊎ ((bad ≡ Fault) × HasRisen (disk.faults old) (disk.faults new))
     ⊎ (bad ≡ NoMemory)
-    ⊎ ¬ IsTrue disk.tells
+    ⊎ (¬ IsTrue disk.tells × RefusesTable bad)
 
 pub record FormatsArenas {D : Type 0} (disk : DiskOf D) (name : List ℕ) (arena_size : ℕ)
     (result : Result ℕ MountBad) (old new : D) : Type 0 where

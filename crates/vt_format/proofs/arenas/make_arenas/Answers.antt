@@ -1,12 +1,10 @@
-use Rattle.std.proofs.Common.{◌≡◌, ⊎_elim, inl, inr, ◌+◌, ◌*◌, ◌≤◌, ℕ, true, false, sym, ◌∙◌, ap, subst, arith}
+use Rattle.std.proofs.Common.{◌≡◌, ◌+◌, ◌*◌, ◌≤◌, sym, ◌∙◌, ap, subst, arith}
 use Rattle.std.specs.Prelude.{IsTrue}
-use Rattle.std.proofs.lemmas.Bool.{cases_Bool}
-use Rattle.vt_base.specs.Faults.{HasRisen}
+use Rattle.vt_base.specs.declared.mount.MountBad.{MountBad}
 use Rattle.vt_part.specs.Parts.{disk_of, table_of}
 use Rattle.vt_part.specs.Table.{count_for, table_for}
-use Rattle.vt_part.specs.declared.bad.PartBad.TheVariants.{Fault}
-use Rattle.vt_format.specs.Refusals.{of_part}
-use Rattle.vt_format.proofs.OnePartition.{becomes, refuses}
+use Rattle.vt_format.specs.Arenas.{RefusesArenas}
+use Rattle.vt_format.proofs.OnePartition.{becomes, refuses, refuses_table}
 use Rattle.vt_format.proofs.arenas.make_arenas.Goals as goal
 
 pub returns-in-Ok-mount : goal.returns-in-Ok-mount
@@ -43,14 +41,8 @@ returns-in-Err-mount g c =
       size = c.in-Err-mount.ensures.reads.size ∙ c.format.ensures.writes.size;
       calls = λ told. omega (arith, c.in-Err-mount.ensures.reads.calls told, c.format.ensures.writes.calls told);
       formatted = tt;
-      refused = ⊎_elim
-          (λ (told : disk.tells ≡ true).
-          let bad : c.in-Err-mount.bad ≡ Fault =
-          c.in-Err-mount.ensures.all_are_found table told (c.in-Ok.ensures.partition told (disk.bytes with_table) (g.met.D.Disk.read_is_image with_table told)) in
-          inr (inl (
-            c.of_part-in-Err-mount.ensures ∙ ap (of_part 0) bad,
-            subst (λ (n : ℕ). HasRisen n (disk.faults c.in-Err-mount.disk)) c.in-Ok.ensures.cause (rw bad at c.in-Err-mount.ensures.cause),
-          )))
-          (λ (no : disk.tells ≡ false). inr (inr (inr (λ told. let wrong : true ≡ false = sym told ∙ no in absurd (cc)))))
-          (cases_Bool disk.tells);
+      refused = subst (λ (bad : MountBad). RefusesArenas disk c.args.arena_size bad old c.in-Err-mount.disk) (sym c.of_part-in-Err-mount.ensures)
+          (refuses_table disk c.args.arena_size old with_table c.in-Err-mount.disk c.in-Ok.ensures.cause (disk.size with_table) c.in-Err-mount.bad
+          (λ told. c.in-Err-mount.ensures.all_are_found table told (c.in-Ok.ensures.partition told (disk.bytes with_table) (g.met.D.Disk.read_is_image with_table told)))
+          c.in-Err-mount.ensures.differs c.in-Err-mount.ensures.cause);
     }
