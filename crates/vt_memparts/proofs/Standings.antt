@@ -9,7 +9,8 @@ use Rattle.std.proofs.lemmas.List.Sums.{prefix_len_passes}
 use Rattle.std.proofs.lemmas.Slice.Eq.{bytes_eq-Decides}
 use Rattle.vt_disk.specs.Disk.{Only, with_bytes}
 use Rattle.vt_disk.specs.Members.{DiskOf}
-use Rattle.vt_parts.specs.Parts.{Standing, nothing, lent, there, filled_to, HandsOut, IsMade, StaysThere}
+use Rattle.vt_fields.specs.Filled.{filled}
+use Rattle.vt_parts.specs.Parts.{Standing, nothing, lent, there, HandsOut, IsMade, StaysThere}
 use Rattle.vt_memparts.specs.Named.{has_name, standing_in, standing_of}
 use Rattle.vt_memparts.specs.declared.lending.MemPart.{MemPart}
 
@@ -20,10 +21,10 @@ zeros l n len all =
     ext_get_or 0 l (replicate n 0) (len ∙ sym (length-replicate n 0))
     (λ i below. all i ∙ sym (get_or-replicate n i 0 0 (omega (arith, len, below))))
 
-pub zeroed : (file : List ℕ) (len : ℕ) → length file ≡ len → ((i : ℕ) → slice_index file i ≡ 0) → file ≡ filled_to len []
+pub zeroed : (file : List ℕ) (len : ℕ) → length file ≡ len → ((i : ℕ) → slice_index file i ≡ 0) → file ≡ filled len []
 zeroed file len size all = zeros file (len - 0) (omega (arith, size)) all
 
-pub fronted : (front : List ℕ) (len : ℕ) → with_bytes 0 front (filled_to len []) ≡ filled_to len front
+pub fronted : (front : List ℕ) (len : ℕ) → with_bytes 0 front (filled len []) ≡ filled len front
 fronted front len =
     let whole : len - 0 ≡ len = omega arith in
     ap (λ (l : List ℕ). front ++ l)
