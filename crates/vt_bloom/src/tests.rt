@@ -221,8 +221,8 @@ fn crashed(alloc: Global, call: u64, fails: bool, mode: CrashMode) -> Result<u64
 
 #[test]
 fn a_save_is_stopped_anywhere(rt: HostRuntime) -> Result<(), Fail> {
-    // The call at which a save ends, whether it fails, and the mark that a crash then leaves in each
-    // mode: that of the old filter or of the new one.
+    // The call at which a save ends, whether it fails, and the mark that a crash then leaves in
+    // each mode: that of the old filter or of the new one.
     for (call, fails, marks) in [
         (0, true, [0, 0, 0, 0]),
         (0, false, [0, 0, 0, 0]),

@@ -14,7 +14,8 @@ pub number_outside : (n : ℕ) (h : List Block) (b : Block) (key : ℕ) → (b.k
 number_outside n [] b key other =
     sym (ap (λ (t : Bool). if t then Some n else None) (ne_eqb b.key key other))
 number_outside n (c ∷ cs) b key other =
-    ap (λ (o : Option ℕ). if c.key == key then Some n else o) (number_outside (suc n) cs b key other)
+    ap (λ (o : Option ℕ). if c.key == key then Some n else o)
+    (number_outside (suc n) cs b key other)
 
 pub part_lawful : Lawful part_means
 part_lawful = record {

@@ -1,5 +1,5 @@
-//! A plain store of keys and values in memory that many threads share, over the turns of `vt_turns`:
-//! the form in which a server serves its links, without disks.
+//! A plain store of keys and values in memory that many threads share, over the turns of
+//! `vt_turns`: the form in which a server serves its links, without disks.
 //!
 //! A key has one value for ever. The log is a list of blocks, and a shard is a map from the keys of
 //! a range to the numbers of their blocks.
