@@ -52,10 +52,10 @@ pub record Looks {D T : Type 0} (disk : DiskOf D) (n : ℕ) (result : Result T S
   pub faults : CountsFault is_fault result (disk.faults old.section.disk)
       (disk.faults new.section.disk)
 
--- What `lookup` makes of a shard, whatever the disk holds. An entry in memory is the answer, without
--- a device call, and else what the bucket as it was read has of the key.
-pub record LooksUp {D : Type 0} (disk : DiskOf D) (key : Key) (result : Result (Option Entry) ShardErr)
-    (old new : ShardState D) : Type 0 where
+-- What `lookup` makes of a shard, whatever the disk holds. An entry in memory is the answer,
+-- without a device call, and else what the bucket as it was read has of the key.
+pub record LooksUp {D : Type 0} (disk : DiskOf D) (key : Key)
+    (result : Result (Option Entry) ShardErr) (old new : ShardState D) : Type 0 where
   pub in_memory : IsSome (entry_in key old.index)
       → (result ≡ Ok (entry_in key old.index)) × (new ≡ looked key old)
   pub in_bucket : entry_in key old.index ≡ None

@@ -44,7 +44,8 @@ pub fn mount<D: Disk>(
     // may lack their entries.
     ensures sound { (score : List ℕ → List ℕ) (c : Setup) (h : History) (known : Known)
         → IfOk result (λ it. IsTrue D.tells
-        → DiskHolds D.Disk section known → KnownAgrees score c h section known → section.head.state ≡ 1
+        → DiskHolds D.Disk section known → KnownAgrees score c h section known
+        → section.head.state ≡ 1
         → IsSoundFrom score c D.Disk it h (length h) (length h)) }
 {
     let changing = section.is_changing();
