@@ -1,6 +1,6 @@
 //! Replies on their way out.
 
-ghost use Rattle.std.specs.Prelude.{◌≡◌, ◌≢◌, ◌+◌, ◌≤◌, [], ◌++◌, length, take, false, IsTrue, IfOk, OnErr};
+ghost use Rattle.std.specs.Prelude.{◌≡◌, ◌≢◌, ◌+◌, ◌<◌, ◌≤◌, [], ◌++◌, length, take, IsTrue, IfOk, OnErr, MatchBool};
 ghost use Rattle.vt_base.specs.Faults.{HasCause};
 ghost use Rattle.vt_session.specs.Turns.{server_line};
 ghost use Rattle.vt_wire.specs.Messages.{spelled, FitsReply};
@@ -69,6 +69,7 @@ impl Output {
             Writes result (C.written client.old) self.old (C.written client.new) self.new [] }
         ensures empty { self.new ≡ [] }
         ensures some { OnErr result (self.old ≢ []) }
+        ensures none { self.old ≡ [] → client.new ≡ client.old }
         ensures kept { IsTrue C.tells → (C.sent client.new ≡ C.sent client.old)
             × (C.left client.new ≡ C.left client.old) }
         ensures cause { HasCause result (C.write_faults client.old) (C.write_faults client.new) }
@@ -84,7 +85,8 @@ impl Output {
 
     /// Whether there may be no room for a reply.
     pub fn is_full(&self) -> bool
-        ensures { result ≡ false → length self.now + 57348 ≤ 131072 }
+        ensures { MatchBool result (131072 < length self.now + 57348)
+            (length self.now + 57348 ≤ 131072) }
     {
         ROOM - self.used < MAX_REPLY
     }

@@ -6,7 +6,7 @@ use super::*;
 use std::alloc::{AllocError, Global};
 use std::process::Abort;
 use std::test::Fail;
-use vt_base::{Bytes, FieldValue, Score, Site, Why};
+use vt_base::{Bytes, Failed, FieldValue, NoMemory, Score, Site, Why};
 use vt_out::{MemSink, Sink};
 use vt_session::{Ended, Next, parse_all};
 use vt_wire::{Reply, Request};
@@ -194,5 +194,170 @@ fn one_at_a_time(rt: HostRuntime) -> Result<(), Fail> {
     output.add(&mut sink, 6, &Reply::Ping)?;
     output.flush(&mut sink)?;
     assert_eq!(rt; sink.written().len(), 2 * (16 + 4));
+    Ok(())
+}
+
+/// A client that sends a piece once the replies to what it sent before came, and else fails.
+#[derive(Drop)]
+struct Patient {
+    input: Vec<u8>,
+    given: usize,
+    /// How many bytes each piece has, and how many must have come before it.
+    pieces: Vec<(usize, usize)>,
+    sent: usize,
+    /// The piece that doesn't come, since the link fails.
+    lost: usize,
+    output: Vec<u8>,
+    /// How many bytes come to it.
+    room: usize,
+    read_faults: u64,
+    write_faults: u64,
+}
+
+impl Client for Patient {
+    ghost use Rattle.std.specs.Prelude.{[], false};
+
+    ghost tells = { false };
+
+    ghost sent = { λ client. [] };
+
+    ghost left = { λ client. [] };
+
+    ghost written = { λ client. [] };
+
+    ghost read_faults = { λ client. client.read_faults };
+
+    ghost write_faults = { λ client. client.write_faults };
+
+    fn take(&mut self, buf: &mut [u8]) -> Result<usize, Failed> {
+        let Some((length, owed)) = self.pieces.get(self.sent).copied() else {
+            return Ok(0);
+        };
+        if self.output.len() < owed || self.sent == self.lost {
+            self.read_faults = self.read_faults.saturating_add(1);
+            return Err(Failed);
+        }
+        let piece = self.input.get(self.given..).unwrap_or(&[]);
+        let n = length.min(piece.len()).min(buf.len());
+        buf[..n].copy_from_slice(&piece[..n]);
+        self.given = self.given.saturating_add(n);
+        self.sent = self.sent.saturating_add(1);
+        Ok(n)
+    }
+
+    fn put(&mut self, piece: &[u8]) -> Result<(), Failed> {
+        let end = self.output.len().saturating_add(piece.len());
+        if end > self.room || self.output.extend_from_slice(piece).is_err() {
+            self.write_faults = self.write_faults.saturating_add(1);
+            return Err(Failed);
+        }
+        Ok(())
+    }
+}
+
+/// A client that sends each of these parts in pieces of so many bytes, and waits for what is said
+/// to it.
+fn client_of(alloc: Global, parts: &[(&[u8], &[u8])], cut: usize) -> Result<Patient, AllocError> {
+    let mut client = Patient {
+        input: Vec::new(alloc),
+        given: 0,
+        pieces: Vec::new(alloc),
+        sent: 0,
+        lost: usize::MAX,
+        output: Vec::new(alloc),
+        room: usize::MAX,
+        read_faults: 0,
+        write_faults: 0,
+    };
+    let mut owed = OUR_LINE.len();
+    for (part, replies) in parts {
+        client.input.extend_from_slice(part)?;
+        for piece in part.chunks(cut.max(1)) {
+            client.pieces.push((piece.len(), owed))?;
+        }
+        owed = owed.saturating_add(replies.len());
+    }
+    Ok(client)
+}
+
+/// What came of a session.
+#[derive(Drop)]
+struct Served {
+    ended: Ended,
+    failure: Option<Why>,
+    client: Patient,
+    store: Scripted,
+}
+
+fn serve_all(alloc: Global, client: Patient) -> Result<Served, NoMemory> {
+    let mut client = client;
+    let mut store = answering_reads(3);
+    let mut answering = Answering::new(alloc)?;
+    let ended = answering.serve(alloc, &mut store, &mut client);
+    Ok(Served {
+        ended,
+        failure: answering.failure(),
+        client,
+        store,
+    })
+}
+
+/// A client that waits for each reply gets it, however its bytes come in.
+#[test]
+fn a_client_waits_for_each_reply(rt: HostRuntime) -> Result<(), Fail> {
+    let alloc = rt.alloc();
+    let parts: [(&[u8], &[u8]); 6] = [
+        (GREETING, WELCOME),
+        (WRITES, WROTE),
+        (READ, b"\x00\x05\x0d\x04bbb"),
+        (b"\x00\x02\x10\x05", b"\x00\x02\x11\x05"),
+        (b"\x00\x02\x02\x06", b"\x00\x02\x03\x06"),
+        (b"\x00\x02\x06\x07", b""),
+    ];
+    let output = joined(
+        alloc,
+        &[
+            OUR_LINE,
+            WELCOME,
+            WROTE,
+            b"\x00\x05\x0d\x04bbb\x00\x02\x11\x05\x00\x02\x03\x06",
+        ],
+    )?;
+    for cut in [1, 2, 3, 5, 65_537] {
+        let client = client_of(alloc, &parts, cut)?;
+        let served = serve_all(alloc, client)?;
+        assert_eq!(rt; served.ended, Ended::Goodbye, "in pieces of {cut}");
+        assert_eq!(rt;
+            served.client.output.as_slice(),
+            output.as_slice(),
+            "in pieces of {cut}"
+        );
+        assert_eq!(rt; served.failure, Some(DAMAGE));
+        let store = &served.store;
+        assert_eq!(rt; (store.writes, store.reads, store.syncs), (3, 1, 1));
+    }
+    Ok(())
+}
+
+/// The end of the input, a read that fails and a write that fails are told apart.
+#[test]
+fn served_to_an_end(rt: HostRuntime) -> Result<(), Fail> {
+    let alloc = rt.alloc();
+    let line = OUR_LINE.len();
+    let all = line + WELCOME.len() + WROTE.len();
+    let cases: [(&[u8], usize, usize, Ended, usize); 4] = [
+        (WRITES, 9, 1_000, Ended::Closed, all),
+        (b"\x00", 9, 1_000, Ended::Cut, line + WELCOME.len()),
+        (WRITES, 1, 1_000, Ended::ReadFault, line + WELCOME.len()),
+        (WRITES, 9, all - 1, Ended::WriteFault, line + WELCOME.len()),
+    ];
+    for (last, lost, room, ended, written) in cases {
+        let mut client = client_of(alloc, &[(GREETING, WELCOME), (last, b"")], 100)?;
+        client.lost = lost;
+        client.room = room;
+        let served = serve_all(alloc, client)?;
+        assert_eq!(rt; served.ended, ended);
+        assert_eq!(rt; served.client.output.len(), written);
+    }
     Ok(())
 }
