@@ -1,0 +1,63 @@
+-- What is read of devices that stand for a history.
+use Rattle.std.proofs.Common.{◌≡◌, ℕ, ◌≤◌, ◌^◌, List, length, take, map, sym, ◌∙◌, subst, arith}
+use Rattle.std.specs.Prelude.{All}
+use Rattle.std.proofs.lemmas.List.{length-map}
+use Rattle.std.proofs.lemmas.Option.{same_Some}
+use Rattle.vt_disk.specs.Members.{DiskOf}
+use Rattle.vt_model.specs.History.{History}
+use Rattle.vt_model.specs.Places.{Setup, current_arena}
+use Rattle.vt_part.specs.declared.layout.ArenaRegion.{ArenaRegion}
+use Rattle.vt_part.specs.Layout.{layout_of}
+use Rattle.vt_part.specs.Table.{Table}
+use Rattle.vt_log.specs.Logs.{IsLog}
+use Rattle.vt_log.specs.Sound.{AreImages as AreImagesOf}
+use Rattle.vt_core.specs.Core.{CoreState, setup_of, devices_of}
+use Rattle.vt_core.specs.Files.{PerDevice}
+use Rattle.vt_core.specs.Mounting.{EachStands, AllStandFor, IsLogOf, IsReadAs}
+use Rattle.vt_core.specs.Sound.{IsSound}
+use Rattle.vt_core.specs.Stands.{SectionStandsFor, FilterStandsFor, StandsFor}
+use Rattle.vt_core.proofs.Lists.{at_map}
+use Rattle.vt_core.proofs.Recovered.{GivesPrefix}
+
+-- what is read is an image of each
+images_read : {D : Type 0} (disk : DiskOf D) → ((d : D) → disk.images d (disk.bytes d)) → (devices : List D) → AreImagesOf disk devices (map disk.bytes devices)
+images_read disk read devices = record {
+  many = length-map devices disk.bytes;
+  each = λ i d file at is. subst (disk.images d) (same_Some (disk.bytes d) file (sym (at_map disk.bytes devices i d at) ∙ is)) (read d);
+}
+
+-- files are one log at most
+abbrev pub AreToldApart : Type 0
+AreToldApart = (score : List ℕ → List ℕ) (layout : List ArenaRegion) (files : List (List ℕ)) (g h : History) (a b : ℕ)
+    → All (λ r. r.region.len ≤ 2 ^ 30) layout → IsLog score layout files g a → IsLog score layout files h b → (g ≡ h) × (a ≡ b)
+
+pub read_prefix : {D : Type 0} (disk : DiskOf D) → AreToldApart → ((d : D) → disk.images d (disk.bytes d))
+    → (score : List ℕ → List ℕ) (c : Setup) (tables : List Table) (devices : PerDevice D) (h g : History) (base : ℕ)
+    → All (λ r. r.region.len ≤ 2 ^ 30) (layout_of tables) → IsLogOf score disk tables devices c h g base → IsReadAs score disk c tables devices h g base
+read_prefix disk apart read score c tables devices h g base short log =
+    let it = log.each (record { partitions = map disk.bytes devices.partitions; sections = map disk.bytes devices.sections; filter = map disk.bytes devices.filter })
+    (record { partitions = images_read disk read devices.partitions; sections = images_read disk read devices.sections; filter = images_read disk read devices.filter }) in
+    let same = apart score (layout_of tables) (map disk.bytes devices.partitions) (take it.n h) g it.stands.log.base base short it.stands.log.log log.read in
+    record {
+      n = it.n;
+      within = it.within;
+      prefix = sym same.0;
+      least = subst (λ (b : ℕ). current_arena c (take it.n h) ≤ b) same.1 it.stands.log.least;
+      most = subst (λ (b : ℕ). b ≤ current_arena c h) same.1 it.stands.log.most;
+      partitions = it.stands.partitions;
+      sections = λ i d at. subst (λ (l : History). SectionStandsFor score c l i (disk.bytes d)) same.0 (it.stands.sections i (disk.bytes d) (at_map disk.bytes devices.sections i d at));
+      filter = λ i d at. subst (λ (l : History). FilterStandsFor score l (disk.bytes d)) same.0 (it.stands.filter i (disk.bytes d) (at_map disk.bytes devices.filter i d at));
+    }
+
+-- what a store leaves can be mounted
+pub sound_stands : {D : Type 0} (disk : DiskOf D) → GivesPrefix disk → (score : List ℕ → List ℕ) (k : CoreState D) (h : History)
+    → IsSound score disk k h → EachStands score disk (setup_of k) k.log.tables k.log.durable (devices_of k) h
+sound_stands disk gives score k h sound files left =
+    gives score k h files sound left
+
+pub durable_stand : {D : Type 0} (disk : DiskOf D) → GivesPrefix disk → (score : List ℕ → List ℕ) (k : CoreState D) (h : History)
+    → IsSound score disk k h → k.log.durable ≡ length h → AllStandFor score disk (setup_of k) k.log.tables (devices_of k) h (length h)
+durable_stand disk gives score k h sound all files left =
+    let it = gives score k h files sound left in
+    let n : it.n ≡ length h = omega (arith, it.keeps, it.within, all) in
+    subst (λ (m : ℕ). StandsFor score (setup_of k) k.log.tables files h m) n it.stands

@@ -1,0 +1,101 @@
+//! What holds of stores between their events, and of their runs.
+
+ghost use Rattle.std.specs.Prelude.{◌≡◌, ◌≤◌, ◌^◌, ℕ, All, IsTrue, List, length};
+ghost use Rattle.vt_model.specs.History.{History};
+ghost use Rattle.vt_model.specs.Places.{Setup};
+ghost use Rattle.vt_part.specs.Layout.{layout_of};
+ghost use Rattle.vt_part.specs.Table.{Table};
+ghost use Rattle.vt_log.specs.Logs.{StandsFor as LogStandsFor};
+ghost use Rattle.vt_log.specs.Sound.{AreImages as AreImagesOf};
+ghost use Rattle.vt_core.specs.declared.event.Event.{Event};
+ghost use Rattle.vt_core.specs.declared.event.Out.{Out};
+ghost use Rattle.vt_core.specs.Core.{CoreState, setup_of, devices_of, machine_of};
+ghost use Rattle.vt_core.specs.Crashing.{Act, Lives, LivesMachine, MayTurnInto, Recovers};
+ghost use Rattle.vt_core.specs.Files.{Files, PerDevice, AreImages};
+ghost use Rattle.vt_core.specs.Machine.{Crashes};
+ghost use Rattle.vt_core.specs.Mounting.{EachStands, AllStandFor, IsLogOf, IsReadAs};
+ghost use Rattle.vt_core.specs.Sound.{IsSound};
+ghost use Rattle.vt_core.specs.Stands.{ArePartitions, StandsFor, StandForPrefix};
+ghost use Rattle.vt_core.specs.Steps.{Runs, RunsMachine};
+
+use vt_disk::Disk;
+
+/// Between two events a crash leaves devices that, taken together, stand for a prefix of the
+/// history that has all durable blocks. The log alone says for which: the sections and the filter
+/// go with each prefix that has them.
+pub fn crash_gives_a_prefix<D: Disk>()
+    ensures prefix { (score : List ℕ → List ℕ) (k : CoreState D) (h : History) (files : Files)
+        → IsSound score D.Disk k h → AreImages D.Disk (devices_of k) files
+        → StandForPrefix score (setup_of k) k.log.tables k.log.durable files h }
+    ensures each { (score : List ℕ → List ℕ) (k : CoreState D) (h : History) (files : Files)
+        (n : ℕ) → IsSound score D.Disk k h
+        → AreImagesOf D.Disk (devices_of k).sections files.sections
+        → AreImagesOf D.Disk (devices_of k).filter files.filter
+        → k.log.durable ≤ n → n ≤ length h
+        → ArePartitions k.log.tables files.partitions
+        → LogStandsFor score (setup_of k) (layout_of k.log.tables) files.partitions h n
+        → StandsFor score (setup_of k) k.log.tables files h n }
+{
+    vt_log::crash_gives_a_prefix::<D>();
+    vt_shard::files_agree::<D>();
+    vt_bloom::crash_gives_old_or_new::<D>();
+    vt_bloom::true_marks_stay();
+}
+
+/// A store that is mounted behind a crash, at a moment of an event or between two, is the machine
+/// behind a crash: it has a prefix of the history with every synced block, and its devices are
+/// sound for it.
+pub fn recovery_is_a_crash<D: Disk>()
+    ensures { (score : List ℕ → List ℕ) (old during again : CoreState D) (h : History)
+        → IsTrue D.tells → IsSound score D.Disk old h → MayTurnInto score D.Disk old during
+        → Recovers score D.Disk old during again → (g : History)
+        × Crashes (machine_of old h) (machine_of again g) × IsSound score D.Disk again g }
+{
+    crash_gives_a_prefix::<D>();
+    vt_part::partitions_are_told_apart();
+}
+
+/// A run of events is a run of the machine, from each history for which the devices are sound.
+pub fn runs_are_runs_of_the_machine<D: Disk>()
+    ensures { (score : List ℕ → List ℕ) (events : List Event) (outs : List Out)
+        (old new : CoreState D) (h : History) → IsTrue D.tells → IsSound score D.Disk old h
+        → Runs score D.Disk events outs old new → (next : History)
+        × RunsMachine score events outs (machine_of old h) (machine_of new next)
+        × IsSound score D.Disk new next }
+{}
+
+/// And so is one with crashes: what was accepted is never other than a prefix of what it was, with
+/// all that a sync covered.
+pub fn lives_are_lives_of_the_machine<D: Disk>()
+    ensures { (score : List ℕ → List ℕ) (acts : List Act) (old new : CoreState D) (h : History)
+        → IsTrue D.tells → IsSound score D.Disk old h → Lives score D.Disk acts old new
+        → (next : History) × LivesMachine score acts (machine_of old h) (machine_of new next)
+        × IsSound score D.Disk new next }
+{
+    recovery_is_a_crash::<D>();
+}
+
+/// Of devices of which every combination of images stands for a prefix of one history, what is read
+/// is one of these prefixes, and the sections and the filter agree with it.
+pub fn what_is_read_is_a_prefix<D: Disk>()
+    ensures { (score : List ℕ → List ℕ) (c : Setup) (tables : List Table)
+        (devices : PerDevice D) (h g : History) (base : ℕ) → IsTrue D.tells
+        → All (λ r. r.region.len ≤ 2 ^ 30) (layout_of tables)
+        → IsLogOf score D.Disk tables devices c h g base
+        → IsReadAs score D.Disk c tables devices h g base }
+{
+    vt_log::logs_are_told_apart();
+}
+
+/// What a store leaves, at any time, can be mounted: every combination of images stands for a prefix
+/// of its history and, where all of it is durable, for all of it.
+pub fn stores_can_be_mounted<D: Disk>()
+    ensures prefix { (score : List ℕ → List ℕ) (k : CoreState D) (h : History)
+        → IsSound score D.Disk k h
+        → EachStands score D.Disk (setup_of k) k.log.tables k.log.durable (devices_of k) h }
+    ensures all { (score : List ℕ → List ℕ) (k : CoreState D) (h : History)
+        → IsSound score D.Disk k h → k.log.durable ≡ length h
+        → AllStandFor score D.Disk (setup_of k) k.log.tables (devices_of k) h (length h) }
+{
+    crash_gives_a_prefix::<D>();
+}

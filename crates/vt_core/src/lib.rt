@@ -1,0 +1,34 @@
+//! The store: a log, a shard for each index section and a Bloom filter, as one machine that takes
+//! one event at a time (Quinlan and Dorward, "Venti: a new approach to archival storage", FAST
+//! 2002). After a crash at any moment it is found again with a prefix of its history that has every
+//! block that a sync covered.
+#![tactic(auto)]
+
+mod advancing;
+mod asking;
+mod devices;
+mod event;
+mod filing;
+mod finding;
+mod laws;
+mod outs;
+mod store;
+mod waiting;
+mod writing;
+
+pub use devices::Devices;
+pub use event::{Event, Out};
+pub use finding::find_block;
+pub use laws::{
+    crash_gives_a_prefix, lives_are_lives_of_the_machine, recovery_is_a_crash,
+    runs_are_runs_of_the_machine, stores_can_be_mounted, what_is_read_is_a_prefix,
+};
+pub use outs::Outs;
+pub use store::Core;
+pub use writing::{Verdict, add_block, test_write};
+
+/// How many arenas all partitions may have.
+pub const MOST_ARENAS: u32 = 4_096;
+
+/// How many buckets all sections may have.
+pub const MOST_BUCKETS: u32 = 1_048_576;
