@@ -336,7 +336,26 @@ fn fills_up<D: Disk>(shard: &mut Shard<D>) -> Result<(), Fail> {
             Err(_) => return Err("a fault".into()),
         }
     }
+    agrees(shard, &blocks, 2)?;
+    writes_bare(shard)?;
     agrees(shard, &blocks, 2)
+}
+
+fn begin_bare<D: Disk>(shard: &mut Shard<D>) -> Result<bool, Fail> {
+    if shard.owed() != 0 {
+        return Err("a writeback is under way".into());
+    }
+    Ok(shard.begin_bare())
+}
+
+/// Writes back whatever is dirty, and sees that the mark stays.
+fn writes_bare<D: Disk>(shard: &mut Shard<D>) -> Result<(), Fail> {
+    let mark = shard.mark();
+    if begin_bare(shard)? {
+        see(write_back(shard)? == Ok(Step::Done), "another end")?;
+    }
+    see(shard.spare() == ROOM, "an entry is dirty")?;
+    see(shard.mark() == mark, "another mark")
 }
 
 /// Sees that what a crash left has each of the three blocks then.
@@ -487,6 +506,8 @@ fn agrees_with_a_list<D: Disk>(shard: &mut Shard<D>, alloc: Global) -> Result<()
 /// fails.
 fn finds_in_memory<D: Disk>(shard: &mut Shard<D>, alloc: Global) -> Result<(), Fail> {
     put_all(shard, &three())?;
+    let second = three()[1].key.score;
+    see(shard.bucket_of(&second) == 1, "another bucket")?;
     writes_all(shard, 3)?;
     finds_all(shard, &three())?;
     for _ in 0..3u8 {
