@@ -13,7 +13,7 @@ use Rattle.vt_session.specs.Hearing.{Hearing, over, HearsOn, IsHeard, MatchMessa
 use Rattle.vt_session.specs.Hearing.{TakesBytes, left_len}
 use Rattle.std.specs.Prelude.{◌<◌}
 use Rattle.vt_answer.specs.Members.{StoreOf}
-use Rattle.vt_answer.specs.Sessions.{Spoken, AnswersItems, AnswersNext, TellsEnd, HearsFor, AnswersAll, IsItemOrEnd}
+use Rattle.vt_answer.specs.Sessions.{Spoken, AnswersItems, AnswersNext, TellsEnd, AnswersAll, IsItemOrEnd}
 use Rattle.vt_answer.specs.Writing.{Writes}
 use Rattle.vt_answer.proofs.Items.{no_item, more_items}
 use Rattle.vt_answer.proofs.Written.{waits_more}

@@ -1,16 +1,13 @@
 -- From what was heard item by item to a whole input.
-use Rattle.std.proofs.Common.{◌≡◌, List, [], ◌++◌, ℕ, Ok, Err, refl, sym, ◌∙◌, ap, subst, inl, inr, append-nil, Option, None}
-use Rattle.std.specs.List.{flat_map}
+use Rattle.std.proofs.Common.{◌≡◌, List, [], ◌++◌, ℕ, Ok, Err, refl, sym, ◌∙◌, ap, subst, append-nil, None}
 use Rattle.vt_base.specs.Bytes.{AreBytes}
-use Rattle.vt_base.specs.Faults.{HasRisen}
 use Rattle.vt_base.specs.declared.why.Failed.{Failed}
-use Rattle.vt_base.specs.declared.why.Why.{Why}
 use Rattle.vt_model.specs.History.{History}
 use Rattle.vt_session.specs.declared.Ended.{Ended}
 use Rattle.vt_session.specs.declared.Ended.TheVariants.{Goodbye, Closed, Cut, Malformed, Spent, ReadFault, WriteFault, NoMemory}
 use Rattle.vt_session.specs.Heard.{Item, Heard}
 use Rattle.vt_session.specs.Hearing.{Hearing, HearsOn}
-use Rattle.vt_session.specs.Turns.{Turn, items_of, output_of, spelled_turn, server_line, causes_of, first_why}
+use Rattle.vt_session.specs.Turns.{Turn, items_of, output_of, server_line, causes_of, first_why}
 use Rattle.vt_session.specs.Talk.{HearsAll, EndsByInput}
 use Rattle.vt_session.proofs.Hearings.{heard_some, heard_one}
 use Rattle.vt_session.proofs.Pieces.{turns_cut}

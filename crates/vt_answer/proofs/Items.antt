@@ -1,26 +1,25 @@
 -- Items that are answered, one after another.
-use Rattle.std.proofs.Common.{◌≡◌, ℕ, List, [], ◌∷◌, ◌++◌, length, Bool, true, false, cond, refl, sym, ◌∙◌, ap, subst, inl, inr, arith, Result, Ok, Err, Option, Some, None, append-nil}
+use Rattle.std.proofs.Common.{◌≡◌, ℕ, List, [], ◌∷◌, ◌++◌, length, Bool, true, cond, refl, sym, ◌∙◌, ap, subst, inl, inr, arith, Result, Ok, Err, Option, Some, None, append-nil}
 use Rattle.std.specs.List.{flat_map}
 use Rattle.std.specs.Option.{option_or}
 use Rattle.std.proofs.lemmas.Grind.{flat_map-append}
 use Rattle.std.proofs.lemmas.List.{map-append}
 use Rattle.vt_base.specs.declared.why.Failed.{Failed}
 use Rattle.vt_base.specs.declared.why.Why.{Why}
-use Rattle.vt_base.specs.Protocol.{Operation, ping, TMessage, t_hello, t_goodbye, t_ask, RMessage, r_hello, r_ping, r_refused}
+use Rattle.vt_base.specs.Protocol.{ping, TMessage, t_hello, t_goodbye, t_ask, RMessage, r_hello, r_ping, r_refused}
 use Rattle.vt_model.specs.History.{History}
 use Rattle.vt_wire.specs.Messages.{spelled}
-use Rattle.vt_session.specs.Heard.{Item, settled, asked}
+use Rattle.vt_session.specs.Heard.{Item, settled}
 use Rattle.vt_session.specs.Hearing.{MatchMessage}
 use Rattle.vt_session.specs.Turns.{Turn, told, Cause, disk_fault, stopped, damaged, no_memory, why_of, item_of_turn, items_of, spelled_turn, cause_of, causes_of, first_why}
 use Rattle.vt_answer.specs.Asking.{reply_to, ServesMessage, DoesMessage, failure_of}
 use Rattle.vt_answer.specs.Condition.{GoesOn, Condition}
 use Rattle.vt_answer.specs.Members.{StoreOf}
-use Rattle.vt_answer.specs.Serving.{Answers, Lengthens, tells_failure}
+use Rattle.vt_answer.specs.Serving.{Answers, tells_failure}
 use Rattle.vt_answer.specs.Sessions.{AnswersItems}
 use Rattle.vt_answer.specs.Taking.{Takes}
 use Rattle.vt_answer.specs.Writing.{Writes}
 use Rattle.vt_answer.specs.declared.asking.Said.{Said}
-use Rattle.vt_answer.specs.declared.asking.Said.TheVariants.{Hello}
 use Rattle.vt_answer.proofs.Taking.{takes_none, takes_told, takes_served, takes_failed, takes_more}
 use Rattle.vt_answer.proofs.Written.{writes_more}
 

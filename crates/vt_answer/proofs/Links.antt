@@ -1,27 +1,25 @@
 -- A session over a link, part by part, and as a whole.
-use Rattle.std.proofs.Common.{◌≡◌, ◌≢◌, ℕ, ◌+◌, ◌<◌, ◌≤◌, ◌⊎◌, inl, inr, List, [], ◌∷◌, ◌++◌, length, take, refl, sym, ◌∙◌, ap, subst, arith, append-nil, append_assoc, length-append, length-drop, length-take, Result, Ok, Err, Option, Some, None}
+use Rattle.std.proofs.Common.{◌≡◌, ◌≢◌, ℕ, ◌+◌, ◌<◌, ◌≤◌, inl, inr, List, [], ◌∷◌, ◌++◌, length, refl, sym, ◌∙◌, ap, subst, arith, append-nil, append_assoc, length-append, length-drop, Result, Ok, Err, Option, Some, None}
 use Rattle.std.specs.Prelude.{◌-◌, min, Bool, true, false, if◌then◌else◌, IsTrue, IfOk, IfSome}
-use Rattle.std.specs.List.{flat_map}
 use Rattle.std.specs.Option.{option_or}
 use Rattle.vt_base.specs.Bytes.{AreBytes, AreBytes-none, AreBytes-append}
 use Rattle.vt_base.specs.declared.why.Failed.{Failed}
-use Rattle.vt_base.specs.Protocol.{RMessage, TMessage, t_hello, t_goodbye, t_ask, r_hello, r_error}
+use Rattle.vt_base.specs.Protocol.{RMessage, TMessage, t_hello, t_goodbye, t_ask}
 use Rattle.vt_model.specs.History.{History}
 use Rattle.vt_wire.specs.Lines.{line_of}
 use Rattle.vt_wire.specs.declared.line.Line.{Line}
 use Rattle.vt_wire.specs.declared.line.Line.TheVariants.{Whole, More, Bad}
 use Rattle.vt_wire.specs.Messages.{spelled}
-use Rattle.vt_wire.specs.Rules.{rule_words}
 use Rattle.vt_wire.specs.Views.{message_of}
 use Rattle.vt_session.specs.declared.Ended.{Ended}
 use Rattle.vt_session.specs.declared.Ended.TheVariants.{Goodbye, Closed, Cut, Malformed, Spent, ReadFault, WriteFault, NoMemory}
 use Rattle.vt_session.specs.declared.parsed.Next.{Next}
 use Rattle.vt_session.specs.declared.parsed.Next.TheVariants.{Message, Refused, End}
-use Rattle.vt_session.specs.Heard.{Item, settled, asked, end_of, Heard}
+use Rattle.vt_session.specs.Heard.{Item, end_of, Heard}
 use Rattle.vt_session.specs.Hearing.{going_on, over, MatchMessage, MatchNext}
-use Rattle.vt_session.specs.Talk.{EndsInLast, HearsAll, BreaksOff, Carries, Took, spent_len}
-use Rattle.vt_session.specs.Talking.{Stage, at_line, behind_line, HearsStage, IsHeardStage, stage_with, line_heard, fed_stage, fed, Talking, needs_more, room, unheard_len, ended_at, IsOpen, EndsAnyhow, Passes, PassesItem, PassesEnd}
-use Rattle.vt_session.specs.Turns.{Turn, items_of, pieces_of, output_of, spelled_turn, server_line, causes_of, first_why}
+use Rattle.vt_session.specs.Talk.{EndsInLast, HearsAll, BreaksOff, Took, spent_len}
+use Rattle.vt_session.specs.Talking.{Stage, at_line, behind_line, HearsStage, IsHeardStage, stage_with, line_heard, fed_stage, fed, Talking, needs_more, room, unheard_len, ended_at, IsOpen, EndsAnyhow, Passes, PassesItem}
+use Rattle.vt_session.specs.Turns.{Turn, items_of, pieces_of, output_of, server_line, causes_of, first_why}
 use Rattle.vt_session.proofs.Pieces.{turns_cut}
 use Rattle.vt_session.proofs.Talking.{fed_heard, none_more}
 use Rattle.vt_answer.specs.Clients.{tag_of, AreReplies, IsAnswered}

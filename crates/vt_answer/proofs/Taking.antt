@@ -1,6 +1,6 @@
 -- A store that is asked in turns, one after another.
-use Rattle.std.proofs.Common.{◌≡◌, ℕ, ◌≤◌, List, [], ◌∷◌, ◌++◌, length, take, refl, sym, ◌∙◌, ap, subst, arith, IsTrue, None, append-nil, append_assoc, length-append}
-use Rattle.std.specs.List.{AllByRecursion, Contains, flat_map}
+use Rattle.std.proofs.Common.{◌≡◌, ℕ, ◌≤◌, List, [], ◌∷◌, ◌++◌, length, take, refl, sym, ◌∙◌, ap, subst, arith, append-nil, append_assoc, length-append}
+use Rattle.std.specs.List.{AllByRecursion, Contains}
 use Rattle.std.proofs.Math.Seq.{take-append_seam}
 use Rattle.std.proofs.lemmas.Grind.{flat_map-append}
 use Rattle.vt_base.specs.Protocol.{Operation, ping, read, write, sync, RMessage, r_refused}
@@ -8,13 +8,13 @@ use Rattle.vt_base.specs.declared.why.Why.{Why}
 use Rattle.vt_model.specs.History.{History}
 use Rattle.vt_model.specs.Answer.{answer, Outcome}
 use Rattle.vt_model.specs.Places.{Setup}
-use Rattle.vt_session.specs.Turns.{Part, Turn, told, served, failed, Cause, disk_fault, stopped, damaged, no_memory, why_of, cause_of, causes_of, synced_number, synced_numbers}
+use Rattle.vt_session.specs.Turns.{Part, Turn, told, served, failed, Cause, disk_fault, stopped, damaged, no_memory, cause_of, causes_of, synced_number, synced_numbers}
 use Rattle.vt_session.specs.Answered.{AnsweredBy, AnsweredAlone, AreToldBy, IsKnownStop}
 use Rattle.vt_session.proofs.Turns.{turns_join, turns_join_later}
 use Rattle.vt_session.proofs.Causes.{counts_join}
 use Rattle.vt_answer.specs.Condition.{Condition, faults_over, GoesOn, IsNoDamage, IsNoFault}
 use Rattle.vt_answer.specs.Members.{StoreOf}
-use Rattle.vt_answer.specs.Serving.{Answers, Fails, Lengthens, IsCovered}
+use Rattle.vt_answer.specs.Serving.{Answers, Fails, IsCovered}
 use Rattle.vt_answer.specs.Taking.{DoesOne, DoesEach, Takes}
 
 -- ---- each of several

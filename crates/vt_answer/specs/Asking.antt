@@ -1,5 +1,5 @@
 -- What a store is asked by a message of a client, and what is said to it.
-use Rattle.std.specs.Prelude.{◌≡◌, Bool, if◌then◌else◌, Option, Some, None, Result, Ok, Err}
+use Rattle.std.specs.Prelude.{◌≡◌, if◌then◌else◌, Option, Some, None, Result, Ok, Err}
 use Rattle.vt_base.specs.declared.why.Why.{Why}
 use Rattle.vt_base.specs.Protocol.{TMessage, t_hello, t_goodbye, t_ask, RMessage, r_hello, r_ping, r_sync, r_write, r_read, r_refused}
 use Rattle.vt_model.specs.History.{History}

@@ -2,7 +2,7 @@
 use Rattle.std.specs.Prelude.{ℕ, ◌≡◌, ◌≤◌, ⊤, Bool, IsTrue, List}
 use Rattle.std.specs.List.{Contains}
 use Rattle.vt_model.specs.Places.{Setup}
-use Rattle.vt_session.specs.Turns.{Part, Cause, disk_fault, stopped, damaged, no_memory}
+use Rattle.vt_session.specs.Turns.{Part, Cause, disk_fault, damaged}
 use Rattle.vt_session.specs.Answered.{Faults, NoneFell}
 
 -- What it was opened with; whether nobody else adds blocks to its history; the counts of failed

@@ -1,5 +1,5 @@
 -- What a store was asked in turns, one after another.
-use Rattle.std.specs.Prelude.{ℕ, ◌≡◌, ◌≤◌, IsTrue, List, [], ◌∷◌, ◌++◌, length}
+use Rattle.std.specs.Prelude.{◌≡◌, ◌≤◌, IsTrue, List, [], ◌∷◌, ◌++◌, length}
 use Rattle.std.specs.List.{AllByRecursion}
 use Rattle.vt_base.specs.Protocol.{Operation, ping, read, write, sync, RMessage, r_refused}
 use Rattle.vt_model.specs.History.{History}

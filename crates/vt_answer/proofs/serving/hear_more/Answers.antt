@@ -1,5 +1,5 @@
 -- what was taken is what came, and it was fed
-use Rattle.std.proofs.Common.{◌≡◌, ◌<◌, ◌≤◌, ℕ, [], ◌++◌, length, take, drop, refl, inl, inr, sym, ◌∙◌, ap, subst, arith, append-nil, length-take}
+use Rattle.std.proofs.Common.{◌≡◌, ◌<◌, ◌≤◌, [], ◌++◌, length, take, drop, refl, inl, inr, sym, ◌∙◌, ap, subst, arith, append-nil, length-take}
 use Rattle.std.proofs.lemmas.List.{take-append-le}
 use Rattle.vt_base.specs.Bytes.{AreBytes, AreBytes-none}
 use Rattle.vt_session.specs.Talking.{room, fed}

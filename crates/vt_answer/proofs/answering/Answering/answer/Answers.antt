@@ -1,13 +1,10 @@
 -- no turn at the end, and else one
-use Rattle.std.proofs.Common.{rules, ◌≡◌, List, ℕ, ◌∙◌, ap, sym, subst, Option, Some, None}
+use Rattle.std.proofs.Common.{◌≡◌, List, ℕ, ◌∙◌, ap}
 use Rattle.std.specs.Option.{option_or}
 use Rattle.std.proofs.lemmas.Result.{err_from_is_err_and}
 use Rattle.vt_base.specs.Protocol.{r_error}
 use Rattle.vt_wire.specs.Rules.{rule_words}
 use Rattle.vt_wire.specs.Views.{message_of}
-use Rattle.vt_session.specs.Hearing.{MatchMessage}
-use Rattle.vt_answer.specs.Sessions.{Spoken, AnswersItems}
-use Rattle.vt_answer.specs.Writing.{Writes}
 use Rattle.vt_answer.proofs.Items.{no_item, settled_item, message_item}
 use Rattle.vt_answer.proofs.answering.Answering.answer.Goals as goal
 use Rattle.vt_answer.proofs.answering.Answering.answer.Goals.{in-Ok+in-Block-2, in-Ok+in-Hello-2, in-Err-2}

@@ -1,5 +1,5 @@
 -- what was heard so far, and one item more
-use Rattle.std.proofs.Common.{List, ℕ, Ok, Err, Result, Option, Some, None, IsTrue, refl, ◌∙◌}
+use Rattle.std.proofs.Common.{Ok, Err, Result, Option, Some, None, IsTrue, refl, ◌∙◌}
 use Rattle.std.proofs.lemmas.Result.{err_from_is_err_and}
 use Rattle.vt_base.specs.declared.why.Failed.{Failed}
 use Rattle.vt_session.specs.declared.Ended.{Ended}

@@ -1,5 +1,5 @@
 -- each step is part of the session, from its first byte on
-use Rattle.std.proofs.Common.{[], Ok, Err, Option, IsTrue, refl, ◌∙◌, ap, arith}
+use Rattle.std.proofs.Common.{[], Option, IsTrue, refl, ◌∙◌, arith}
 use Rattle.std.proofs.lemmas.Result.{err_from_is_err_and}
 use Rattle.vt_base.specs.Bytes.{AreBytes-none}
 use Rattle.vt_session.specs.declared.Ended.{Ended}

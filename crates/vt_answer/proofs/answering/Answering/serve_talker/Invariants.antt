@@ -1,5 +1,5 @@
 -- what came so far was heard and answered, and what was said is written or waits
-use Rattle.std.proofs.Common.{◌≡◌, ◌<◌, ℕ, length, IsTrue}
+use Rattle.std.proofs.Common.{◌≡◌, ◌<◌, length, IsTrue}
 use Rattle.vt_session.specs.Talking.{IsHeardStage}
 use Rattle.vt_answer.specs.Condition.{GoesOn}
 use Rattle.vt_answer.specs.Links.{left_to_do}
