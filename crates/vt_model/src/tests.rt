@@ -1,3 +1,5 @@
+//! The plain store, by its answers to rows of calls.
+
 use crate::PlainStore;
 use std::alloc::Global;
 use std::test::Fail;
@@ -18,25 +20,31 @@ const ZERO: Score = Score([
     0xaf, 0xd8, 0x07, 0x09,
 ]);
 
-fn store<S: Scorer + Drop>(
-    alloc: Global,
-    scorer: S,
-    arenas: &[u32],
-    buckets: u32,
-) -> Result<PlainStore<S>, Fail> {
-    let arenas = Vec::from_slice(alloc, arenas)?;
-    let sections = Vec::from_slice(alloc, &[buckets])?;
-    Ok(PlainStore::new(alloc, scorer, arenas, 0, sections))
+// One arena with room for thousands of blocks of three bytes.
+const LARGE: [u32; 1] = [1_048_576];
+
+/// A call of a store, and what it has to answer.
+#[derive(Clone, Copy)]
+enum Call<'a> {
+    /// A block of a type is written.
+    Write(u8, &'a [u8], Result<Score, Why>),
+    /// The block of a score and a type is read, of so many bytes at most.
+    Read(Score, u8, u32, Result<&'a [u8], Why>),
+    /// So many numbered blocks are written: these are taken, and the next is refused.
+    Fill(u16, u16, Option<Why>),
 }
 
-// Block i of distinct blocks of three bytes.
-fn numbered(i: u16) -> [u8; 3] {
-    let [high, low] = i.to_be_bytes();
-    [7, high, low]
+/// Whether a store answers this.
+fn answers<S: Scorer>(alloc: Global, store: &mut PlainStore<S>, call: &Call) -> bool {
+    match call {
+        Call::Write(kind, block, answer) => store.write(alloc, *kind, block) == *answer,
+        Call::Read(score, kind, count, answer) => store.read(score, *kind, *count) == *answer,
+        Call::Fill(blocks, taken, refusal) => fill(alloc, store, *blocks) == (*taken, *refusal),
+    }
 }
 
-// How many of the numbered blocks are accepted before the first refusal, and that refusal.
-fn fill(alloc: Global, store: &mut PlainStore<Sha1Scorer>, blocks: u16) -> (u16, Option<Why>) {
+/// How many of the numbered blocks are taken before the first refusal, and that refusal.
+fn fill<S: Scorer>(alloc: Global, store: &mut PlainStore<S>, blocks: u16) -> (u16, Option<Why>) {
     for i in 0..blocks {
         if let Err(why) = store.write(alloc, DATA, &numbered(i)) {
             return (i, Some(why));
@@ -45,117 +53,149 @@ fn fill(alloc: Global, store: &mut PlainStore<Sha1Scorer>, blocks: u16) -> (u16,
     (blocks, None)
 }
 
+/// Block i of distinct blocks of three bytes.
+fn numbered(i: u16) -> [u8; 3] {
+    let [high, low] = i.to_be_bytes();
+    [7, high, low]
+}
+
+/// Makes these calls of a store without blocks. `buckets` is how many its index section has.
+fn see<S: Scorer + Drop>(
+    alloc: Global,
+    scorer: S,
+    arenas: &[u32],
+    buckets: u32,
+    calls: &[Call],
+) -> Result<(), Fail> {
+    let arenas = Vec::from_slice(alloc, arenas)?;
+    let sections = Vec::from_slice(alloc, &[buckets])?;
+    let mut store = PlainStore::new(alloc, scorer, arenas, 0, sections);
+    for call in calls {
+        if !answers(alloc, &mut store, call) {
+            return Err("another answer")?;
+        }
+    }
+    Ok(())
+}
+
 #[test]
 fn a_block_is_read_back_under_its_key(rt: HostRuntime) -> Result<(), Fail> {
-    let mut store = store(rt.alloc(), Sha1Scorer, &[1_048_576], 1_000)?;
-    assert_eq!(rt; store.read(&ABC, DATA, 3).err(), Some(Why::Absent));
-    for _ in 0..2 {
-        assert_eq!(rt; store.write(rt.alloc(), DATA, b"abc")?, ABC);
-    }
-    assert_eq!(rt; store.read(&ABC, DATA, 3)?, b"abc".as_slice());
-    assert_eq!(rt; store.read(&ABC, DATA, 2).err(), Some(Why::TooSmall));
-    assert_eq!(rt; store.read(&ABC, DIRECTORY, 3).err(), Some(Why::Absent));
-    assert_eq!(rt; store.read(&ABC, 10, 3).err(), Some(Why::BadType));
-    assert_eq!(rt; store.write(rt.alloc(), DIRECTORY, b"abc")?, ABC);
-    assert_eq!(rt; store.read(&ABC, DIRECTORY, 65_535)?, b"abc".as_slice());
-    Ok(())
+    let calls = [
+        Call::Read(ABC, DATA, 3, Err(Why::Absent)),
+        Call::Write(DATA, b"abc", Ok(ABC)),
+        Call::Write(DATA, b"abc", Ok(ABC)),
+        Call::Read(ABC, DATA, 3, Ok(b"abc")),
+        Call::Read(ABC, DATA, 2, Err(Why::TooSmall)),
+        Call::Read(ABC, DIRECTORY, 3, Err(Why::Absent)),
+        Call::Read(ABC, 10, 3, Err(Why::BadType)),
+        Call::Write(DIRECTORY, b"abc", Ok(ABC)),
+        Call::Read(ABC, DIRECTORY, 65_535, Ok(b"abc")),
+    ];
+    see(rt.alloc(), Sha1Scorer, &LARGE, 1_000, &calls)
 }
 
 #[test]
 fn no_bytes_are_always_held(rt: HostRuntime) -> Result<(), Fail> {
+    let calls = [
+        Call::Write(DATA, b"", Ok(ZERO)),
+        Call::Read(ZERO, DATA, 0, Ok(b"")),
+        Call::Read(ZERO, 1, 9, Ok(b"")),
+        Call::Write(0, b"", Err(Why::BadType)),
+        Call::Write(DATA, b"abc", Err(Why::ArenasFull)),
+    ];
     // no arena has room, and no bucket is there
-    let mut store = store(rt.alloc(), Sha1Scorer, &[], 0)?;
-    assert_eq!(rt; store.write(rt.alloc(), DATA, b"")?, ZERO);
-    assert_eq!(rt; store.read(&ZERO, DATA, 0)?, b"".as_slice());
-    assert_eq!(rt; store.read(&ZERO, 1, 9)?, b"".as_slice());
-    assert_eq!(rt; store.write(rt.alloc(), 0, b"").err(), Some(Why::BadType));
-    assert_eq!(rt;
-        store.write(rt.alloc(), DATA, b"abc").err(),
-        Some(Why::ArenasFull)
-    );
-    Ok(())
+    see(rt.alloc(), Sha1Scorer, &[], 0, &calls)
 }
 
 #[test]
-fn a_block_has_a_type_and_a_limit(rt: HostRuntime) -> Result<(), Fail> {
-    let mut store = store(rt.alloc(), Sha1Scorer, &[1_048_576], 1_000)?;
-    let most = [7; 57_344];
+fn a_block_has_a_limit(rt: HostRuntime) -> Result<(), Fail> {
+    let block = [7; 57_345];
+    let more = block.as_slice();
+    let refused = [
+        Call::Write(DATA, more, Err(Why::TooBig)),
+        Call::Write(DATA, b"abc", Ok(ABC)),
+    ];
+    see(rt.alloc(), Sha1Scorer, &LARGE, 1_000, &refused)?;
+    let most = &more[..57_344];
+    let score = Sha1Scorer.score(most);
+    let taken = [
+        Call::Write(DATA, most, Ok(score)),
+        Call::Read(score, DATA, 57_344, Ok(most)),
+        Call::Read(score, DATA, 57_343, Err(Why::TooSmall)),
+    ];
+    see(rt.alloc(), Sha1Scorer, &LARGE, 1_000, &taken)
+}
+
+#[test]
+fn a_block_has_a_type(rt: HostRuntime) -> Result<(), Fail> {
     let more = [7; 57_345];
-    let score = store.write(rt.alloc(), DATA, &most)?;
-    assert_eq!(rt;
-        store.write(rt.alloc(), DATA, &more).err(),
-        Some(Why::TooBig)
-    );
     for kind in [0, 10, 12, 14, 255] {
-        for bytes in [b"abc".as_slice(), b"", &more] {
-            let refused = store.write(rt.alloc(), kind, bytes).err();
-            assert_eq!(rt; refused, Some(Why::BadType), "type {kind}");
-        }
+        let calls = [
+            Call::Write(kind, b"abc", Err(Why::BadType)),
+            Call::Write(kind, b"", Err(Why::BadType)),
+            Call::Write(kind, &more, Err(Why::BadType)),
+        ];
+        see(rt.alloc(), Sha1Scorer, &LARGE, 1_000, &calls)?;
     }
-    assert_eq!(rt; store.read(&score, DATA, 57_344)?, most.as_slice());
-    assert_eq!(rt; store.read(&score, DATA, 57_343).err(), Some(Why::TooSmall));
     Ok(())
 }
 
 #[test]
 fn arenas_fill_one_after_another(rt: HostRuntime) -> Result<(), Fail> {
-    for (arenas, accepted) in [
+    for (arenas, taken) in [
         (&[][..], 0),
         (&[24_576][..], 0),
         (&[32_768][..], 124),
         (&[32_768, 32_768][..], 248),
         (&[32_768, 24_576, 32_768][..], 124),
     ] {
-        let mut store = store(rt.alloc(), Sha1Scorer, arenas, 1_000)?;
-        let filled = fill(rt.alloc(), &mut store, 300);
-        assert_eq!(rt; filled, (accepted, Some(Why::ArenasFull)), "in {arenas:?}");
-        // each that was accepted still is
-        assert_eq!(rt; fill(rt.alloc(), &mut store, accepted), (accepted, None));
+        let calls = [
+            Call::Fill(300, taken, Some(Why::ArenasFull)),
+            // each that was taken still is
+            Call::Fill(taken, taken, None),
+        ];
+        see(rt.alloc(), Sha1Scorer, arenas, 1_000, &calls)?;
     }
     Ok(())
 }
 
 #[test]
 fn the_first_block_fills_an_arena(rt: HostRuntime) -> Result<(), Fail> {
-    let bytes = [7; 8_130];
-    for (len, refusal) in [(8_129, None), (8_130, Some(Why::ArenasFull))] {
-        let mut store = store(rt.alloc(), Sha1Scorer, &[32_768], 1_000)?;
-        assert_eq!(rt; store.write(rt.alloc(), DATA, &bytes[..len]).err(), refusal);
-        let full = refusal.is_none();
-        assert_eq!(rt; store.write(rt.alloc(), DATA, b"abc").is_err(), full);
-    }
-    Ok(())
+    let full = [7; 8_130];
+    let score = Sha1Scorer.score(&full[..8_129]);
+    let fits = [
+        Call::Write(DATA, &full[..8_129], Ok(score)),
+        Call::Write(DATA, b"abc", Err(Why::ArenasFull)),
+    ];
+    see(rt.alloc(), Sha1Scorer, &[32_768], 1_000, &fits)?;
+    let too_long = [
+        Call::Write(DATA, &full, Err(Why::ArenasFull)),
+        Call::Write(DATA, b"abc", Ok(ABC)),
+    ];
+    see(rt.alloc(), Sha1Scorer, &[32_768], 1_000, &too_long)
 }
 
 #[test]
 fn a_bucket_fills(rt: HostRuntime) -> Result<(), Fail> {
-    let mut store = store(rt.alloc(), Sha1Scorer, &[1_048_576], 1)?;
-    assert_eq!(rt;
-        fill(rt.alloc(), &mut store, 300),
-        (263, Some(Why::IndexFull))
-    );
-    assert_eq!(rt; fill(rt.alloc(), &mut store, 263), (263, None));
-    Ok(())
+    let calls = [
+        Call::Fill(300, 263, Some(Why::IndexFull)),
+        Call::Fill(263, 263, None),
+    ];
+    see(rt.alloc(), Sha1Scorer, &LARGE, 1, &calls)
 }
 
 #[test]
 fn equal_scores_collide(rt: HostRuntime) -> Result<(), Fail> {
-    let mut store = store(rt.alloc(), ShortScorer, &[1_048_576], 1_000)?;
     let mut score = [0; 20];
     score[0] = 0x61;
     let score = Score(score);
-    assert_eq!(rt; store.write(rt.alloc(), DATA, b"abc")?, score);
-    for kind in [DATA, DIRECTORY] {
-        assert_eq!(rt;
-            store.write(rt.alloc(), kind, b"abd").err(),
-            Some(Why::Collision)
-        );
-    }
-    assert_eq!(rt; store.write(rt.alloc(), DIRECTORY, b"abc")?, score);
-    assert_eq!(rt;
-        store.write(rt.alloc(), DATA, b"\0").err(),
-        Some(Why::Collision)
-    );
-    assert_eq!(rt; store.read(&score, DIRECTORY, 3)?, b"abc".as_slice());
-    Ok(())
+    let calls = [
+        Call::Write(DATA, b"abc", Ok(score)),
+        Call::Write(DATA, b"abd", Err(Why::Collision)),
+        Call::Write(DIRECTORY, b"abd", Err(Why::Collision)),
+        Call::Write(DIRECTORY, b"abc", Ok(score)),
+        Call::Write(DATA, b"\0", Err(Why::Collision)),
+        Call::Read(score, DIRECTORY, 3, Ok(b"abc")),
+    ];
+    see(rt.alloc(), ShortScorer, &LARGE, 1_000, &calls)
 }
