@@ -76,7 +76,7 @@ WORK = [
 
 
 def run(command, path):
-    """Seconds of one run, and the most memory that it had, in MiB."""
+    """Seconds of one run, by the clock and of the processor, and the most memory that it had, in MiB."""
     with open(path, "rb") as source, open(os.devnull, "wb") as sink:
         began = time.perf_counter()
         child = subprocess.Popen(command, stdin=source, stdout=sink)
@@ -84,12 +84,18 @@ def run(command, path):
         seconds = time.perf_counter() - began
     if status != 0:
         sys.exit(f"{command}: status {status}")
-    return seconds, usage.ru_maxrss / 1024
+    return seconds, usage.ru_utime + usage.ru_stime, usage.ru_maxrss / 1024
 
 
 def best(command, path):
     runs = [run(command, path) for _ in range(3)]
-    return min(seconds for seconds, _ in runs), max(memory for _, memory in runs)
+    return min(seconds for seconds, _, _ in runs), max(memory for _, _, memory in runs)
+
+
+def least(command, path):
+    """The same of five runs, by the processor's seconds, which other work on the machine changes less."""
+    runs = [run(command, path) for _ in range(5)]
+    return min(seconds for _, seconds, _ in runs), max(memory for _, _, memory in runs)
 
 
 def make_rate(folder):
