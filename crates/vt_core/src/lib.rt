@@ -32,3 +32,6 @@ pub const MOST_ARENAS: u32 = 4_096;
 
 /// How many buckets all sections may have.
 pub const MOST_BUCKETS: u32 = 1_048_576;
+
+#[cfg(test)]
+mod tests;
