@@ -1,6 +1,7 @@
 //! What a session asks.
 
 ghost use Rattle.std.specs.Prelude.{◌≡◌, ◌≤◌, ℕ, List, IfOk, length};
+ghost use Rattle.vt_base.specs.declared.TheConstants.{MAX_BLOCK};
 ghost use Rattle.vt_base.specs.Protocol.{Operation, read, write, sync, RMessage, r_read, r_write, r_sync};
 ghost use Rattle.vt_model.specs.History.{History};
 ghost use Rattle.vt_answer.specs.Condition.{Condition, GoesOn};
@@ -48,7 +49,7 @@ pub trait Store {
         ensures goes_on { GoesOn (condition self.old) (condition self.new) }
         ensures once { does self.old (read score.now.0 kind count)
             (said (λ block. r_read block) result) self.new }
-        ensures most { IfOk result (λ block. length block ≤ 57344) };
+        ensures most { IfOk result (λ block. length block ≤ MAX_BLOCK) };
 
     /// Makes every block durable that was accepted before it.
     fn sync(&mut self) -> Result<(), Why>

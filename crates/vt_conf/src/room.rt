@@ -11,7 +11,7 @@ const ENTRY_LEN: u64 = 64;
 /// index sections, but from 4 to 65,536.
 pub fn block_room(mem: u64, sections: u32) -> u32
     requires { 0 < sections }
-    ensures { result ≡ min 65536 (max 4 (mem / 57344 / sections)) }
+    ensures { result ≡ min 65536 (max 4 (mem / MAX_BLOCK / sections)) }
 {
     (mem / MAX_BLOCK as u64 / u64::from(sections))
         .max(4)

@@ -5,6 +5,7 @@
 use Rattle.std.specs.Prelude.{ℕ, zero, suc, ◌+◌, ◌-◌, ◌*◌, ◌/◌, ◌^◌, ◌==◌, ◌≤◌, nat_lt, Bool, true, if◌then◌else◌, List, [], ◌∷◌, ◌++◌, length, map, take, drop, slice_index_or}
 use Rattle.std.specs.List.{range_with_len, prefix_len, suffix_len, flat_map}
 use Rattle.std.specs.Str.{bytes_eq}
+use Rattle.vt_base.specs.declared.TheConstants.{MAX_BLOCK}
 use Rattle.vt_model.specs.History.{Block}
 use Rattle.vt_tree.specs.declared.entry.Entry.{Entry}
 use Rattle.vt_tree.specs.Content.{scores_in, leaf_kind, pointer_kind}
@@ -18,9 +19,9 @@ pub record Shape : Type 0 where
 -- sizes by which a depth of 7 reaches 2^40 bytes
 pub record FitsShape (shape : Shape) : Type 0 where
   pub psize_least : 500 ≤ shape.psize
-  pub psize_most : shape.psize ≤ 57344
+  pub psize_most : shape.psize ≤ MAX_BLOCK
   pub dsize_least : 480 ≤ shape.dsize
-  pub dsize_most : shape.dsize ≤ 57344
+  pub dsize_most : shape.dsize ≤ MAX_BLOCK
 
 -- how many bytes stand below a block of this depth at most
 abbrev pub reach : Shape → (depth : ℕ) → ℕ

@@ -18,7 +18,7 @@ use crate::plain::{SCORE_LEN, leaf_kind, pointer_kind};
 use crate::reading::MAX_FILE;
 use crate::{Blocks, Entry, TreeErr};
 use std::alloc::Global;
-use vt_base::{Kind, NoMemory, Score, Scorer};
+use vt_base::{Kind, MAX_BLOCK, NoMemory, Score, Scorer};
 use vt_out::Source;
 
 /// Writes what a source has left as a tree of blocks (venti(6)), with leaves of dsize bytes and
@@ -36,9 +36,9 @@ pub fn write_stream<B: Blocks, R: Source>(
 ) -> Result<Entry, TreeErr>
     // So a depth of 7 reaches 2^40 bytes.
     requires dsize_least { 480 ≤ dsize }
-    requires dsize_most { dsize ≤ 57344 }
+    requires dsize_most { dsize ≤ MAX_BLOCK }
     requires psize_least { 500 ≤ psize }
-    requires psize_most { psize ≤ 57344 }
+    requires psize_most { psize ≤ MAX_BLOCK }
 
     ensures written { let shape : Shape
         = record { psize = psize; dsize = dsize; is_dir = is_dir } in
@@ -105,7 +105,7 @@ impl Ahead {
     fn advance<R: Source>(&mut self, source: &mut R) -> Result<(), TreeErr>
         requires filled { self.old.filled ≤ length self.old.leaf.items }
         requires size { self.old.size ≤ 2 ^ 40 }
-        requires room { length self.old.leaf.items ≤ 57344 }
+        requires room { length self.old.leaf.items ≤ MAX_BLOCK }
         ensures ok { OnOk result (Advances (length self.old.leaf.items)
             (next_of self.old) (next_of self.new)
             (IsTaken R.tells (R.left source.old) (R.left source.new))) }
@@ -300,7 +300,7 @@ impl Cut {
     /// Puts the block of a leaf with these bytes.
     fn put_leaf<B: Blocks>(&self, blocks: &mut B, bytes: &[u8]) -> Result<Score, TreeErr>
         requires zero { self.now.zero.0 ≡ B.score_of [] }
-        requires most { length bytes.now ≤ 57344 }
+        requires most { length bytes.now ≤ MAX_BLOCK }
         ensures { PutsBlock B.does B.score_of blocks.old blocks.new
             (leaf_block (shape_of self.now) bytes.now) result }
     {
@@ -321,7 +321,7 @@ impl Cut {
     ) -> Result<Score, TreeErr>
         requires depth { (0 < depth) × (depth < 8) }
         requires zero { self.now.zero.0 ≡ B.score_of [] }
-        requires few { 20 * length scores.now ≤ 57344 }
+        requires few { 20 * length scores.now ≤ MAX_BLOCK }
         ensures { PutsBlock B.does B.score_of blocks.old blocks.new
             (pointer_block B.score_of depth (map (λ s. s.0) scores.now)) result }
     {
@@ -333,7 +333,7 @@ impl Cut {
     /// Puts a block, unless it has no bytes, and gives its score.
     fn put<B: Blocks>(&self, blocks: &mut B, kind: Kind, bytes: &[u8]) -> Result<Score, TreeErr>
         requires zero { self.now.zero.0 ≡ B.score_of [] }
-        requires most { length bytes.now ≤ 57344 }
+        requires most { length bytes.now ≤ MAX_BLOCK }
         ensures { PutsBlock B.does B.score_of blocks.old blocks.new
             (record { kind = kind; bytes = bytes.now }) result }
     {
