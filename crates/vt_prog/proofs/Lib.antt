@@ -2,8 +2,9 @@ pub mod Whole
 pub mod Complete
 pub mod InMemory
 pub mod Outcomes
-pub mod Ran
-pub mod Telling
+pub mod Puts
+pub mod Causes
+pub mod DidTells
 pub mod Holding
 pub mod Failing
 pub mod Making

@@ -1,9 +1,10 @@
--- What a run did to the streams of its host.
+-- What a run did to the streams and the partitions of its host.
 use Rattle.std.specs.Prelude.{ℕ, ◌≡◌, ◌⊎◌, ◌++◌, Bool, IsTrue, List}
 use Rattle.vt_base.specs.Faults.{HasRisen}
 use Rattle.vt_out.specs.Streams.{AppendsPrefix}
+use Rattle.vt_parts.specs.Parts.{Standing}
 use Rattle.vt_prog.specs.Hosts.{Lent}
-use Rattle.vt_prog.specs.Members.{SourceOf, SinkOf}
+use Rattle.vt_prog.specs.Members.{SourceOf, SinkOf, PartsOf}
 
 -- A stream before the run and behind it: the stream itself; its bytes, left or written, where it
 -- tells them; and its count of faults.
@@ -38,19 +39,47 @@ sink_change sink before after = record {
   faults' = sink.faults after;
 }
 
--- the streams of a run
-pub record Work (R K F : Type 0) : Type 0 where
+-- The partitions before the run and behind it: they themselves; what stands under which name, where
+-- they tell it; and their count of faults.
+pub record PartsChange (Parts Disk : Type 0) : Type 0 where
+  pub before : Parts
+  pub after : Parts
+  pub tells : Bool
+  pub old : (name : List ℕ) → Standing Disk
+  pub new : (name : List ℕ) → Standing Disk
+  pub faults : ℕ
+  pub faults' : ℕ
+
+abbrev pub parts_change : {P D : Type 0} → PartsOf P D → (before after : P) → PartsChange P D
+parts_change parts before after = record {
+  before = before;
+  after = after;
+  tells = parts.tells;
+  old = parts.standing before;
+  new = parts.standing after;
+  faults = parts.faults before;
+  faults' = parts.faults after;
+}
+
+-- what a run did before its line on the fault sink
+pub record Work (R K P D : Type 0) : Type 0 where
   pub source : Change R
   pub sink : Change K
-  pub fault_sink : Change F
+  pub parts : PartsChange P D
 
-abbrev pub work_of : {R K F : Type 0} → SourceOf R → SinkOf K → SinkOf F
-    → (before after : Lent R K F) → Work R K F
-work_of source sink fault_sink before after = record {
+abbrev pub work_of : {R K F P D : Type 0} → SourceOf R → SinkOf K → PartsOf P D
+    → (before after : Lent R K F P) → Work R K P D
+work_of source sink parts before after = record {
   source = source_change source before.source after.source;
   sink = sink_change sink before.sink after.sink;
-  fault_sink = sink_change fault_sink before.fault_sink after.fault_sink;
+  parts = parts_change parts before.parts after.parts;
 }
+
+-- nothing was read, written or handed out
+pub record IsIdle {R K P D : Type 0} (work : Work R K P D) : Type 0 where
+  pub unread : work.source.after ≡ work.source.before
+  pub unwritten : work.sink.after ≡ work.sink.before
+  pub unused : work.parts.after ≡ work.parts.before
 
 -- Where the stream tells what was written, the line was; or the write failed behind a front of it.
 abbrev pub Attempts : {F : Type 0} → Change F → (line : List ℕ) → Type 0

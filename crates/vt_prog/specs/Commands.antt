@@ -1,1 +1,4 @@
+pub mod Fmtarenas
+pub mod Fmtbloom
+pub mod Fmtisect
 pub mod Session

@@ -1,10 +1,14 @@
 -- Why a command ends with a status other than 0: the status, the line that tells it, and the cause,
 -- one row for each.
-use Rattle.std.specs.Prelude.{ℕ, ⊤, List, [], ◌∷◌, ◌++◌, Result, Ok, Err, codes, decimal}
+use Rattle.std.specs.Prelude.{ℕ, ◌≡◌, ◌≢◌, ◌⊎◌, ◌<◌, ⊤, IsTrue, List, [], ◌∷◌, ◌++◌, Option, Result, Ok, Err, codes, decimal}
+use Rattle.std.specs.List.{concat}
 use Rattle.vt_base.specs.Faults.{HasRisen}
+use Rattle.vt_disk.specs.Members.{DiskOf}
+use Rattle.vt_parts.specs.Parts.{there, HandsOut}
 use Rattle.vt_prog.specs.declared.failure.Failure.{Failure}
-use Rattle.vt_prog.specs.declared.failure.Failure.TheVariants.{BadWords, Cut, Malformed, Spent, ReadFault, WriteFault, NoMemory}
-use Rattle.vt_prog.specs.Change.{Work}
+use Rattle.vt_prog.specs.declared.failure.Failure.TheVariants.{BadWords, NotFormatted, TooSmall, Disagree, DiskFault, BadNumber, BadName, Cut, Malformed, Spent, ReadFault, WriteFault, NoMemory}
+use Rattle.vt_prog.specs.Change.{PartsChange, Work}
+use Rattle.vt_prog.specs.Fields.{field_name}
 
 abbrev pub Outcome : Type 0
 Outcome = Result (Unit {0}) Failure
@@ -12,6 +16,12 @@ Outcome = Result (Unit {0}) Failure
 abbrev pub status_of : Outcome → ℕ
 status_of (Ok done) = 0
 status_of (Err BadWords) = 1
+status_of (Err (NotFormatted file)) = 3
+status_of (Err (TooSmall file len need)) = 3
+status_of (Err (Disagree file field found want)) = 3
+status_of (Err DiskFault) = 4
+status_of (Err (BadNumber at)) = 5
+status_of (Err (BadName at)) = 5
 status_of (Err (Cut taken)) = 5
 status_of (Err (Malformed place)) = 5
 status_of (Err (Spent taken)) = 5
@@ -20,21 +30,45 @@ status_of (Err WriteFault) = 7
 status_of (Err NoMemory) = 8
 
 -- a line on the fault sink
-abbrev pub line : List ℕ → List ℕ
-line text = codes "venti: " ++ (text ++ 10 ∷ [])
+abbrev pub line : (pieces : List (List ℕ)) → List ℕ
+line pieces = codes "venti: " ++ (concat pieces ++ 10 ∷ [])
 
 abbrev pub line_of : Outcome → List ℕ
 line_of (Ok done) = []
-line_of (Err BadWords) = line (codes "bad command line")
-line_of (Err (Cut taken)) = line (codes "cut at " ++ decimal taken)
-line_of (Err (Malformed place)) = line (codes "malformed at " ++ decimal place)
-line_of (Err (Spent taken)) = line (codes "spent at " ++ decimal taken)
-line_of (Err ReadFault) = line (codes "read fault")
-line_of (Err WriteFault) = line (codes "write fault")
-line_of (Err NoMemory) = line (codes "no memory")
+line_of (Err BadWords) = line (codes "bad command line" ∷ [])
+line_of (Err (NotFormatted file)) = line (file ∷ codes ": not formatted" ∷ [])
+line_of (Err (TooSmall file len need)) =
+    line (file ∷ codes ": too small: " ∷ decimal len ∷ codes ", need " ∷ decimal need ∷ [])
+line_of (Err (Disagree file field found want)) =
+    line (file ∷ codes ": " ∷ field_name field ∷ codes " is " ∷ decimal found ∷ codes ", want "
+    ∷ decimal want ∷ [])
+line_of (Err DiskFault) = line (codes "disk fault" ∷ [])
+line_of (Err (BadNumber at)) = line (codes "bad number at " ∷ decimal at ∷ [])
+line_of (Err (BadName at)) = line (codes "bad name at " ∷ decimal at ∷ [])
+line_of (Err (Cut taken)) = line (codes "cut at " ∷ decimal taken ∷ [])
+line_of (Err (Malformed place)) = line (codes "malformed at " ∷ decimal place ∷ [])
+line_of (Err (Spent taken)) = line (codes "spent at " ∷ decimal taken ∷ [])
+line_of (Err ReadFault) = line (codes "read fault" ∷ [])
+line_of (Err WriteFault) = line (codes "write fault" ∷ [])
+line_of (Err NoMemory) = line (codes "no memory" ∷ [])
 
--- a fault is told only where the count of that stream rose
-abbrev pub HasCauseIn : {R K F : Type 0} → Work R K F → Outcome → Type 0
-HasCauseIn work (Err ReadFault) = HasRisen work.source.faults work.source.faults'
-HasCauseIn work (Err WriteFault) = HasRisen work.sink.faults work.sink.faults'
-HasCauseIn work outcome = ⊤
+-- a partition was handed out, a call of it failed, and it stands there again
+pub record HasFailed {P D : Type 0} (disk : DiskOf D) (parts : PartsChange P D) : Type 0 where
+  pub name : List ℕ
+  pub before : D
+  pub after : D
+  pub grow_to : Option ℕ
+  pub handed : IsTrue parts.tells → HandsOut disk (parts.old name) grow_to before
+  pub back : IsTrue parts.tells → parts.new name ≡ there after
+  pub rose : HasRisen (disk.faults before) (disk.faults after)
+
+-- A fault is told only where the count of that stream rose, or that of a disk or of the partitions;
+-- and of a partition that is refused, two values are told that differ.
+abbrev pub HasCauseIn : {R K P D : Type 0} → DiskOf D → Work R K P D → Outcome → Type 0
+HasCauseIn disk work (Err (TooSmall file len need)) = len < need
+HasCauseIn disk work (Err (Disagree file field found want)) = found ≢ want
+HasCauseIn disk work (Err DiskFault) =
+    HasRisen work.parts.faults work.parts.faults' ⊎ HasFailed disk work.parts
+HasCauseIn disk work (Err ReadFault) = HasRisen work.source.faults work.source.faults'
+HasCauseIn disk work (Err WriteFault) = HasRisen work.sink.faults work.sink.faults'
+HasCauseIn disk work outcome = ⊤

@@ -3,6 +3,8 @@ pub mod Change
 pub mod Command
 pub mod Commands
 pub mod Failure
+pub mod Fields
+pub mod Formatting
 pub mod Hosts
 pub mod Members
 pub mod Memory
@@ -10,3 +12,4 @@ pub mod Reading
 pub mod Run
 pub mod Serving
 pub mod Store
+pub mod Words

@@ -1,3 +1,10 @@
 //! The commands, each in a file of its name.
 
+pub mod fmtarenas;
+pub mod fmtbloom;
+pub mod fmtisect;
+#[cfg(test)]
+mod runs;
 pub mod session;
+#[cfg(test)]
+mod tests;

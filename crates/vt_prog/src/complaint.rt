@@ -1,56 +1,142 @@
 //! Lines that say what went wrong.
 
-ghost use Rattle.std.specs.Prelude.{◌≤◌, ◌++◌, length, decimal};
+ghost use Rattle.std.specs.Prelude.{◌≡◌, ◌++◌, [], ◌∷◌, codes, decimal, map, IsTrue, OnOk, OnErr};
+ghost use Rattle.vt_base.specs.Faults.{HasCause};
+ghost use Rattle.vt_out.specs.Streams.{AppendsPrefix};
 ghost use Rattle.vt_prog.specs.Change.{sink_change, Attempts};
 ghost use Rattle.vt_prog.specs.Failure.{line, line_of};
+ghost use Rattle.vt_prog.specs.Fields.{field_name};
 
 use crate::failure::Failure;
+use crate::printing::put_pieces;
 use itoa::Buffer;
-use vt_fields::put;
+use vt_base::{Failed, MountField};
 use vt_out::Sink;
 
-/// How long a text is at most.
-const MAX_TEXT: usize = 64;
-
 /// Says why a command did not end well. Where it did, nothing is said.
-pub fn complain_of<F: Sink>(sink: &mut F, outcome: Result<(), Failure>)
-    ensures { Attempts (sink_change F.Sink sink.old sink.new) (line_of outcome) }
+pub fn complain_of<F: Sink>(sink: &mut F, outcome: &Result<(), Failure>)
+    ensures { Attempts (sink_change F.Sink sink.old sink.new) (line_of outcome.now) }
 {
     let Err(failure) = outcome else {
         return;
     };
     match failure {
-        Failure::BadWords => complain(sink, b"bad command line"),
-        Failure::Cut(taken) => complain_at(sink, b"cut at ", taken),
-        Failure::Malformed(place) => complain_at(sink, b"malformed at ", place),
-        Failure::Spent(taken) => complain_at(sink, b"spent at ", taken),
-        Failure::ReadFault => complain(sink, b"read fault"),
-        Failure::WriteFault => complain(sink, b"write fault"),
-        Failure::NoMemory => complain(sink, b"no memory"),
+        Failure::BadWords => complain(sink, &[b"bad command line"]),
+        Failure::NotFormatted { file } => complain(sink, &[file.as_slice(), b": not formatted"]),
+        Failure::TooSmall { file, len, need } => complain_of_len(
+            sink,
+            file.as_slice(),
+            *len,
+            *need,
+        ),
+        Failure::Disagree {
+            file,
+            field,
+            found,
+            want,
+        } => complain_of_field(sink, file.as_slice(), *field, *found, *want),
+        Failure::DiskFault => complain(sink, &[b"disk fault"]),
+        Failure::BadNumber(at) => complain_at(sink, b"bad number at ", *at),
+        Failure::BadName(at) => complain_at(sink, b"bad name at ", *at),
+        Failure::Cut(taken) => complain_at(sink, b"cut at ", *taken),
+        Failure::Malformed(place) => complain_at(sink, b"malformed at ", *place),
+        Failure::Spent(taken) => complain_at(sink, b"spent at ", *taken),
+        Failure::ReadFault => complain(sink, &[b"read fault"]),
+        Failure::WriteFault => complain(sink, &[b"write fault"]),
+        Failure::NoMemory => complain(sink, &[b"no memory"]),
     }
 }
 
-/// Writes a line with a place at its end, if the sink takes it.
-fn complain_at<F: Sink>(sink: &mut F, what: &[u8], place: u64)
-    requires { length what.now ≤ 24 }
-    ensures { Attempts (sink_change F.Sink sink.old sink.new) (line (what.now ++ decimal place)) }
+/// Writes a line on a file that is too short.
+fn complain_of_len<F: Sink>(sink: &mut F, file: &[u8], len: u64, need: u64)
+    ensures { Attempts (sink_change F.Sink sink.old sink.new) (line (file.now ∷ codes ": too small: "
+        ∷ decimal len ∷ codes ", need " ∷ decimal need ∷ [])) }
 {
-    let mut digits = Buffer::new();
-    let digits = digits.format(place).as_bytes();
-    let mut text = [0; MAX_TEXT];
-    let at = put(&mut text, 0, what);
-    let at = put(&mut text, at, digits);
-    complain(sink, &text[..at]);
+    let mut len_digits = Buffer::new();
+    let mut need_digits = Buffer::new();
+    complain(
+        sink,
+        &[
+            file,
+            b": too small: ",
+            len_digits.format(len).as_bytes(),
+            b", need ",
+            need_digits.format(need).as_bytes(),
+        ],
+    );
 }
 
-/// Writes a line, if the sink takes it.
-fn complain<F: Sink>(sink: &mut F, text: &[u8])
-    requires { length text.now ≤ 64 }
-    ensures { Attempts (sink_change F.Sink sink.old sink.new) (line text.now) }
+/// Writes a line on a field that is another than was wanted.
+fn complain_of_field<F: Sink>(sink: &mut F, file: &[u8], field: MountField, found: u128, want: u128)
+    ensures { Attempts (sink_change F.Sink sink.old sink.new) (line (file.now ∷ codes ": "
+        ∷ field_name field ∷ codes " is " ∷ decimal found ∷ codes ", want " ∷ decimal want ∷ [])) }
 {
-    let mut line = [0; 8 + MAX_TEXT];
-    let at = put(&mut line, 0, b"venti: ");
-    let at = put(&mut line, at, text);
-    let at = put(&mut line, at, b"\n");
-    let _ = sink.put(&line[..at]);
+    let mut found_digits = Buffer::new();
+    let mut want_digits = Buffer::new();
+    complain(
+        sink,
+        &[
+            file,
+            b": ",
+            name_of(field),
+            b" is ",
+            found_digits.format(found).as_bytes(),
+            b", want ",
+            want_digits.format(want).as_bytes(),
+        ],
+    );
+}
+
+/// What a field is called.
+fn name_of<'a>(field: MountField) -> &'a [u8]
+    ensures { result.now ≡ field_name field }
+{
+    match field {
+        MountField::Version => b"version",
+        MountField::Number => b"number",
+        MountField::Sealed => b"sealed",
+        MountField::Used => b"used",
+        MountField::Clumps => b"clumps",
+        MountField::ArenaSize => b"arenasize",
+        MountField::Count => b"count",
+        MountField::State => b"state",
+        MountField::First => b"first",
+        MountField::Total => b"total",
+        MountField::Mark => b"mark",
+        MountField::M => b"m",
+        MountField::K => b"k",
+        MountField::Crowd => b"crowd",
+        MountField::Arenas => b"arenas",
+        MountField::Buckets => b"buckets",
+    }
+}
+
+/// Writes a line with a place at its end.
+fn complain_at<F: Sink>(sink: &mut F, what: &[u8], place: u64)
+    ensures { Attempts (sink_change F.Sink sink.old sink.new)
+        (line (what.now ∷ decimal place ∷ [])) }
+{
+    let mut digits = Buffer::new();
+    complain(sink, &[what, digits.format(place).as_bytes()]);
+}
+
+/// Writes a line of these pieces, as far as the sink takes it.
+fn complain<F: Sink>(sink: &mut F, pieces: &[&[u8]])
+    ensures { Attempts (sink_change F.Sink sink.old sink.new)
+        (line (map (λ piece. piece.now) pieces.now)) }
+{
+    let _ = put_line(sink, pieces);
+}
+
+/// Puts a line of these pieces, until a put fails.
+fn put_line<F: Sink>(sink: &mut F, pieces: &[&[u8]]) -> Result<(), Failed>
+    ensures appended { OnOk result (IsTrue F.tells → F.written sink.new
+        ≡ F.written sink.old ++ line (map (λ piece. piece.now) pieces.now)) }
+    ensures failed { OnErr result (IsTrue F.tells → AppendsPrefix (F.written sink.old)
+        (F.written sink.new) (line (map (λ piece. piece.now) pieces.now))) }
+    ensures cause { HasCause result (F.faults sink.old) (F.faults sink.new) }
+{
+    sink.put(b"venti: ")?;
+    put_pieces(sink, pieces)?;
+    sink.put(b"\n")
 }

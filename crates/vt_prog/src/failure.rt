@@ -3,11 +3,36 @@
 ghost use Rattle.std.specs.Prelude.{◌≡◌};
 ghost use Rattle.vt_prog.specs.Failure.{status_of};
 
-/// Why a command ends with a status other than 0.
-#[derive(Clone, Copy, Debug, PartialEq, Eq)]
+use vt_base::{MountField, Text};
+
+/// Why a command ends with a status other than 0. A file is told by the name that it has on the
+/// command line.
+#[derive(Debug, Drop)]
 pub enum Failure {
     /// The words are no command.
     BadWords,
+    NotFormatted {
+        file: Text,
+    },
+    /// The file has `len` bytes, and needs `need`.
+    TooSmall {
+        file: Text,
+        len: u64,
+        need: u64,
+    },
+    /// A field of the file's partition is another than its length wants.
+    Disagree {
+        file: Text,
+        field: MountField,
+        found: u128,
+        want: u128,
+    },
+    /// A call of a partition failed, or it couldn't be had.
+    DiskFault,
+    /// A word is no number that may stand there; the place of its first wrong byte.
+    BadNumber(u64),
+    /// A word is no name; the place of its first wrong byte.
+    BadName(u64),
     /// The input ended within the line or a message, behind so many bytes.
     Cut(u64),
     /// The input has a wrong byte of the line, or a size below 2, at this place.
@@ -20,15 +45,23 @@ pub enum Failure {
 }
 
 /// The exit status of an outcome.
-pub fn status(outcome: Result<(), Failure>) -> u8
-    ensures { result ≡ status_of outcome }
+pub fn status(outcome: &Result<(), Failure>) -> u8
+    ensures { result ≡ status_of outcome.now }
 {
-    match outcome {
-        Ok(()) => 0,
-        Err(Failure::BadWords) => 1,
-        Err(Failure::Cut(_) | Failure::Malformed(_) | Failure::Spent(_)) => 5,
-        Err(Failure::ReadFault) => 6,
-        Err(Failure::WriteFault) => 7,
-        Err(Failure::NoMemory) => 8,
+    let Err(failure) = outcome else {
+        return 0;
+    };
+    match failure {
+        Failure::BadWords => 1,
+        Failure::NotFormatted { .. } | Failure::TooSmall { .. } | Failure::Disagree { .. } => 3,
+        Failure::DiskFault => 4,
+        Failure::BadNumber(_)
+        | Failure::BadName(_)
+        | Failure::Cut(_)
+        | Failure::Malformed(_)
+        | Failure::Spent(_) => 5,
+        Failure::ReadFault => 6,
+        Failure::WriteFault => 7,
+        Failure::NoMemory => 8,
     }
 }

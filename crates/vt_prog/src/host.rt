@@ -5,8 +5,9 @@ ghost use Rattle.std.specs.Borrow.{sem, Lends};
 ghost use Rattle.vt_prog.specs.Hosts.{Lent};
 
 use vt_out::{Sink, Source};
+use vt_parts::Parts;
 
-/// Lends the program its streams.
+/// Lends the program its streams, and partitions by name.
 pub trait Host {
     type Source: Source;
 
@@ -14,11 +15,13 @@ pub trait Host {
 
     type FaultSink: Sink;
 
+    type Parts: Parts;
+
     /// What it lends.
-    ghost lent: { Self → Lent Self.Source Self.Sink Self.FaultSink };
+    ghost lent: { Self → Lent Self.Source Self.Sink Self.FaultSink Self.Parts };
 
     /// The host when it lends this.
-    ghost lending: { Self → Lent Self.Source Self.Sink Self.FaultSink → Self };
+    ghost lending: { Self → Lent Self.Source Self.Sink Self.FaultSink Self.Parts → Self };
 
     /// The stream that is read.
     fn source(&mut self) -> &mut Self::Source
@@ -38,19 +41,27 @@ pub trait Host {
             (λ sink. lending self.old (record (lent self.old) { fault_sink = sink }))) }
         ensures fault_sink { result.now ≡ (lent self.old).fault_sink };
 
-    ghost lent_again: { (host : Self) (lent' : Lent Self.Source Self.Sink Self.FaultSink) →
+    /// The partitions.
+    fn parts(&mut self) -> &mut Self::Parts
+        ensures* lends { sem 𝓛 (Lends Self.row Self.Parts.row self.entry result
+            (λ parts. lending self.old (record (lent self.old) { parts = parts }))) }
+        ensures parts { result.now ≡ (lent self.old).parts };
+
+    ghost lent_again: { (host : Self)
+        (lent' : Lent Self.Source Self.Sink Self.FaultSink Self.Parts) →
         lent (lending host lent') ≡ lent' };
 }
 
-/// A host that is its streams.
+/// A host that is what it lends.
 #[derive(Drop)]
-pub struct Streams<S, K, F> {
+pub struct Outside<S, K, F, P> {
     pub source: S,
     pub sink: K,
     pub fault_sink: F,
+    pub parts: P,
 }
 
-impl<S: Source, K: Sink, F: Sink> Host for Streams<S, K, F> {
+impl<S: Source, K: Sink, F: Sink, P: Parts> Host for Outside<S, K, F, P> {
     ghost use Rattle.std.proofs.Common.{refl};
 
     type Source = S;
@@ -59,11 +70,21 @@ impl<S: Source, K: Sink, F: Sink> Host for Streams<S, K, F> {
 
     type FaultSink = F;
 
-    ghost lent = { λ host.
-        record { source = host.source; sink = host.sink; fault_sink = host.fault_sink } };
+    type Parts = P;
 
-    ghost lending = { λ host lent.
-        record { source = lent.source; sink = lent.sink; fault_sink = lent.fault_sink } };
+    ghost lent = { λ host. record {
+      source = host.source;
+      sink = host.sink;
+      fault_sink = host.fault_sink;
+      parts = host.parts;
+    } };
+
+    ghost lending = { λ host lent. record {
+      source = lent.source;
+      sink = lent.sink;
+      fault_sink = lent.fault_sink;
+      parts = lent.parts;
+    } };
 
     ghost lent_again = { λ host lent. refl };
 
@@ -77,5 +98,9 @@ impl<S: Source, K: Sink, F: Sink> Host for Streams<S, K, F> {
 
     fn fault_sink(&mut self) -> &mut F {
         &mut self.fault_sink
+    }
+
+    fn parts(&mut self) -> &mut P {
+        &mut self.parts
     }
 }

@@ -12,14 +12,19 @@ mod host;
 mod input;
 pub mod laws;
 mod memory;
+mod printing;
+mod refusal;
 mod run;
 mod store;
 
 use crate::run::end;
 pub use command::{Command, command_of};
+pub use commands::fmtarenas::fmtarenas;
+pub use commands::fmtbloom::fmtbloom;
+pub use commands::fmtisect::fmtisect;
 pub use commands::session::{SessionEnd, session};
 pub use failure::{Failure, status};
-pub use host::{Host, Streams};
+pub use host::{Host, Outside};
 pub use run::{run, run_with};
 use std::alloc::Global;
 use std::env;
@@ -27,17 +32,18 @@ use std::io::ErrorKind;
 use std::process::ExitCode;
 use std::rt::Env;
 use vt_base::{NoMemory, Text};
-use vt_host::{StdSink, StdSource};
+use vt_host::{FileParts, StdSink, StdSource};
 
 fn main(rt: HostRuntime) -> ExitCode {
-    let mut host = Streams {
+    let mut host = Outside {
         source: StdSource::new(rt.stdin()),
         sink: StdSink::new(rt.stdout()),
         fault_sink: StdSink::new(rt.stderr()),
+        parts: FileParts::new(rt),
     };
     ExitCode::from(match arguments(&rt) {
         Ok(words) => run(&rt, rt.alloc(), &words, &mut host),
-        Err(NoMemory) => end(&mut host.fault_sink, Err(Failure::NoMemory)),
+        Err(NoMemory) => end(&mut host.fault_sink, &Err(Failure::NoMemory)),
     })
 }
 

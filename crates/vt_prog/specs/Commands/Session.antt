@@ -102,8 +102,8 @@ pub record EndsWell (input : List ℕ) : Type 0 where
 -- One session in memory was run: how it ended, the bytes that came in and went out, and why a fault
 -- is told. Input that ends well, without a fault of the streams, is answered to its end, unless
 -- memory runs out.
-pub record DoesSession {R K F : Type 0} (score : List ℕ → List ℕ) (outcome : Outcome)
-    (work : Work R K F) : Type 0 where
+pub record DoesSession {R K P D : Type 0} (score : List ℕ → List ℕ) (outcome : Outcome)
+    (work : Work R K P D) : Type 0 where
   pub end : SessionEnd
   pub outcome_is : outcome ≡ outcome_of end
   pub told : IsTrue work.source.tells → IsTrue work.sink.tells
@@ -114,3 +114,4 @@ pub record DoesSession {R K F : Type 0} (score : List ℕ → List ℕ) (outcome
       → ¬ HasRisen work.source.faults work.source.faults'
       → ¬ HasRisen work.sink.faults work.sink.faults'
       → (outcome ≡ Ok tt) ⊎ (outcome ≡ Err NoMemory)
+  pub unused : work.parts.after ≡ work.parts.before

@@ -41,8 +41,8 @@ pub struct SessionEnd {
 /// Reads the source to its end, and answers it as one session over a store that begins empty.
 pub fn session<H: Host, S: Scorer>(alloc: Global, host: &mut H, scorer: &S) -> Result<(), Failure>
     ensures does { DoesSession S.score_of result (work_of H.Source.Source H.Sink.Sink
-        H.FaultSink.Sink (H.lent host.old) (H.lent host.new)) }
-    ensures cause { HasCauseIn (work_of H.Source.Source H.Sink.Sink H.FaultSink.Sink
+        H.Parts.Parts (H.lent host.old) (H.lent host.new)) }
+    ensures cause { HasCauseIn H.Parts.Disk.Disk (work_of H.Source.Source H.Sink.Sink H.Parts.Parts
         (H.lent host.old) (H.lent host.new)) result }
     ensures quiet { (H.lent host.new).fault_sink ≡ (H.lent host.old).fault_sink }
 {
@@ -88,6 +88,7 @@ fn hold_session<L: Ledger, H: Host, S: Scorer>(
         (H.Source.faults (H.lent host.old).source) (H.Source.faults (H.lent host.new).source)
         (H.Sink.faults (H.lent host.old).sink) (H.Sink.faults (H.lent host.new).sink) }
     ensures fault_sink { (H.lent host.new).fault_sink ≡ (H.lent host.old).fault_sink }
+    ensures parts { (H.lent host.new).parts ≡ (H.lent host.old).parts }
 {
     let nothing = SessionEnd {
         ended: Ended::NoMemory,

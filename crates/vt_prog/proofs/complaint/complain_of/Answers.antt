@@ -4,8 +4,23 @@ use Rattle.vt_prog.proofs.complaint.complain_of.Goals as goal
 pub returns-in-BadWords : goal.returns-in-BadWords
 returns-in-BadWords g c tells = rw (c.in-Err.is, c.in-BadWords.is) (c.complain.ensures tells)
 
+pub returns-in-NotFormatted : goal.returns-in-NotFormatted
+returns-in-NotFormatted g c tells = rw (c.in-Err.is, c.in-NotFormatted.is) (rw c.as_slice.ensures at (c.complain-in-NotFormatted.ensures tells))
+
+pub returns-in-TooSmall : goal.returns-in-TooSmall
+returns-in-TooSmall g c tells = rw (c.in-Err.is, c.in-TooSmall.is) (rw c.as_slice-in-TooSmall.ensures at (c.complain_of_len.ensures tells))
+
+pub returns-in-DiskFault : goal.returns-in-DiskFault
+returns-in-DiskFault g c tells = rw (c.in-Err.is, c.in-DiskFault.is) (c.complain-in-DiskFault.ensures tells)
+
+pub returns-in-BadNumber : goal.returns-in-BadNumber
+returns-in-BadNumber g c tells = rw (c.in-Err.is, c.in-BadNumber.is) (c.complain_at.ensures tells)
+
+pub returns-in-BadName : goal.returns-in-BadName
+returns-in-BadName g c tells = rw (c.in-Err.is, c.in-BadName.is) (c.complain_at-in-BadName.ensures tells)
+
 pub returns-in-Cut : goal.returns-in-Cut
-returns-in-Cut g c tells = rw (c.in-Err.is, c.in-Cut.is) (c.complain_at.ensures tells)
+returns-in-Cut g c tells = rw (c.in-Err.is, c.in-Cut.is) (c.complain_at-in-Cut.ensures tells)
 
 pub returns-in-Malformed : goal.returns-in-Malformed
 returns-in-Malformed g c tells = rw (c.in-Err.is, c.in-Malformed.is) (c.complain_at-in-Malformed.ensures tells)

@@ -1,9 +1,10 @@
 //! Sessions from outside: what goes in, what comes out, the status and the line on the fault sink.
 
-use crate::{Streams, run_with};
+use crate::commands::runs::{Ran, run_words, see, see_ran};
 use std::alloc::Global;
 use std::test::Fail;
-use vt_base::{Scorer, Sha1Scorer, ShortScorer, Text};
+use vt_base::{Scorer, Sha1Scorer, ShortScorer};
+use vt_memparts::{Failing, MemParts};
 use vt_out::{MemSink, MemSource};
 
 /// What comes in, or goes out, in parts.
@@ -43,58 +44,12 @@ const GOODBYE: &[u8] = b"\x00\x02\x06\x04";
 
 const COLLISION: &[u8] = b"\x00\x13\x01\x01\x00\x0fscore collision";
 
-/// What a run left.
-#[derive(Drop)]
-struct Ran {
-    status: u8,
-    output: Vec<u8>,
-    complaint: Vec<u8>,
-}
-
-/// Goes on where this holds.
-fn see(holds: bool, otherwise: &'static str) -> Result<(), Fail> {
-    if holds {
-        return Ok(());
-    }
-    Err(otherwise.into())
-}
-
 fn joined(alloc: Global, parts: &[&[u8]]) -> Result<Vec<u8>, Fail> {
     let mut all = Vec::new(alloc);
     for part in parts {
         all.extend_from_slice(part)?;
     }
     Ok(all)
-}
-
-fn words_of(alloc: Global, words: &[&str]) -> Result<Vec<Text>, Fail> {
-    let mut all = Vec::new(alloc);
-    for word in words {
-        all.push(Text::copy_of(alloc, word.as_bytes())?)?;
-    }
-    Ok(all)
-}
-
-/// Runs the program with these words over these streams.
-fn run_words<S: Scorer>(
-    alloc: Global,
-    words: &[&str],
-    source: MemSource,
-    sink: MemSink,
-    scorer: &S,
-) -> Result<Ran, Fail> {
-    let mut host = Streams {
-        source,
-        sink,
-        fault_sink: MemSink::new(alloc, 100)?,
-    };
-    let words = words_of(alloc, words)?;
-    let status = run_with(&(), alloc, &words, &mut host, scorer);
-    Ok(Ran {
-        status,
-        output: Vec::from_slice(alloc, host.sink.written())?,
-        complaint: Vec::from_slice(alloc, host.fault_sink.written())?,
-    })
 }
 
 /// Runs a session over these streams.
@@ -104,7 +59,20 @@ fn session<S: Scorer>(
     sink: MemSink,
     scorer: &S,
 ) -> Result<Ran, Fail> {
-    run_words(alloc, &["session", ":memory:"], source, sink, scorer)
+    run_alone(alloc, &["session", ":memory:"], source, sink, scorer)
+}
+
+/// Runs the program over these streams, where there are no partitions.
+fn run_alone<S: Scorer>(
+    alloc: Global,
+    words: &[&str],
+    source: MemSource,
+    sink: MemSink,
+    scorer: &S,
+) -> Result<Ran, Fail> {
+    let parts = MemParts::new(alloc, Failing::new(Vec::new(alloc)));
+    let (ran, _) = run_words(alloc, words, source, sink, parts, scorer)?;
+    Ok(ran)
 }
 
 /// Runs a session on this input, and sees that it leaves this.
@@ -119,15 +87,6 @@ fn see_session<S: Scorer>(
     let source = MemSource::new(alloc, Vec::from_slice(alloc, input)?);
     let ran = session(alloc, source, MemSink::new(alloc, 1 << 21)?, scorer)?;
     see_ran(&ran, output, status, complaint)
-}
-
-fn see_ran(ran: &Ran, output: &[u8], status: u8, complaint: &str) -> Result<(), Fail> {
-    see(ran.output.as_slice() == output, "another output")?;
-    see(ran.status == status, "another status")?;
-    see(
-        ran.complaint.as_slice() == complaint.as_bytes(),
-        "another complaint",
-    )
 }
 
 /// This input is answered so behind the server's line, and the session ends well.
@@ -336,7 +295,7 @@ fn see_bad_words(alloc: Global) -> Result<(), Fail> {
     let cases: [&[&str]; 3] = [&[], &["session"], &["serve", ":memory:"]];
     for words in cases {
         let source = MemSource::new(alloc, sample(alloc)?);
-        let ran = run_words(
+        let ran = run_alone(
             alloc,
             words,
             source,

@@ -14,10 +14,11 @@ returns-clause-does g c = record {
       rw c.outcome_of.ensures (ends_well g.S.Scorer.score_of c.hold_session-end.result _ _ _ _ _ _ _ _
       (g.met.H.Source.Source.left_bytes _) well (c.hold_session-end.ensures.told tells tells')
       c.hold_session-end.ensures.causes no_read no_write);
+  unused = c.hold_session-end.ensures.parts;
 }
 
 pub returns-clause-cause : goal.returns-clause-cause
 returns-clause-cause g c =
-    rw c.outcome_of.ensures (end_has_cause c.hold_session-end.result
-    (work_of g.H.Source.Source g.H.Sink.Sink g.H.FaultSink.Sink (g.H.Host.lent c.args.host.now)
+    rw c.outcome_of.ensures (end_has_cause g.H.Parts.Disk.Disk c.hold_session-end.result
+    (work_of g.H.Source.Source g.H.Sink.Sink g.H.Parts.Parts (g.H.Host.lent c.args.host.now)
     (g.H.Host.lent c.hold_session-end.new.host)) c.hold_session-end.ensures.causes)

@@ -1,0 +1,171 @@
+-- What words tell of a run, and what its status does.
+use Rattle.std.proofs.Common.{◌≡◌, ◌≢◌, ◌⊎◌, ⊎_elim, inl, inr, ℕ, true, false, cond, List, refl, sym, ◌∙◌, ap, subst, Option, Some, None, Ok, Err}
+use Rattle.std.specs.Prelude.{MatchOption}
+use Rattle.vt_base.specs.Faults.{HasRisen}
+use Rattle.vt_disk.specs.Members.{DiskOf}
+use Rattle.vt_session.specs.declared.Ended.{Ended}
+use Rattle.vt_session.specs.declared.Ended.TheVariants as ends
+use Rattle.vt_prog.specs.declared.command.Command.{Command}
+use Rattle.vt_prog.specs.declared.command.Command.TheVariants.{Session, FormatArenas, FormatSection, FormatFilter}
+use Rattle.vt_prog.specs.declared.failure.Failure.{Failure}
+use Rattle.vt_prog.specs.declared.failure.Failure.TheVariants.{BadWords, NotFormatted, TooSmall, Disagree, DiskFault, BadNumber, BadName, Cut, Malformed, Spent, ReadFault, WriteFault, NoMemory}
+use Rattle.vt_prog.specs.Change.{Work}
+use Rattle.vt_prog.specs.Command.{command_of, session_words}
+use Rattle.vt_prog.specs.Commands.Fmtarenas.{AsksForNoArenas, DoesFmtarenas, arenas_line}
+use Rattle.vt_prog.specs.Commands.Fmtbloom.{AsksForNoFilter, DoesFmtbloom, filter_line}
+use Rattle.vt_prog.specs.Commands.Fmtisect.{AsksForNoSection, DoesFmtisect, section_line}
+use Rattle.vt_prog.specs.Commands.Session.{DoesSession, outcome_of_end}
+use Rattle.vt_prog.specs.Failure.{Outcome, HasFailed, status_of, HasCauseIn}
+use Rattle.vt_prog.specs.Formatting.{RefusesWord}
+use Rattle.vt_prog.specs.Run.{Does, DoesWords, EndsIdle}
+use Rattle.vt_prog.proofs.Causes.{formats_never}
+
+module _ {R K P D : Type 0} (disk : DiskOf D) (score : List ℕ → List ℕ) (words : List (List ℕ))
+    (outcome : Outcome) (work : Work R K P D) where
+  abbrev ByCommand : Option Command → Type 0
+  ByCommand command = MatchOption command (EndsIdle (Err BadWords) outcome work)
+      (λ command. Does disk score command outcome work ⊎ EndsIdle (Err NoMemory) outcome work)
+
+  pub refused : command_of words ≡ None → DoesWords disk score words outcome work
+      → EndsIdle (Err BadWords) outcome work
+  refused none does = subst ByCommand none does
+
+  pub done : (command : Command) → command_of words ≡ Some command
+      → DoesWords disk score words outcome work
+      → Does disk score command outcome work ⊎ EndsIdle (Err NoMemory) outcome work
+  done command is does = subst ByCommand is does
+
+-- ---- a command never ends as other words do
+
+end_never_bad : (ended : Ended) (taken : ℕ) → status_of (outcome_of_end ended taken) ≡ 1 → ⊥
+end_never_bad ends.Goodbye taken is = cc
+end_never_bad ends.Closed taken is = cc
+end_never_bad ends.Cut taken is = cc
+end_never_bad (ends.Malformed place) taken is = cc
+end_never_bad ends.Spent taken is = cc
+end_never_bad ends.ReadFault taken is = cc
+end_never_bad ends.WriteFault taken is = cc
+end_never_bad ends.NoMemory taken is = cc
+
+session_never : {R K P D : Type 0} (score : List ℕ → List ℕ) (outcome : Outcome) (work : Work R K P D)
+    → DoesSession score outcome work → status_of outcome ≢ 1
+session_never score outcome work x one =
+    elim (x.end.read_failed) as (λ b. status_of (cond b (Err ReadFault) (cond x.end.ran_out
+    (Err NoMemory) (outcome_of_end x.end.ended x.end.taken))) ≡ 1 → ⊥) [
+      | true ↦ λ is. cc
+      | false ↦ elim (x.end.ran_out) as (λ b. status_of (cond b (Err NoMemory)
+          (outcome_of_end x.end.ended x.end.taken)) ≡ 1 → ⊥) [
+            | true ↦ λ is. cc
+            | false ↦ end_never_bad x.end.ended x.end.taken
+          ]
+    ] (ap status_of (sym x.outcome_is) ∙ one)
+
+-- a word that is refused has a cause that has another status
+abbrev IsOther : Failure → Type 0
+IsOther failure = status_of (Err failure) ≢ 1
+
+word_never : {R K P D : Type 0} (IsWhy : Failure → Type 0) (outcome : Outcome) (work : Work R K P D)
+    → ((failure : Failure) → IsWhy failure → IsOther failure) → RefusesWord IsWhy outcome work → status_of outcome ≢ 1
+word_never IsWhy outcome work others x one = others x.failure x.why (ap status_of (sym x.outcome_is) ∙ one)
+
+name_other : (at : ℕ) (failure : Failure) → failure ≡ BadName at → IsOther failure
+name_other at failure is = subst IsOther (sym is) (λ one. cc)
+
+number_other : (at : ℕ) (failure : Failure) → failure ≡ BadNumber at → IsOther failure
+number_other at failure is = subst IsOther (sym is) (λ one. cc)
+
+section_words : (name length : List ℕ) (failure : Failure) → AsksForNoSection name length failure → IsOther failure
+section_words name length failure why = ⊎_elim
+    (λ of_name. name_other _ failure of_name.1) (λ of_length. number_other _ failure of_length.2) why
+
+arenas_words : (name length arena_size : List ℕ) (failure : Failure) → AsksForNoArenas name length arena_size failure → IsOther failure
+arenas_words name length arena_size failure why = ⊎_elim
+    (λ of_name. name_other _ failure of_name.1)
+    (λ rest. ⊎_elim (λ of_length. number_other _ failure of_length.2) (λ of_size. number_other _ failure of_size.3) rest) why
+
+filter_words : (size positions : List ℕ) (failure : Failure) → AsksForNoFilter size positions failure → IsOther failure
+filter_words size positions failure why = ⊎_elim
+    (λ of_size. number_other _ failure of_size.1) (λ of_positions. number_other _ failure of_positions.2) why
+
+does_never : {R K P D : Type 0} (disk : DiskOf D) (score : List ℕ → List ℕ) (command : Command) (outcome : Outcome) (work : Work R K P D)
+    → Does disk score command outcome work → status_of outcome ≢ 1
+does_never disk score Session outcome work does = session_never score outcome work does
+does_never disk score (FormatArenas file name length arena_size) outcome work does = ⊎_elim
+    (word_never (AsksForNoArenas name length arena_size) outcome work (arenas_words name length arena_size))
+    (λ x. formats_never disk file _ _ _ outcome work x.3) does
+does_never disk score (FormatSection file name length) outcome work does = ⊎_elim
+    (word_never (AsksForNoSection name length) outcome work (section_words name length))
+    (λ x. formats_never disk file _ _ _ outcome work x.2) does
+does_never disk score (FormatFilter file size positions) outcome work does = ⊎_elim
+    (word_never (AsksForNoFilter size positions) outcome work (filter_words size positions))
+    (λ x. formats_never disk file _ _ _ outcome work x.4) does
+
+pub never_bad : {R K P D : Type 0} (disk : DiskOf D) (score : List ℕ → List ℕ) (command : Command) (outcome : Outcome) (work : Work R K P D)
+    → Does disk score command outcome work ⊎ EndsIdle (Err NoMemory) outcome work → status_of outcome ≢ 1
+never_bad disk score command outcome work done = ⊎_elim
+    (does_never disk score command outcome work) (λ idle one. let wrong = ap status_of (sym idle.is) ∙ one in cc) done
+
+-- ---- by the status
+
+module _ {R K P D : Type 0} (disk : DiskOf D) (work : Work R K P D) where
+  pub disk_risen : (outcome : Outcome) → status_of outcome ≡ 4 → HasCauseIn disk work outcome
+      → HasRisen work.parts.faults work.parts.faults' ⊎ HasFailed disk work.parts
+  disk_risen (Ok done) is cause = absurd (cc)
+  disk_risen (Err BadWords) is cause = absurd (cc)
+  disk_risen (Err (NotFormatted file)) is cause = absurd (cc)
+  disk_risen (Err (TooSmall file len need)) is cause = absurd (cc)
+  disk_risen (Err (Disagree file field found want)) is cause = absurd (cc)
+  disk_risen (Err DiskFault) is cause = cause
+  disk_risen (Err (BadNumber at)) is cause = absurd (cc)
+  disk_risen (Err (BadName at)) is cause = absurd (cc)
+  disk_risen (Err (Cut taken)) is cause = absurd (cc)
+  disk_risen (Err (Malformed place)) is cause = absurd (cc)
+  disk_risen (Err (Spent taken)) is cause = absurd (cc)
+  disk_risen (Err ReadFault) is cause = absurd (cc)
+  disk_risen (Err WriteFault) is cause = absurd (cc)
+  disk_risen (Err NoMemory) is cause = absurd (cc)
+
+  pub read_risen : (outcome : Outcome) → status_of outcome ≡ 6 → HasCauseIn disk work outcome
+      → HasRisen work.source.faults work.source.faults'
+  read_risen (Ok done) is cause = absurd (cc)
+  read_risen (Err BadWords) is cause = absurd (cc)
+  read_risen (Err (NotFormatted file)) is cause = absurd (cc)
+  read_risen (Err (TooSmall file len need)) is cause = absurd (cc)
+  read_risen (Err (Disagree file field found want)) is cause = absurd (cc)
+  read_risen (Err DiskFault) is cause = absurd (cc)
+  read_risen (Err (BadNumber at)) is cause = absurd (cc)
+  read_risen (Err (BadName at)) is cause = absurd (cc)
+  read_risen (Err (Cut taken)) is cause = absurd (cc)
+  read_risen (Err (Malformed place)) is cause = absurd (cc)
+  read_risen (Err (Spent taken)) is cause = absurd (cc)
+  read_risen (Err ReadFault) is cause = cause
+  read_risen (Err WriteFault) is cause = absurd (cc)
+  read_risen (Err NoMemory) is cause = absurd (cc)
+
+  pub write_risen : (outcome : Outcome) → status_of outcome ≡ 7 → HasCauseIn disk work outcome
+      → HasRisen work.sink.faults work.sink.faults'
+  write_risen (Ok done) is cause = absurd (cc)
+  write_risen (Err BadWords) is cause = absurd (cc)
+  write_risen (Err (NotFormatted file)) is cause = absurd (cc)
+  write_risen (Err (TooSmall file len need)) is cause = absurd (cc)
+  write_risen (Err (Disagree file field found want)) is cause = absurd (cc)
+  write_risen (Err DiskFault) is cause = absurd (cc)
+  write_risen (Err (BadNumber at)) is cause = absurd (cc)
+  write_risen (Err (BadName at)) is cause = absurd (cc)
+  write_risen (Err (Cut taken)) is cause = absurd (cc)
+  write_risen (Err (Malformed place)) is cause = absurd (cc)
+  write_risen (Err (Spent taken)) is cause = absurd (cc)
+  write_risen (Err ReadFault) is cause = absurd (cc)
+  write_risen (Err WriteFault) is cause = cause
+  write_risen (Err NoMemory) is cause = absurd (cc)
+
+pub well_status : (outcome : Outcome) (status : ℕ) → status ≡ status_of outcome
+    → (outcome ≡ Ok tt) ⊎ (outcome ≡ Err NoMemory) → (status ≡ 0) ⊎ (status ≡ 8)
+well_status outcome status is well = ⊎_elim
+    (λ good. inl (is ∙ ap status_of good)) (λ short. inr (is ∙ ap status_of short)) well
+
+-- a session on input that ends well
+pub session_well : {R K P D : Type 0} (score : List ℕ → List ℕ) (outcome : Outcome) (work : Work R K P D)
+    → (DoesSession score outcome work → (outcome ≡ Ok tt) ⊎ (outcome ≡ Err NoMemory))
+    → DoesSession score outcome work ⊎ EndsIdle (Err NoMemory) outcome work → (outcome ≡ Ok tt) ⊎ (outcome ≡ Err NoMemory)
+session_well score outcome work well done = ⊎_elim well (λ idle. inr idle.is) done

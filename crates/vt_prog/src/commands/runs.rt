@@ -1,0 +1,67 @@
+//! One run of the program over streams and partitions in memory, and what it left.
+
+use crate::{Outside, run_with};
+use std::alloc::Global;
+use std::test::Fail;
+use vt_base::{Scorer, Text};
+use vt_out::{MemSink, MemSource};
+use vt_parts::Parts;
+
+/// What a run left.
+#[derive(Drop)]
+pub struct Ran {
+    pub status: u8,
+    pub output: Vec<u8>,
+    pub complaint: Vec<u8>,
+}
+
+/// Goes on where this holds.
+pub fn see(holds: bool, otherwise: &'static str) -> Result<(), Fail> {
+    if holds {
+        return Ok(());
+    }
+    Err(otherwise.into())
+}
+
+/// The run ended so.
+pub fn see_ran(ran: &Ran, output: &[u8], status: u8, complaint: &str) -> Result<(), Fail> {
+    see(ran.output.as_slice() == output, "another output")?;
+    see(ran.status == status, "another status")?;
+    see(
+        ran.complaint.as_slice() == complaint.as_bytes(),
+        "another complaint",
+    )
+}
+
+fn words_of(alloc: Global, words: &[&str]) -> Result<Vec<Text>, Fail> {
+    let mut all = Vec::new(alloc);
+    for word in words {
+        all.push(Text::copy_of(alloc, word.as_bytes())?)?;
+    }
+    Ok(all)
+}
+
+/// Runs the program with these words over these streams and partitions, which it gives back.
+pub fn run_words<S: Scorer, P: Parts + Drop>(
+    alloc: Global,
+    words: &[&str],
+    source: MemSource,
+    sink: MemSink,
+    parts: P,
+    scorer: &S,
+) -> Result<(Ran, P), Fail> {
+    let mut host = Outside {
+        source,
+        sink,
+        fault_sink: MemSink::new(alloc, 100)?,
+        parts,
+    };
+    let words = words_of(alloc, words)?;
+    let status = run_with(&(), alloc, &words, &mut host, scorer);
+    let ran = Ran {
+        status,
+        output: Vec::from_slice(alloc, host.sink.written())?,
+        complaint: Vec::from_slice(alloc, host.fault_sink.written())?,
+    };
+    Ok((ran, host.parts))
+}

@@ -1,0 +1,225 @@
+//! Commands that format: words, what is printed, the status and the line on the fault sink.
+
+use crate::commands::runs::{run_words, see, see_ran};
+use std::alloc::Global;
+use std::test::Fail;
+use vt_base::{Sha1Scorer, Text};
+use vt_memparts::{Failing, MemParts};
+use vt_out::{MemSink, MemSource};
+use vt_parts::Parts;
+
+/// The words, the status, what is printed, and the line on the fault sink.
+type Row = (&'static [&'static str], u8, &'static str, &'static str);
+
+/// Each over what those before it left.
+const ROWS: [Row; 23] = [
+    // What is made.
+    (
+        &["fmtarenas", "a.part", "a0", "40960", "32768"],
+        0,
+        "fmtarenas a0: 1 arenas of 32768 bytes\n",
+        "",
+    ),
+    (
+        &["fmtisect", "i.part", "i0", "92160"],
+        0,
+        "fmtisect i0: 4 buckets\n",
+        "",
+    ),
+    (
+        &["fmtbloom", "b.part", "8192", "8"],
+        0,
+        "fmtbloom: 8192 bytes, 8 positions\n",
+        "",
+    ),
+    // What is there isn't made shorter, and is grown where it is.
+    (
+        &["fmtarenas", "a.part", "a.-_1", "0", "32768"],
+        0,
+        "fmtarenas a.-_1: 1 arenas of 32768 bytes\n",
+        "",
+    ),
+    (
+        &["fmtisect", "i.part", "i1", "41472"],
+        0,
+        "fmtisect i1: 4 buckets\n",
+        "",
+    ),
+    (
+        &["fmtbloom", "b.part", "16384", "32"],
+        0,
+        "fmtbloom: 16384 bytes, 32 positions\n",
+        "",
+    ),
+    // What is refused: the first word in order, and then the file.
+    (
+        &["fmtbloom", "b.part", "8192", "8"],
+        3,
+        "",
+        "venti: b.part: m is 16, want 17\n",
+    ),
+    (
+        &["fmtisect", "j.part", "i0", "41471"],
+        3,
+        "",
+        "venti: j.part: too small: 41471, need 41472\n",
+    ),
+    (
+        &["fmtarenas", "c.part", "a0", "40959", "32768"],
+        3,
+        "",
+        "venti: c.part: too small: 40959, need 40960\n",
+    ),
+    (
+        &["fmtarenas", "a.part", "a0", "40960", "40000"],
+        5,
+        "",
+        "venti: bad number at 0\n",
+    ),
+    (
+        &["fmtarenas", "a.part", "a0", "4096k", "32768"],
+        5,
+        "",
+        "venti: bad number at 4\n",
+    ),
+    (
+        &["fmtarenas", "a.part", "a/0", "x", "y"],
+        5,
+        "",
+        "venti: bad name at 1\n",
+    ),
+    (
+        &["fmtarenas", "a.part", "", "40960", "32768"],
+        5,
+        "",
+        "venti: bad name at 0\n",
+    ),
+    (
+        &["fmtisect", "i.part", "caf\u{e9}", "92160"],
+        5,
+        "",
+        "venti: bad name at 3\n",
+    ),
+    (
+        &["fmtisect", "i.part", "i0", "01"],
+        5,
+        "",
+        "venti: bad number at 1\n",
+    ),
+    (
+        &["fmtisect", "i.part", "i0", "1099511627777"],
+        5,
+        "",
+        "venti: bad number at 0\n",
+    ),
+    (
+        &["fmtbloom", "b.part", "16385", "0"],
+        5,
+        "",
+        "venti: bad number at 0\n",
+    ),
+    (
+        &["fmtbloom", "b.part", "16384", "33"],
+        5,
+        "",
+        "venti: bad number at 0\n",
+    ),
+    (
+        &["fmtbloom", "b.part", "16384", "3x"],
+        5,
+        "",
+        "venti: bad number at 1\n",
+    ),
+    // What is no command.
+    (
+        &["fmtbloom", "b.part", "16384"],
+        1,
+        "",
+        "venti: bad command line\n",
+    ),
+    (
+        &["fmtisect", "i.part", "i0", "92160", "0"],
+        1,
+        "",
+        "venti: bad command line\n",
+    ),
+    (&["fmtindex", "v.conf"], 1, "", "venti: bad command line\n"),
+    // What was handed out, and isn't back.
+    (
+        &["fmtisect", "lent.part", "i0", "92160"],
+        4,
+        "",
+        "venti: disk fault\n",
+    ),
+];
+
+/// Runs the program without input, and sees that it leaves this. Gives the partitions back.
+fn see_row<P: Parts + Drop>(alloc: Global, parts: P, row: Row) -> Result<P, Fail> {
+    let (words, status, output, complaint) = row;
+    let source = MemSource::new(alloc, Vec::new(alloc));
+    let sink = MemSink::new(alloc, 100)?;
+    let (ran, parts) = run_words(alloc, words, source, sink, parts, &Sha1Scorer)?;
+    see_ran(&ran, output.as_bytes(), status, complaint)?;
+    Ok(parts)
+}
+
+/// Runs the rows one after another.
+fn see_rows<P: Parts + Drop>(alloc: Global, parts: P) -> Result<(), Fail> {
+    let mut parts = parts;
+    let lent = Text::copy_of(alloc, b"lent.part")?;
+    let _lent = parts.part(alloc, &lent, Some(8192))?;
+    for row in ROWS {
+        parts = see_row(alloc, parts, row)?;
+    }
+    Ok(())
+}
+
+/// The sink takes ten bytes, and the file is formatted.
+fn see_full_sink<P: Parts + Drop>(alloc: Global, parts: P) -> Result<(), Fail> {
+    let words = ["fmtisect", "i.part", "i0", "92160"];
+    let source = MemSource::new(alloc, Vec::new(alloc));
+    let sink = MemSink::new(alloc, 10)?;
+    let (ran, _) = run_words(alloc, &words, source, sink, parts, &Sha1Scorer)?;
+    see_ran(&ran, b"fmtisect i", 7, "venti: write fault\n")
+}
+
+#[test]
+fn files_are_formatted(rt: HostRuntime) -> Result<(), Fail> {
+    let alloc = rt.alloc();
+    see_rows(alloc, MemParts::new(alloc, Failing::new(Vec::new(alloc))))?;
+    see_full_sink(alloc, MemParts::new(alloc, Failing::new(Vec::new(alloc))))
+}
+
+/// Whether the words' command ends with a disk fault. Then the same words end well.
+fn is_stopped<P: Parts + Drop>(alloc: Global, parts: P, row: Row) -> Result<bool, Fail> {
+    let source = MemSource::new(alloc, Vec::new(alloc));
+    let sink = MemSink::new(alloc, 100)?;
+    let (ran, parts) = run_words(alloc, row.0, source, sink, parts, &Sha1Scorer)?;
+    if ran.status != 4 {
+        see_ran(&ran, row.2.as_bytes(), row.1, row.3)?;
+        return Ok(false);
+    }
+    see_ran(&ran, b"", 4, "venti: disk fault\n")?;
+    see_row(alloc, parts, row)?;
+    Ok(true)
+}
+
+/// The command stops at each of so many calls, and at no other.
+fn see_stops(alloc: Global, row: Row, calls: u64) -> Result<(), Fail> {
+    for call in 0..=calls {
+        let parts = MemParts::new(alloc, Failing::new(vec![in alloc; call]?));
+        see(
+            is_stopped(alloc, parts, row)? == (call < calls),
+            "another count of calls",
+        )?;
+    }
+    Ok(())
+}
+
+#[test]
+fn a_command_stops_at_each_call_that_fails(rt: HostRuntime) -> Result<(), Fail> {
+    let alloc = rt.alloc();
+    see_stops(alloc, ROWS[0], 6)?;
+    see_stops(alloc, ROWS[1], 3)?;
+    see_stops(alloc, ROWS[2], 3)
+}
