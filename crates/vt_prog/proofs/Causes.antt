@@ -1,5 +1,5 @@
 -- Why a command that formats a file ends with a status other than 0.
-use Rattle.std.proofs.Common.{◌≡◌, ◌≢◌, ◌⊎◌, ⊎_elim, inl, inr, ◌<◌, ℕ, Bool, List, refl, sym, ◌∙◌, ap, subst, Some, Ok, Err, Result}
+use Rattle.std.proofs.Common.{◌≡◌, ◌≢◌, ⊎_elim, inl, inr, ◌<◌, ℕ, Bool, List, refl, sym, ◌∙◌, ap, subst, Some, Ok, Err, Result}
 use Rattle.std.specs.Prelude.{⊤}
 use Rattle.vt_base.specs.Faults.{HasRisen}
 use Rattle.vt_base.specs.declared.mount.MountBad.{MountBad}
@@ -9,7 +9,7 @@ use Rattle.vt_format.specs.Arenas.{FormatsArenas, RefusesArenas, RefusesTable}
 use Rattle.vt_format.specs.Worked.{WorksOn}
 use Rattle.vt_parts.specs.Parts.{Standing}
 use Rattle.vt_prog.specs.declared.failure.Failure.{Failure}
-use Rattle.vt_prog.specs.declared.failure.Failure.TheVariants.{NotFormatted, TooSmall, Disagree, DiskFault, WriteFault, NoMemory}
+use Rattle.vt_prog.specs.declared.failure.Failure.TheVariants.{DiskFault, WriteFault}
 use Rattle.vt_prog.specs.Change.{Change, Work}
 use Rattle.vt_prog.specs.Failure.{Outcome, HasCauseIn, status_of}
 use Rattle.vt_prog.specs.Formatting.{FormatsFile, IsOfOneFile, IsRefusalOf, Prints, Tells}

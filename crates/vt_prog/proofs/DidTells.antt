@@ -1,5 +1,5 @@
 -- What words tell of a run, and what its status does.
-use Rattle.std.proofs.Common.{◌≡◌, ◌≢◌, ◌⊎◌, ⊎_elim, inl, inr, ℕ, true, false, cond, List, refl, sym, ◌∙◌, ap, subst, Option, Some, None, Ok, Err}
+use Rattle.std.proofs.Common.{◌≡◌, ◌≢◌, ◌⊎◌, ⊎_elim, inl, inr, ℕ, true, false, cond, List, sym, ◌∙◌, ap, subst, Option, Some, None, Ok, Err}
 use Rattle.std.specs.Prelude.{MatchOption}
 use Rattle.vt_base.specs.Faults.{HasRisen}
 use Rattle.vt_disk.specs.Members.{DiskOf}
@@ -10,10 +10,10 @@ use Rattle.vt_prog.specs.declared.command.Command.TheVariants.{Session, FormatAr
 use Rattle.vt_prog.specs.declared.failure.Failure.{Failure}
 use Rattle.vt_prog.specs.declared.failure.Failure.TheVariants.{BadWords, NotFormatted, TooSmall, Disagree, DiskFault, BadNumber, BadName, Cut, Malformed, Spent, ReadFault, WriteFault, NoMemory}
 use Rattle.vt_prog.specs.Change.{Work}
-use Rattle.vt_prog.specs.Command.{command_of, session_words}
-use Rattle.vt_prog.specs.Commands.Fmtarenas.{AsksForNoArenas, DoesFmtarenas, arenas_line}
-use Rattle.vt_prog.specs.Commands.Fmtbloom.{AsksForNoFilter, DoesFmtbloom, filter_line}
-use Rattle.vt_prog.specs.Commands.Fmtisect.{AsksForNoSection, DoesFmtisect, section_line}
+use Rattle.vt_prog.specs.Command.{command_of}
+use Rattle.vt_prog.specs.Commands.Fmtarenas.{AsksForNoArenas}
+use Rattle.vt_prog.specs.Commands.Fmtbloom.{AsksForNoFilter}
+use Rattle.vt_prog.specs.Commands.Fmtisect.{AsksForNoSection}
 use Rattle.vt_prog.specs.Commands.Session.{DoesSession, outcome_of_end}
 use Rattle.vt_prog.specs.Failure.{Outcome, HasFailed, status_of, HasCauseIn}
 use Rattle.vt_prog.specs.Formatting.{RefusesWord}

@@ -1,5 +1,5 @@
 -- What a command does that formats the partition of one file (venti(8)).
-use Rattle.std.specs.Prelude.{ℕ, ◌≡◌, ◌≢◌, ◌⊎◌, ◌++◌, ⊤, IsTrue, List, Result, Ok, Err, MatchResult}
+use Rattle.std.specs.Prelude.{ℕ, ◌≡◌, ◌≢◌, ◌++◌, ⊤, IsTrue, List, Result, Ok, Err, MatchResult}
 use Rattle.vt_base.specs.Faults.{HasRisen}
 use Rattle.vt_base.specs.declared.mount.MountBad.{MountBad}
 use Rattle.vt_base.specs.declared.mount.MountBad.TheVariants as mount_bad

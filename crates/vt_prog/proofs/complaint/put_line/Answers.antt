@@ -1,5 +1,5 @@
 -- what was put before, and a front of what failed
-use Rattle.std.proofs.Common.{◌≡◌, ◌++◌, [], ◌∷◌, codes, map, List, ℕ, Bor, Result, Ok, Err, sym, ◌∙◌, ap, subst, append_assoc, append-nil}
+use Rattle.std.proofs.Common.{◌++◌, [], ◌∷◌, codes, map, List, ℕ, Bor, Result, Ok, Err, sym, ◌∙◌, ap, subst, append_assoc, append-nil}
 use Rattle.std.specs.Prelude.{OnErr}
 use Rattle.std.specs.List.{concat}
 use Rattle.vt_disk.proofs.Calls.{on_err}

@@ -1,5 +1,5 @@
 -- by the words, and by the status
-use Rattle.std.proofs.Common.{ap, sym, ◌∙◌, subst, refl}
+use Rattle.std.proofs.Common.{ap, sym, ◌∙◌, subst}
 use Rattle.vt_prog.specs.declared.command.Command.TheVariants.{Session}
 use Rattle.vt_prog.specs.Failure.{status_of, line_of}
 use Rattle.vt_prog.specs.Change.{Attempts}

@@ -1,5 +1,5 @@
 -- the pieces before one that failed, and a front of that
-use Rattle.std.proofs.Common.{◌≡◌, ◌++◌, map, take, List, [], ℕ, Bor, sym, ◌∙◌, ap, subst, append_assoc, get_or}
+use Rattle.std.proofs.Common.{◌++◌, map, take, List, [], ℕ, Bor, sym, ◌∙◌, ap, subst, append_assoc, get_or}
 use Rattle.std.specs.List.{concat}
 use Rattle.vt_out.specs.Streams.{AppendsPrefix}
 use Rattle.vt_disk.proofs.Calls.{on_err}
