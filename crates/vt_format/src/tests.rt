@@ -111,7 +111,7 @@ impl<P: Parts> Formats<P> {
 }
 
 /// Partitions are made and grown, and those that are too short are refused.
-fn formats<P: Parts>(rt: &impl Abort, to: &mut Formats<P>) -> Result<(), Fail> {
+fn make_each<P: Parts>(rt: &impl Abort, to: &mut Formats<P>) -> Result<(), Fail> {
     let small = |len, need| Err(MountBad::TooSmall { part: 0, len, need });
     assert_eq!(rt; to.arenas(b"a.part", 40_960)?, Ok(1));
     assert_eq!(rt; to.arenas(b"a.part", 73_728)?, Ok(2));
@@ -135,5 +135,5 @@ fn partitions_are_formatted(rt: HostRuntime) -> Result<(), Fail> {
     let alloc = rt.alloc();
     let maker = Failing::new(Vec::new(alloc));
     let parts = MemParts::<MemDisk<Listed>, Failing<Global>>::new(alloc, maker);
-    formats(&rt, &mut Formats { alloc, parts })
+    make_each(&rt, &mut Formats { alloc, parts })
 }
