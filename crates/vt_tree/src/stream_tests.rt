@@ -67,12 +67,22 @@ fn repeats(keys: &[Key]) -> bool {
     false
 }
 
-/// How deep so many bytes are, and how many blocks were put, each once, and asked for again.
-fn round_trip(alloc: Global, len: u32, hole: bool) -> Result<(u8, usize), Fail> {
+/// How deep so many bytes are in such leaves and pointer blocks, and how many blocks were put, each
+/// once, and asked for again.
+fn round_trip(
+    alloc: Global,
+    len: u32,
+    hole: bool,
+    dsize: u16,
+    psize: u16,
+) -> Result<(u8, usize), Fail>
+    requires dsize { (480 ≤ dsize) × (dsize ≤ 57344) }
+    requires psize { (500 ≤ psize) × (psize ≤ 57344) }
+{
     let mut blocks = MemBlocks::new(alloc, Sha1Scorer);
     let bytes = some_bytes(alloc, len, hole)?;
     let mut source = MemSource::new(alloc, Vec::from_slice(alloc, &bytes)?);
-    let entry = write(alloc, &mut blocks, &mut source, 480, 500)?;
+    let entry = write(alloc, &mut blocks, &mut source, dsize, psize)?;
     let puts = blocks.puts().len();
     if repeats(blocks.puts()) || blocks.blocks().len() != puts {
         return Err("a block was put twice".into());
@@ -99,8 +109,14 @@ fn streams_are_written_and_read_back(rt: HostRuntime) -> Result<(), Fail> {
         (300_000, false, (2, 651)),
         (300_001, true, (3, 444)),
     ] {
-        assert_eq!(rt; round_trip(rt.alloc(), len, hole)?, wanted, "{len}");
+        assert_eq!(rt;
+            round_trip(rt.alloc(), len, hole, 480, 500)?,
+            wanted,
+            "{len}"
+        );
     }
+    // three leaves and a pointer block
+    assert_eq!(rt; round_trip(rt.alloc(), 20_000, false, 8192, 8180)?, (1, 4));
     Ok(())
 }
 
