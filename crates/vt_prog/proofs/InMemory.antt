@@ -14,7 +14,7 @@ use Rattle.vt_answer.specs.Taking.{Takes}
 use Rattle.vt_prog.specs.Commands.Session.{OnlyMemory}
 use Rattle.vt_disk.specs.Members.{DiskOf}
 use Rattle.vt_prog.specs.Store.{memory, StoreState, HoldsInMemory}
-use Rattle.vt_prog.proofs.Failing.{zeros}
+use Rattle.vt_prog.proofs.FailsFor.{zeros}
 
 reach : (a last : List ℕ) (causes : List Cause) → CountsRise a causes last → NoneFell a last
 reach a last [] x = x

@@ -2,6 +2,7 @@
 
 ghost use Rattle.std.specs.Prelude.{◌≡◌, ◌≢◌, ◌<◌, ◌≤◌, ℕ, Bool, [], Some, None, Ok, Err, IfOk, IfErr, OnOk, IsTrue, Result, MatchResult, length, slice_get};
 ghost use Rattle.vt_base.specs.Kind.{IsKind};
+ghost use Rattle.vt_base.specs.declared.TheConstants.{MAX_BLOCK};
 ghost use Rattle.vt_base.specs.Protocol.{read, write, sync, r_read, r_write, r_sync};
 ghost use Rattle.vt_model.specs.History.{History, Accepted, IsBlock};
 ghost use Rattle.vt_model.specs.Places.{next_arena};
@@ -137,7 +138,7 @@ impl<D: Disk, L: Ledger, S: Scorer> LogStore<D, L, S> {
         ensures answer { (entry : Entry) → IsKind kind → score.now.0 ≢ S.score_of []
             → entry_of_key self.old.entries score.now.0 kind ≡ Some entry → entry.size ≤ count
             → GivesEntry S.score_of D.Disk self.old.log entry result }
-        ensures most { IfOk result (λ block. length block ≤ 57344) }
+        ensures most { IfOk result (λ block. length block ≤ MAX_BLOCK) }
     {
         let kind = Kind::from_wire(kind).ok_or(Why::BadType)?;
         if *score == self.zero {
@@ -207,7 +208,7 @@ impl<D: Disk, L: Ledger, S: Scorer> LogStore<D, L, S> {
         requires kind { IsKind key.kind }
         requires score { key.score.0 ≡ S.score_of bytes.now }
         requires some { 0 < length bytes.now }
-        requires most { length bytes.now ≤ 57344 }
+        requires most { length bytes.now ≤ MAX_BLOCK }
         ensures serves { (h : History)
             → Holds S.score_of D.Disk self.old h
             → collides S.score_of h bytes.now ≡ Bool.false
@@ -244,7 +245,7 @@ impl<D: Disk, L: Ledger, S: Scorer> LogStore<D, L, S> {
         ensures reads { OnlyReads S.score_of D.Disk 2
             self.old.log self.new.log }
         ensures entries { self.new.entries ≡ self.old.entries }
-        ensures most { IfOk result (λ block. length block ≤ 57344) }
+        ensures most { IfOk result (λ block. length block ≤ MAX_BLOCK) }
     {
         match self
             .log
@@ -259,7 +260,7 @@ impl<D: Disk, L: Ledger, S: Scorer> LogStore<D, L, S> {
     fn add(&mut self, alloc: Global, key: Key, bytes: &[u8]) -> Result<(), Why>
         requires score { key.score.0 ≡ S.score_of bytes.now }
         requires some { 0 < length bytes.now }
-        requires most { length bytes.now ≤ 57344 }
+        requires most { length bytes.now ≤ MAX_BLOCK }
 
         // Where no other test refuses the block, it is added if an arena has room.
         ensures serves { (h : History)

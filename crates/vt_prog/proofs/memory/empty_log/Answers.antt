@@ -8,8 +8,8 @@ use Rattle.vt_part.specs.Parts.{table_of, tables_of, names_of}
 use Rattle.vt_part.specs.Table.{Table}
 use Rattle.vt_log.specs.Log.{disks_of}
 use Rattle.vt_log.specs.Logs.{IsLog}
-use Rattle.vt_prog.proofs.Failing.{none_rose}
-use Rattle.vt_prog.proofs.Mounted.{one_region, one_name, own_images, only_memory, written_back, as_long}
+use Rattle.vt_prog.proofs.FailsFor.{none_rose}
+use Rattle.vt_prog.proofs.EmptyLog.{one_region, one_name, own_images, only_memory, written_back, as_long}
 use Rattle.vt_prog.proofs.memory.empty_log.Goals as goal
 
 pub unreachable-requires : goal.unreachable-requires

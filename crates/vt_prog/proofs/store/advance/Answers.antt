@@ -6,8 +6,8 @@ use Rattle.vt_log.specs.declared.bad.Progress.{Progress}
 use Rattle.vt_log.specs.declared.bad.Progress.TheVariants.{Step, Durable}
 use Rattle.vt_log.specs.Answers.{Advances}
 use Rattle.vt_prog.specs.Serving.{why_stopped}
-use Rattle.vt_prog.proofs.Failing.{runs_ok}
-use Rattle.vt_prog.proofs.Holding.{setup_kept}
+use Rattle.vt_prog.proofs.FailsFor.{runs_ok}
+use Rattle.vt_prog.proofs.Holds.{setup_kept}
 use Rattle.vt_prog.proofs.store.advance.Goals as goal
 
 pub returns-in-Ok-Idle-clause-stopped : goal.returns-in-Ok-Idle-clause-stopped

@@ -4,7 +4,7 @@ use Rattle.std.proofs.lemmas.Result.{err_from_is_err_and}
 use Rattle.vt_base.specs.declared.why.Why.TheVariants.{Stopped}
 use Rattle.vt_log.specs.Log.{LogState}
 use Rattle.vt_prog.proofs.Durable.{advances_durable}
-use Rattle.vt_prog.proofs.Failing.{on_and_on}
+use Rattle.vt_prog.proofs.FailsFor.{on_and_on}
 use Rattle.vt_prog.proofs.store.commit.Goals as goal
 
 pub loop-init : goal.loop-init

@@ -3,8 +3,8 @@ use Rattle.std.proofs.Common.{Bool, Ok, refl, sym, ◌∙◌, ap, arith}
 use Rattle.std.proofs.lemmas.Result.{err_from_is_err_and}
 use Rattle.vt_log.specs.Log.{LogState}
 use Rattle.vt_prog.specs.Serving.{no_call, another}
-use Rattle.vt_prog.proofs.Failing.{on_and_on, leaves_or_stops}
-use Rattle.vt_prog.proofs.Holding.{either_way}
+use Rattle.vt_prog.proofs.FailsFor.{on_and_on, leaves_or_stops}
+use Rattle.vt_prog.proofs.Holds.{either_way}
 use Rattle.vt_prog.proofs.store.make_room.Goals as goal
 
 pub loop-log-init : goal.loop-log-init

@@ -1,5 +1,5 @@
 use Rattle.std.proofs.Common.{refl}
-use Rattle.vt_prog.proofs.Holding.{holds_nothing}
+use Rattle.vt_prog.proofs.Holds.{holds_nothing}
 use Rattle.vt_prog.proofs.commands.session.prepare.Goals as goal
 
 pub returns-clause-empty : goal.returns-clause-empty

@@ -12,10 +12,10 @@ use Rattle.vt_log.specs.Log.{LogState, setup_of}
 use Rattle.vt_session.specs.Answered.{ReachesParts}
 use Rattle.vt_prog.specs.Serving.{Serves, FailsFor, MakesRoom}
 use Rattle.vt_prog.specs.Store.{StoreState, memory, Holds}
-use Rattle.vt_prog.proofs.Added.{stored_as, accepted_is, reply_is, appended}
-use Rattle.vt_prog.proofs.Failing.{by_commit}
-use Rattle.vt_prog.proofs.Holding.{with_log}
-use Rattle.vt_prog.proofs.Making.{made_none}
+use Rattle.vt_prog.proofs.Adds.{stored_as, accepted_is, reply_is, appended}
+use Rattle.vt_prog.proofs.FailsFor.{by_commit}
+use Rattle.vt_prog.proofs.Holds.{with_log}
+use Rattle.vt_prog.proofs.MakesRoom.{made_none}
 use Rattle.vt_prog.proofs.store.LogStore.add.Goals as goal
 
 pub returns-then-not-room-clause-commits : goal.returns-then-not-room-clause-commits

@@ -5,7 +5,7 @@ use Rattle.std.proofs.lemmas.Option.{same_Some}
 use Rattle.vt_base.specs.declared.place.Entry.{Entry}
 use Rattle.vt_prog.specs.Serving.{TellsUnread}
 use Rattle.vt_prog.specs.Store.{StoreState, entry_of_score, Holds}
-use Rattle.vt_prog.proofs.Failing.{tells_unread}
+use Rattle.vt_prog.proofs.FailsFor.{tells_unread}
 use Rattle.std.proofs.lemmas.Result.{err_from_is_err_and}
 use Rattle.std.proofs.lemmas.Slice.Eq.{bytes_eq-Decides}
 use Rattle.vt_prog.proofs.Indexed.{none_collides, one_collides, score_there, passes_there}

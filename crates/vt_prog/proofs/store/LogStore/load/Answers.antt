@@ -7,8 +7,8 @@ use Rattle.vt_log.specs.Log.{LogState, setup_of}
 use Rattle.vt_model.specs.Places.{Setup, place_of}
 use Rattle.vt_prog.specs.Serving.{TellsFaults, MayNotRead, GivesEntry}
 use Rattle.vt_prog.specs.Store.{StoreState, Holds}
-use Rattle.vt_prog.proofs.Failing.{read_tells, may_not_read}
-use Rattle.vt_prog.proofs.Holding.{with_log}
+use Rattle.vt_prog.proofs.FailsFor.{read_tells, may_not_read}
+use Rattle.vt_prog.proofs.Holds.{with_log}
 use Rattle.vt_prog.proofs.store.LogStore.load.Goals as goal
 use Rattle.vt_prog.proofs.store.LogStore.load.Goals.{in-Ok, in-Err}
 

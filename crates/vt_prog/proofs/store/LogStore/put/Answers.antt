@@ -8,8 +8,8 @@ use Rattle.vt_model.specs.Places.{next_arena, crowd, bucket_of}
 use Rattle.vt_model.specs.Answer.{Outcome, answer_to_write, adds, with_added}
 use Rattle.vt_prog.specs.Store.{StoreState, memory, Holds}
 use Rattle.vt_prog.proofs.Indexed.{key_there, no_key, same_crowd, some_of, none_of, is_some-copied}
-use Rattle.vt_prog.proofs.Making.{made_none}
-use Rattle.vt_prog.proofs.Writing.{already, index_full, passes}
+use Rattle.vt_prog.proofs.MakesRoom.{made_none}
+use Rattle.vt_prog.proofs.AnswerToWrite.{already, index_full, passes}
 use Rattle.vt_prog.proofs.store.LogStore.put.Goals as goal
 
 pub returns-then-is_some-clause-serves : goal.returns-then-is_some-clause-serves

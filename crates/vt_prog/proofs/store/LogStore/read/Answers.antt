@@ -13,7 +13,7 @@ use Rattle.vt_model.specs.Answer.{Outcome, with_added}
 use Rattle.vt_prog.specs.Serving.{GivesEntry}
 use Rattle.vt_prog.specs.Store.{StoreState, entry_of_key, Holds}
 use Rattle.vt_prog.proofs.Indexed.{key_there, no_key}
-use Rattle.vt_prog.proofs.Reading.{absent, too_small, serves}
+use Rattle.vt_prog.proofs.AnswerToRead.{absent, too_small, serves}
 use Rattle.vt_prog.proofs.store.LogStore.read.Goals as goal
 
 pub returns-in_default-clause-serves : goal.returns-in_default-clause-serves

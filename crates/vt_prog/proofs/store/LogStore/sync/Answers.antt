@@ -4,8 +4,8 @@ use Rattle.vt_base.specs.Protocol.{sync, r_sync}
 use Rattle.vt_log.specs.Log.{LogState}
 use Rattle.vt_prog.specs.Serving.{Serves, FailsFor}
 use Rattle.vt_prog.specs.Store.{StoreState, Holds}
-use Rattle.vt_prog.proofs.Failing.{serves_sync}
-use Rattle.vt_prog.proofs.Holding.{with_log}
+use Rattle.vt_prog.proofs.FailsFor.{serves_sync}
+use Rattle.vt_prog.proofs.Holds.{with_log}
 use Rattle.vt_prog.proofs.store.LogStore.sync.Goals as goal
 
 pub returns-clause-serves : goal.returns-clause-serves

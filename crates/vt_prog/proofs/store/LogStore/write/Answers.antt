@@ -10,8 +10,8 @@ use Rattle.vt_base.specs.Protocol.{write, r_write}
 use Rattle.vt_session.specs.Answered.{ReachesParts}
 use Rattle.vt_prog.specs.Serving.{Serves, FailsFor, SameButDisks}
 use Rattle.vt_prog.specs.Store.{StoreState, entry_of_score, Holds}
-use Rattle.vt_prog.proofs.Failing.{by_read, by_stop, serves_then, unread_on}
-use Rattle.vt_prog.proofs.Making.{made_none, made_by_reads, same_but_disks}
+use Rattle.vt_prog.proofs.FailsFor.{by_read, by_stop, serves_then, unread_on}
+use Rattle.vt_prog.proofs.MakesRoom.{made_none, made_by_reads, same_but_disks}
 use Rattle.vt_prog.proofs.store.LogStore.write.Goals as goal
 
 some_of : (n : ℕ) → (n == 0) ≡ false → 0 < n

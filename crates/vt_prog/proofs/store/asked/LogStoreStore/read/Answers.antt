@@ -3,7 +3,7 @@ use Rattle.std.proofs.Common.{List, ℕ, ap, arith, ◌∙◌}
 use Rattle.vt_base.specs.Protocol.{read, r_read}
 use Rattle.vt_log.specs.Log.{LogState}
 use Rattle.vt_prog.specs.Store.{Holds}
-use Rattle.vt_prog.proofs.Asked.{serves_asked, asked_goes_on, asked_cause, covers_any}
+use Rattle.vt_prog.proofs.Serves.{serves_asked, asked_goes_on, asked_cause, covers_any}
 use Rattle.vt_prog.proofs.store.asked.LogStoreStore.read.Goals as goal
 
 pub returns-clause-serves : goal.returns-clause-serves

@@ -2,8 +2,8 @@
 use Rattle.std.proofs.Common.{ap, ◌∙◌}
 use Rattle.vt_base.specs.Protocol.{sync, r_sync}
 use Rattle.vt_prog.specs.Store.{StoreState, Holds}
-use Rattle.vt_prog.proofs.Asked.{serves_asked, asked_goes_on, asked_cause, sync_covers}
-use Rattle.vt_prog.proofs.Failing.{tells_as_commit}
+use Rattle.vt_prog.proofs.Serves.{serves_asked, asked_goes_on, asked_cause, sync_covers}
+use Rattle.vt_prog.proofs.FailsFor.{tells_as_commit}
 use Rattle.vt_prog.proofs.store.asked.LogStoreStore.sync.Goals as goal
 
 pub returns-clause-serves : goal.returns-clause-serves

@@ -3,7 +3,7 @@ use Rattle.std.proofs.Common.{ap, ◌∙◌}
 use Rattle.vt_base.specs.declared.score.Score.{Score}
 use Rattle.vt_base.specs.Protocol.{write, r_write}
 use Rattle.vt_prog.specs.Store.{StoreState, Holds}
-use Rattle.vt_prog.proofs.Asked.{serves_asked, asked_goes_on, asked_cause, covers_any}
+use Rattle.vt_prog.proofs.Serves.{serves_asked, asked_goes_on, asked_cause, covers_any}
 use Rattle.vt_prog.proofs.Durable.{room_durable}
 use Rattle.vt_prog.proofs.store.asked.LogStoreStore.write.Goals as goal
 

@@ -1,6 +1,7 @@
 -- One more block, and its entry.
 use Rattle.std.proofs.Common.{◌≡◌, ◌⊎◌, ⊎_elim, inl, inr, ℕ, zero, suc, ◌+◌, ◌<◌, ◌≤◌, List, [], ◌∷◌, ◌++◌, length, replicate, refl, sym, ◌∙◌, ap, subst, arith, Some, None, Ok, Err, length-append, append-nil}
 use Rattle.std.specs.Prelude.{slice_get}
+use Rattle.vt_base.specs.declared.TheConstants.{MAX_BLOCK}
 use Rattle.vt_base.specs.Kind.{IsKind}
 use Rattle.vt_base.specs.declared.place.Entry.{Entry}
 use Rattle.vt_base.specs.declared.place.Place.{Place}
@@ -29,7 +30,7 @@ abbrev pub stored_as : (kind : ℕ) (score block : List ℕ) → Stored
 stored_as kind score block = record { kind = kind; score = score; creator = replicate 4 0; time = 0; block = block }
 
 module _ (score_of : List ℕ → List ℕ) (p : Packed) (kind : ℕ) (block : List ℕ) (packed : IsPacked score_of p) (kind_is : p.kind ≡ kind) (scored : p.score.0 ≡ score_of block)
-    (some : 0 < length block) (most : length block ≤ 57344) (spelling : p.bytes ≡ spelled (stored_as kind p.score.0 block)) where
+    (some : 0 < length block) (most : length block ≤ MAX_BLOCK) (spelling : p.bytes ≡ spelled (stored_as kind p.score.0 block)) where
   is_stored : IsStored score_of (stored_as kind p.score.0 block)
   is_stored = record {
     kind = subst IsKind (sym packed.kind ∙ kind_is) packed.stored.kind;

@@ -20,7 +20,7 @@ use Rattle.vt_answer.specs.Serving.{Answers, Lengthens, IsCovered, tells_failure
 use Rattle.vt_prog.specs.Asked.{stops_of, condition_of}
 use Rattle.vt_prog.specs.Serving.{Serves, FailsFor, NoneFailed, TellsFaults, CommitsOrStops}
 use Rattle.vt_prog.specs.Store.{StoreState, memory, Holds}
-use Rattle.vt_prog.proofs.Failing.{rises}
+use Rattle.vt_prog.proofs.FailsFor.{rises}
 
 -- ---- counts that rise
 

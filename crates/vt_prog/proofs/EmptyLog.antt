@@ -15,7 +15,7 @@ use Rattle.vt_log.specs.declared.bad.LogBad.TheVariants as bads
 use Rattle.vt_log.specs.Faults.{OneHasRisen, is_fault}
 use Rattle.vt_log.specs.Sound.{AreImages}
 use Rattle.vt_prog.specs.Memory.{IsOneArena}
-use Rattle.vt_prog.proofs.Failing.{none_rose}
+use Rattle.vt_prog.proofs.FailsFor.{none_rose}
 
 -- the one arena is the whole layout
 pub one_region : (t : Table) → IsOneArena t → map (λ r. r.region.len) (layout_of (t ∷ [])) ≡ 1048576 ∷ []

@@ -15,7 +15,7 @@ use Rattle.vt_disk.specs.Members.{DiskOf}
 use Rattle.vt_log.specs.Log.{LogState}
 use Rattle.vt_session.specs.Answered.{ReachesParts}
 use Rattle.vt_prog.specs.Serving.{Serves, FailsFor, TellsFaults, MayNotRead}
-use Rattle.vt_prog.proofs.Failing.{by_read}
+use Rattle.vt_prog.proofs.FailsFor.{by_read}
 
 module _ (score : List ℕ → List ℕ) (h : History) (s : List ℕ) (kind count : ℕ) (known : is_kind kind ≡ true) (nonzero : bytes_eq s (score []) ≡ false) where
   read_as : (o : Option Accepted) → find (has_key score s kind) h ≡ o → answer_to_read score h s kind count ≡ lends count (option_map (λ e. e.block.bytes) o)
