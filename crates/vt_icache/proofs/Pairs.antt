@@ -1,7 +1,7 @@
 -- Pairs of a key and a value, each value under its own key.
-use Rattle.std.proofs.Common.{◌≡◌, ◌≢◌, ℕ, zero, suc, ◌<◌, ◌≤◌, ◌+◌, ◌-◌, Bool, true, false, cond, ◌&&◌, ◌==◌, not, List, [], ◌∷◌, ◌++◌, map, length, take, slice_get, Option, None, Some, refl, sym, ap, subst, ◌∙◌, true≢false, arith, length-take, get_or, Result, Ok, Err}
+use Rattle.std.proofs.Common.{◌≡◌, ◌≢◌, ℕ, zero, suc, ◌<◌, ◌-◌, Bool, true, false, cond, ◌&&◌, ◌==◌, List, [], ◌∷◌, ◌++◌, map, length, take, slice_get, Option, None, Some, refl, sym, ap, subst, ◌∙◌, true≢false, arith, length-take, get_or, Result, Ok, Err}
 use Rattle.std.specs.Prelude.{IsPermutation, IsOk, OnOk, IsTrue, IfSome, is_some, ◌↔◌}
-use Rattle.std.specs.List.{AllByRecursion, AllPairs, IsDistinct, find, slice_index_or}
+use Rattle.std.specs.List.{AllByRecursion, AllPairs, IsDistinct, find}
 use Rattle.std.specs.Map.{lookup, lookup_entry, remove_entry, keys_of}
 use Rattle.std.specs.Option.{option_map, option_map_or}
 use Rattle.std.specs.Str.{bytes_eq}
@@ -10,7 +10,7 @@ use Rattle.std.proofs.lemmas.List.Elements.{All-from_recursion, recursion_from_A
 use Rattle.std.proofs.lemmas.List.Sorted.{All-permutation}
 use Rattle.std.proofs.lemmas.List.Kept.{AllPairs-cons}
 use Rattle.std.proofs.lemmas.Map.Keys.{IsDistinct-head, IsDistinct-tail}
-use Rattle.std.proofs.lemmas.Option.{slice_get_within, get_or_from_slice_get, slice_get-get_or}
+use Rattle.std.proofs.lemmas.Option.{slice_get-get_or}
 use Rattle.std.proofs.lemmas.Bool.Decides.{Decides-eqb, same_from_decides}
 use Rattle.std.proofs.lemmas.Slice.Eq.{bytes_eq-Decides}
 use Rattle.lru.specs.LruCache.{promoted}

@@ -1,5 +1,5 @@
-use Rattle.std.proofs.Common.{◌≡◌, ◌≤◌, ◌+◌, List, length, take}
-use Rattle.indexmap.specs.IndexMap.{IsUnique, index_map_len, spare}
+use Rattle.std.proofs.Common.{◌≡◌, ◌≤◌, ◌+◌, take}
+use Rattle.indexmap.specs.IndexMap.{IsUnique, spare}
 use Rattle.vt_base.specs.Key.{same_key}
 use Rattle.vt_icache.proofs.cache.copy_first.Given as goal
 

@@ -1,5 +1,5 @@
-use Rattle.std.proofs.Common.{◌≡◌, None, sym, ap, ◌∙◌}
-use Rattle.vt_icache.specs.Index.{IndexState, dirty_info}
+use Rattle.std.proofs.Common.{sym, ap, ◌∙◌}
+use Rattle.vt_icache.specs.Index.{dirty_info}
 use Rattle.vt_icache.proofs.Found.{none_dirty}
 use Rattle.vt_icache.proofs.tests.puts.Goals as goal
 

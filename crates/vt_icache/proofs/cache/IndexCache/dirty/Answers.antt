@@ -1,5 +1,3 @@
-use Rattle.std.proofs.Common.{List, ◌≢◌, ◌∙◌, ◌≤◌, length, take, ap, sym, subst, arith}
-use Rattle.std.specs.List.{AllPairs}
 use Rattle.vt_base.specs.declared.place.Info.{Info}
 use Rattle.vt_icache.proofs.Pairs.{apart_front}
 use Rattle.vt_icache.proofs.cache.IndexCache.dirty.Goals as goal

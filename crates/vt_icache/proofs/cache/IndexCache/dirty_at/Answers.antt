@@ -1,11 +1,10 @@
-use Rattle.std.proofs.Common.{◌≡◌, ◌<◌, ◌≤◌, ℕ, List, length, map, take, slice_get, position, Option, None, Some, refl, sym, ap, subst, ◌∙◌, arith, length-take}
-use Rattle.std.specs.List.{find, position_or_len}
-use Rattle.std.specs.Map.{lookup, keys_of}
+use Rattle.std.proofs.Common.{◌≡◌, length, sym, ◌∙◌, arith}
+use Rattle.std.specs.List.{position_or_len}
+use Rattle.std.specs.Map.{keys_of}
 use Rattle.std.proofs.lemmas.List.{length-map}
 use Rattle.vt_base.specs.Key.{same_key}
 use Rattle.vt_base.specs.declared.key.Key.{Key}
 use Rattle.vt_base.specs.declared.place.Info.{Info}
-use Rattle.vt_icache.specs.Index.{IndexState, is_info_of, dirty_info}
 use Rattle.vt_icache.proofs.Fronts.{find_front, none_front, position_some, position_none}
 use Rattle.vt_icache.proofs.Pairs.{values, found_passes, equal_keys, value_at, slice_get_front}
 use Rattle.vt_icache.proofs.cache.IndexCache.dirty_at.Goals as goal

@@ -1,5 +1,4 @@
-use Rattle.std.proofs.Common.{List, ap, sym, subst, ◌∙◌, ◌<◌, length}
-use Rattle.std.specs.Prelude.{IsTrue, ◌↔◌}
+use Rattle.std.proofs.Common.{List, ap}
 use Rattle.vt_base.specs.declared.place.Entry.{Entry}
 use Rattle.vt_icache.specs.View.{state_of}
 use Rattle.vt_icache.proofs.Pairs.{but_last, some_last}

@@ -1,16 +1,13 @@
-use Rattle.std.proofs.Common.{◌≡◌, List, Option, None, Some, sym, ap, subst, ◌∙◌, refl}
-use Rattle.std.specs.Prelude.{IfSome}
+use Rattle.std.proofs.Common.{◌≡◌, List, None, sym, ap, subst, ◌∙◌}
 use Rattle.std.specs.List.{find}
-use Rattle.std.specs.Map.{lookup}
 use Rattle.vt_base.specs.Key.{same_key}
 use Rattle.vt_base.specs.Kind.{IsKind}
 use Rattle.vt_base.specs.declared.key.Key.{Key}
 use Rattle.vt_base.specs.declared.place.Entry.{Entry}
-use Rattle.vt_base.specs.declared.place.Info.{Info}
-use Rattle.vt_icache.specs.Index.{IndexState, is_info_of, is_entry_of, entry_of, entry_in, after_look_up, dirty_info}
+use Rattle.vt_icache.specs.Index.{IndexState, is_info_of, dirty_info}
 use Rattle.vt_icache.specs.Keeping.{dirty_infos}
 use Rattle.vt_icache.specs.View.{state_of}
-use Rattle.vt_icache.proofs.Pairs.{found, equal_keys, values, values_promoted, keyed_promoted, all_promoted, AreKeyed, own_key}
+use Rattle.vt_icache.proofs.Pairs.{found, values_promoted, keyed_promoted, all_promoted, own_key}
 use Rattle.vt_icache.proofs.cache.IndexCache.find.Goals as goal
 
 pub invariant_of-self : goal.invariant_of-self

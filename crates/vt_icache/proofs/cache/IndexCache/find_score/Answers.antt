@@ -1,13 +1,11 @@
-use Rattle.std.proofs.Common.{◌≡◌, ◌≢◌, ◌⊎◌, inl, inr, ⊎_elim, ◌<◌, ◌≤◌, ◌+◌, ℕ, List, Option, None, Some, true, false, refl, sym, ap, subst, ◌∙◌, true≢false, arith}
+use Rattle.std.proofs.Common.{◌≡◌, ⊎_elim, ◌<◌, ◌≤◌, ℕ, Option, None, Some, false, refl, sym, ap, subst, ◌∙◌, true≢false, arith}
 use Rattle.std.specs.Prelude.{IfSome, is_some}
-use Rattle.std.specs.List.{Contains}
 use Rattle.std.proofs.lemmas.Bool.{cases_lt}
-use Rattle.vt_base.specs.Kind.{IsKind, is_kind}
+use Rattle.vt_base.specs.Kind.{is_kind}
 use Rattle.vt_base.specs.declared.key.Key.{Key}
 use Rattle.vt_base.specs.declared.place.Entry.{Entry}
-use Rattle.vt_base.specs.declared.place.Info.{Info}
 use Rattle.vt_base.specs.declared.score.Score.{Score}
-use Rattle.vt_icache.specs.Index.{IndexState, IsKept, entry_of, entry_in}
+use Rattle.vt_icache.specs.Index.{IndexState, IsKept, entry_in}
 use Rattle.vt_icache.proofs.Found.{kept_kind, kind_bounds, found_is_kept, kept_is_found}
 use Rattle.vt_icache.proofs.cache.IndexCache.find_score.Goals as goal
 use Rattle.vt_icache.proofs.cache.IndexCache.find_score.Goals.{in-Some+else-is_some, in_default}

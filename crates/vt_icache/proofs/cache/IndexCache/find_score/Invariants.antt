@@ -1,5 +1,4 @@
-use Rattle.std.proofs.Common.{◌≡◌, ◌<◌, ◌≢◌, ℕ}
-use Rattle.vt_base.specs.declared.key.Key.{Key}
+use Rattle.std.proofs.Common.{◌<◌, ◌≢◌}
 use Rattle.vt_base.specs.declared.place.Entry.{Entry}
 use Rattle.vt_icache.specs.Index.{IsKept}
 use Rattle.vt_icache.proofs.cache.IndexCache.find_score.Given as goal

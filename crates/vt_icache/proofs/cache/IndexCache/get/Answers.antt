@@ -1,9 +1,8 @@
-use Rattle.std.proofs.Common.{◌≡◌, List, Option, None, Some, sym, ap, subst, ◌∙◌, refl}
+use Rattle.std.proofs.Common.{◌≡◌, None, sym, subst, ◌∙◌}
 use Rattle.std.specs.List.{find}
 use Rattle.vt_base.specs.Key.{same_key}
 use Rattle.vt_base.specs.declared.place.Entry.{Entry}
-use Rattle.vt_base.specs.declared.place.Info.{Info}
-use Rattle.vt_icache.specs.Index.{IndexState, is_info_of, entry_in, dirty_info}
+use Rattle.vt_icache.specs.Index.{IndexState, is_info_of, dirty_info}
 use Rattle.vt_icache.specs.Keeping.{dirty_infos}
 use Rattle.vt_icache.proofs.Pairs.{found, own_key}
 use Rattle.vt_icache.proofs.cache.IndexCache.get.Goals as goal

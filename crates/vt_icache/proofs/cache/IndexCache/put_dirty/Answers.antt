@@ -1,9 +1,7 @@
-use Rattle.std.proofs.Common.{◌≡◌, ◌⊎◌, ⊎_elim, ◌<◌, ◌≤◌, ◌+◌, ◌-◌, ◌++◌, ◌∷◌, [], ℕ, List, None, Some, length, get_or, take, sym, ap, subst, ◌∙◌, refl, arith, length-append, length-take}
+use Rattle.std.proofs.Common.{◌≡◌, ◌⊎◌, ⊎_elim, ◌<◌, ◌≤◌, ◌+◌, ◌-◌, ◌++◌, ◌∷◌, [], ℕ, List, None, length, get_or, take, sym, ap, subst, ◌∙◌, refl, arith, length-append, length-take}
 use Rattle.std.specs.Prelude.{IsOk}
 use Rattle.std.specs.List.{AllByRecursion, find, swap}
-use Rattle.std.specs.Map.{lookup}
 use Rattle.std.proofs.lemmas.List.{take-append-le}
-use Rattle.indexmap.specs.IndexMap.{index_map_len, spare}
 use Rattle.indexmap.proofs.CallerLemmas.{insert_entry-new}
 use Rattle.vt_base.specs.Key.{same_key}
 use Rattle.vt_base.specs.Kind.{IsKind}

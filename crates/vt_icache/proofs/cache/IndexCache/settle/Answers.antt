@@ -1,8 +1,6 @@
-use Rattle.std.proofs.Common.{◌≡◌, ◌⊎◌, inl, inr, ⊎_elim, zero, suc, true, ◌<◌, ◌≤◌, ◌+◌, ◌-◌, ◌++◌, ◌∷◌, [], ℕ, List, Option, Result, Ok, Err, None, Some, length, get_or, map, set, slice_get, take, sym, ap, subst, ◌∙◌, refl, arith, length-take}
+use Rattle.std.proofs.Common.{◌≡◌, ◌⊎◌, inl, inr, ⊎_elim, zero, suc, true, ◌<◌, ◌≤◌, ◌-◌, ◌∷◌, [], ℕ, List, Option, Result, Ok, Err, None, Some, length, get_or, set, slice_get, take, sym, ap, subst, ◌∙◌, refl, arith, length-take}
 use Rattle.std.specs.Prelude.{IsPermutation, OnOk, OnErr}
 use Rattle.std.specs.List.{AllByRecursion, find, swap}
-use Rattle.std.specs.Map.{lookup, lookup_entry, remove_entry}
-use Rattle.std.specs.Option.{option_map_or}
 use Rattle.std.proofs.lemmas.List.{length-set, get_or-set_same}
 use Rattle.std.proofs.lemmas.List.Edits.{swap_is}
 use Rattle.std.proofs.lemmas.List.Sorted.{IsPermutation-map}
@@ -13,7 +11,7 @@ use Rattle.vt_base.specs.Kind.{IsKind}
 use Rattle.vt_base.specs.declared.key.Key.{Key}
 use Rattle.vt_base.specs.declared.place.Entry.{Entry}
 use Rattle.vt_base.specs.declared.place.Info.{Info}
-use Rattle.vt_icache.specs.Index.{IndexState, Settles, dirty_info, entry_of, with_clean}
+use Rattle.vt_icache.specs.Index.{IndexState, Settles, entry_of, with_clean}
 use Rattle.vt_icache.specs.Keeping.{clean_entries}
 use Rattle.vt_icache.specs.View.{state_of}
 use Rattle.vt_icache.proofs.Pairs.{AreKeyed, values, values_take, values_put, found, equal_keys, keyed_take, all_permuted, all_put, pair_at, none_before, slice_get_front}
