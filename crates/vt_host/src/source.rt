@@ -64,6 +64,8 @@ impl<R: ReadCalls> Source for StdSource<R> {
 
     ghost tells = { false };
 
+    ghost given = { λ _. [] };
+
     ghost left = { λ _. [] };
 
     ghost faults = { λ source. source.faults.count };

@@ -1,7 +1,11 @@
 -- What the streams in memory hold, and which of their calls fail.
-use Rattle.std.specs.Prelude.{ℕ, List, drop}
+use Rattle.std.specs.Prelude.{ℕ, List, take, drop}
 use Rattle.vt_out.specs.declared.mem_source.MemSource.{MemSource}
 use Rattle.vt_out.specs.declared.mem_sink.MemSink.{MemSink}
+
+-- the bytes that were taken
+abbrev pub source_given : MemSource → List ℕ
+source_given s = take s.given s.content.items
 
 -- the bytes that are left
 abbrev pub source_left : MemSource → List ℕ

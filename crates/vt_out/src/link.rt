@@ -15,6 +15,9 @@ pub trait Link {
     /// doesn't.
     ghost tells: { Bool };
 
+    /// The bytes that came in so far, where it tells them.
+    ghost given: { Self → List ℕ };
+
     /// The bytes that are left to come in, where it tells them.
     ghost left: { Self → List ℕ };
 
@@ -33,12 +36,15 @@ pub trait Link {
         ensures fits { IfOk result (λ n. n ≤ length buf.old) }
         ensures moved { IfOk result (λ n. IsTrue tells →
             left self.old ≡ take n buf.new ++ left self.new) }
+        ensures came { IfOk result (λ n. IsTrue tells →
+            given self.new ≡ given self.old ++ take n buf.new) }
         ensures end { IfOk result (λ n. IsTrue tells →
             n ≡ 0 → 0 < length buf.old → left self.old ≡ []) }
         ensures rest { IfOk result (λ n. IsTrue tells → drop n buf.new ≡ drop n buf.old) }
 
         // A call that fails loses nothing.
         ensures kept { OnErr result (IsTrue tells → left self.new ≡ left self.old) }
+        ensures none { OnErr result (IsTrue tells → given self.new ≡ given self.old) }
         ensures untouched { OnErr result (IsTrue tells → buf.new ≡ buf.old) }
         ensures cause { HasCause result (read_faults self.old) (read_faults self.new) }
 
@@ -53,6 +59,7 @@ pub trait Link {
             AppendsPrefix (written self.old) (written self.new) piece.now) }
         ensures cause { HasCause result (write_faults self.old) (write_faults self.new) }
 
+        ensures given { IsTrue tells → given self.new ≡ given self.old }
         ensures left { IsTrue tells → left self.new ≡ left self.old }
         ensures read_faults { read_faults self.new ≡ read_faults self.old };
 

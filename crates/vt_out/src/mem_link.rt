@@ -13,16 +13,18 @@ pub struct MemLink {
 
 impl Link for MemLink {
     ghost use Rattle.std.specs.Prelude.{◌≡◌, ◌↔◌, ◌⊎◌, ◌<◌, ◌+◌, ◌-◌, ◌/◌, ◌^◌, ◌++◌, min, true};
-    ghost use Rattle.std.specs.Prelude.{length, take, drop, Contains, IfOk, OnOk, OnErr, IsErr};
+    ghost use Rattle.std.specs.Prelude.{[], length, take, drop, Contains, IfOk, OnOk, OnErr, IsErr};
     ghost use Rattle.std.proofs.Common.{arith};
     ghost use Rattle.std.proofs.lemmas.List.{get_or-drop};
     ghost use Rattle.vt_base.specs.Faults.{HasCause, IsOneMore};
-    ghost use Rattle.vt_out.specs.Memory.{source_left, source_pieces, source_failing, source_calls};
-    ghost use Rattle.vt_out.specs.Memory.{source_faults, sink_written, sink_room, sink_failing};
-    ghost use Rattle.vt_out.specs.Memory.{sink_calls, sink_faults};
+    ghost use Rattle.vt_out.specs.Memory.{source_given, source_left, source_pieces, source_failing};
+    ghost use Rattle.vt_out.specs.Memory.{source_calls, source_faults, sink_written, sink_room};
+    ghost use Rattle.vt_out.specs.Memory.{sink_failing, sink_calls, sink_faults};
     ghost use Rattle.vt_out.specs.Streams.{piece_length};
 
     ghost tells = { true };
+
+    ghost given = { λ link. source_given link.source };
 
     ghost left = { λ link. source_left link.source };
 
@@ -51,9 +53,15 @@ impl Link for MemLink {
             (length buf.old))) }
         ensures moved { IfOk result (λ n.
             source_left self.old.source ≡ take n buf.new ++ source_left self.new.source) }
+        ensures came { IfOk result (λ n. source_given self.new.source
+            ≡ source_given self.old.source ++ take n buf.new) }
+        ensures end { IfOk result (λ n.
+            n ≡ 0 → 0 < length buf.old → source_left self.old.source ≡ []) }
         ensures rest { IfOk result (λ n. drop n buf.new ≡ drop n buf.old) }
         ensures kept { OnErr result
             (source_left self.new.source ≡ source_left self.old.source) }
+        ensures none { OnErr result
+            (source_given self.new.source ≡ source_given self.old.source) }
         ensures untouched { OnErr result (buf.new ≡ buf.old) }
         ensures cause { HasCause result
             (source_faults self.old.source) (source_faults self.new.source) }

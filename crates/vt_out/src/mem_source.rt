@@ -33,11 +33,12 @@ fn next_length(pieces: &[usize], call: u64, room: usize) -> usize
 
 impl MemSource {
     ghost use Rattle.std.specs.Prelude.{◌≡◌, []};
-    ghost use Rattle.vt_out.specs.Memory.{source_left, source_pieces, source_failing};
+    ghost use Rattle.vt_out.specs.Memory.{source_given, source_left, source_pieces, source_failing};
     ghost use Rattle.vt_out.specs.Memory.{source_calls, source_faults};
 
     /// Gives these bytes, as many at once as there is room for. No call fails.
     pub fn new(alloc: Global, content: Vec<u8>) -> Self
+        ensures given { source_given result ≡ [] }
         ensures left { source_left result ≡ content.items }
         ensures pieces { source_pieces result ≡ [] }
         ensures failing { source_failing result ≡ [] }
@@ -55,6 +56,7 @@ impl MemSource {
     /// From now on a call moves no more bytes than the entry of the list says whose turn it is, by
     /// the call's number, and 1 where it says 0.
     pub fn in_pieces(self, pieces: Vec<usize>) -> Self
+        ensures given { source_given result ≡ source_given self }
         ensures left { source_left result ≡ source_left self }
         ensures pieces { source_pieces result ≡ pieces.items }
         ensures failing { source_failing result ≡ source_failing self }
@@ -68,6 +70,7 @@ impl MemSource {
 
     /// From now on the calls with these numbers fail.
     pub fn failing(self, calls: Vec<u64>) -> Self
+        ensures given { source_given result ≡ source_given self }
         ensures left { source_left result ≡ source_left self }
         ensures pieces { source_pieces result ≡ source_pieces self }
         ensures failing { source_failing result ≡ calls.items }
@@ -95,16 +98,18 @@ impl MemSource {
 }
 
 impl Source for MemSource {
-    ghost use Rattle.std.specs.Prelude.{◌≡◌, ◌↔◌, ◌+◌, ◌-◌, ◌^◌, ◌++◌, min, true};
+    ghost use Rattle.std.specs.Prelude.{◌≡◌, ◌↔◌, ◌<◌, ◌+◌, ◌-◌, ◌^◌, ◌++◌, min, true, []};
     ghost use Rattle.std.specs.Prelude.{length, take, drop, Contains, IfOk, OnErr, IsErr};
     ghost use Rattle.std.proofs.Common.{arith};
     ghost use Rattle.std.proofs.lemmas.List.{get_or-drop};
     ghost use Rattle.vt_base.specs.Faults.{HasCause, IsOneMore};
-    ghost use Rattle.vt_out.specs.Memory.{source_left, source_pieces, source_failing};
+    ghost use Rattle.vt_out.specs.Memory.{source_given, source_left, source_pieces, source_failing};
     ghost use Rattle.vt_out.specs.Memory.{source_calls, source_faults};
     ghost use Rattle.vt_out.specs.Streams.{piece_length};
 
     ghost tells = { true };
+
+    ghost given = { source_given };
 
     ghost left = { source_left };
 
@@ -122,8 +127,13 @@ impl Source for MemSource {
             (piece_length (source_pieces self.old) (source_calls self.old) (length buf.old))) }
         ensures moved { IfOk result (λ n.
             source_left self.old ≡ take n buf.new ++ source_left self.new) }
+        ensures came { IfOk result (λ n.
+            source_given self.new ≡ source_given self.old ++ take n buf.new) }
+        ensures end { IfOk result (λ n.
+            n ≡ 0 → 0 < length buf.old → source_left self.old ≡ []) }
         ensures rest { IfOk result (λ n. drop n buf.new ≡ drop n buf.old) }
         ensures kept { OnErr result (source_left self.new ≡ source_left self.old) }
+        ensures none { OnErr result (source_given self.new ≡ source_given self.old) }
         ensures untouched { OnErr result (buf.new ≡ buf.old) }
         ensures cause { HasCause result (source_faults self.old) (source_faults self.new) }
         ensures calls { IsOneMore (source_calls self.old) (source_calls self.new) }

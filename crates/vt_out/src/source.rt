@@ -12,6 +12,9 @@ pub trait Source {
     /// Whether sources of this type tell what they have left. Standard input doesn't.
     ghost tells: { Bool };
 
+    /// The bytes that were taken so far, where it tells them.
+    ghost given: { Self → List ℕ };
+
     /// The bytes that are left, where it tells them.
     ghost left: { Self → List ℕ };
 
@@ -24,12 +27,15 @@ pub trait Source {
         ensures fits { IfOk result (λ n. n ≤ length buf.old) }
         ensures moved { IfOk result (λ n. IsTrue tells →
             left self.old ≡ take n buf.new ++ left self.new) }
+        ensures came { IfOk result (λ n. IsTrue tells →
+            given self.new ≡ given self.old ++ take n buf.new) }
         ensures end { IfOk result (λ n. IsTrue tells →
             n ≡ 0 → 0 < length buf.old → left self.old ≡ []) }
         ensures rest { IfOk result (λ n. IsTrue tells → drop n buf.new ≡ drop n buf.old) }
 
         // A call that fails loses nothing.
         ensures kept { OnErr result (IsTrue tells → left self.new ≡ left self.old) }
+        ensures none { OnErr result (IsTrue tells → given self.new ≡ given self.old) }
         ensures untouched { OnErr result (IsTrue tells → buf.new ≡ buf.old) }
         ensures cause { HasCause result (faults self.old) (faults self.new) };
 

@@ -175,6 +175,8 @@ impl Source for Zeros {
 
     ghost tells = { false };
 
+    ghost given = { λ _. [] };
+
     ghost left = { λ _. [] };
 
     ghost faults = { λ _. 0 };

@@ -1,6 +1,7 @@
 use Rattle.std.proofs.Common.{◌≡◌, ◌≤◌, ℕ, ◌+◌, List, ◌++◌, length, take, drop, arith, sym, ap, ◌∙◌}
 use Rattle.std.proofs.lemmas.Grind.{common_steps}
 use Rattle.std.proofs.lemmas.List.{take_at, take-append-drop, take_rest, drop-drop, length-take-le}
+use Rattle.std.proofs.Math.Seq.{take-add}
 use Rattle.vt_out.proofs.mem_source.MemSourceSource.take.Goals as goal
 
 -- the first n bytes of a list stand before the others also once they were copied
@@ -13,4 +14,16 @@ pub returns-clause-moved : goal.returns-clause-moved
 returns-clause-moved c = let self = c.args.self.now in
     let all = take_rest self.content.items self.given in
     moved self.content.items c.copy_from_slice.new.self _ self.given c.min-n.result
+    (grind (arith, common_steps, all)) (grind (arith, common_steps, all))
+
+-- and behind those that were taken before
+came : (xs ys zs : List ℕ) (from n : ℕ) → n ≤ length (drop from xs) → ys ≡ take n (drop from xs)
+    → take (from + n) xs ≡ take from xs ++ take n (ys ++ zs)
+came xs ys zs from n fits same = let len = ap length same ∙ length-take-le n (drop from xs) fits in
+    rw (take_at ys zs n len, same) (take-add from n xs)
+
+pub returns-clause-came : goal.returns-clause-came
+returns-clause-came c = let self = c.args.self.now in
+    let all = take_rest self.content.items self.given in
+    came self.content.items c.copy_from_slice.new.self _ self.given c.min-n.result
     (grind (arith, common_steps, all)) (grind (arith, common_steps, all))
