@@ -7,15 +7,19 @@
 mod answering;
 mod asking;
 mod client;
+mod link_client;
 mod output;
 mod serving;
 mod store;
+mod streams_client;
 
 pub use answering::Answering;
 pub use asking::{Said, ask, reply};
 pub use client::Client;
+pub use link_client::LinkClient;
 pub use output::Output;
 pub use store::Store;
+pub use streams_client::StreamsClient;
 
 #[cfg(test)]
 mod tests;

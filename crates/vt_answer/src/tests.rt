@@ -7,7 +7,7 @@ use std::alloc::{AllocError, Global};
 use std::process::Abort;
 use std::test::Fail;
 use vt_base::{Bytes, Failed, FieldValue, NoMemory, Score, Site, Why};
-use vt_out::{MemSink, Sink};
+use vt_out::{MemLink, MemSink, MemSource, Sink};
 use vt_session::{Ended, Next, parse_all};
 use vt_wire::{Reply, Request};
 
@@ -359,5 +359,32 @@ fn served_to_an_end(rt: HostRuntime) -> Result<(), Fail> {
         assert_eq!(rt; served.ended, ended);
         assert_eq!(rt; served.client.output.len(), written);
     }
+    Ok(())
+}
+
+/// A link in memory, and a source and a sink apart, as clients.
+#[test]
+fn streams_in_memory(rt: HostRuntime) -> Result<(), Fail> {
+    let alloc = rt.alloc();
+    let output = joined(alloc, &[OUR_LINE, WELCOME, b"\x00\x05\x0d\x04bbb"])?;
+    let mut store = answering_reads(3);
+    let input = joined(alloc, &[GREETING, READ])?;
+    let source = MemSource::new(alloc, input).in_pieces(vec![in alloc; 3, 40]?);
+    let sink = MemSink::new(alloc, 1_000)?;
+    let mut client = LinkClient {
+        link: MemLink { source, sink },
+    };
+    let mut answering = Answering::new(alloc)?;
+    let ended = answering.serve(alloc, &mut store, &mut client);
+    assert_eq!(rt; ended, Ended::Closed);
+    assert_eq!(rt; client.link.sink.written(), output.as_slice());
+    let input = joined(alloc, &[GREETING, READ])?;
+    let source = MemSource::new(alloc, input).failing(vec![in alloc; 1]?);
+    let sink = MemSink::new(alloc, 1_000)?;
+    let mut client = StreamsClient { source, sink };
+    let mut answering = Answering::new(alloc)?;
+    let ended = answering.serve(alloc, &mut store, &mut client);
+    assert_eq!(rt; ended, Ended::ReadFault);
+    assert_eq!(rt; client.sink.written(), output.as_slice());
     Ok(())
 }

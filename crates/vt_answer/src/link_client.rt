@@ -1,0 +1,33 @@
+//! A link, as a client.
+
+use crate::Client;
+use vt_base::Failed;
+use vt_out::Link;
+
+/// A link, from its first byte on, as the client of a session.
+#[derive(Drop)]
+pub struct LinkClient<L: Link> {
+    pub link: L,
+}
+
+impl<L: Link> Client for LinkClient<L> {
+    ghost tells = { L.tells };
+
+    ghost sent = { λ client. L.given client.link };
+
+    ghost left = { λ client. L.left client.link };
+
+    ghost written = { λ client. L.written client.link };
+
+    ghost read_faults = { λ client. L.read_faults client.link };
+
+    ghost write_faults = { λ client. L.write_faults client.link };
+
+    fn take(&mut self, buf: &mut [u8]) -> Result<usize, Failed> {
+        self.link.take(buf)
+    }
+
+    fn put(&mut self, piece: &[u8]) -> Result<(), Failed> {
+        self.link.put(piece)
+    }
+}
