@@ -1,0 +1,22 @@
+//! The metadata of archived folders (vac(1)): a record for each of a folder's items, and their
+//! bytes.
+#![tactic(auto)]
+
+mod decoding;
+mod encoding;
+mod err;
+pub mod laws;
+mod record;
+
+pub use decoding::decode;
+pub use encoding::encode;
+pub use err::{Flaw, MetaErr};
+pub use record::{Record, RecordKind, Records};
+
+/// The most bytes of a name, a uid and a gid.
+pub const MAX_NAME: usize = 255;
+
+const _: () = prove!(MAX_NAME == 255);
+
+#[cfg(test)]
+mod tests;
