@@ -291,7 +291,7 @@ marks_within (Err (Damaged bucket want found)) old new m it head next = (omega (
 marks_within {D} (Err (Stopped n)) old new m it head next = (omega (arith, ap (λ (t : SectionState D). t.head.mark) it.1, head), omega (arith, ap (λ (t : SectionState D). t.next.mark) it.1, next))
 
 -- no entry becomes dirty
-fewer : {D : Type 0} {r : Result Step ShardErr} {before after : ShardState D} (writeback : Option ℕ) → before.writeback ≡ writeback → IsSome writeback → TakesStep r before after
+pub fewer : {D : Type 0} {r : Result Step ShardErr} {before after : ShardState D} (writeback : Option ℕ) → before.writeback ≡ writeback → IsSome writeback → TakesStep r before after
     → (info : Info) → Contains after.index.dirty info → Contains before.index.dirty info
 fewer None is some takes info has = absurd (cc)
 fewer {before = before} {after = after} (Some below) is some takes info has =

@@ -14,5 +14,9 @@ pub mod Asking
 pub mod Serving
 pub mod Steps
 pub mod Mounting
+pub mod Refusals
 pub mod Crashing
 pub mod View
+pub mod Opening
+pub mod Recalling
+pub mod TakingBack

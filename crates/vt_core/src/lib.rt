@@ -11,8 +11,12 @@ mod event;
 mod filing;
 mod finding;
 mod laws;
+mod mounting;
+mod opening;
 mod outs;
+mod recalling;
 mod store;
+mod told;
 mod waiting;
 mod writing;
 

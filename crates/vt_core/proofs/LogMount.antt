@@ -1,0 +1,205 @@
+-- Mounting before the sections are opened.
+use Rattle.std.proofs.Common.{◌≡◌, ◌≢◌, ◌⊎◌, ⊎_elim, inl, inr, ◌<◌, ◌≤◌, ◌+◌, ◌^◌, ℕ, zero, suc, Bool, true, false, List, [], ◌∷◌, ◌++◌, length, map, take, Option, Some, None, Ok, Err, refl, sym, ◌∙◌, ap, subst, arith, append_assoc}
+use Rattle.std.specs.Prelude.{slice_get, IsTrue, IfErr, IfOk, MatchBool, sum, sum_by, ⊤, codes, if◌then◌else◌, nat_lt, not, ◌||◌, ◌==◌}
+use Rattle.std.specs.Str.{bytes_eq}
+use Rattle.std.specs.List.{All}
+use Rattle.std.specs.Option.{option_to_list}
+use Rattle.std.proofs.lemmas.List.Sums.{sum_by-take-le, sum_by-cons}
+use Rattle.vt_arena.specs.declared.bad.ArenaBad.{ArenaBad}
+use Rattle.vt_arena.specs.declared.bad.ArenaBad.TheVariants as arena_bad
+use Rattle.vt_arena.specs.declared.bad.Field.TheVariants.{Number, Sealed, Used, Version}
+use Rattle.vt_arena.specs.Faults.{bad_value, first_bad as first_bad_in, taken_in}
+use Rattle.vt_arena.specs.Heads.{clumps_in, number_in, sealed_in, version_in}
+use Rattle.vt_arena.specs.Places.{arena_room}
+use Rattle.vt_base.specs.declared.mount.MountBad.{MountBad}
+use Rattle.vt_base.specs.declared.mount.MountBad.TheVariants.{Fault, NotFormatted, TooSmall, DuplicateName, Disagree, Damaged, NoMemory}
+use Rattle.vt_base.specs.declared.mount.MountField.TheVariants.{Arenas}
+use Rattle.vt_disk.specs.Calls.{IsSynced}
+use Rattle.vt_disk.specs.Members.{DiskOf}
+use Rattle.vt_log.specs.Answers.{HoldTheSame}
+use Rattle.vt_log.specs.Faults.{AreFields, IsMountedBy, RefusesMount, OneHasRisen, bad_arena, first_bad, first_of_two, is_fault, out_of_order}
+use Rattle.vt_log.specs.Log.{IsMounted, LogState, disks_of}
+use Rattle.vt_log.specs.Logs.{IsLog, arena_count}
+use Rattle.vt_log.specs.Sound.{IsSound as IsSoundLog}
+use Rattle.vt_log.specs.Whole.{IsWhole}
+use Rattle.vt_log.specs.declared.bad.LogBad.{LogBad}
+use Rattle.vt_log.specs.declared.bad.LogBad.TheVariants as log_bad
+use Rattle.vt_model.specs.History.{History}
+use Rattle.vt_model.specs.Places.{Setup}
+use Rattle.vt_part.specs.Layout.{AreDistinct, layout_of}
+use Rattle.vt_part.specs.Parts.{names_of, table_of, tables_of}
+use Rattle.vt_part.specs.Table.{Table}
+use Rattle.vt_part.specs.declared.bad.PartBad.TheVariants as part_bad
+use Rattle.vt_part.specs.declared.layout.ArenaRegion.{ArenaRegion}
+use Rattle.vt_part.specs.declared.part.Part.{Part}
+use Rattle.vt_core.specs.declared.devices.Devices.{Devices}
+use Rattle.vt_core.specs.Files.{PerDevice, all_of}
+use Rattle.vt_core.specs.Mounting.{IsLogOf, IsLogRead, IsSetupOf, KeepsLimits, devices_in, tables_in}
+use Rattle.vt_core.specs.Opening.{AreHeld, IsLogFound, IsMountOf, with_log}
+use Rattle.vt_core.specs.Refusals.{CountsRefusal, IsRefused, PassesOrRefuses, told_of_log}
+use Rattle.vt_core.proofs.Held.{hold_still}
+use Rattle.vt_core.proofs.Mounted.{all_map}
+use Rattle.vt_core.proofs.Refused.{counts_more}
+use Rattle.vt_core.proofs.Returned.{held_mount}
+use Rattle.std.proofs.lemmas.List.{map-append}
+
+pub names_same : {D : Type 0} (parts : List (Part D)) → names_of parts ≡ map (λ t. t.name) (tables_of parts)
+names_same [] = refl
+names_same (p ∷ parts) = ap (λ l. (table_of p).name ∷ l) (names_same parts)
+
+pub count_same : (tables : List Table) → sum (map (λ t. t.count) tables) ≡ arena_count tables
+count_same [] = refl
+count_same (t ∷ tables) =
+    let rest : sum (map (λ t. t.count) tables) ≡ arena_count tables = count_same tables in
+    let left : sum (map (λ t. t.count) (t ∷ tables)) ≡ t.count + sum (map (λ t. t.count) tables) = sum_by-cons (λ n. n) t.count (map (λ t. t.count) tables) in
+    let right : arena_count (t ∷ tables) ≡ t.count + arena_count tables = sum_by-cons (λ t. t.count) t tables in
+    omega (arith, rest, left, right)
+
+-- ---- a test of an arena's fields tells no fault
+
+abbrev NoFault : Option ArenaBad → Type 0
+NoFault None = ⊤
+NoFault (Some arena_bad.Fault) = ⊥
+NoFault (Some arena_bad.NotFormatted) = ⊤
+NoFault (Some (arena_bad.Torn field found want)) = ⊤
+NoFault (Some arena_bad.NoMemory) = ⊤
+
+if_none : (b : Bool) (x y : Option ArenaBad) → NoFault x → NoFault y → NoFault (if b then x else y)
+if_none true x y one other = one
+if_none false x y one other = other
+
+value_none : (number len version numbered sealed taken : ℕ) → NoFault (bad_value number len version numbered sealed taken)
+value_none number len version numbered sealed taken =
+    let room = arena_room len in
+    let last = if nat_lt room taken then Some (arena_bad.Torn Used taken room) else None in
+    let third = if nat_lt 1 sealed then Some (arena_bad.Torn Sealed sealed 1) else last in
+    let second = if not (numbered == number) then Some (arena_bad.Torn Number numbered number) else third in
+    if_none (not (version == 1)) (Some (arena_bad.Torn Version version 1)) second tt
+    (if_none (not (numbered == number)) (Some (arena_bad.Torn Number numbered number)) third tt
+    (if_none (nat_lt 1 sealed) (Some (arena_bad.Torn Sealed sealed 1)) last tt
+    (if_none (nat_lt room taken) (Some (arena_bad.Torn Used taken room)) None tt tt)))
+
+fields_none : (number len : ℕ) (fields : List ℕ) → NoFault (first_bad_in number len fields)
+fields_none number len fields =
+    if_none (not (bytes_eq (take 4 fields) (codes "VARN"))) (Some arena_bad.NotFormatted) (bad_value number len (version_in fields) (number_in fields) (sealed_in fields) (taken_in fields)) tt
+    (value_none number len (version_in fields) (number_in fields) (sealed_in fields) (taken_in fields))
+
+abbrev NoFaultLog : Option LogBad → Type 0
+NoFaultLog None = ⊤
+NoFaultLog (Some (log_bad.Part bad)) = ⊤
+NoFaultLog (Some (log_bad.Arena i bad)) = NoFault (Some bad)
+NoFaultLog (Some (log_bad.Order i clumps)) = ⊤
+NoFaultLog (Some log_bad.Fault) = ⊤
+NoFaultLog (Some log_bad.NoMemory) = ⊤
+
+if_log : (b : Bool) (x y : Option LogBad) → NoFaultLog x → NoFaultLog y → NoFaultLog (if b then x else y)
+if_log true x y one other = one
+if_log false x y one other = other
+
+order_none : (i : ℕ) (fields : List ℕ) → NoFaultLog (out_of_order i fields)
+order_none i fields = if_log (clumps_in fields == 0) (if sealed_in fields == 0 then None else Some (log_bad.Arena i (arena_bad.Torn Sealed 1 0))) (Some (log_bad.Order i (clumps_in fields)))
+    (if_log (sealed_in fields == 0) None (Some (log_bad.Arena i (arena_bad.Torn Sealed 1 0))) tt tt) tt
+
+arena_none : (behind : Bool) (i : ℕ) (bad : Option ArenaBad) (fields : List ℕ) → NoFault bad → NoFaultLog (bad_arena behind i bad fields)
+arena_none behind i None fields none = if_log behind (out_of_order i fields) None (order_none i fields) tt
+arena_none behind i (Some bad) fields none = none
+
+two_none : (x y : Option LogBad) → NoFaultLog x → NoFaultLog y → NoFaultLog (first_of_two x y)
+two_none None y one other = other
+two_none (Some bad) y one other = one
+
+arenas_none : (behind : Bool) (i : ℕ) (layout : List ArenaRegion) (fields : List (List ℕ)) → NoFaultLog (first_bad behind i layout fields)
+arenas_none behind i [] fields = tt
+arenas_none behind i (r ∷ rest) [] = tt
+arenas_none behind i (r ∷ rest) (f ∷ fields) =
+    two_none (bad_arena behind i (first_bad_in r.number r.region.len f) f) (first_bad (behind || sealed_in f == 0) (i + 1) rest fields)
+    (arena_none behind i (first_bad_in r.number r.region.len f) f (fields_none r.number r.region.len f)) (arenas_none (behind || sealed_in f == 0) (i + 1) rest fields)
+
+-- a fault is told exactly where the log's mount told one
+counts_log : (names : List (List ℕ)) (layout : List ArenaRegion) (fields : List (List ℕ)) (why : LogBad) (old new : List ℕ) → RefusesMount names layout fields why
+    → MatchBool (is_fault why) (OneHasRisen old new) (new ≡ old) → CountsRefusal (told_of_log layout why) old new
+counts_log names layout fields log_bad.Fault old new refuses it = it
+counts_log names layout fields log_bad.NoMemory old new refuses it = it
+counts_log names layout fields (log_bad.Order i clumps) old new refuses it = it
+counts_log names layout fields (log_bad.Arena i arena_bad.Fault) old new refuses it = absurd (subst NoFaultLog refuses.1 (arenas_none false 0 layout fields))
+counts_log names layout fields (log_bad.Arena i arena_bad.NotFormatted) old new refuses it = it
+counts_log names layout fields (log_bad.Arena i (arena_bad.Torn field found want)) old new refuses it = it
+counts_log names layout fields (log_bad.Arena i arena_bad.NoMemory) old new refuses it = it
+counts_log names layout fields (log_bad.Part (part_bad.DuplicateName first second)) old new refuses it = it
+counts_log names layout fields (log_bad.Part part_bad.Fault) old new refuses it = absurd refuses
+counts_log names layout fields (log_bad.Part (part_bad.TooSmall len need)) old new refuses it = absurd refuses
+counts_log names layout fields (log_bad.Part part_bad.NotFormatted) old new refuses it = absurd refuses
+counts_log names layout fields (log_bad.Part (part_bad.Torn field found want)) old new refuses it = absurd refuses
+counts_log names layout fields (log_bad.Part part_bad.NoMemory) old new refuses it = absurd refuses
+
+module _ {D : Type 0} (score : List ℕ → List ℕ) (disk : DiskOf D) (tables : List Table) (before devices : List D) (filter : Option D) (sessions : ℕ) where
+  abbrev pd : PerDevice D
+  pd = with_log before devices filter
+
+  still : (after : List D) → HoldTheSame disk before after → AreHeld disk pd (with_log after devices filter)
+  still after held = record { partitions = held; sections = hold_still disk devices; filter = hold_still disk (option_to_list filter) }
+
+  -- more arenas than there may be
+  pub arenas_mount : (bad : MountBad) (back : Devices D) → devices_in back ≡ pd → tables_in back ≡ tables
+      → PassesOrRefuses Arenas 4096 0 (map (λ t. t.count) tables) (Err bad) → IsMountOf score disk tables pd sessions (Err (bad, back))
+  arenas_mount bad back is are it =
+      let first : 0 + it.0 ≡ it.0 = omega arith in
+      let same : bad ≡ Disagree it.0 Arenas (arena_count tables) 4096 =
+      it.2 ∙ ap (λ (p : ℕ). Disagree p Arenas (sum (map (λ t. t.count) tables)) 4096) first ∙ ap (λ (n : ℕ). Disagree it.0 Arenas n 4096) (count_same tables) in
+      held_mount score disk tables pd pd bad back sessions is are (still before (hold_still disk before))
+      (λ c setup. inr (inr (inr (inr (inr (inl (inl (it.0, it.1, same))))))))
+      (subst (λ (b : MountBad). CountsRefusal b (map disk.faults (all_of pd)) (map disk.faults (all_of pd))) (sym same) refl)
+      (λ c h g base tells of limits.
+      absurd (omega (arith, limits.arenas, it.1.past, sum_by-take-le (λ n. n) (map (λ t. t.count) tables) (it.0 + 1), count_same tables)))
+
+  -- the log is refused
+  pub log_mount : (after : List D) (why : LogBad) (back : Devices D) → devices_in back ≡ with_log after devices filter → tables_in back ≡ tables
+      → (fields : List (List ℕ)) → (IsTrue disk.tells → AreFields (layout_of tables) (map disk.bytes before) fields)
+      → RefusesMount (map (λ t. t.name) tables) (layout_of tables) fields why → HoldTheSame disk before after
+      → MatchBool (is_fault why) (OneHasRisen (map disk.faults before) (map disk.faults after)) (map disk.faults after ≡ map disk.faults before)
+      → ((g : History) (base : ℕ) → IsTrue disk.tells → AreDistinct (map (λ t. t.name) tables) → IsLog score (layout_of tables) (map disk.bytes before) g base
+      → (why ≡ log_bad.Fault) ⊎ (why ≡ log_bad.NoMemory))
+      → IsMountOf score disk tables pd sessions (Err (told_of_log (layout_of tables) why, back))
+  log_mount after why back is are fields read refuses held counts found =
+      let f = disk.faults in
+      let rest = devices ++ option_to_list filter in
+      let bad = told_of_log (layout_of tables) why in
+      let told : CountsRefusal bad (map f before ++ map f rest) (map f after ++ map f rest) =
+      counts_more bad (map f rest) (map f before) (map f after) (counts_log (map (λ t. t.name) tables) (layout_of tables) fields why (map f before) (map f after) refuses counts) in
+      let here : map f before ++ map f rest ≡ map f (before ++ devices ++ option_to_list filter) = sym (map-append f before rest) ∙ ap (map f) (sym (append_assoc before devices (option_to_list filter))) in
+      let there : map f after ++ map f rest ≡ map f (after ++ devices ++ option_to_list filter) = sym (map-append f after rest) ∙ ap (map f) (sym (append_assoc after devices (option_to_list filter))) in
+      held_mount score disk tables pd (with_log after devices filter) bad back sessions is are (still after held)
+      (λ c setup. inr (inr (inl (record { why = why; bad_is = refl; fields = fields; read = read; refuses = refuses }))))
+      (subst (λ (l : List ℕ). CountsRefusal bad l (map f (after ++ devices ++ option_to_list filter))) here (subst (λ (l : List ℕ). CountsRefusal bad (map f before ++ map f rest) l) there told))
+      (λ c h g base tells of limits. ⊎_elim
+      (λ fault. inl (ap (told_of_log (layout_of tables)) fault))
+      (λ memory. inr (ap (told_of_log (layout_of tables)) memory))
+      (found g base tells limits.names of.read))
+
+-- what is known of a log that was just mounted
+pub log_given : {D : Type 0} (score : List ℕ → List ℕ) (disk : DiskOf D) (parts : List (Part D)) (sections : List D) (filter : Option D) (log : LogState D)
+    → IsWhole disk log → IsMounted log → log.layout ≡ layout_of (tables_of parts) → (same : log.tables ≡ tables_of parts) → arena_count (tables_of parts) ≤ 4096
+    → (fields : List (List ℕ)) → (IsTrue disk.tells → AreFields (layout_of (tables_of parts)) (map disk.bytes (disks_of parts)) fields)
+    → IsMountedBy (names_of parts) (layout_of (tables_of parts)) fields log
+    → ((g : History) (base : ℕ) → IsTrue disk.tells → AreDistinct (names_of parts) → IsLog score (layout_of (tables_of parts)) (map disk.bytes (disks_of parts)) g base
+    → IsSoundLog score disk log g × (log.base ≡ base) × (log.durable ≡ length g))
+    → HoldTheSame disk (disks_of parts) log.disks → All (IsSynced disk) log.disks → map disk.faults log.disks ≡ map disk.faults (disks_of parts)
+    → IsLogFound score disk (disks_of parts) sections filter log
+log_given score disk parts sections filter log whole mounted layout same few fields read by_ found held settled faults =
+    let read_it : IsLogRead disk (tables_of parts) (with_log (disks_of parts) sections filter) log = record {
+      fields = fields;
+      read = read;
+      mounted = subst (λ (n : List (List ℕ)). IsMountedBy n (layout_of (tables_of parts)) fields log) (names_same parts) by_;
+    } in
+    record {
+      whole = whole;
+      mounted = mounted;
+      layout = layout ∙ ap layout_of (sym same);
+      arenas = subst (λ (t : List Table). arena_count t ≤ 4096) (sym same) few;
+      read = subst (λ (t : List Table). IsLogRead disk t (with_log (disks_of parts) sections filter) log) (sym same) read_it;
+      found = λ g base tells is. found g base tells by_.distinct
+          (subst (λ (t : List Table). IsLog score (layout_of t) (map disk.bytes (disks_of parts)) g base) same is);
+      held = held;
+      settled = settled;
+      faults = faults;
+    }

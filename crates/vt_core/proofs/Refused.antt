@@ -1,0 +1,176 @@
+-- Why a store isn't found, and what is handed back.
+use Rattle.std.proofs.Common.{◌≡◌, ◌≢◌, ◌⊎◌, ⊎_elim, inl, inr, ◌<◌, ◌≤◌, ◌+◌, ◌^◌, ℕ, zero, suc, List, [], ◌∷◌, ◌++◌, length, map, take, Option, Some, None, Ok, Err, refl, sym, ◌∙◌, ap, subst, arith, append_assoc}
+use Rattle.std.specs.Prelude.{slice_get, IsTrue, sum, sum_by, ⊤, slice_index}
+use Rattle.std.specs.List.{All, AllZip}
+use Rattle.std.specs.Option.{option_to_list, option_map}
+use Rattle.std.proofs.lemmas.List.{length-map, map-append, take_all}
+use Rattle.std.proofs.lemmas.Option.{same_Some}
+use Rattle.vt_arena.specs.Heads.{clumps_in, fields_of, used_in}
+use Rattle.vt_arena.specs.declared.head.Found.{Found}
+use Rattle.vt_base.specs.Damage.{Differ}
+use Rattle.vt_base.specs.declared.mount.MountBad.{MountBad}
+use Rattle.vt_base.specs.declared.mount.MountBad.TheVariants.{Fault, NotFormatted, TooSmall, DuplicateName, Disagree, Damaged, NoMemory}
+use Rattle.vt_base.specs.declared.mount.MountField.TheVariants.{Crowd, Buckets, Mark}
+use Rattle.vt_base.specs.declared.why.FieldValue.{FieldValue}
+use Rattle.vt_base.specs.declared.why.Site.{Site}
+use Rattle.vt_base.specs.declared.why.Site.TheVariants.{Clump, Bucket}
+use Rattle.vt_bloom.specs.Bits.{Filter}
+use Rattle.vt_bloom.specs.Bloom.{BloomState}
+use Rattle.vt_disk.specs.Calls.{IsSynced}
+use Rattle.vt_disk.specs.Members.{DiskOf}
+use Rattle.vt_isect.specs.Section.{SectionState}
+use Rattle.vt_log.specs.Answers.{HoldTheSame}
+use Rattle.vt_log.specs.Faults.{OneHasRisen}
+use Rattle.vt_log.specs.Log.{LogState}
+use Rattle.vt_log.specs.Logs.{IsLog}
+use Rattle.vt_model.specs.History.{History}
+use Rattle.vt_model.specs.Legal.{IsLegal}
+use Rattle.vt_model.specs.Places.{Setup, bucket_count, crowd, first_bucket}
+use Rattle.vt_model.specs.declared.TheConstants.{BUCKET_ROOM}
+use Rattle.vt_part.specs.Layout.{layout_of}
+use Rattle.vt_part.specs.Table.{Table}
+use Rattle.vt_part.specs.declared.layout.ArenaRegion.{ArenaRegion}
+use Rattle.vt_shard.specs.Shard.{ShardState}
+use Rattle.vt_shard.specs.Sound.{IsSoundFrom, LeavesLive}
+use Rattle.vt_core.specs.declared.devices.Devices.{Devices}
+use Rattle.vt_core.specs.Core.{CoreState}
+use Rattle.vt_core.specs.Files.{PerDevice, all_of}
+use Rattle.vt_core.specs.Mounting.{IsHeadRead, IsLogOf, IsReadAs, IsSetupOf, LacksMany, LeavesStanding, devices_in, tables_in, IsMarkRead}
+use Rattle.vt_core.specs.Opening.{AreHeld, IsFilterOpened, IsLogFound, IsMountOf, IsOpened, IsShardMade, OpensFilter, RefusesBeside, TestsParts, buckets_in_each, with_log, IsMarkOf, wrong_at}
+use Rattle.vt_core.specs.Recalling.{CountsMount, EndsEarly, IsCrowdedIn, IsDamagedAt, IsDamagedIn, ReadsLogBack, opened}
+use Rattle.vt_core.specs.Refusals.{BucketIsCrowded, CountsRefusal, IsDamageAt, IsEarly, IsFoundDamaged, IsRefused, PassesLimits, Refuses, FilterIsRefused, HasMark, IsFirstPast, SectionIsRefused, first_wrong, section_part, wrong_head}
+use Rattle.vt_core.specs.Stands.{IsLive, SectionStandsFor, buckets_of}
+use Rattle.vt_core.proofs.Beside.{IsOfStore, of_store, sound_shard}
+use Rattle.vt_core.proofs.Chains.{IsChain, chain, chain_head, chain_buckets, chain_size, many_made, many_shards}
+use Rattle.vt_core.proofs.Combined.{FilesAgree, section_stands}
+use Rattle.vt_core.proofs.Fields.{clumps_are, clumps_at, short_regions, used_at}
+use Rattle.vt_core.proofs.Held.{counts_in, risen_left, risen_right}
+use Rattle.vt_core.proofs.Lists.{at_map, beside, same_lists, index_map}
+use Rattle.vt_core.proofs.Mounted.{ReadsPrefix, all_map, filter_same}
+use Rattle.vt_core.proofs.Standing.{held_bytes, held_many, held_twice, leaves_held, leaves_read}
+use Rattle.vt_core.proofs.Zips.{zip_at, zip_beside, zip_length, zip_other}
+use Rattle.vt_isect.specs.Layout.{buckets_in}
+
+-- ---- what is handed back
+
+-- the same of what is handed back, where these are the devices
+pub refuses_back : {D : Type 0} (score : List ℕ → List ℕ) (disk : DiskOf D) (tables : List Table) (pd new : PerDevice D) (bad : MountBad) (back : Devices D)
+    → devices_in back ≡ new → tables_in back ≡ tables
+    → ((c : Setup) → IsSetupOf disk tables pd c → IsRefused score disk tables pd c bad)
+    → CountsRefusal bad (map disk.faults (all_of pd)) (map disk.faults (all_of new))
+    → (IsEarly bad → HoldTheSame disk pd.sections new.sections)
+    → length new.sections ≡ length pd.sections → length new.filter ≡ length pd.filter
+    → map disk.size (all_of new) ≡ map disk.size (all_of pd)
+    → Refuses score disk tables pd bad back
+refuses_back score disk tables pd new bad back is are cause counts early sections filter sizes = record {
+  cause = cause;
+  counts = subst (λ (p : PerDevice _). CountsRefusal bad (map disk.faults (all_of pd)) (map disk.faults (all_of p))) (sym is) counts;
+  early = λ soon. subst (λ (p : PerDevice _). HoldTheSame disk pd.sections p.sections) (sym is) (early soon);
+  tables_are = are;
+  sections = ap (λ (p : PerDevice _). length p.sections) is ∙ sections;
+  filter = ap (λ (p : PerDevice _). length p.filter) is ∙ filter;
+  sizes = ap (λ (p : PerDevice _). map disk.size (all_of p)) is ∙ sizes;
+}
+
+-- counts of some of the devices
+pub counts_less : (bad : MountBad) (less old new : List ℕ) → CountsRefusal bad old new → CountsRefusal bad (less ++ old) (less ++ new)
+counts_less bad less old new it = counts_in bad old new (less ++ new) (less ++ old) (risen_right less old new) (λ e. ap (λ (l : List ℕ). less ++ l) e) it
+
+pub counts_more : (bad : MountBad) (more old new : List ℕ) → CountsRefusal bad old new → CountsRefusal bad (old ++ more) (new ++ more)
+counts_more bad more old new it = counts_in bad old new (new ++ more) (old ++ more) (risen_left old new more) (λ e. ap (λ (l : List ℕ). l ++ more) e) it
+
+-- ---- nothing was read back yet
+
+module _ {D : Type 0} (score : List ℕ → List ℕ) (disk : DiskOf D) (before : List D) (log : LogState D) (devices : List D) (filter : Option D) (given : IsLogFound score disk before devices filter log) where
+  abbrev pd : PerDevice D
+  pd = with_log before devices filter
+
+  module _ (c : Setup) (setup : IsSetupOf disk log.tables pd c) (part : ℕ) (at_part : part ≡ length before) (sections : List (SectionState D)) (bloom : Option (BloomState D)) (bits : Filter)
+      (opens : AllZip (IsOpened disk) devices sections) (filter_opens : OpensFilter disk filter bloom bits) where
+    same : buckets_in_each sections ≡ c.sections
+    same = same_lists (buckets_in_each sections) c.sections
+        (length-map sections (λ s. s.buckets) ∙ zip_length (IsOpened disk) devices sections opens ∙ sym (length-map devices (λ d. buckets_in (disk.size d))) ∙ ap length (sym setup.sections))
+        (λ i x y here there.
+        let s = beside sections (buckets_in_each sections) i x (length-map sections (λ s. s.buckets)) here in
+        let d = zip_beside (IsOpened disk) devices sections i s.0 opens s.1 in
+        let e : x ≡ s.0.buckets = same_Some x s.0.buckets (sym here ∙ at_map (λ s. s.buckets) sections i s.0 s.1) in
+        let f : s.0.buckets ≡ buckets_in (disk.size d.0) = ap (λ (t : SectionState D). t.buckets) d.2.fresh in
+        let g : y ≡ buckets_in (disk.size d.0) = same_Some y (buckets_in (disk.size d.0))
+        (sym there ∙ ap (λ (l : List ℕ). slice_get l i) setup.sections ∙ at_map (λ d. buckets_in (disk.size d)) devices i d.0 d.1) in
+        e ∙ f ∙ sym g)
+
+    head_of : (i : ℕ) (s : SectionState D) → slice_get sections i ≡ Some s → IsHeadRead disk pd i s.head
+    head_of i s there =
+        let d = zip_beside (IsOpened disk) devices sections i s opens there in
+        record { device = d.0; at = d.1; read = λ tells. (s.name, d.2.head tells) }
+
+    mark_by : (b : BloomState D) → bloom ≡ Some b → (f : Option D) → filter ≡ f → OpensFilter disk f bloom bits → IsMarkRead disk pd b.mark
+    mark_by b is None none it = absurd (cc)
+    mark_by b is (Some d) some it =
+        let one : it.0 ≡ b = same_Some it.0 b (sym it.1 ∙ is) in
+        let mark : b.mark ≡ it.0.mark = ap (λ (x : BloomState D). x.mark) (sym one) in
+        record {
+          device = d;
+          at = ap (λ (o : Option D). slice_get (option_to_list o) 0) some;
+          read = λ tells. (record { filter = bits; mark = it.0.mark }, it.2.found tells, mark);
+        }
+
+    wrong_there : (bad : MountBad) (i : ℕ) (s : SectionState D) → slice_get sections i ≡ Some s → wrong_at part sections i s ≡ Some bad
+        → first_wrong (section_part pd i) c i s.head ≡ Some bad
+    wrong_there bad i s there is =
+        let count : s.buckets ≡ buckets_of c i = sym (index_map (λ t. t.buckets) sections i s there) ∙ ap (λ (l : List ℕ). slice_index l i) same in
+        ap (λ (p : ℕ). wrong_head (p + i) (first_bucket c.sections i) (buckets_of c i) (bucket_count c) s.head) (sym at_part)
+        ∙ ap (λ (n : ℕ). wrong_head (part + i) (first_bucket c.sections i) n (bucket_count c) s.head) (sym count)
+        ∙ ap (λ (l : List ℕ). wrong_head (part + i) (first_bucket l i) s.buckets (sum l) s.head) (sym same) ∙ is
+
+    has_mark : (of mark : ℕ) → IsMarkOf part sections bloom of mark → HasMark disk pd of mark
+    has_mark of mark it = ⊎_elim
+        (λ s. inl (s.0, s.1.head, s.3 ∙ ap (λ (p : ℕ). p + s.0) at_part, head_of s.0 s.1 s.2, s.4))
+        (λ b. inr (
+          b.2 ∙ ap (λ (n : ℕ). part + n) (zip_length (IsOpened disk) devices sections opens) ∙ ap (λ (p : ℕ). p + length devices) at_part,
+          subst (IsMarkRead disk pd) (sym b.3) (mark_by b.0 b.1 filter refl filter_opens),
+        ))
+        it
+
+    by_tests : (bad : MountBad) → TestsParts {U = ⊤} part sections bloom log.durable (Err bad) → IsRefused score disk log.tables pd c bad
+    by_tests bad failed =
+        let len : sum_by clumps_in given.read.fields ≡ log.durable = clumps_are disk log given.whole given.read.fields given.read.mounted.heads in
+        ⊎_elim
+        (λ limits. inr (inr (inr (inr (inr (inl (inr (
+          limits.0,
+          subst (λ (l : List ℕ). IsFirstPast 1048576 l limits.0) same limits.1,
+          limits.2 ∙ ap (λ (p : ℕ). Disagree (p + limits.0) Buckets (sum (buckets_in_each sections)) 1048576) at_part
+              ∙ ap (λ (l : List ℕ). Disagree (length before + limits.0) Buckets (sum l) 1048576) same,
+        ))))))))
+        (λ more. ⊎_elim
+        (λ heads. inr (inr (inr (inr (inr (inr (inl (record {
+          i = heads.0;
+          head = heads.1.head;
+          read = head_of heads.0 heads.1 heads.2;
+          wrong = wrong_there bad heads.0 heads.1 heads.2 heads.3;
+        }))))))))
+        (λ marks. inr (inr (inr (inr (inr (inr (inr (inl (record {
+          part = marks.0;
+          mark = marks.1;
+          has = has_mark marks.0 marks.1 marks.2;
+          fields = given.read.fields;
+          read = given.read.read;
+          above = omega (arith, marks.3, len);
+          bad_is = marks.4 ∙ ap (λ (n : ℕ). Disagree marks.0 Mark marks.1 n) (sym len);
+        })))))))))
+        more)
+        failed
+
+  -- a test of the sections and the filter is that of the store
+  pub beside_cause : (part : ℕ) → part ≡ length before → (bad : MountBad) → RefusesBeside disk part log.durable devices filter bad
+      → (c : Setup) → IsSetupOf disk log.tables pd c → IsRefused score disk log.tables pd c bad
+  beside_cause part at_part bad it c setup = ⊎_elim
+      (λ memory. inr (inl memory))
+      (λ a. ⊎_elim
+      (λ section. inr (inr (inr (inl (subst (λ (p : ℕ). SectionIsRefused disk p devices bad) at_part section)))))
+      (λ b. ⊎_elim
+      (λ f. inr (inr (inr (inr (inl (subst (λ (p : ℕ). FilterIsRefused disk (p + length devices) (option_to_list filter) bad) at_part f))))))
+      (λ tests. by_tests c setup part at_part tests.0 tests.1 tests.2 tests.3 tests.4 bad tests.5)
+      b)
+      a)
+      it

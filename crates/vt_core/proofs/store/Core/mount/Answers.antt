@@ -1,0 +1,205 @@
+use Rattle.std.proofs.Common.{◌≡◌, ◌≤◌, ◌<◌, ◌+◌, ◌⊎◌, ⊎_elim, inl, inr, ℕ, List, length, map, Option, Some, Ok, Err, refl, sym, ◌∙◌, ap, subst, arith}
+use Rattle.std.specs.Prelude.{sum}
+use Rattle.std.proofs.lemmas.List.{length-map}
+use Rattle.vt_base.specs.declared.mount.MountBad.{MountBad}
+use Rattle.vt_base.specs.declared.mount.MountField.TheVariants.{Arenas}
+use Rattle.vt_log.specs.Faults.{RefusesMount}
+use Rattle.vt_log.specs.Log.{disks_of}
+use Rattle.vt_log.specs.Logs.{arena_count}
+use Rattle.vt_part.specs.Layout.{AreDistinct, layout_of}
+use Rattle.vt_part.specs.Parts.{disk_of, table_of, tables_of}
+use Rattle.vt_part.specs.Table.{Table}
+use Rattle.vt_part.specs.declared.layout.ArenaRegion.{ArenaRegion}
+use Rattle.vt_part.specs.declared.part.Part.{Part}
+use Rattle.vt_core.specs.declared.devices.Devices.{Devices}
+use Rattle.vt_core.specs.Mounting.{devices_in, tables_in}
+use Rattle.vt_core.specs.Opening.{IsMountOf}
+use Rattle.vt_core.specs.Refusals.{PassesOrRefuses, told_of_log}
+use Rattle.vt_core.proofs.LogMount.{arenas_mount, count_same, log_given, log_mount, names_same}
+use Rattle.vt_core.proofs.Partitions.{length_laid}
+use Rattle.vt_core.proofs.Standing.{held_many}
+use Rattle.vt_core.proofs.store.Core.mount.Goals as goal
+
+pub returns-in-Err-clause-found : goal.returns-in-Err-clause-found
+returns-in-Err-clause-found g c =
+    let d = c.args.devices in
+    let passes : PassesOrRefuses Arenas 4096 0 (map (λ t. t.count) (tables_of d.parts.items)) (Err c.in-Err.bad) =
+    subst (λ (l : List (Part g.row.D.Denot)). PassesOrRefuses Arenas 4096 0 (map (λ t. t.count) (tables_of l)) (Err c.in-Err.bad)) c.deref.ensures.value c.in-Err.ensures in
+    let it = arenas_mount g.S.Scorer.score_of g.D.Disk (tables_in d) (disks_of d.parts.items) d.sections.items d.filter c.args.sessions c.in-Err.bad
+    (record { parts = d.parts; sections = d.sections; filter = d.filter }) refl refl passes in
+    it.found
+
+pub returns-in-Err-clause-standing : goal.returns-in-Err-clause-standing
+returns-in-Err-clause-standing g c =
+    let d = c.args.devices in
+    let passes : PassesOrRefuses Arenas 4096 0 (map (λ t. t.count) (tables_of d.parts.items)) (Err c.in-Err.bad) =
+    subst (λ (l : List (Part g.row.D.Denot)). PassesOrRefuses Arenas 4096 0 (map (λ t. t.count) (tables_of l)) (Err c.in-Err.bad)) c.deref.ensures.value c.in-Err.ensures in
+    let it = arenas_mount g.S.Scorer.score_of g.D.Disk (tables_in d) (disks_of d.parts.items) d.sections.items d.filter c.args.sessions c.in-Err.bad
+    (record { parts = d.parts; sections = d.sections; filter = d.filter }) refl refl passes in
+    it.standing
+
+pub returns-in-Err-clause-refused : goal.returns-in-Err-clause-refused
+returns-in-Err-clause-refused g c =
+    let d = c.args.devices in
+    let passes : PassesOrRefuses Arenas 4096 0 (map (λ t. t.count) (tables_of d.parts.items)) (Err c.in-Err.bad) =
+    subst (λ (l : List (Part g.row.D.Denot)). PassesOrRefuses Arenas 4096 0 (map (λ t. t.count) (tables_of l)) (Err c.in-Err.bad)) c.deref.ensures.value c.in-Err.ensures in
+    let it = arenas_mount g.S.Scorer.score_of g.D.Disk (tables_in d) (disks_of d.parts.items) d.sections.items d.filter c.args.sessions c.in-Err.bad
+    (record { parts = d.parts; sections = d.sections; filter = d.filter }) refl refl passes in
+    it.refused
+
+pub test_arenas-requires : goal.test_arenas-requires
+test_arenas-requires g c = omega (arith, ap length c.deref.ensures.value, c.requires.many)
+
+pub overflow_cast-part : goal.overflow_cast-part
+overflow_cast-part g c = omega (arith, c.len-part.ensures, c.args.devices.parts.ok.0, c.requires.many)
+
+pub mount-requires-clause-many : goal.mount-requires-clause-many
+mount-requires-clause-many g c = omega (arith, c.requires.many)
+
+pub mount-requires-clause-few : goal.mount-requires-clause-few
+mount-requires-clause-few g c =
+    let few : arena_count (tables_of c.args.devices.parts.items) ≤ 4096 =
+    omega (arith, c.in_default.ensures.1, ap (λ (l : List (Part g.row.D.Denot)). sum (map (λ t. t.count) (tables_of l))) c.deref.ensures.value, count_same (tables_of c.args.devices.parts.items)) in
+    omega (arith, few)
+
+pub mount-requires-clause-rooms : goal.mount-requires-clause-rooms
+mount-requires-clause-rooms g c = c.requires.rooms
+
+pub open-requires-clause-many : goal.open-requires-clause-many
+open-requires-clause-many g c = omega (arith, c.len-part.ensures, c.args.devices.parts.ok.0, c.requires.many)
+
+pub open-requires-clause-mounted : goal.open-requires-clause-mounted
+open-requires-clause-mounted g c = c.in-Ok.ensures.mounted
+
+pub open-requires-clause-part : goal.open-requires-clause-part
+open-requires-clause-part g c =
+    omega (
+      arith,
+      c.len-part.ensures,
+      c.args.devices.parts.ok.0,
+      held_many g.D.Disk (disks_of c.args.devices.parts.items) c.in-Ok.log.disks c.in-Ok.ensures.disks,
+      length-map c.args.devices.parts.items (λ part. disk_of part),
+    )
+
+pub open-requires-clause-some_arena : goal.open-requires-clause-some_arena
+open-requires-clause-some_arena g c =
+    omega (arith, ap (λ (rs : List ArenaRegion). length rs) c.in-Ok.ensures.layout.0, length_laid 0 (tables_of c.args.devices.parts.items), c.requires.some_arena)
+
+pub open-requires-clause-some_section : goal.open-requires-clause-some_section
+open-requires-clause-some_section g c = c.requires.some_section
+
+pub open-requires-clause-lumps : goal.open-requires-clause-lumps
+open-requires-clause-lumps g c = c.requires.lumps
+
+pub open-requires-clause-clean : goal.open-requires-clause-clean
+open-requires-clause-clean g c = c.requires.clean
+
+pub told_of_log-bad-requires-clause-many : goal.told_of_log-bad-requires-clause-many
+told_of_log-bad-requires-clause-many g c =
+    omega (
+      arith,
+      ap length c.deref-in-Err-mount.ensures.value,
+      ap (λ (l : List Table). length l) c.in-Err-mount.ensures.handed_back,
+      length-map c.in-Err-mount.parts.items (λ part. table_of part),
+      length-map c.args.devices.parts.items (λ part. table_of part),
+      c.requires.many,
+    )
+
+pub told_of_log-bad-requires-clause-few : goal.told_of_log-bad-requires-clause-few
+told_of_log-bad-requires-clause-few g c =
+    let few : arena_count (tables_of c.args.devices.parts.items) ≤ 4096 =
+    omega (arith, c.in_default.ensures.1, ap (λ (l : List (Part g.row.D.Denot)). sum (map (λ t. t.count) (tables_of l))) c.deref.ensures.value, count_same (tables_of c.args.devices.parts.items)) in
+    omega (arith, few, ap arena_count (ap tables_of c.deref-in-Err-mount.ensures.value ∙ c.in-Err-mount.ensures.handed_back))
+
+pub returns-in-Ok-clause-mounts : goal.returns-in-Ok-clause-mounts
+returns-in-Ok-clause-mounts g c =
+    let few : arena_count (tables_of c.args.devices.parts.items) ≤ 4096 =
+    omega (arith, c.in_default.ensures.1, ap (λ (l : List (Part g.row.D.Denot)). sum (map (λ t. t.count) (tables_of l))) c.deref.ensures.value, count_same (tables_of c.args.devices.parts.items)) in
+    let d = c.args.devices in
+    let e = c.in-Ok.ensures in
+    let given = log_given g.S.Scorer.score_of g.D.Disk d.parts.items d.sections.items d.filter c.in-Ok.log e.whole e.mounted e.layout.0 e.layout.1 few
+    e.answer.0 e.answer.1 e.answer.2 (λ h base tells distinct is. e.found h base tells distinct is) e.disks e.settled e.cause in
+    let it : IsMountOf g.S.Scorer.score_of g.D.Disk (tables_in d) (devices_in d) c.args.sessions c.open.result =
+    subst (λ (t : List Table). IsMountOf g.S.Scorer.score_of g.D.Disk t (devices_in d) c.args.sessions c.open.result) e.layout.1 (c.open.ensures (disks_of d.parts.items) given) in
+    it.mounts
+
+pub returns-in-Ok-clause-found : goal.returns-in-Ok-clause-found
+returns-in-Ok-clause-found g c =
+    let few : arena_count (tables_of c.args.devices.parts.items) ≤ 4096 =
+    omega (arith, c.in_default.ensures.1, ap (λ (l : List (Part g.row.D.Denot)). sum (map (λ t. t.count) (tables_of l))) c.deref.ensures.value, count_same (tables_of c.args.devices.parts.items)) in
+    let d = c.args.devices in
+    let e = c.in-Ok.ensures in
+    let given = log_given g.S.Scorer.score_of g.D.Disk d.parts.items d.sections.items d.filter c.in-Ok.log e.whole e.mounted e.layout.0 e.layout.1 few
+    e.answer.0 e.answer.1 e.answer.2 (λ h base tells distinct is. e.found h base tells distinct is) e.disks e.settled e.cause in
+    let it : IsMountOf g.S.Scorer.score_of g.D.Disk (tables_in d) (devices_in d) c.args.sessions c.open.result =
+    subst (λ (t : List Table). IsMountOf g.S.Scorer.score_of g.D.Disk t (devices_in d) c.args.sessions c.open.result) e.layout.1 (c.open.ensures (disks_of d.parts.items) given) in
+    it.found
+
+pub returns-in-Ok-clause-standing : goal.returns-in-Ok-clause-standing
+returns-in-Ok-clause-standing g c =
+    let few : arena_count (tables_of c.args.devices.parts.items) ≤ 4096 =
+    omega (arith, c.in_default.ensures.1, ap (λ (l : List (Part g.row.D.Denot)). sum (map (λ t. t.count) (tables_of l))) c.deref.ensures.value, count_same (tables_of c.args.devices.parts.items)) in
+    let d = c.args.devices in
+    let e = c.in-Ok.ensures in
+    let given = log_given g.S.Scorer.score_of g.D.Disk d.parts.items d.sections.items d.filter c.in-Ok.log e.whole e.mounted e.layout.0 e.layout.1 few
+    e.answer.0 e.answer.1 e.answer.2 (λ h base tells distinct is. e.found h base tells distinct is) e.disks e.settled e.cause in
+    let it : IsMountOf g.S.Scorer.score_of g.D.Disk (tables_in d) (devices_in d) c.args.sessions c.open.result =
+    subst (λ (t : List Table). IsMountOf g.S.Scorer.score_of g.D.Disk t (devices_in d) c.args.sessions c.open.result) e.layout.1 (c.open.ensures (disks_of d.parts.items) given) in
+    it.standing
+
+pub returns-in-Ok-clause-refused : goal.returns-in-Ok-clause-refused
+returns-in-Ok-clause-refused g c =
+    let few : arena_count (tables_of c.args.devices.parts.items) ≤ 4096 =
+    omega (arith, c.in_default.ensures.1, ap (λ (l : List (Part g.row.D.Denot)). sum (map (λ t. t.count) (tables_of l))) c.deref.ensures.value, count_same (tables_of c.args.devices.parts.items)) in
+    let d = c.args.devices in
+    let e = c.in-Ok.ensures in
+    let given = log_given g.S.Scorer.score_of g.D.Disk d.parts.items d.sections.items d.filter c.in-Ok.log e.whole e.mounted e.layout.0 e.layout.1 few
+    e.answer.0 e.answer.1 e.answer.2 (λ h base tells distinct is. e.found h base tells distinct is) e.disks e.settled e.cause in
+    let it : IsMountOf g.S.Scorer.score_of g.D.Disk (tables_in d) (devices_in d) c.args.sessions c.open.result =
+    subst (λ (t : List Table). IsMountOf g.S.Scorer.score_of g.D.Disk t (devices_in d) c.args.sessions c.open.result) e.layout.1 (c.open.ensures (disks_of d.parts.items) given) in
+    it.refused
+
+pub returns-in-Err-mount-clause-found : goal.returns-in-Err-mount-clause-found
+returns-in-Err-mount-clause-found g c =
+    let d = c.args.devices in
+    let e = c.in-Err-mount.ensures in
+    let back : Devices g.row.D.Denot = record { parts = c.in-Err-mount.parts; sections = d.sections; filter = d.filter } in
+    let tables = tables_of d.parts.items in
+    let told : told_of_log (layout_of tables) c.in-Err-mount.bad ≡ c.told_of_log-bad.result =
+    sym (c.told_of_log-bad.ensures ∙ ap (λ (t : List Table). told_of_log (layout_of t) c.in-Err-mount.bad) (ap tables_of c.deref-in-Err-mount.ensures.value ∙ e.handed_back)) in
+    let it = log_mount g.S.Scorer.score_of g.D.Disk tables (disks_of d.parts.items) d.sections.items d.filter c.args.sessions (disks_of c.in-Err-mount.parts.items) c.in-Err-mount.bad back refl e.handed_back
+    e.answer.0 e.answer.1 (subst (λ (n : List (List ℕ)). RefusesMount n (layout_of tables) e.answer.0 c.in-Err-mount.bad) (names_same d.parts.items) e.answer.2) e.disks e.cause
+    (λ h base tells distinct is. e.found h base tells (subst AreDistinct (sym (names_same d.parts.items)) distinct) is) in
+    let same : IsMountOf g.S.Scorer.score_of g.D.Disk tables (devices_in d) c.args.sessions (Err (c.told_of_log-bad.result, back)) =
+    subst (λ (b : MountBad). IsMountOf g.S.Scorer.score_of g.D.Disk tables (devices_in d) c.args.sessions (Err (b, back))) told it in
+    same.found
+
+pub returns-in-Err-mount-clause-standing : goal.returns-in-Err-mount-clause-standing
+returns-in-Err-mount-clause-standing g c =
+    let d = c.args.devices in
+    let e = c.in-Err-mount.ensures in
+    let back : Devices g.row.D.Denot = record { parts = c.in-Err-mount.parts; sections = d.sections; filter = d.filter } in
+    let tables = tables_of d.parts.items in
+    let told : told_of_log (layout_of tables) c.in-Err-mount.bad ≡ c.told_of_log-bad.result =
+    sym (c.told_of_log-bad.ensures ∙ ap (λ (t : List Table). told_of_log (layout_of t) c.in-Err-mount.bad) (ap tables_of c.deref-in-Err-mount.ensures.value ∙ e.handed_back)) in
+    let it = log_mount g.S.Scorer.score_of g.D.Disk tables (disks_of d.parts.items) d.sections.items d.filter c.args.sessions (disks_of c.in-Err-mount.parts.items) c.in-Err-mount.bad back refl e.handed_back
+    e.answer.0 e.answer.1 (subst (λ (n : List (List ℕ)). RefusesMount n (layout_of tables) e.answer.0 c.in-Err-mount.bad) (names_same d.parts.items) e.answer.2) e.disks e.cause
+    (λ h base tells distinct is. e.found h base tells (subst AreDistinct (sym (names_same d.parts.items)) distinct) is) in
+    let same : IsMountOf g.S.Scorer.score_of g.D.Disk tables (devices_in d) c.args.sessions (Err (c.told_of_log-bad.result, back)) =
+    subst (λ (b : MountBad). IsMountOf g.S.Scorer.score_of g.D.Disk tables (devices_in d) c.args.sessions (Err (b, back))) told it in
+    same.standing
+
+pub returns-in-Err-mount-clause-refused : goal.returns-in-Err-mount-clause-refused
+returns-in-Err-mount-clause-refused g c =
+    let d = c.args.devices in
+    let e = c.in-Err-mount.ensures in
+    let back : Devices g.row.D.Denot = record { parts = c.in-Err-mount.parts; sections = d.sections; filter = d.filter } in
+    let tables = tables_of d.parts.items in
+    let told : told_of_log (layout_of tables) c.in-Err-mount.bad ≡ c.told_of_log-bad.result =
+    sym (c.told_of_log-bad.ensures ∙ ap (λ (t : List Table). told_of_log (layout_of t) c.in-Err-mount.bad) (ap tables_of c.deref-in-Err-mount.ensures.value ∙ e.handed_back)) in
+    let it = log_mount g.S.Scorer.score_of g.D.Disk tables (disks_of d.parts.items) d.sections.items d.filter c.args.sessions (disks_of c.in-Err-mount.parts.items) c.in-Err-mount.bad back refl e.handed_back
+    e.answer.0 e.answer.1 (subst (λ (n : List (List ℕ)). RefusesMount n (layout_of tables) e.answer.0 c.in-Err-mount.bad) (names_same d.parts.items) e.answer.2) e.disks e.cause
+    (λ h base tells distinct is. e.found h base tells (subst AreDistinct (sym (names_same d.parts.items)) distinct) is) in
+    let same : IsMountOf g.S.Scorer.score_of g.D.Disk tables (devices_in d) c.args.sessions (Err (c.told_of_log-bad.result, back)) =
+    subst (λ (b : MountBad). IsMountOf g.S.Scorer.score_of g.D.Disk tables (devices_in d) c.args.sessions (Err (b, back))) told it in
+    same.refused

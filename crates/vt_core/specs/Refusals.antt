@@ -1,0 +1,318 @@
+-- Why a store isn't found. A part's own refusal is told as the store's, under the part's number.
+use Rattle.std.specs.Prelude.{◌≡◌, ◌⊎◌, ◌==◌, ⊤, ℕ, ◌+◌, ◌<◌, ◌≤◌, not, if◌then◌else◌, IsTrue, MatchOption, Option, None, Some, Result, Ok, Err, List, length, map, sum, sum_by, take, slice_get}
+use Rattle.std.specs.Option.{option_map_or, option_to_list}
+use Rattle.vt_base.specs.Damage.{Differ}
+use Rattle.vt_base.specs.declared.place.Entry.{Entry}
+use Rattle.vt_base.specs.declared.mount.MountBad.{MountBad}
+use Rattle.vt_base.specs.declared.mount.MountBad.TheVariants.{Fault, NotFormatted, TooSmall, DuplicateName, Disagree, Damaged, NoMemory}
+use Rattle.vt_base.specs.declared.mount.MountField.{MountField}
+use Rattle.vt_base.specs.declared.mount.MountField.TheVariants.{Version, Number, Sealed, Used, Clumps, Count, State, First, Total, Mark, M, K, Crowd, Arenas, Buckets}
+use Rattle.vt_base.specs.declared.why.FieldValue.{FieldValue}
+use Rattle.vt_base.specs.declared.why.Site.{Site}
+use Rattle.vt_base.specs.declared.why.Site.TheVariants.{Clump, Bucket}
+use Rattle.vt_disk.specs.Members.{DiskOf}
+use Rattle.vt_model.specs.History.{History}
+use Rattle.vt_model.specs.Places.{Setup, bucket_count, crowd, first_bucket}
+use Rattle.vt_model.specs.declared.TheConstants.{BUCKET_ROOM}
+use Rattle.vt_twin.specs.Frames.{current_frame}
+use Rattle.vt_part.specs.Layout.{layout_of}
+use Rattle.vt_part.specs.Table.{Table}
+use Rattle.vt_part.specs.declared.bad.PartBad.TheVariants.{DuplicateName as SameName}
+use Rattle.vt_part.specs.declared.layout.ArenaRegion.{ArenaRegion}
+use Rattle.vt_arena.specs.declared.bad.ArenaBad.{ArenaBad}
+use Rattle.vt_arena.specs.declared.bad.ArenaBad.TheVariants as arena_bad
+use Rattle.vt_arena.specs.declared.bad.BackBad.TheVariants as back_bad
+use Rattle.vt_arena.specs.declared.bad.Field.{Field as ArenaField}
+use Rattle.vt_arena.specs.declared.bad.Field.TheVariants as arena_field
+use Rattle.vt_arena.specs.declared.directory.At.{At}
+use Rattle.vt_arena.specs.Directory.{last_entry, first_bad as first_bad_entry}
+use Rattle.vt_isect.specs.declared.TheConstants.{FRAME_LEN}
+use Rattle.vt_isect.specs.declared.bad.SectBad.{SectBad}
+use Rattle.vt_isect.specs.declared.bad.SectBad.TheVariants as sect_bad
+use Rattle.vt_isect.specs.declared.bad.ShardErr.{ShardErr}
+use Rattle.vt_isect.specs.declared.bad.ShardErr.TheVariants as shard_err
+use Rattle.vt_isect.specs.declared.head.Head.{Head}
+use Rattle.vt_isect.specs.Faults.{RefusesMount as RefusesSection, NamesItsCause as NamesSectionCause}
+use Rattle.vt_isect.specs.Layout.{head_place}
+use Rattle.vt_isect.specs.Merging.{IsDamage}
+use Rattle.vt_bloom.specs.declared.bad.BloomBad.{BloomBad}
+use Rattle.vt_bloom.specs.declared.bad.BloomBad.TheVariants as bloom_bad
+use Rattle.vt_bloom.specs.declared.bad.Field.{Field as BloomField}
+use Rattle.vt_bloom.specs.declared.bad.Field.TheVariants as bloom_field
+use Rattle.vt_bloom.specs.Faults.{RefusesMount as RefusesBloom, NamesItsCause as NamesBloomCause}
+use Rattle.vt_arena.specs.Heads.{clumps_in, used_in}
+use Rattle.vt_log.specs.Answers.{HoldTheSame}
+use Rattle.vt_log.specs.Faults.{AreFields, RefusesMount as RefusesLog, OneHasRisen}
+use Rattle.vt_log.specs.Logs.{IsLog, arena_count}
+use Rattle.vt_log.specs.declared.bad.LogBad.{LogBad}
+use Rattle.vt_log.specs.declared.bad.LogBad.TheVariants as log_bad
+use Rattle.vt_core.specs.declared.TheConstants.{MOST_ARENAS, MOST_BUCKETS}
+use Rattle.vt_core.specs.declared.devices.Devices.{Devices}
+use Rattle.vt_core.specs.declared.mounting.Tally.{Tally}
+use Rattle.vt_core.specs.Files.{PerDevice, all_of}
+use Rattle.vt_core.specs.Mounting.{IsSetupOf, IsHeadRead, IsMarkRead, devices_in, tables_in}
+use Rattle.vt_core.specs.Stands.{SectionStandsFor, buckets_of}
+
+-- ---- what is told of a part's refusal
+
+abbrev pub field_of_arena : ArenaField → MountField
+field_of_arena arena_field.Version = Version
+field_of_arena arena_field.Number = Number
+field_of_arena arena_field.Sealed = Sealed
+field_of_arena arena_field.Used = Used
+
+abbrev pub told_of_arena : (part : ℕ) → ArenaBad → MountBad
+told_of_arena part arena_bad.Fault = Fault
+told_of_arena part arena_bad.NotFormatted = NotFormatted part
+told_of_arena part (arena_bad.Torn field found want) =
+    Disagree part (field_of_arena field) found want
+told_of_arena part arena_bad.NoMemory = NoMemory
+
+-- the partition of an arena
+abbrev pub partition_of : List ArenaRegion → (arena : ℕ) → ℕ
+partition_of layout arena = option_map_or (λ r. r.part) (slice_get layout arena) 0
+
+-- of a list of mounted partitions no other refusal comes
+abbrev pub told_of_log : List ArenaRegion → LogBad → MountBad
+told_of_log layout (log_bad.Part (SameName first second)) = DuplicateName first second
+told_of_log layout (log_bad.Part bad) = NoMemory
+told_of_log layout (log_bad.Arena i bad) = told_of_arena (partition_of layout i) bad
+told_of_log layout (log_bad.Order i clumps) = Disagree (partition_of layout i) Clumps clumps 0
+told_of_log layout log_bad.Fault = Fault
+told_of_log layout log_bad.NoMemory = NoMemory
+
+abbrev pub told_of_section : (part : ℕ) → SectBad → MountBad
+told_of_section part sect_bad.Fault = Fault
+told_of_section part (sect_bad.TooSmall len need) = TooSmall part len need
+told_of_section part sect_bad.NotFormatted = NotFormatted part
+told_of_section part (sect_bad.Torn field found want) = Disagree part Version found want
+told_of_section part sect_bad.NoMemory = NoMemory
+
+abbrev pub field_of_filter : BloomField → MountField
+field_of_filter bloom_field.Version = Version
+field_of_filter bloom_field.M = M
+field_of_filter bloom_field.K = K
+
+abbrev pub told_of_filter : (part : ℕ) → BloomBad → MountBad
+told_of_filter part bloom_bad.Fault = Fault
+told_of_filter part (bloom_bad.TooSmall len need) = TooSmall part len need
+told_of_filter part bloom_bad.NotFormatted = NotFormatted part
+told_of_filter part (bloom_bad.Torn field found want) =
+    Disagree part (field_of_filter field) found want
+told_of_filter part bloom_bad.NoMemory = NoMemory
+
+-- of a shard, while the log is read back; a stop comes behind a fault alone
+abbrev pub told_of_shard : ShardErr → MountBad
+told_of_shard shard_err.Fault = Fault
+told_of_shard (shard_err.Stopped call) = Fault
+told_of_shard (shard_err.Damaged bucket want found) = Damaged (Bucket bucket) want found
+
+-- ---- the tests, in order
+
+-- parts are counted from 0: the partitions of arenas, the sections, the filter
+abbrev pub section_part : {D : Type 0} → PerDevice D → (i : ℕ) → ℕ
+section_part devices i = length devices.partitions + i
+
+abbrev pub filter_part : {D : Type 0} → PerDevice D → ℕ
+filter_part devices = length devices.partitions + length devices.sections
+
+-- the log is refused, for two partitions of one name or for an arena
+pub record LogIsRefused {D : Type 0} (disk : DiskOf D) (tables : List Table)
+    (devices : PerDevice D) (bad : MountBad) : Type 0 where
+  pub why : LogBad
+  pub bad_is : bad ≡ told_of_log (layout_of tables) why
+  pub fields : List (List ℕ)
+  pub read : IsTrue disk.tells
+      → AreFields (layout_of tables) (map disk.bytes devices.partitions) fields
+  pub refuses : RefusesLog (map (λ t. t.name) tables) (layout_of tables) fields why
+
+-- the device of a section, of which the first is this part of the store
+pub record SectionIsRefused {D : Type 0} (disk : DiskOf D) (part : ℕ) (devices : List D)
+    (bad : MountBad) : Type 0 where
+  pub i : ℕ
+  pub device : D
+  pub at : slice_get devices i ≡ Some device
+  pub why : SectBad
+  pub bad_is : bad ≡ told_of_section (part + i) why
+  pub names : NamesSectionCause (disk.size device) why
+  pub refuses : IsTrue disk.tells → RefusesSection (disk.size device)
+      (current_frame head_place FRAME_LEN (disk.bytes device)) why
+
+-- that of the filter, which is this part
+pub record FilterIsRefused {D : Type 0} (disk : DiskOf D) (part : ℕ) (devices : List D)
+    (bad : MountBad) : Type 0 where
+  pub device : D
+  pub at : slice_get devices 0 ≡ Some device
+  pub why : BloomBad
+  pub bad_is : bad ≡ told_of_filter part why
+  pub names : NamesBloomCause (disk.size device) why
+  pub refuses : IsTrue disk.tells → RefusesBloom (disk.bytes device) (disk.size device) why
+
+-- the first of these counts with which their sum passes a limit
+pub record IsFirstPast (limit : ℕ) (counts : List ℕ) (i : ℕ) : Type 0 where
+  pub within : i < length counts
+  pub before : sum (take i counts) ≤ limit
+  pub past : limit < sum (take (i + 1) counts)
+
+-- So many things there are, by the counts of parts of which the first has this number, and with
+-- that part they first passed a limit, if they did.
+pub record IsTally (limit first : ℕ) (counts : List ℕ) (t : Tally) : Type 0 where
+  pub total : t.sum ≡ sum counts
+  pub past : MatchOption t.past (sum counts ≤ limit)
+      (λ part. (i : ℕ) × (part ≡ first + i) × IsFirstPast limit counts i)
+
+-- their sum passes no limit, or a part is refused with which it does
+abbrev pub PassesOrRefuses : (field : MountField) → (limit first : ℕ) → (counts : List ℕ)
+    → Result ℕ MountBad → Type 0
+PassesOrRefuses field limit first counts (Ok n) = (n ≡ sum counts) × (sum counts ≤ limit)
+PassesOrRefuses field limit first counts (Err bad) = (i : ℕ) × IsFirstPast limit counts i
+    × (bad ≡ Disagree (first + i) field (sum counts) limit)
+
+-- there are more arenas, or more buckets, than a store may have, with this part of it
+abbrev pub PassesLimits : {D : Type 0} → (tables : List Table) → PerDevice D → Setup → MountBad
+    → Type 0
+PassesLimits tables devices c bad =
+    ((part : ℕ) × IsFirstPast MOST_ARENAS (map (λ t. t.count) tables) part
+    × (bad ≡ Disagree part Arenas (arena_count tables) MOST_ARENAS))
+    ⊎ ((i : ℕ) × IsFirstPast MOST_BUCKETS c.sections i
+    × (bad ≡ Disagree (section_part devices i) Buckets (bucket_count c) MOST_BUCKETS))
+
+-- the first field of a head that isn't that of so many buckets from this one on, of so many over all
+abbrev pub wrong_head : (part first count total : ℕ) → Head → Option MountBad
+wrong_head part first count total head =
+    if not (head.state == 1) then Some (Disagree part State head.state 1)
+    else if not (head.first == first) then Some (Disagree part First head.first first)
+    else if not (head.count == count) then Some (Disagree part Count head.count count)
+    else if not (head.total == total) then Some (Disagree part Total head.total total)
+    else None
+
+-- the first field of the head of section i that isn't as the sections together want it
+abbrev pub first_wrong : (part : ℕ) → Setup → (i : ℕ) → Head → Option MountBad
+first_wrong part c i head =
+    wrong_head part (first_bucket c.sections i) (buckets_of c i) (bucket_count c) head
+
+pub record HeadIsWrong {D : Type 0} (disk : DiskOf D) (devices : PerDevice D) (c : Setup)
+    (bad : MountBad) : Type 0 where
+  pub i : ℕ
+  pub head : Head
+  pub read : IsHeadRead disk devices i head
+  pub wrong : first_wrong (section_part devices i) c i head ≡ Some bad
+
+-- the part of the store with this number has this mark
+abbrev pub HasMark : {D : Type 0} → DiskOf D → PerDevice D → (part mark : ℕ) → Type 0
+HasMark disk devices part mark =
+    ((i : ℕ) × (head : Head) × (part ≡ section_part devices i)
+    × IsHeadRead disk devices i head × (mark ≡ head.mark))
+    ⊎ ((part ≡ filter_part devices) × IsMarkRead disk devices mark)
+
+-- these are the fields of the heads of all arenas, as their devices have them where these tell
+abbrev pub AreRead : {D : Type 0} → DiskOf D → (tables : List Table) → PerDevice D
+    → (fields : List (List ℕ)) → Type 0
+AreRead disk tables devices fields = IsTrue disk.tells
+    → AreFields (layout_of tables) (map disk.bytes devices.partitions) fields
+
+-- a mark is above the log's length
+pub record MarkIsWrong {D : Type 0} (disk : DiskOf D) (tables : List Table)
+    (devices : PerDevice D) (bad : MountBad) : Type 0 where
+  pub part : ℕ
+  pub mark : ℕ
+  pub has : HasMark disk devices part mark
+  pub fields : List (List ℕ)
+  pub read : AreRead disk tables devices fields
+  pub above : sum_by clumps_in fields < mark
+  pub bad_is : bad ≡ Disagree part Mark mark (sum_by clumps_in fields)
+
+-- The log gives more blocks of a bucket of section i than a bucket has room for. Where the section
+-- agrees with the log, these are the log's own.
+pub record BucketIsCrowded {D : Type 0} (score : List ℕ → List ℕ) (disk : DiskOf D)
+    (tables : List Table) (devices : PerDevice D) (c : Setup) (bad : MountBad) : Type 0 where
+  pub i : ℕ
+  pub device : D
+  pub at : slice_get devices.sections i ≡ Some device
+  pub found : ℕ
+  pub above : BUCKET_ROOM < found
+  pub bad_is : bad ≡ Disagree (section_part devices i) Crowd found BUCKET_ROOM
+  pub crowded : (g : History) (base : ℕ) → IsTrue disk.tells
+      → IsLog score (layout_of tables) (map disk.bytes devices.partitions) g base
+      → SectionStandsFor score c g i (disk.bytes device)
+      → (bucket : ℕ) × (found ≤ crowd score (bucket_count c) g bucket)
+
+-- An entry of an arena's directory differs from what was wanted, as its device has it where that
+-- tells.
+pub record IsDamagedEntry {D : Type 0} (disk : DiskOf D) (tables : List Table)
+    (devices : PerDevice D) (arena : ℕ) (want found : FieldValue) : Type 0 where
+  pub r : ArenaRegion
+  pub arena_is : slice_get (layout_of tables) arena ≡ Some r
+  pub device : D
+  pub disk_is : slice_get devices.partitions r.part ≡ Some device
+  pub fields : List (List ℕ)
+  pub read : AreRead disk tables devices fields
+  pub head : List ℕ
+  pub head_is : slice_get fields arena ≡ Some head
+  pub at : At
+  pub index : at.index ≤ clumps_in head
+  pub end : at.end ≤ used_in head
+  pub entry : List ℕ
+  pub entry_is : IsTrue disk.tells → entry ≡ last_entry r.region at.index (disk.bytes device)
+  pub bad : first_bad_entry (used_in head) at entry ≡ Some (back_bad.Damaged want found)
+
+-- What was read back differs from what was wanted: an entry of a directory, or a bucket's frame, as
+-- it was read or with the entries that were to be put into it.
+abbrev pub IsDamageAt : {D : Type 0} → DiskOf D → List Table → PerDevice D → Site
+    → (want found : FieldValue) → Type 0
+IsDamageAt disk tables devices (Clump place) want found =
+    IsDamagedEntry disk tables devices place.arena want found
+IsDamageAt disk tables devices (Bucket n) want found =
+    (frame : List ℕ) × (group : List Entry)
+    × IsDamage n group frame (shard_err.Damaged n want found)
+
+pub record IsFoundDamaged {D : Type 0} (disk : DiskOf D) (tables : List Table)
+    (devices : PerDevice D) (bad : MountBad) : Type 0 where
+  pub site : Site
+  pub want : FieldValue
+  pub found : FieldValue
+  pub bad_is : bad ≡ Damaged site want found
+  pub differ : Differ want found
+  pub read : IsDamageAt disk tables devices site want found
+
+-- Whatever the devices hold, a refusal is that of one of these tests; a fault and want of memory
+-- need none.
+abbrev pub IsRefused : {D : Type 0} → (List ℕ → List ℕ) → DiskOf D → (tables : List Table)
+    → PerDevice D → Setup → MountBad → Type 0
+IsRefused score disk tables devices c bad =
+    (bad ≡ Fault) ⊎ (bad ≡ NoMemory)
+    ⊎ LogIsRefused disk tables devices bad
+    ⊎ SectionIsRefused disk (length devices.partitions) devices.sections bad
+    ⊎ FilterIsRefused disk (filter_part devices) devices.filter bad
+    ⊎ PassesLimits tables devices c bad
+    ⊎ HeadIsWrong disk devices c bad
+    ⊎ MarkIsWrong disk tables devices bad
+    ⊎ BucketIsCrowded score disk tables devices c bad
+    ⊎ IsFoundDamaged disk tables devices bad
+
+-- of all counts of faults one rose where a fault is told, and else none
+abbrev pub CountsRefusal : MountBad → (old new : List ℕ) → Type 0
+CountsRefusal Fault old new = OneHasRisen old new
+CountsRefusal bad old new = new ≡ old
+
+-- the refusal of a test that comes before the log is read back
+abbrev pub IsEarly : MountBad → Type 0
+IsEarly (Disagree part Crowd found want) = ⊥
+IsEarly (Damaged site want found) = ⊥
+IsEarly Fault = ⊥
+IsEarly NoMemory = ⊥
+IsEarly bad = ⊤
+
+-- all that is said of a refusal to mount, beside what the devices stand for then: each is handed
+-- back in its place, and nothing is written before the log is read back
+pub record Refuses {D : Type 0} (score : List ℕ → List ℕ) (disk : DiskOf D) (tables : List Table)
+    (devices : PerDevice D) (bad : MountBad) (back : Devices D) : Type 0 where
+  pub cause : (c : Setup) → IsSetupOf disk tables devices c
+      → IsRefused score disk tables devices c bad
+  pub counts : CountsRefusal bad (map disk.faults (all_of devices))
+      (map disk.faults (all_of (devices_in back)))
+  pub early : IsEarly bad → HoldTheSame disk devices.sections (devices_in back).sections
+  pub tables_are : tables_in back ≡ tables
+  pub sections : length back.sections.items ≡ length devices.sections
+  pub filter : length (option_to_list back.filter) ≡ length devices.filter
+  pub sizes : map disk.size (all_of (devices_in back)) ≡ map disk.size (all_of devices)
