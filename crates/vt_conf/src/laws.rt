@@ -1,12 +1,14 @@
 //! What a configuration's text can say.
 
-ghost use Rattle.std.specs.Prelude.{◌≡◌, ℕ, List};
+ghost use Rattle.std.specs.Prelude.{◌≡◌, ◌≤◌, ℕ, List, length};
 ghost use Rattle.vt_conf.specs.declared.conf.Conf.{Conf};
 ghost use Rattle.vt_conf.specs.declared.why.ConfWhy.{ConfWhy};
 ghost use Rattle.vt_conf.specs.Addresses.{SpellsAddress};
 ghost use Rattle.vt_conf.specs.Configuration.{Configures, IsFirstCause, SameConf};
 ghost use Rattle.vt_conf.specs.Sizes.{SpellsSize};
 ghost use Rattle.vt_conf.specs.declared.address.Address.{Address};
+
+use crate::MAX_FILES;
 
 /// A text says one size, and one address.
 pub fn texts_have_one_meaning()
@@ -21,4 +23,12 @@ pub fn configurations_have_one_meaning()
         → SameConf a b }
     ensures accepted { (text : List ℕ) (conf : Conf) (line : ℕ) (why : ConfWhy)
         → Configures text conf → ¬ IsFirstCause text line why }
+{}
+
+/// A configuration names at most 64 files of arenas, and at most 64 of index sections.
+pub fn configurations_name_few_files()
+    ensures arenas { (text : List ℕ) (conf : Conf) → Configures text conf
+        → length conf.arenas.items ≤ MAX_FILES }
+    ensures sections { (text : List ℕ) (conf : Conf) → Configures text conf
+        → length conf.sections.items ≤ MAX_FILES }
 {}
