@@ -12,7 +12,7 @@ use Rattle.vt_base.specs.declared.place.Info.{Info}
 use Rattle.vt_bloom.specs.Bits.{Filter, HasBitsOf, Marks}
 use Rattle.vt_clump.specs.declared.packed.Packed.{Packed}
 use Rattle.vt_disk.specs.Members.{DiskOf}
-use Rattle.vt_log.specs.Log.{LogState, queued}
+use Rattle.vt_log.specs.Log.{LogState, front, queued}
 use Rattle.vt_log.specs.Queue.{QueueState}
 use Rattle.vt_log.specs.declared.filling.Filling.{Filling}
 use Rattle.vt_model.specs.History.{History, Accepted}
@@ -126,7 +126,8 @@ module _ {D : Type 0} (disk : DiskOf D) (k : CoreState D) (w : IsWhole disk k) (
 -- ---- the store
 
 module _ {D : Type 0} (score : List ℕ → List ℕ) (disk : DiskOf D) (k : CoreState D) (i : ℕ) (s : ShardState D) (at : slice_get k.shards i ≡ Some s) (q : QueueState) (f : Filling)
-    (info : Info) (bits : Filter) (marks : Marks k.bits info.key.score.0 bits) (stay : MarkedStay) (marked : AreMarked) (one : length q.places ≡ queued k.log + 1) where
+    (info : Info) (bits : Filter) (marks : Marks k.bits info.key.score.0 bits) (stay : MarkedStay) (marked : AreMarked) (one : length q.places ≡ queued k.log + 1)
+    (number : info.number ≡ front k.log) where
   abbrev pub new_shard : ShardState D
   new_shard = record s { index = record s.index { dirty = s.index.dirty ++ info ∷ [] } }
 
@@ -153,6 +154,10 @@ module _ {D : Type 0} (score : List ℕ → List ℕ) (disk : DiskOf D) (k : Cor
               writeback = was.writeback;
               mark = was.mark;
               next = was.next;
+              numbers = λ own has. ⊎_elim
+                  (λ before. let low = was.numbers own before in omega (arith, low, one))
+                  (λ e. omega (arith, ap (λ (x : Info). x.number) e, number, one))
+                  (last_or_before s.index.dirty info own has);
               bits = λ own has. ⊎_elim
                   (λ before. stay k.bits bits info.key.score.0 own.key.score.0 marks (was.bits own before))
                   (λ e. subst (λ (x : Info). HasBitsOf bits x.key.score.0) (sym e) (marked k.bits bits info.key.score.0 marks))
@@ -166,6 +171,7 @@ module _ {D : Type 0} (score : List ℕ → List ℕ) (disk : DiskOf D) (k : Cor
               writeback = it.writeback;
               mark = it.mark;
               next = it.next;
+              numbers = λ own has. let low = it.numbers own has in omega (arith, low, one);
               bits = λ own has. stay k.bits bits info.key.score.0 own.key.score.0 marks (it.bits own has);
             });
         filter = λ b there. let it = w.filter b there in record { counts = (marks.m ∙ it.counts.0, marks.k ∙ it.counts.1); mark = it.mark; next = it.next };
@@ -236,36 +242,39 @@ module _ {D : Type 0} (score : List ℕ → List ℕ) (disk : DiskOf D) (k : Cor
   one_more : length p.log.queue.places ≡ queued k.log + 1
   one_more = ap (λ (l : LogState D). length l.queue.places) adds.log.new_is ∙ length-append k.log.queue.places (adds.place ∷ [])
 
+  number_is : adds.info.number ≡ front k.log
+  number_is = ap (λ (x : Info). x.number) adds.info_is
+
   abbrev pub with_added : CoreState D
   with_added = record k { log = p.log; shards = slice_set k.shards i p.shard; bits = bits }
 
   abbrev added : CoreState D
-  added = after_adding score disk k i s at p.log.queue p.log.filling adds.info bits own_marks stay marked one_more
+  added = after_adding score disk k i s at p.log.queue p.log.filling adds.info bits own_marks stay marked one_more number_is
 
-  parts_are : p ≡ parts_of added.log (new_shard score disk k i s at p.log.queue p.log.filling adds.info bits own_marks stay marked one_more)
+  parts_are : p ≡ parts_of added.log (new_shard score disk k i s at p.log.queue p.log.filling adds.info bits own_marks stay marked one_more number_is)
   parts_are = ap (λ (l : LogState D). parts_of l p.shard) taken ∙ ap (λ (t : ShardState D). parts_of added.log t) adds.shard
 
   added_is : with_added ≡ added
   added_is = ap (λ (x : Parts D). record k { log = x.log; shards = slice_set k.shards i x.shard; bits = bits }) parts_are
 
   pub adding_whole : IsWhole disk k → IsWhole disk with_added
-  adding_whole w = subst (λ (m : CoreState D). IsWhole disk m) (sym added_is) (add_whole score disk k i s at p.log.queue p.log.filling adds.info bits own_marks stay marked one_more w)
+  adding_whole w = subst (λ (m : CoreState D). IsWhole disk m) (sym added_is) (add_whole score disk k i s at p.log.queue p.log.filling adds.info bits own_marks stay marked one_more number_is w)
 
   pub adding_machine : (h : History) → machine_of with_added h ≡ record (machine_of k h) { history = h }
-  adding_machine h = ap (λ (m : CoreState D). machine_of m h) added_is ∙ add_machine score disk k i s at p.log.queue p.log.filling adds.info bits own_marks stay marked one_more h
+  adding_machine h = ap (λ (m : CoreState D). machine_of m h) added_is ∙ add_machine score disk k i s at p.log.queue p.log.filling adds.info bits own_marks stay marked one_more number_is h
 
   pub adding_devices : devices_of with_added ≡ devices_of k
-  adding_devices = ap (λ (m : CoreState D). devices_of m) added_is ∙ add_devices score disk k i s at p.log.queue p.log.filling adds.info bits own_marks stay marked one_more
+  adding_devices = ap (λ (m : CoreState D). devices_of m) added_is ∙ add_devices score disk k i s at p.log.queue p.log.filling adds.info bits own_marks stay marked one_more number_is
 
   pub adding_stops : stops_of with_added ≡ stops_of k
-  adding_stops = ap (λ (m : CoreState D). stops_of m) added_is ∙ add_stops score disk k i s at p.log.queue p.log.filling adds.info bits own_marks stay marked one_more
+  adding_stops = ap (λ (m : CoreState D). stops_of m) added_is ∙ add_stops score disk k i s at p.log.queue p.log.filling adds.info bits own_marks stay marked one_more number_is
 
   pub adding_goes_on : IsWhole disk k → GoesOn disk k with_added
-  adding_goes_on w = subst (λ (m : CoreState D). GoesOn disk k m) (sym added_is) (add_goes_on score disk k i s at p.log.queue p.log.filling adds.info bits own_marks stay marked one_more w)
+  adding_goes_on w = subst (λ (m : CoreState D). GoesOn disk k m) (sym added_is) (add_goes_on score disk k i s at p.log.queue p.log.filling adds.info bits own_marks stay marked one_more number_is w)
 
   pub adding_sound : IsWhole disk k → HaveRanges → OthersAdded disk → (h : History) (block : Accepted) → IsSound score disk k h → HasScore s (score block.block.bytes) → packed.score.0 ≡ score block.block.bytes
       → AreSound score disk (setup_of k) p (h ++ block ∷ []) k.log.durable → IsSound score disk with_added (h ++ block ∷ [])
   adding_sound w ranges others h block sound has scored parts = subst (λ (m : CoreState D). IsSound score disk m (h ++ block ∷ [])) (sym added_is)
-      (add_sound score disk k i s at p.log.queue p.log.filling adds.info bits own_marks stay marked one_more w ranges others h block sound has
+      (add_sound score disk k i s at p.log.queue p.log.filling adds.info bits own_marks stay marked one_more number_is w ranges others h block sound has
       (ap (λ (x : Info). x.key.score.0) adds.info_is ∙ scored)
       (subst (λ (x : Parts D). AreSound score disk (setup_of k) x (h ++ block ∷ []) k.log.durable) parts_are parts))

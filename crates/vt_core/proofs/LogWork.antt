@@ -191,6 +191,7 @@ module _ {D : Type 0} (score : List ℕ → List ℕ) (disk : DiskOf D) (k : Cor
       mark = omega (arith, it.mark, durable);
       next = omega (arith, it.next, durable);
       writeback = λ below at. let most = it.writeback below at in omega (arith, most, durable);
+      numbers = λ info has. let low = it.numbers info has in omega (arith, low, step.front_is);
       bits = it.bits;
     };
     filter = λ b at. let it = w.filter b at in record { counts = it.counts; mark = omega (arith, it.mark, durable); next = omega (arith, it.next, durable) };

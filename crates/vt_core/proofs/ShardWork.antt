@@ -89,6 +89,7 @@ module _ {D : Type 0} (score : List ℕ → List ℕ) (disk : DiskOf D) (k : Cor
               writeback = keeps.writeback;
               mark = keeps.mark;
               next = keeps.next;
+              numbers = λ info has. was.numbers info (keeps.dirty info has);
               bits = λ info has. was.bits info (keeps.dirty info has);
             })
             (λ j s there. let it = w.shards j s there in record {
@@ -99,6 +100,7 @@ module _ {D : Type 0} (score : List ℕ → List ℕ) (disk : DiskOf D) (k : Cor
               writeback = it.writeback;
               mark = it.mark;
               next = it.next;
+              numbers = it.numbers;
               bits = it.bits;
             });
         filter = λ b there. let it = w.filter b there in record { counts = it.counts; mark = it.mark; next = it.next };

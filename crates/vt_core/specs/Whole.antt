@@ -11,7 +11,7 @@ use Rattle.vt_core.specs.Core.{CoreState, setup_of, history_len}
 use Rattle.vt_core.specs.Stands.{IsLive}
 
 -- A shard is that of section i. What it wrote back, and each of its marks, are of the first so many
--- blocks, and the filter's bits of its dirty entries are set.
+-- blocks. Its dirty entries are of blocks that were accepted, whose bits the filter has.
 pub record IsShardOf {D : Type 0} (disk : DiskOf D) (k : CoreState D) (i durable : ℕ)
     (s : ShardState D) : Type 0 where
   pub live : IsLive (setup_of k) i s.section.head
@@ -21,6 +21,7 @@ pub record IsShardOf {D : Type 0} (disk : DiskOf D) (k : CoreState D) (i durable
   pub writeback : (below : ℕ) → s.writeback ≡ Some below → below ≤ durable
   pub mark : s.section.head.mark ≤ durable
   pub next : s.section.next.mark ≤ durable
+  pub numbers : (info : Info) → Contains s.index.dirty info → info.number < history_len k
   pub bits : (info : Info) → Contains s.index.dirty info → HasBitsOf k.bits info.key.score.0
 
 -- A saved filter has the form of the bits in memory, and its marks are of the first so many blocks.

@@ -1,7 +1,9 @@
 //! The store, and its events.
 
 ghost use Rattle.std.specs.Prelude.{◌≡◌, ◌-◌, ◌<◌, ◌≤◌, ℕ, All, IfOk, OnErr, Some, length, slice_get};
+ghost use Rattle.std.specs.List.{Contains};
 ghost use Rattle.vt_base.specs.Bytes.{AreBytes};
+ghost use Rattle.vt_base.specs.declared.place.Info.{Info};
 ghost use Rattle.vt_log.specs.Log.{front};
 ghost use Rattle.vt_model.specs.History.{History};
 ghost use Rattle.vt_model.specs.Places.{section_of_score};
@@ -128,6 +130,13 @@ impl<D: Disk, S: Scorer> Core<D, S> {
         self.synced
     }
 
+    /// The score of a block's bytes.
+    pub fn score(&self, block: &[u8]) -> Score
+        ensures { result.0 ≡ S.score_of block.now }
+    {
+        self.log.score(block)
+    }
+
     /// How many shards there are: one for each index section.
     pub fn shards(&self) -> u32
         ensures { result ≡ length self.now.shards }
@@ -154,11 +163,14 @@ impl<D: Disk, S: Scorer> Core<D, S> {
         unreachable!()
     }
 
-    /// How many dirty entries more a shard has room for.
+    /// How many dirty entries more a shard has room for. Each is that of a block that was accepted.
     pub fn spare(&self, shard: u32) -> u32
         requires { shard < length self.now.shards }
-        ensures { (s : ShardState D) → slice_get self.now.shards shard ≡ Some s
+        ensures count { (s : ShardState D) → slice_get self.now.shards shard ≡ Some s
             → result ≡ ROOM - length s.index.dirty }
+        ensures accepted { (s : ShardState D) (info : Info)
+            → slice_get self.now.shards shard ≡ Some s → Contains s.index.dirty info
+            → info.number < front self.now.log }
     {
         self.shards[shard as usize].spare()
     }
