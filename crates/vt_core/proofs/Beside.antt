@@ -1,8 +1,7 @@
 -- The sections and the filter of devices that agree with a history pass each test.
-use Rattle.std.proofs.Common.{◌≡◌, ◌≢◌, ◌⊎◌, ⊎_elim, inl, inr, ◌<◌, ◌≤◌, ◌+◌, ◌*◌, ◌-◌, ◌/◌, ℕ, zero, suc, Bool, true, false, List, [], ◌∷◌, length, map, take, Option, Some, None, Err, Ok, refl, sym, ◌∙◌, ap, subst, arith, eqb, eq-eqb, get_or}
-use Rattle.std.specs.Prelude.{slice_get, slice_index, IsTrue, sum, ⊤, if◌then◌else◌, not, ◌==◌}
+use Rattle.std.proofs.Common.{◌≡◌, ⊎_elim, ◌<◌, ◌≤◌, ◌+◌, ℕ, zero, suc, Bool, true, false, List, [], ◌∷◌, length, map, Option, Some, None, Err, refl, sym, ◌∙◌, ap, subst, arith, eqb, eq-eqb}
+use Rattle.std.specs.Prelude.{slice_get, slice_index, IsTrue, sum, ⊤, if◌then◌else◌, not}
 use Rattle.std.specs.List.{All, AllZip, AllByRecursion}
-use Rattle.std.specs.Option.{option_to_list}
 use Rattle.std.proofs.lemmas.Bool.{eqb-true}
 use Rattle.std.proofs.lemmas.List.{length-map}
 use Rattle.std.proofs.lemmas.List.Elements.{All-get_or, All-from_recursion}
@@ -12,7 +11,7 @@ use Rattle.vt_base.specs.declared.mount.MountBad.{MountBad}
 use Rattle.vt_base.specs.declared.place.Entry.{Entry}
 use Rattle.vt_bloom.specs.Bits.{Filter}
 use Rattle.vt_bloom.specs.Bloom.{BloomState}
-use Rattle.vt_bloom.specs.Frame.{Saved, HasSaved}
+use Rattle.vt_bloom.specs.Frame.{Saved}
 use Rattle.vt_bloom.specs.Laws.{HasOneSaved}
 use Rattle.vt_disk.specs.Members.{DiskOf}
 use Rattle.vt_isect.specs.declared.TheConstants.{LEAST_LEN}
@@ -22,15 +21,15 @@ use Rattle.vt_isect.specs.Layout.{IsSection, buckets_in}
 use Rattle.vt_isect.specs.Section.{SectionState}
 use Rattle.vt_isect.specs.Sound.{DiskHolds, all_known}
 use Rattle.vt_model.specs.History.{History}
-use Rattle.vt_model.specs.Places.{Setup, bucket_count, first_bucket}
+use Rattle.vt_model.specs.Places.{Setup, first_bucket}
 use Rattle.vt_shard.specs.Shard.{ShardState}
 use Rattle.vt_shard.specs.Sound.{IsSoundFrom}
 use Rattle.vt_core.specs.declared.TheConstants.{MOST_BUCKETS}
-use Rattle.vt_core.specs.Opening.{AgreeWith, CanBeOpened, IsOpened, IsShardMade, OpensFilter, TestsHeads, TestsMarks, TestsParts, IsMarkOf, buckets_in_each, wrong_at}
-use Rattle.vt_core.specs.Refusals.{PassesOrRefuses, wrong_head}
+use Rattle.vt_core.specs.Opening.{AgreeWith, CanBeOpened, IsOpened, IsShardMade, OpensFilter, TestsParts, buckets_in_each, wrong_at}
+use Rattle.vt_core.specs.Refusals.{wrong_head}
 use Rattle.vt_core.specs.Stands.{IsLive, SectionStandsFor, FilterStandsFor, buckets_of}
 use Rattle.vt_core.proofs.Lists.{index_map, same_lists, at_map, beside}
-use Rattle.vt_core.proofs.Zips.{zip_at, zip_beside, zip_length}
+use Rattle.vt_core.proofs.Zips.{zip_beside, zip_length}
 
 -- ---- lists
 

@@ -1,23 +1,19 @@
 -- What stands beside the log of a store, or why it is refused.
-use Rattle.std.proofs.Common.{◌≡◌, ◌⊎◌, ⊎_elim, inl, inr, ◌<◌, ◌≤◌, ◌+◌, ℕ, Bool, true, false, List, [], ◌∷◌, ◌++◌, length, map, reverse, Option, Some, None, Ok, Err, refl, sym, ◌∙◌, ap, subst, arith, append-nil, append_assoc, eqb}
-use Rattle.std.specs.Prelude.{slice_get, IsTrue, sum, ⊤}
-use Rattle.std.specs.List.{AllZip}
-use Rattle.std.specs.Option.{option_to_list, option_map}
+use Rattle.std.proofs.Common.{◌≡◌, ◌⊎◌, ⊎_elim, inl, inr, ◌+◌, ℕ, Bool, true, false, List, [], ◌++◌, length, map, reverse, Option, Some, None, Err, refl, sym, ◌∙◌, ap, subst, append-nil, eqb}
+use Rattle.std.specs.Prelude.{sum, ⊤}
+use Rattle.std.specs.Option.{option_to_list}
 use Rattle.std.proofs.lemmas.List.{map-append}
 use Rattle.vt_base.specs.declared.mount.MountBad.{MountBad}
-use Rattle.vt_base.specs.declared.mount.MountBad.TheVariants.{Disagree, Fault, NoMemory}
+use Rattle.vt_base.specs.declared.mount.MountBad.TheVariants.{Disagree, NoMemory}
 use Rattle.vt_base.specs.declared.mount.MountField.TheVariants.{Count, First, State, Total}
-use Rattle.vt_bloom.specs.Bits.{Filter}
 use Rattle.vt_bloom.specs.Bloom.{BloomState}
-use Rattle.vt_bloom.specs.Frame.{Saved, HasSaved}
 use Rattle.vt_disk.specs.Members.{DiskOf}
 use Rattle.vt_isect.specs.declared.head.Head.{Head}
 use Rattle.vt_isect.specs.Section.{SectionState}
 use Rattle.vt_log.specs.Answers.{HoldTheSame}
-use Rattle.vt_model.specs.History.{History}
-use Rattle.vt_model.specs.Places.{Setup, first_bucket}
+use Rattle.vt_model.specs.Places.{first_bucket}
 use Rattle.vt_core.specs.Files.{all_of}
-use Rattle.vt_core.specs.Opening.{AgreeWith, AreHeld, IsOpened, OpensFilter, RefusesBeside, TestsParts, buckets_in_each, with_log}
+use Rattle.vt_core.specs.Opening.{AreHeld, RefusesBeside, TestsParts, buckets_in_each, with_log}
 use Rattle.vt_core.specs.Refusals.{CountsRefusal, FilterIsRefused, SectionIsRefused, wrong_head}
 use Rattle.vt_core.proofs.Beside.{chosen}
 use Rattle.vt_core.proofs.Held.{hold_still}

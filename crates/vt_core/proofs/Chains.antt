@@ -1,11 +1,9 @@
 -- The shards of a store that was found, and the devices that they stand on.
-use Rattle.std.proofs.Common.{◌≡◌, ◌⊎◌, ⊎_elim, inl, inr, ◌<◌, ◌≤◌, ◌+◌, ◌^◌, ℕ, zero, suc, List, [], ◌∷◌, ◌++◌, length, map, Option, Some, None, Ok, Err, refl, sym, ◌∙◌, ap, subst, arith}
-use Rattle.std.specs.Prelude.{slice_get, slice_index, IsTrue, sum, ⊤, replicate}
-use Rattle.std.specs.List.{All, AllZip}
-use Rattle.std.specs.Option.{option_to_list}
+use Rattle.std.proofs.Common.{◌≡◌, ◌<◌, ◌≤◌, ◌+◌, ◌^◌, ℕ, zero, suc, List, length, map, Option, Some, None, Ok, refl, sym, ◌∙◌, ap, subst, arith}
+use Rattle.std.specs.Prelude.{slice_get, sum, ⊤, replicate}
+use Rattle.std.specs.List.{AllZip}
 use Rattle.std.proofs.lemmas.List.{length-map}
-use Rattle.std.proofs.lemmas.Option.{same_Some, get_or_from_slice_get}
-use Rattle.vt_base.specs.declared.mount.MountBad.{MountBad}
+use Rattle.std.proofs.lemmas.Option.{same_Some}
 use Rattle.vt_bloom.specs.Bits.{Filter}
 use Rattle.vt_bloom.specs.Bloom.{BloomState}
 use Rattle.vt_disk.specs.Members.{DiskOf}
@@ -13,12 +11,12 @@ use Rattle.vt_isect.specs.declared.head.Head.{Head}
 use Rattle.vt_isect.specs.Layout.{buckets_in}
 use Rattle.vt_isect.specs.Section.{SectionState}
 use Rattle.vt_log.specs.Log.{LogState}
-use Rattle.vt_model.specs.Places.{Setup, bucket_count, first_bucket}
+use Rattle.vt_model.specs.Places.{first_bucket}
 use Rattle.vt_shard.specs.Shard.{ShardState}
-use Rattle.vt_core.specs.Core.{CoreState, setup_of, history_len}
-use Rattle.vt_core.specs.Opening.{IsOpened, IsFilterOpened, IsShardMade, OpensFilter, TestsParts, buckets_in_each, wrong_at}
-use Rattle.vt_core.specs.Recalling.{AreReadBack, IsUnused, KeepsSection, Opened, ReadsBack, opened}
-use Rattle.vt_core.specs.Stands.{IsLive, buckets_of}
+use Rattle.vt_core.specs.Core.{CoreState, setup_of}
+use Rattle.vt_core.specs.Opening.{IsOpened, IsFilterOpened, IsShardMade, OpensFilter, TestsParts, buckets_in_each}
+use Rattle.vt_core.specs.Recalling.{AreReadBack, IsUnused, KeepsSection, ReadsBack, opened}
+use Rattle.vt_core.specs.Stands.{IsLive}
 use Rattle.vt_core.specs.Whole.{IsFilterOf, IsShardOf, IsWhole}
 use Rattle.vt_core.proofs.Beside.{all_at, head_right}
 use Rattle.vt_core.proofs.Lists.{at_map, beside, index_map, same_lists, All-replicate}
@@ -186,6 +184,7 @@ module _ {D : Type 0} (score : List ℕ → List ℕ) (disk : DiskOf D) (devices
             writeback = λ below is. absurd (cc (sym done.quiet.writeback ∙ is));
             mark = mark;
             next = subst (λ (h : Head). h.mark ≤ log1.durable) (sym done.quiet.next) mark;
+            numbers = λ info has. let low = done.numbers info has in omega (arith, low, durable_same);
             bits = done.bits_of;
           }
 

@@ -1,30 +1,27 @@
 -- Entries that a section lacks, by what was found while a log is read back.
-use Rattle.std.proofs.Common.{◌≡◌, ◌≢◌, ◌⊎◌, ⊎_elim, inl, inr, ℕ, zero, suc, ◌+◌, ◌-◌, ◌<◌, ◌≤◌, List, [], ◌∷◌, ◌++◌, length, map, Option, Some, None, refl, sym, ◌∙◌, ap, subst, arith, length-append}
-use Rattle.std.specs.Prelude.{slice_get, slice_index, slice_index_or}
-use Rattle.std.specs.List.{All, AllPairs, Contains}
+use Rattle.std.proofs.Common.{◌≡◌, ◌≢◌, ℕ, zero, suc, ◌+◌, ◌-◌, ◌<◌, ◌≤◌, List, [], ◌∷◌, ◌++◌, length, map, sym, ◌∙◌, ap, subst, arith, length-append}
+use Rattle.std.specs.Prelude.{slice_index, slice_index_or}
+use Rattle.std.specs.List.{AllPairs, Contains}
 use Rattle.std.proofs.lemmas.List.{length-map}
-use Rattle.std.proofs.lemmas.List.Elements.{All-contains_itself, All-map, All-push}
+use Rattle.std.proofs.lemmas.List.Elements.{All-map, All-push}
 use Rattle.std.proofs.lemmas.List.Quantifiers.{all_pairs_push}
 use Rattle.std.proofs.lemmas.Option.{same_Some, get_or_from_slice_get}
 use Rattle.vt_base.specs.declared.key.Key.{Key}
 use Rattle.vt_base.specs.declared.place.Entry.{Entry}
 use Rattle.vt_base.specs.declared.place.Info.{Info}
 use Rattle.vt_bucket.specs.Laws.{IsUnambiguous}
-use Rattle.vt_bucket.specs.Frame.{IsFrame}
 use Rattle.vt_disk.specs.Members.{DiskOf}
-use Rattle.vt_disk.specs.declared.region.Region.{Region}
 use Rattle.vt_icache.specs.Index.{entry_of}
-use Rattle.vt_isect.specs.Agreement.{HasBlock, IsEntryOf}
+use Rattle.vt_isect.specs.Agreement.{IsEntryOf}
 use Rattle.vt_isect.specs.Head.{IsHeadFrame}
 use Rattle.vt_isect.specs.Layout.{InRange, IsPlaceOf, IsSection, head_place}
 use Rattle.vt_isect.specs.Merging.{HasKey}
 use Rattle.vt_isect.specs.declared.TheConstants.{FRAME_LEN}
 use Rattle.vt_isect.specs.declared.head.Head.{Head}
 use Rattle.vt_model.specs.History.{History}
-use Rattle.vt_model.specs.Places.{Setup, LiesIn, bucket_count, bucket_of, section_of_bucket, section_of_score}
+use Rattle.vt_model.specs.Places.{Setup, bucket_count, bucket_of, section_of_score}
 use Rattle.vt_shard.specs.Shard.{ShardState, HasScore, bucket_at}
 use Rattle.vt_shard.specs.Sound.{IsSoundFrom}
-use Rattle.vt_shard.specs.declared.TheConstants.{ROOM}
 use Rattle.vt_twin.specs.Frames.{current_frame}
 use Rattle.vt_core.specs.Mounting.{LacksEntry, LacksMany}
 use Rattle.vt_core.specs.Recalling.{KeepsSection}

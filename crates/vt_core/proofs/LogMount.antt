@@ -1,6 +1,6 @@
 -- Mounting before the sections are opened.
-use Rattle.std.proofs.Common.{◌≡◌, ◌≢◌, ◌⊎◌, ⊎_elim, inl, inr, ◌<◌, ◌≤◌, ◌+◌, ◌^◌, ℕ, zero, suc, Bool, true, false, List, [], ◌∷◌, ◌++◌, length, map, take, Option, Some, None, Ok, Err, refl, sym, ◌∙◌, ap, subst, arith, append_assoc}
-use Rattle.std.specs.Prelude.{slice_get, IsTrue, IfErr, IfOk, MatchBool, sum, sum_by, ⊤, codes, if◌then◌else◌, nat_lt, not, ◌||◌, ◌==◌}
+use Rattle.std.proofs.Common.{◌≡◌, ◌⊎◌, ⊎_elim, inl, inr, ◌≤◌, ◌+◌, ℕ, Bool, true, false, List, [], ◌∷◌, ◌++◌, length, map, take, Option, Some, None, Err, refl, sym, ◌∙◌, ap, subst, arith, append_assoc, ◌*◌}
+use Rattle.std.specs.Prelude.{IsTrue, MatchBool, sum, sum_by, ⊤, codes, if◌then◌else◌, nat_lt, not, ◌||◌, ◌==◌}
 use Rattle.std.specs.Str.{bytes_eq}
 use Rattle.std.specs.List.{All}
 use Rattle.std.specs.Option.{option_to_list}
@@ -12,7 +12,7 @@ use Rattle.vt_arena.specs.Faults.{bad_value, first_bad as first_bad_in, taken_in
 use Rattle.vt_arena.specs.Heads.{clumps_in, number_in, sealed_in, version_in}
 use Rattle.vt_arena.specs.Places.{arena_room}
 use Rattle.vt_base.specs.declared.mount.MountBad.{MountBad}
-use Rattle.vt_base.specs.declared.mount.MountBad.TheVariants.{Fault, NotFormatted, TooSmall, DuplicateName, Disagree, Damaged, NoMemory}
+use Rattle.vt_base.specs.declared.mount.MountBad.TheVariants.{Disagree}
 use Rattle.vt_base.specs.declared.mount.MountField.TheVariants.{Arenas}
 use Rattle.vt_disk.specs.Calls.{IsSynced}
 use Rattle.vt_disk.specs.Members.{DiskOf}
@@ -25,23 +25,21 @@ use Rattle.vt_log.specs.Whole.{IsWhole}
 use Rattle.vt_log.specs.declared.bad.LogBad.{LogBad}
 use Rattle.vt_log.specs.declared.bad.LogBad.TheVariants as log_bad
 use Rattle.vt_model.specs.History.{History}
-use Rattle.vt_model.specs.Places.{Setup}
 use Rattle.vt_part.specs.Layout.{AreDistinct, layout_of}
-use Rattle.vt_part.specs.Parts.{names_of, table_of, tables_of}
+use Rattle.vt_part.specs.Parts.{names_of, table_of, tables_of, disk_of}
 use Rattle.vt_part.specs.Table.{Table}
 use Rattle.vt_part.specs.declared.bad.PartBad.TheVariants as part_bad
 use Rattle.vt_part.specs.declared.layout.ArenaRegion.{ArenaRegion}
 use Rattle.vt_part.specs.declared.part.Part.{Part}
 use Rattle.vt_core.specs.declared.devices.Devices.{Devices}
 use Rattle.vt_core.specs.Files.{PerDevice, all_of}
-use Rattle.vt_core.specs.Mounting.{IsLogOf, IsLogRead, IsSetupOf, KeepsLimits, devices_in, tables_in}
+use Rattle.vt_core.specs.Mounting.{IsLogRead, devices_in, tables_in}
 use Rattle.vt_core.specs.Opening.{AreHeld, IsLogFound, IsMountOf, with_log}
-use Rattle.vt_core.specs.Refusals.{CountsRefusal, IsRefused, PassesOrRefuses, told_of_log}
+use Rattle.vt_core.specs.Refusals.{CountsRefusal, PassesOrRefuses, told_of_log}
 use Rattle.vt_core.proofs.Held.{hold_still}
-use Rattle.vt_core.proofs.Mounted.{all_map}
 use Rattle.vt_core.proofs.Refused.{counts_more}
 use Rattle.vt_core.proofs.Returned.{held_mount}
-use Rattle.std.proofs.lemmas.List.{map-append}
+use Rattle.std.proofs.lemmas.List.{map-append, length-map}
 
 pub names_same : {D : Type 0} (parts : List (Part D)) → names_of parts ≡ map (λ t. t.name) (tables_of parts)
 names_same [] = refl
@@ -184,8 +182,9 @@ pub log_given : {D : Type 0} (score : List ℕ → List ℕ) (disk : DiskOf D) (
     → ((g : History) (base : ℕ) → IsTrue disk.tells → AreDistinct (names_of parts) → IsLog score (layout_of (tables_of parts)) (map disk.bytes (disks_of parts)) g base
     → IsSoundLog score disk log g × (log.base ≡ base) × (log.durable ≡ length g))
     → HoldTheSame disk (disks_of parts) log.disks → All (IsSynced disk) log.disks → map disk.faults log.disks ≡ map disk.faults (disks_of parts)
+    → (IsTrue disk.tells → sum_by disk.calls log.disks ≤ sum_by disk.calls (disks_of parts) + length parts + 2 * arena_count (tables_of parts))
     → IsLogFound score disk (disks_of parts) sections filter log
-log_given score disk parts sections filter log whole mounted layout same few fields read by_ found held settled faults =
+log_given score disk parts sections filter log whole mounted layout same few fields read by_ found held settled faults most =
     let read_it : IsLogRead disk (tables_of parts) (with_log (disks_of parts) sections filter) log = record {
       fields = fields;
       read = read;
@@ -202,4 +201,5 @@ log_given score disk parts sections filter log whole mounted layout same few fie
       held = held;
       settled = settled;
       faults = faults;
+      calls = λ tells. omega (arith, most tells, length-map parts (λ part. disk_of part), ap (λ (t : List Table). arena_count t) same);
     }

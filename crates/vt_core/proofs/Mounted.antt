@@ -1,5 +1,5 @@
 -- The store that is found.
-use Rattle.std.proofs.Common.{◌≡◌, ◌⊎◌, ⊎_elim, inl, inr, ◌<◌, ◌≤◌, ◌+◌, ◌^◌, ℕ, zero, suc, true, false, List, [], ◌∷◌, ◌++◌, length, map, take, Option, Some, None, Ok, Err, refl, sym, ◌∙◌, ap, subst, arith, append_assoc}
+use Rattle.std.proofs.Common.{◌≡◌, ◌⊎◌, ⊎_elim, ◌<◌, ◌≤◌, ◌^◌, ℕ, true, false, List, [], ◌∷◌, ◌++◌, length, map, take, Option, Some, None, Ok, refl, sym, ◌∙◌, ap, subst, arith}
 use Rattle.std.specs.Prelude.{slice_get, IsTrue, IsSome, is_some, sum, ⊤, replicate}
 use Rattle.std.specs.List.{All, AllByRecursion, AllZip}
 use Rattle.std.specs.Option.{MatchOption, option_to_list}
@@ -8,38 +8,35 @@ use Rattle.std.proofs.lemmas.List.Elements.{All-from_recursion}
 use Rattle.std.proofs.lemmas.Option.{same_Some}
 use Rattle.vt_bloom.specs.Bits.{Filter, HasBitsOf}
 use Rattle.vt_bloom.specs.Bloom.{BloomState}
-use Rattle.vt_bloom.specs.Frame.{Saved, HasSaved, Covers}
+use Rattle.vt_bloom.specs.Frame.{Covers}
 use Rattle.vt_bloom.specs.Laws.{HasOneSaved}
 use Rattle.vt_disk.specs.Calls.{IsSynced}
 use Rattle.vt_disk.specs.Members.{DiskOf}
 use Rattle.vt_isect.specs.Layout.{buckets_in}
 use Rattle.vt_isect.specs.Section.{SectionState}
-use Rattle.vt_log.specs.Answers.{HoldTheSame}
 use Rattle.vt_log.specs.Log.{LogState, IsMounted}
-use Rattle.vt_log.specs.Logs.{IsLog, arena_count}
 use Rattle.vt_log.specs.Sound.{IsSound as IsSoundLog}
 use Rattle.vt_model.specs.History.{History, Accepted}
 use Rattle.vt_model.specs.Legal.{IsLegal}
-use Rattle.vt_model.specs.Places.{Setup, bucket_count}
+use Rattle.vt_model.specs.Places.{Setup}
 use Rattle.vt_part.specs.Layout.{layout_of}
 use Rattle.vt_part.specs.Table.{Table, IsPartition}
 use Rattle.vt_part.specs.declared.layout.ArenaRegion.{ArenaRegion}
 use Rattle.vt_shard.specs.Shard.{ShardState}
 use Rattle.vt_shard.specs.Sound.{IsSoundFrom}
-use Rattle.vt_core.specs.declared.TheConstants.{MOST_ARENAS, MOST_BUCKETS}
+use Rattle.vt_core.specs.declared.TheConstants.{MOST_BUCKETS}
 use Rattle.vt_core.specs.Core.{CoreState, setup_of, devices_of, stops_of}
 use Rattle.vt_core.specs.Files.{PerDevice, all_of}
-use Rattle.vt_core.specs.Mounting.{IsFresh, IsHeadRead, IsLogOf, IsLogRead, IsMarkRead, IsReadAs, IsSetupOf, KeepsLimits, Mounts, Recalls}
-use Rattle.vt_core.specs.Opening.{IsFilterOpened, IsLogFound, IsOpened, IsShardMade, OpensFilter, TestsParts, buckets_in_each, with_log}
-use Rattle.vt_core.specs.Recalling.{AreReadBack, ReadsBack, ReadsLogBack, opened, Recalls as RecallsFrom}
+use Rattle.vt_core.specs.Mounting.{IsFresh, IsHeadRead, IsLogOf, IsLogRead, IsMarkRead, IsReadAs, IsSetupOf, KeepsLimits, Mounts, Recalls, AreCovered, ReadsEntriesOnce}
+use Rattle.vt_core.specs.Opening.{IsFilterOpened, IsLogFound, IsOpened, IsShardMade, OpensFilter, TestsParts, with_log}
+use Rattle.vt_core.specs.Recalling.{ReadsBack, ReadsLogBack, opened, Recalls as RecallsFrom}
 use Rattle.vt_core.specs.Sound.{IsSound, IsSoundFilter}
-use Rattle.vt_core.specs.Stands.{ArePartitions, FilterStandsFor, scores_of}
+use Rattle.vt_core.specs.Stands.{FilterStandsFor, scores_of}
 use Rattle.vt_core.specs.Whole.{IsWhole}
 use Rattle.vt_core.proofs.Beside.{all_at, all_from, by_recursion, of_store, sound_shard}
-use Rattle.vt_core.proofs.Chains.{chain, chain_head, chain_buckets, chain_name, chain_size, chain_room, filter_opened, made_faults, many_shards, room_buckets, same_buckets, shard_sizes, unused_at, whole, IsChain}
-use Rattle.vt_core.proofs.Lists.{at_map, beside, same_lists, only_one}
+use Rattle.vt_core.proofs.Chains.{chain, chain_head, chain_buckets, filter_opened, made_faults, many_shards, room_buckets, same_buckets, shard_sizes, whole, IsChain}
+use Rattle.vt_core.proofs.Lists.{at_map, beside, only_one}
 use Rattle.vt_core.proofs.Standing.{held_bytes, held_many}
-use Rattle.vt_core.proofs.Zips.{zip_beside, zip_implies, zip_length, zip_same, zip_map}
 use Rattle.vt_log.specs.Faults.{IsMountedBy}
 
 -- ---- something of each device
@@ -103,6 +100,7 @@ module _ {D : Type 0} (score : List ℕ → List ℕ) (disk : DiskOf D) (devices
     (filter : Option D) (bloom : Option (BloomState D)) (filter_opens : OpensFilter disk filter bloom bits) (part : ℕ) (tests : TestsParts {U = ⊤} part sections bloom log.durable (Ok tt))
     (before : List D) (given : IsLogFound score disk before devices filter log) (short : All (λ r. r.region.len ≤ 2 ^ 30) (layout_of log.tables))
     (marks : (i : ℕ) (s : ShardState D) → slice_get made i ≡ Some s → least ≤ s.section.head.mark) (filter_mark : MatchOption bloom (least ≡ 0) (λ b. least ≤ b.mark))
+    (greatest : (n : ℕ) → AreCovered made bloom n → n ≤ least)
     (all : ReadsLogBack {U = Unit {0}} score disk least part (Ok tt) (opened log made bits) (opened log1 shards bits1))
     (sessions : ℕ) (many_sessions : sessions < 2 ^ 32) (some_arena : 0 < length log.layout) (some_section : 0 < length devices) (few_sections : length devices < 2 ^ 32) where
   abbrev back : ReadsBack score disk (opened log made bits) (opened log1 shards bits1)
@@ -164,6 +162,19 @@ module _ {D : Type 0} (score : List ℕ → List ℕ) (disk : DiskOf D) (devices
       let last : map f (log.disks ++ s0 ++ b0) ≡ map f (before ++ devices ++ b0) = all_map f log.disks before s0 devices b0 b0 given.faults (made_faults score disk devices sections made lumps clean opens makes) refl in
       let mid : map f (log1.disks ++ s1) ++ map f b1 ≡ map f (log.disks ++ s0) ++ map f b0 = cc in
       left ∙ mid ∙ sym right ∙ last
+
+  -- ---- which entries were read
+
+  reads_once : ReadsEntriesOnce disk log.tables pd k
+  reads_once n tells covered =
+      let low : n ≤ least = greatest n (record {
+        shards_are = λ i s at.
+            let after = beside shards made i s (sym back.many) at in
+            omega (arith, covered.shards_are i after.0 after.1, ap (λ h. h.mark) (back.shards i s after.0 at after.1).head);
+        filter_is = covered.filter_is;
+      }) in
+      let same : log1.durable ≡ log.durable = ap (λ (l : LogState D). l.durable) back.log in
+      omega (arith, all.calls tells, given.calls tells, low, same)
 
   -- ---- what it has of the heads
 
@@ -346,5 +357,6 @@ module _ {D : Type 0} (score : List ℕ → List ℕ) (disk : DiskOf D) (devices
   mounts prefix none_lacks base_is_free legal_prefix legal_base one = record {
     recalls = λ c h g base tells of. recalls tells prefix none_lacks base_is_free legal_prefix legal_base one c h g base of;
     fresh = is_fresh;
+    calls = reads_once;
     faults_are = faults_are;
   }

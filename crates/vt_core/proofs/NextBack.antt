@@ -1,11 +1,9 @@
 -- The block that comes next on the way back through a log.
-use Rattle.std.proofs.Common.{◌≡◌, ◌≢◌, ◌⊎◌, ⊎_elim, inl, inr, ℕ, zero, suc, ◌+◌, ◌<◌, ◌≤◌, List, [], ◌∷◌, length, map, take, Option, Some, None, refl, sym, ◌∙◌, ap, subst, arith}
-use Rattle.std.specs.Prelude.{slice_get, sum_by, IsTrue, IfErr, MatchResult, MatchOption, MatchBool, ⊤, Result, Ok, Err}
+use Rattle.std.proofs.Common.{◌≡◌, ◌≢◌, ⊎_elim, inr, ℕ, zero, suc, ◌+◌, ◌<◌, ◌≤◌, List, [], ◌∷◌, length, take, Option, Some, refl, sym, ◌∙◌, ap, subst, arith}
+use Rattle.std.specs.Prelude.{slice_get, sum_by, IsTrue, IfErr, MatchResult, MatchOption, Result, Ok, Err}
 use Rattle.std.proofs.lemmas.List.Sums.{sum_by-cons}
 use Rattle.std.proofs.lemmas.Option.{same_Some}
-use Rattle.vt_base.specs.Faults.{TellsFault}
-use Rattle.vt_base.specs.declared.mount.MountBad.{MountBad}
-use Rattle.vt_base.specs.declared.mount.MountBad.TheVariants.{Damaged as MountDamaged, Fault as MountFault}
+use Rattle.vt_base.specs.declared.mount.MountBad.TheVariants.{Damaged as MountDamaged}
 use Rattle.vt_base.specs.declared.place.Info.{Info}
 use Rattle.vt_base.specs.declared.place.Place.{Place}
 use Rattle.vt_base.specs.declared.why.FieldValue.{FieldValue}
@@ -23,8 +21,7 @@ use Rattle.vt_log.specs.Log.{LogState}
 use Rattle.vt_log.specs.Sound.{IsAt, IsSound as IsSoundLog}
 use Rattle.vt_model.specs.History.{History}
 use Rattle.vt_part.specs.declared.layout.ArenaRegion.{ArenaRegion}
-use Rattle.vt_core.specs.Recalling.{CountsMount, IsDamagedIn}
-use Rattle.vt_core.specs.Refusals.{CountsRefusal}
+use Rattle.vt_core.specs.Recalling.{IsDamagedIn}
 use Rattle.vt_core.specs.TakingBack.{GivesNext, StandsOnDisks, TellsOfLog}
 use Rattle.vt_core.proofs.AddWork.{at_place}
 use Rattle.vt_core.proofs.Calls.{within_get}

@@ -1,7 +1,7 @@
 -- What opening the sections and the filter leaves of their devices.
-use Rattle.std.proofs.Common.{◌≡◌, ◌≢◌, ◌⊎◌, ⊎_elim, inl, inr, ◌<◌, ◌≤◌, ◌+◌, ℕ, zero, suc, Bool, true, false, List, [], ◌∷◌, ◌++◌, length, map, reverse, take, drop, Option, Some, None, refl, sym, ◌∙◌, ap, subst, arith}
-use Rattle.std.specs.Prelude.{slice_get, IsTrue, MatchBool}
-use Rattle.std.specs.List.{All, AllZip}
+use Rattle.std.proofs.Common.{◌≡◌, ℕ, suc, Bool, true, false, List, [], ◌∷◌, ◌++◌, length, map, reverse, take, drop, Option, Some, None, refl, sym, ◌∙◌, ap, subst, arith}
+use Rattle.std.specs.Prelude.{slice_get, MatchBool}
+use Rattle.std.specs.List.{AllZip}
 use Rattle.std.proofs.lemmas.List.{append-nil, drop_all, map-append, reverse-append, reverse-reverse, take_all}
 use Rattle.vt_base.specs.Faults.{HasRisen}
 use Rattle.vt_bloom.specs.declared.bad.BloomBad.{BloomBad}
@@ -16,9 +16,8 @@ use Rattle.vt_isect.specs.Section.{SectionState}
 use Rattle.vt_log.specs.Answers.{HoldTheSame}
 use Rattle.vt_log.specs.Faults.{OneHasRisen}
 use Rattle.vt_shard.specs.Shard.{ShardState}
-use Rattle.vt_core.specs.Opening.{CanBeOpened, IsOpened, IsShardMade}
-use Rattle.vt_core.specs.Refusals.{CountsRefusal, SectionIsRefused, told_of_filter, told_of_section}
-use Rattle.vt_core.proofs.Beside.{all_at}
+use Rattle.vt_core.specs.Opening.{IsOpened, IsShardMade}
+use Rattle.vt_core.specs.Refusals.{CountsRefusal, told_of_filter, told_of_section}
 use Rattle.vt_core.proofs.Held.{IsHeld, held_reads, held_still, hold_zip, risen_first, risen_right}
 use Rattle.vt_core.proofs.Opened.{IsSplitAt, split_at}
 use Rattle.vt_core.proofs.Zips.{zip_append, zip_implies, zip_length, zip_map, zip_same, zip_self}

@@ -1,7 +1,7 @@
 -- An entry that is put back into its shard, and the steps by which a block is taken back.
-use Rattle.std.proofs.Common.{◌≡◌, ◌≢◌, ◌⊎◌, ⊎_elim, inl, inr, ℕ, ◌+◌, ◌-◌, ◌<◌, ◌≤◌, List, [], ◌∷◌, ◌++◌, length, get_or, Option, Some, None, Bool, true, false, refl, sym, ◌∙◌, ap, subst, arith, zero, suc}
-use Rattle.std.specs.Prelude.{slice_get, slice_index_or, IsTrue, IfOk, IfErr, MatchResult, OnOk, ⊤, Result, Ok, Err}
-use Rattle.std.specs.List.{AllPairs, Contains}
+use Rattle.std.proofs.Common.{◌≡◌, ◌≢◌, ◌⊎◌, ⊎_elim, inl, inr, ℕ, ◌+◌, ◌<◌, ◌≤◌, List, [], ◌∷◌, ◌++◌, length, get_or, true, false, refl, sym, ◌∙◌, ap, subst, arith, zero, suc}
+use Rattle.std.specs.Prelude.{slice_index_or, IsTrue, IfOk, IfErr, MatchResult, ⊤, Result, Ok, Err}
+use Rattle.std.specs.List.{Contains}
 use Rattle.std.proofs.lemmas.List.Elements.{Contains-push_cases}
 use Rattle.std.proofs.lemmas.List.Quantifiers.{all_pairs_push}
 use Rattle.vt_base.specs.declared.mount.MountBad.{MountBad}
@@ -30,7 +30,7 @@ use Rattle.vt_shard.specs.declared.TheConstants.{ROOM}
 use Rattle.vt_core.specs.Recalling.{FitsBuckets, IsQuiet, IsReadBack, KeepsSection}
 use Rattle.vt_core.specs.Refusals.{told_of_shard}
 use Rattle.vt_core.specs.TakingBack.{CountsShard, FaultOrDamage, HasEntries, HasNoRoomFor, IsCrowdedWith, IsOwnCrowd, IsSoundAt, IsUnwritten, LacksKey, LooksForEntry, PutsBack, TakesBack, WritesBack}
-use Rattle.vt_core.proofs.TakingBack.{bucket_cases, counts_looked, entries_stay, keeps_none, keeps_then, lacks_stays, look_cause, look_tells, looks_dirty, looks_keep, looks_quiet, looks_read_back, unwritten_after}
+use Rattle.vt_core.proofs.TakingBack.{bucket_cases, counts_looked, entries_stay, keeps_none, keeps_then, lacks_stays, look_cause, look_tells, looks_dirty, looks_keep, looks_read_back, unwritten_after}
 
 -- a shard with one more dirty entry
 abbrev pub with_dirty : {D : Type 0} → Info → ShardState D → ShardState D

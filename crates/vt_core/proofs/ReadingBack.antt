@@ -1,6 +1,6 @@
 -- A log that is read back, block by block.
-use Rattle.std.proofs.Common.{◌≡◌, ◌≢◌, ◌⊎◌, ⊎_elim, inl, inr, ℕ, zero, suc, ◌+◌, ◌-◌, ◌<◌, ◌≤◌, List, [], ◌∷◌, ◌++◌, length, map, take, Option, Some, None, refl, sym, ◌∙◌, ap, subst, arith}
-use Rattle.std.specs.Prelude.{slice_get, min, sum_by, IsTrue, IfErr, MatchResult, OnOk, ⊤, Result, Ok, Err}
+use Rattle.std.proofs.Common.{◌≡◌, ◌≢◌, ◌⊎◌, ⊎_elim, inl, inr, ℕ, ◌+◌, ◌-◌, ◌<◌, ◌≤◌, List, [], ◌++◌, length, map, take, Some, None, refl, sym, ◌∙◌, ap, subst, arith}
+use Rattle.std.specs.Prelude.{slice_get, min, sum_by, IsTrue, OnOk, ⊤, Result, Ok, Err}
 use Rattle.std.specs.List.{All, AllPairs, Contains}
 use Rattle.std.proofs.lemmas.List.{length-map, map-append}
 use Rattle.std.proofs.lemmas.Option.{same_Some}
@@ -18,7 +18,7 @@ use Rattle.vt_icache.specs.Index.{entry_of}
 use Rattle.vt_isect.specs.Agreement.{IsEntryOf}
 use Rattle.vt_bucket.specs.Frame.{IsFrame}
 use Rattle.vt_disk.specs.declared.region.Region.{Region}
-use Rattle.vt_isect.specs.Layout.{IsPlaceOf, InRange}
+use Rattle.vt_isect.specs.Layout.{IsPlaceOf}
 use Rattle.vt_isect.specs.declared.TheConstants.{FRAME_LEN}
 use Rattle.vt_twin.specs.Frames.{current_frame}
 use Rattle.vt_isect.specs.declared.head.Head.{Head}
@@ -31,14 +31,13 @@ use Rattle.vt_log.specs.Whole.{IsOnDisk, IsWhole as IsWholeLog}
 use Rattle.vt_model.specs.History.{Accepted, History}
 use Rattle.vt_arena.specs.Places.{block_room}
 use Rattle.vt_model.specs.Places.{Setup, lengths_in}
-use Rattle.vt_part.specs.declared.layout.ArenaRegion.{ArenaRegion}
-use Rattle.vt_shard.specs.Shard.{ShardState, ReadBucket}
+use Rattle.vt_shard.specs.Shard.{ShardState}
 use Rattle.vt_shard.specs.Sound.{IsSoundFrom}
 use Rattle.vt_core.specs.Mounting.{LacksMany}
-use Rattle.vt_core.specs.Recalling.{AreReadBack, CountsMount, EndsEarly, FitsBuckets, IsDamagedIn, IsReadBack, IsUnused, KeepsBytes, KeepsSection, Opened, ReadsBack, ReadsLogBack, Recalls, devices_in, opened}
+use Rattle.vt_core.specs.Recalling.{AreReadBack, IsDamagedIn, IsUnused, KeepsBytes, KeepsSection, Opened, ReadsBack, ReadsLogBack, Recalls, devices_in, opened}
 use Rattle.vt_core.specs.Refusals.{CountsRefusal}
 use Rattle.vt_core.specs.Stands.{IsLive, SectionStandsFor, buckets_of}
-use Rattle.vt_core.specs.TakingBack.{FaultOrDamage, GivesNext, HasEntries, IsCrowdedWith, IsSoundAt, IsUnwritten, StandsOnDisks, TakesAllBack, TellsOfLog}
+use Rattle.vt_core.specs.TakingBack.{GivesNext, HasEntries, IsSoundAt, IsUnwritten, StandsOnDisks, TakesAllBack, TellsOfLog}
 use Rattle.vt_core.proofs.AddWork.{AreMarked, HaveRanges, MarkedStay}
 use Rattle.vt_core.proofs.Calls.{at_slice, map_then, risen_behind, risen_front, within_get}
 use Rattle.vt_core.proofs.Lacking.{OneHead, lacks_many}
@@ -131,6 +130,28 @@ pub record IsReading {D : Type 0} (score : List ℕ → List ℕ) (disk : DiskOf
 -- a log that was just found has no queue
 pub no_queued : {D : Type 0} (l : LogState D) → IsMounted l → queued l ≡ 0
 no_queued l it = ap (λ (q : QueueState). length q.places) it.queue
+
+-- One call of the log's disks was made for each block that was read back, and none of a block below this number.
+pub record ReadsEachOnce {D : Type 0} (disk : DiskOf D) (least : ℕ) (old now : Opened D) (t : TailState) : Type 0 where
+  pub calls : IsTrue disk.tells → sum_by disk.calls now.log.disks + t.left ≤ sum_by disk.calls old.log.disks + old.log.durable
+  pub far : (least ≤ t.left) ⊎ (t.left ≡ old.log.durable)
+
+pub begin_once : {D : Type 0} (disk : DiskOf D) (least : ℕ) (old : Opened D) (t : TailState) → IsMounted old.log → t.left ≡ front old.log → ReadsEachOnce disk least old old t
+begin_once disk least old t mounted all =
+    let same : t.left ≡ old.log.durable = omega (arith, all, no_queued old.log mounted) in
+    record { calls = λ tells. omega (arith, same); far = inr same }
+
+pub once_more : {D : Type 0} (score : List ℕ → List ℕ) (disk : DiskOf D) (least : ℕ) (old now : Opened D) (t after : TailState) → ReadsEachOnce disk least old now t → (l : LogState D) (info : Info)
+    → GivesNext score disk (Ok info) now.log l t after → least < t.left → (shards : List (ShardState D)) (bits : Filter) → ReadsEachOnce disk least old (opened l shards bits) after
+once_more score disk least old now t after was l info next above shards bits = record {
+  calls = λ tells. omega (arith, was.calls tells, next.reads.calls tells, next.number.0, next.number.1);
+  far = inl (omega (arith, above, next.number.0, next.number.1));
+}
+
+once_ends : {D : Type 0} (disk : DiskOf D) (least : ℕ) (old now : Opened D) (t : TailState) → ReadsEachOnce disk least old now t → t.left ≤ least
+    → IsTrue disk.tells → sum_by disk.calls now.log.disks ≤ sum_by disk.calls old.log.disks + (old.log.durable - least)
+once_ends disk least old now t it far tells = ⊎_elim
+    (λ above. omega (arith, it.calls tells, above, far)) (λ none. omega (arith, it.calls tells, none)) it.far
 
 none_in : {X : Type 0} (x : X) → Contains [] x → ⊥
 none_in x has = omega (arith, has.1)
@@ -364,6 +385,7 @@ ends_in_shard {D} score disk old now t after was l info next bad least part shar
   reads = step_reads score disk old now t after was l info next (Err bad) part shards bits takes marks stay set;
   rest = tt;
   counts = counts;
+  calls = tt;
   ends_early = ⊎_elim
       (λ told. ⊎_elim (λ fault. inl fault) (λ it. inr (inl (Bucket it.0, it.1, it.2, it.3, it.4, it.5))) told)
       (λ crowd. let x = beside old.shards now.shards crowd.0 crowd.1 was.reads.many crowd.2 in
@@ -443,6 +465,7 @@ module _ {D : Type 0} (score : List ℕ → List ℕ) (disk : DiskOf D) (old now
     };
     rest = tt;
     counts = all_counts;
+    calls = tt;
     ends_early = ⊎_elim (λ e. inl e) (λ it. inr (inl (Clump it.0, it.1, it.2, it.3, it.4, damaged_before it.0.arena it.1 it.2 it.5))) tells_of;
   }
     where
@@ -455,8 +478,9 @@ module _ {D : Type 0} (score : List ℕ → List ℕ) (disk : DiskOf D) (old now
           (subst (λ (ys : List ℕ). CountsRefusal bad (map disk.faults now.log.disks ++ map f now.shards) ys) (sym (counts_all disk (opened l now.shards now.bits)))
           (counts_front bad (map disk.faults now.log.disks) (map disk.faults l.disks) (map f now.shards) counts))
 
-  pub ends_at_least : (done : ⊤) (least part : ℕ) → t.left ≤ least → LacksMore disk → ReadsLogBack score disk least part (Ok done) old now
-  ends_at_least done least part far more = record {
+  pub ends_at_least : (done : ⊤) (least part : ℕ) → t.left ≤ least → ReadsEachOnce disk least old now t → LacksMore disk → ReadsLogBack score disk least part (Ok done) old now
+  ends_at_least done least part far once more = record {
+    calls = once_ends disk least old now t once far;
     recalls = λ h tells sound. let it = was.recalls h tells sound in record {
       bits = λ i e above at. it.bits i e (omega (arith, far, above)) at;
       shards = λ i x y at there c first. more score c y h (length h) t.left least (it.shards i x y at there c first) far;

@@ -1,54 +1,32 @@
 -- Why a store isn't found, and what is handed back.
-use Rattle.std.proofs.Common.{◌≡◌, ◌≢◌, ◌⊎◌, ⊎_elim, inl, inr, ◌<◌, ◌≤◌, ◌+◌, ◌^◌, ℕ, zero, suc, List, [], ◌∷◌, ◌++◌, length, map, take, Option, Some, None, Ok, Err, refl, sym, ◌∙◌, ap, subst, arith, append_assoc}
-use Rattle.std.specs.Prelude.{slice_get, IsTrue, sum, sum_by, ⊤, slice_index}
-use Rattle.std.specs.List.{All, AllZip}
-use Rattle.std.specs.Option.{option_to_list, option_map}
-use Rattle.std.proofs.lemmas.List.{length-map, map-append, take_all}
+use Rattle.std.proofs.Common.{◌≡◌, ⊎_elim, inl, inr, ◌+◌, ℕ, List, ◌++◌, length, map, Option, Some, None, Err, refl, sym, ◌∙◌, ap, subst, arith}
+use Rattle.std.specs.Prelude.{slice_get, sum, sum_by, ⊤, slice_index}
+use Rattle.std.specs.List.{AllZip}
+use Rattle.std.specs.Option.{option_to_list}
+use Rattle.std.proofs.lemmas.List.{length-map}
 use Rattle.std.proofs.lemmas.Option.{same_Some}
-use Rattle.vt_arena.specs.Heads.{clumps_in, fields_of, used_in}
-use Rattle.vt_arena.specs.declared.head.Found.{Found}
-use Rattle.vt_base.specs.Damage.{Differ}
+use Rattle.vt_arena.specs.Heads.{clumps_in}
 use Rattle.vt_base.specs.declared.mount.MountBad.{MountBad}
-use Rattle.vt_base.specs.declared.mount.MountBad.TheVariants.{Fault, NotFormatted, TooSmall, DuplicateName, Disagree, Damaged, NoMemory}
-use Rattle.vt_base.specs.declared.mount.MountField.TheVariants.{Crowd, Buckets, Mark}
-use Rattle.vt_base.specs.declared.why.FieldValue.{FieldValue}
-use Rattle.vt_base.specs.declared.why.Site.{Site}
-use Rattle.vt_base.specs.declared.why.Site.TheVariants.{Clump, Bucket}
+use Rattle.vt_base.specs.declared.mount.MountBad.TheVariants.{Disagree}
+use Rattle.vt_base.specs.declared.mount.MountField.TheVariants.{Buckets, Mark}
 use Rattle.vt_bloom.specs.Bits.{Filter}
 use Rattle.vt_bloom.specs.Bloom.{BloomState}
-use Rattle.vt_disk.specs.Calls.{IsSynced}
 use Rattle.vt_disk.specs.Members.{DiskOf}
 use Rattle.vt_isect.specs.Section.{SectionState}
 use Rattle.vt_log.specs.Answers.{HoldTheSame}
-use Rattle.vt_log.specs.Faults.{OneHasRisen}
 use Rattle.vt_log.specs.Log.{LogState}
-use Rattle.vt_log.specs.Logs.{IsLog}
-use Rattle.vt_model.specs.History.{History}
-use Rattle.vt_model.specs.Legal.{IsLegal}
-use Rattle.vt_model.specs.Places.{Setup, bucket_count, crowd, first_bucket}
-use Rattle.vt_model.specs.declared.TheConstants.{BUCKET_ROOM}
-use Rattle.vt_part.specs.Layout.{layout_of}
+use Rattle.vt_model.specs.Places.{Setup, bucket_count, first_bucket}
 use Rattle.vt_part.specs.Table.{Table}
-use Rattle.vt_part.specs.declared.layout.ArenaRegion.{ArenaRegion}
-use Rattle.vt_shard.specs.Shard.{ShardState}
-use Rattle.vt_shard.specs.Sound.{IsSoundFrom, LeavesLive}
 use Rattle.vt_core.specs.declared.devices.Devices.{Devices}
-use Rattle.vt_core.specs.Core.{CoreState}
 use Rattle.vt_core.specs.Files.{PerDevice, all_of}
-use Rattle.vt_core.specs.Mounting.{IsHeadRead, IsLogOf, IsReadAs, IsSetupOf, LacksMany, LeavesStanding, devices_in, tables_in, IsMarkRead}
-use Rattle.vt_core.specs.Opening.{AreHeld, IsFilterOpened, IsLogFound, IsMountOf, IsOpened, IsShardMade, OpensFilter, RefusesBeside, TestsParts, buckets_in_each, with_log, IsMarkOf, wrong_at}
-use Rattle.vt_core.specs.Recalling.{CountsMount, EndsEarly, IsCrowdedIn, IsDamagedAt, IsDamagedIn, ReadsLogBack, opened}
-use Rattle.vt_core.specs.Refusals.{BucketIsCrowded, CountsRefusal, IsDamageAt, IsEarly, IsFoundDamaged, IsRefused, PassesLimits, Refuses, FilterIsRefused, HasMark, IsFirstPast, SectionIsRefused, first_wrong, section_part, wrong_head}
-use Rattle.vt_core.specs.Stands.{IsLive, SectionStandsFor, buckets_of}
-use Rattle.vt_core.proofs.Beside.{IsOfStore, of_store, sound_shard}
-use Rattle.vt_core.proofs.Chains.{IsChain, chain, chain_head, chain_buckets, chain_size, many_made, many_shards}
-use Rattle.vt_core.proofs.Combined.{FilesAgree, section_stands}
-use Rattle.vt_core.proofs.Fields.{clumps_are, clumps_at, short_regions, used_at}
+use Rattle.vt_core.specs.Mounting.{IsHeadRead, IsSetupOf, devices_in, tables_in, IsMarkRead}
+use Rattle.vt_core.specs.Opening.{IsLogFound, IsOpened, OpensFilter, RefusesBeside, TestsParts, buckets_in_each, with_log, IsMarkOf, wrong_at}
+use Rattle.vt_core.specs.Refusals.{CountsRefusal, IsEarly, IsRefused, Refuses, FilterIsRefused, HasMark, IsFirstPast, SectionIsRefused, first_wrong, section_part, wrong_head}
+use Rattle.vt_core.specs.Stands.{buckets_of}
+use Rattle.vt_core.proofs.Fields.{clumps_are}
 use Rattle.vt_core.proofs.Held.{counts_in, risen_left, risen_right}
 use Rattle.vt_core.proofs.Lists.{at_map, beside, same_lists, index_map}
-use Rattle.vt_core.proofs.Mounted.{ReadsPrefix, all_map, filter_same}
-use Rattle.vt_core.proofs.Standing.{held_bytes, held_many, held_twice, leaves_held, leaves_read}
-use Rattle.vt_core.proofs.Zips.{zip_at, zip_beside, zip_length, zip_other}
+use Rattle.vt_core.proofs.Zips.{zip_beside, zip_length}
 use Rattle.vt_isect.specs.Layout.{buckets_in}
 
 -- ---- what is handed back

@@ -1,7 +1,7 @@
 -- What is handed back where sections, filter and shards stand already.
-use Rattle.std.proofs.Common.{◌≡◌, ◌⊎◌, ⊎_elim, inl, inr, ◌<◌, ◌≤◌, ◌+◌, ◌^◌, ℕ, zero, suc, List, [], ◌∷◌, ◌++◌, length, map, take, Option, Some, None, Ok, Err, refl, sym, ◌∙◌, ap, subst, arith, append_assoc}
-use Rattle.std.specs.Prelude.{slice_get, IsTrue, IfErr, IfOk, sum, ⊤}
-use Rattle.std.specs.List.{All, AllZip}
+use Rattle.std.proofs.Common.{◌≡◌, ◌⊎◌, ⊎_elim, inl, inr, ◌≤◌, ◌+◌, ℕ, List, [], ◌∷◌, ◌++◌, length, map, take, Option, Some, None, Ok, Err, refl, sym, ◌∙◌, ap, subst, arith, append_assoc}
+use Rattle.std.specs.Prelude.{slice_get, IsTrue}
+use Rattle.std.specs.List.{AllZip}
 use Rattle.std.specs.Option.{option_to_list, option_map}
 use Rattle.std.proofs.lemmas.List.{length-map, map-append, take_all}
 use Rattle.std.proofs.lemmas.Option.{same_Some}
@@ -10,7 +10,7 @@ use Rattle.vt_arena.specs.Directory.{first_bad as first_bad_entry, last_entry}
 use Rattle.vt_arena.specs.declared.bad.BackBad.TheVariants as back_bad
 use Rattle.vt_arena.specs.declared.head.Found.{Found}
 use Rattle.vt_base.specs.declared.mount.MountBad.{MountBad}
-use Rattle.vt_base.specs.declared.mount.MountBad.TheVariants.{Fault, NotFormatted, TooSmall, DuplicateName, Disagree, Damaged, NoMemory}
+use Rattle.vt_base.specs.declared.mount.MountBad.TheVariants.{Fault, Disagree, NoMemory}
 use Rattle.vt_base.specs.declared.mount.MountField.TheVariants.{Crowd}
 use Rattle.vt_base.specs.declared.why.FieldValue.{FieldValue}
 use Rattle.vt_base.specs.declared.why.Site.{Site}
@@ -19,11 +19,9 @@ use Rattle.vt_bloom.specs.Bits.{Filter}
 use Rattle.vt_bloom.specs.Bloom.{BloomState}
 use Rattle.vt_disk.specs.Calls.{IsSynced}
 use Rattle.vt_disk.specs.Members.{DiskOf}
-use Rattle.vt_isect.specs.declared.head.Head.{Head}
 use Rattle.vt_isect.specs.Section.{SectionState}
 use Rattle.vt_log.specs.Answers.{HoldTheSame}
 use Rattle.vt_log.specs.Log.{LogState}
-use Rattle.vt_log.specs.Logs.{IsLog}
 use Rattle.vt_log.specs.Sound.{IsSound as IsSoundLog}
 use Rattle.vt_model.specs.History.{History}
 use Rattle.vt_model.specs.Places.{Setup, bucket_count, crowd}
@@ -36,20 +34,20 @@ use Rattle.vt_core.specs.declared.devices.Devices.{Devices}
 use Rattle.vt_core.specs.Core.{CoreState, devices_of}
 use Rattle.vt_core.specs.Files.{PerDevice, all_of}
 use Rattle.vt_core.specs.Mounting.{IsLogOf, IsReadAs, IsSetupOf, KeepsLimits, LacksMany, LeavesStanding, Mounts, devices_in, tables_in}
-use Rattle.vt_core.specs.Opening.{AgreeWith, AreHeld, IsFilterOpened, IsLogFound, IsMountOf, IsOpened, IsShardMade, OpensFilter, RefusesBeside, with_log}
+use Rattle.vt_core.specs.Opening.{AgreeWith, AreHeld, IsLogFound, IsMountOf, IsOpened, IsShardMade, OpensFilter, RefusesBeside, with_log}
 use Rattle.vt_core.specs.Recalling.{EndsEarly, IsCrowdedIn, IsDamagedAt, IsDamagedIn, ReadsBack, ReadsLogBack, KeepsBytes, Recalls as RecallsFrom, opened}
-use Rattle.vt_core.specs.Refusals.{CountsRefusal, IsDamageAt, IsDamagedEntry, IsEarly, IsRefused, Refuses, BucketIsCrowded}
-use Rattle.vt_core.specs.Stands.{IsLive, SectionStandsFor, buckets_of}
+use Rattle.vt_core.specs.Refusals.{CountsRefusal, IsDamageAt, IsDamagedEntry, IsEarly, IsRefused, BucketIsCrowded}
+use Rattle.vt_core.specs.Stands.{IsLive, SectionStandsFor}
 use Rattle.vt_core.proofs.Beside.{IsOfStore, all_at, of_store, sound_shard}
-use Rattle.vt_core.proofs.Chains.{IsChain, chain, chain_head, chain_buckets, made_disks, made_faults, many_shards, shard_sizes}
+use Rattle.vt_core.proofs.Chains.{IsChain, chain, chain_head, chain_buckets, made_faults, many_shards, shard_sizes}
 use Rattle.vt_core.proofs.Combined.{FilesAgree, section_stands}
 use Rattle.vt_core.proofs.Fields.{clumps_at, short_regions, used_at}
 use Rattle.vt_core.proofs.Held.{IsHeld, held_reads, hold_still, hold_zip}
 use Rattle.vt_core.proofs.Lists.{at_map, beside}
 use Rattle.vt_core.proofs.Mounted.{LegalPrefix, ReadsPrefix, all_map, filter_same}
 use Rattle.vt_core.proofs.Refused.{beside_cause, counts_less, counts_more, refuses_back}
-use Rattle.vt_core.proofs.Standing.{held_bytes, held_many, held_twice, leaves_held, leaves_read}
-use Rattle.vt_core.proofs.Zips.{zip_at, zip_beside, zip_implies, zip_length, zip_map, zip_other, zip_same}
+use Rattle.vt_core.proofs.Standing.{held_bytes, held_many, leaves_held, leaves_read}
+use Rattle.vt_core.proofs.Zips.{zip_beside, zip_implies, zip_map, zip_same}
 
 pub list_map : {X Y : Type 0} (f : X → Y) (o : Option X) → option_to_list (option_map f o) ≡ map f (option_to_list o)
 list_map f None = refl

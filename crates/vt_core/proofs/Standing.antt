@@ -1,9 +1,7 @@
 -- What mounting leaves of devices that stand for a history.
-use Rattle.std.proofs.Common.{◌≡◌, ◌⊎◌, ⊎_elim, inl, inr, ◌<◌, ◌≤◌, ◌+◌, ℕ, List, [], ◌∷◌, length, map, take, min, Option, Some, None, refl, sym, ◌∙◌, ap, subst, arith}
+use Rattle.std.proofs.Common.{◌≡◌, ◌⊎◌, ⊎_elim, inl, ◌≤◌, ℕ, List, length, map, take, min, Some, sym, ◌∙◌, ap, subst, arith}
 use Rattle.std.specs.Prelude.{slice_get, IsTrue}
-use Rattle.std.specs.List.{All}
 use Rattle.std.proofs.lemmas.List.{length-map, take_all}
-use Rattle.std.proofs.lemmas.List.Elements.{All-get_or}
 use Rattle.std.proofs.lemmas.Option.{same_Some}
 use Rattle.vt_disk.specs.Calls.{IsSynced}
 use Rattle.vt_disk.specs.Members.{DiskOf}
@@ -14,12 +12,12 @@ use Rattle.vt_part.specs.Layout.{layout_of}
 use Rattle.vt_part.specs.Table.{Table}
 use Rattle.vt_isect.specs.Layout.{buckets_in}
 use Rattle.vt_log.specs.Answers.{HoldTheSame}
-use Rattle.vt_log.specs.Logs.{IsLog, StandsFor as LogStandsFor}
+use Rattle.vt_log.specs.Logs.{IsLog}
 use Rattle.vt_log.specs.Sound.{AreImages as AreImagesOf}
 use Rattle.vt_core.specs.Files.{PerDevice, Files, AreImages}
 use Rattle.vt_core.specs.Mounting.{AllStandFor, EachStands, IsLogOf, IsSetupOf, LacksMany, LeavesStanding}
 use Rattle.vt_core.specs.Opening.{AreHeld}
-use Rattle.vt_core.specs.Stands.{FilterStandsFor, SectionStandsFor, StandsFor, StandForPrefix}
+use Rattle.vt_core.specs.Stands.{FilterStandsFor, SectionStandsFor, StandsFor}
 use Rattle.vt_core.proofs.Lists.{at_map, beside, same_lists}
 
 -- ---- devices that hold what they held

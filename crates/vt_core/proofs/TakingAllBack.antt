@@ -1,24 +1,20 @@
 -- All shards, while a block is taken back.
-use Rattle.std.proofs.Common.{◌≡◌, ◌≢◌, ◌⊎◌, ⊎_elim, inl, inr, ℕ, zero, suc, ◌+◌, ◌<◌, ◌≤◌, List, [], ◌∷◌, length, map, Option, Some, None, refl, sym, ◌∙◌, ap, subst, arith}
-use Rattle.std.specs.Prelude.{slice_get, slice_set, slice_index, slice_index_or, IsTrue, IfErr, MatchResult, OnOk, ⊤, Result, Ok, Err}
+use Rattle.std.proofs.Common.{◌≡◌, ◌≢◌, ◌⊎◌, ⊎_elim, inl, inr, ℕ, zero, suc, ◌+◌, ◌<◌, ◌≤◌, List, [], ◌∷◌, length, map, Some, refl, sym, ◌∙◌, ap, subst, arith}
+use Rattle.std.specs.Prelude.{slice_get, slice_set, slice_index, slice_index_or, ⊤, Ok, Err}
 use Rattle.std.proofs.lemmas.Option.{same_Some}
-use Rattle.std.proofs.lemmas.List.{length-map}
 use Rattle.vt_base.specs.Faults.{HasRisen}
 use Rattle.vt_base.specs.declared.mount.MountBad.{MountBad}
 use Rattle.vt_base.specs.declared.mount.MountBad.TheVariants.{Fault, NotFormatted, TooSmall, DuplicateName, Disagree, Damaged, NoMemory}
 use Rattle.vt_base.specs.declared.place.Entry.{Entry}
 use Rattle.vt_base.specs.declared.place.Info.{Info}
-use Rattle.vt_bloom.specs.Bits.{Filter, HasBitsOf}
 use Rattle.vt_disk.specs.Members.{DiskOf}
-use Rattle.vt_model.specs.History.{History}
-use Rattle.vt_model.specs.Places.{Setup}
 use Rattle.vt_shard.specs.Shard.{ShardState}
 use Rattle.vt_shard.specs.Sound.{IsSoundFrom}
-use Rattle.vt_core.specs.Recalling.{AreReadBack, CountsMount, FitsBuckets, IsQuiet, IsReadBack, KeepsSection}
+use Rattle.vt_core.specs.Recalling.{KeepsSection}
 use Rattle.vt_core.specs.Refusals.{CountsRefusal}
-use Rattle.vt_core.specs.TakingBack.{CountsRose, CountsShard, FaultOrDamage, HasEntries, HasNoRoomFor, IsCrowdedWith, IsSoundAt, IsUnwritten, TakesAllBack, TakesBack}
+use Rattle.vt_core.specs.TakingBack.{CountsRose, CountsShard, HasEntries, HasNoRoomFor, IsSoundAt, IsUnwritten, TakesAllBack, TakesBack}
 use Rattle.vt_core.proofs.Calls.{get_set, get_other, length-set, within_get}
-use Rattle.vt_core.proofs.Lists.{at_map, beside, index_map}
+use Rattle.vt_core.proofs.Lists.{at_map, beside}
 use Rattle.vt_core.proofs.LogWork.{one_or_other}
 use Rattle.vt_core.proofs.PuttingBack.{LacksMore, less_unwritten}
 use Rattle.vt_core.proofs.ShardCall.{map_over_set, risen_set}

@@ -1,18 +1,15 @@
 -- A shard that is looked into while a log is read back.
-use Rattle.std.proofs.Common.{◌≡◌, ◌≢◌, ◌⊎◌, ⊎_elim, inl, inr, ℕ, ◌+◌, ◌-◌, ◌*◌, ◌<◌, ◌≤◌, List, [], ◌∷◌, length, Option, Some, None, Bool, true, false, refl, sym, ◌∙◌, ap, subst, arith}
-use Rattle.std.specs.Prelude.{slice_get, ⊤, IsTrue, IsSome, IfErr, IfOk, MatchResult, MatchOption, MatchBool, is_some, Result, Ok, Err}
+use Rattle.std.proofs.Common.{◌≡◌, ◌≢◌, ◌⊎◌, ⊎_elim, inl, inr, ℕ, ◌+◌, ◌-◌, ◌*◌, ◌≤◌, List, [], length, Option, Some, None, Bool, false, refl, sym, ◌∙◌, ap, subst}
+use Rattle.std.specs.Prelude.{⊤, IsTrue, IsSome, IfErr, IfOk, MatchResult, MatchOption, MatchBool, is_some, Result, Ok, Err}
 use Rattle.std.specs.List.{All, AllPairs, Contains}
 use Rattle.std.proofs.lemmas.Option.{same_Some}
-use Rattle.vt_base.specs.Damage.{Differ}
 use Rattle.vt_base.specs.Faults.{CountsFault}
 use Rattle.vt_base.specs.declared.key.Key.{Key}
 use Rattle.vt_base.specs.declared.mount.MountBad.{MountBad}
-use Rattle.vt_base.specs.declared.mount.MountBad.TheVariants.{Damaged as MountDamaged}
 use Rattle.vt_base.specs.declared.place.Entry.{Entry}
 use Rattle.vt_base.specs.declared.place.Info.{Info}
 use Rattle.vt_base.specs.declared.why.FieldValue.{FieldValue}
-use Rattle.vt_base.specs.declared.why.Site.TheVariants.{Bucket}
-use Rattle.vt_bloom.specs.Bits.{Filter, HasBitsOf}
+use Rattle.vt_bloom.specs.Bits.{Filter}
 use Rattle.vt_bucket.specs.declared.decoding.BucketBad.{BucketBad}
 use Rattle.vt_bucket.specs.declared.decoding.BucketBad.TheVariants as bucket_bad
 use Rattle.vt_bucket.specs.Laws.{IsUnambiguous}
@@ -20,25 +17,24 @@ use Rattle.vt_bucket.specs.Frame.{IsFrame}
 use Rattle.vt_disk.specs.Calls.{OnlyReads}
 use Rattle.vt_disk.specs.Members.{DiskOf}
 use Rattle.vt_disk.specs.declared.region.Region.{Region}
-use Rattle.vt_icache.specs.Index.{IndexState, after_look_up, dirty_info, entry_in}
+use Rattle.vt_icache.specs.Index.{IndexState, dirty_info, entry_in}
 use Rattle.vt_isect.specs.Faults.{NamesDamage, damage_of, is_fault}
 use Rattle.vt_isect.specs.Layout.{InRange, IsPlaceOf}
-use Rattle.vt_isect.specs.Merging.{HasKey, IsDamage, IsFaulty, IsOverfull}
+use Rattle.vt_isect.specs.Merging.{HasKey, IsDamage, IsFaulty}
 use Rattle.vt_isect.specs.Section.{SectionState, IsAtRest, IsChanging}
 use Rattle.vt_isect.specs.declared.TheConstants.{FRAME_LEN, HEAD_PLACE_LEN, BUCKET_PLACE_LEN}
 use Rattle.vt_isect.specs.declared.bad.ShardErr.{ShardErr}
 use Rattle.vt_isect.specs.declared.bad.ShardErr.TheVariants.{Fault, Damaged, Stopped}
 use Rattle.vt_isect.specs.declared.head.Head.{Head}
-use Rattle.vt_isect.specs.declared.phase.Phase.{Phase}
 use Rattle.vt_isect.specs.declared.phase.Phase.TheVariants.{Rest, ChangeBucket}
 use Rattle.vt_model.specs.History.{History}
 use Rattle.vt_model.specs.Places.{Setup, bucket_of}
-use Rattle.vt_shard.specs.Looking.{IsFrameAt, Looks, LooksUp, ReadsBucket, looked}
+use Rattle.vt_shard.specs.Looking.{Looks, LooksUp, ReadsBucket, looked}
 use Rattle.vt_shard.specs.Search.{HasKeyOf, IsFoundIn}
-use Rattle.vt_shard.specs.Shard.{ShardState, ReadBucket, HasRead, HasScore, bucket_at}
+use Rattle.vt_shard.specs.Shard.{ShardState, ReadBucket, HasScore, bucket_at}
 use Rattle.vt_shard.specs.Sound.{IsSoundFrom, IsSoundWithout, LooksSoundly}
 use Rattle.vt_twin.specs.Frames.{current_frame}
-use Rattle.vt_core.specs.Recalling.{IsDamagedBucket, IsQuiet, IsReadBack, KeepsSection}
+use Rattle.vt_core.specs.Recalling.{IsQuiet, IsReadBack, KeepsSection}
 use Rattle.vt_core.specs.Refusals.{told_of_shard}
 use Rattle.vt_core.specs.TakingBack.{CountsShard, FaultOrDamage, HasEntries, IsUnwritten, LacksKey, LooksForEntry, OnlyLooks}
 

@@ -1,5 +1,5 @@
 -- The tests of heads and marks, one after another.
-use Rattle.std.proofs.Common.{◌≡◌, ◌⊎◌, ⊎_elim, inl, inr, Option, None, Ok, Err, Result, ◌<◌, ◌≤◌, ◌+◌, ℕ, zero, suc, List, [], ◌∷◌, ◌++◌, length, map, take, get_or, Some, refl, sym, ◌∙◌, ap, subst, arith, add-one}
+use Rattle.std.proofs.Common.{◌≡◌, ◌⊎◌, ⊎_elim, inr, Option, None, Ok, Err, Result, ◌<◌, ◌≤◌, ◌+◌, ℕ, zero, suc, List, [], ◌∷◌, ◌++◌, length, take, get_or, Some, refl, sym, ◌∙◌, ap, subst, arith}
 use Rattle.std.specs.Prelude.{slice_get, sum, MatchResult}
 use Rattle.std.proofs.lemmas.List.Sums.{sum_by_more, sum_by_more_le}
 use Rattle.std.proofs.lemmas.Option.{get_or_from_slice_get, same_Some, slice_get_read, slice_get_within}
@@ -12,7 +12,6 @@ use Rattle.vt_isect.specs.Section.{SectionState}
 use Rattle.vt_model.specs.Places.{first_bucket}
 use Rattle.vt_core.specs.Opening.{TestsMarks, TestsParts, buckets_in_each, wrong_at}
 use Rattle.vt_core.specs.Refusals.{wrong_head}
-use Rattle.vt_core.proofs.Lists.{at_map}
 
 -- what was read at a place stands there
 pub read_at : {X : Type 0} (xs : List X) (i : ℕ) (x : X) → i < length xs → x ≡ get_or xs i x → slice_get xs i ≡ Some x

@@ -1,33 +1,25 @@
 -- A shard that writes all its dirty entries back, while a log is read back.
-use Rattle.std.proofs.Common.{◌≡◌, ◌≢◌, ◌⊎◌, ⊎_elim, inl, inr, ℕ, ◌+◌, ◌<◌, ◌≤◌, List, [], ◌∷◌, ◌++◌, length, Option, Some, None, refl, sym, ◌∙◌, ap, subst, arith}
-use Rattle.std.specs.Prelude.{slice_get, max, IsTrue, IsSome, IfErr, OnOk, ⊤, Result, Ok, Err}
+use Rattle.std.proofs.Common.{◌≡◌, ◌≢◌, ◌⊎◌, ⊎_elim, inl, inr, ℕ, ◌<◌, ◌≤◌, List, [], ◌∷◌, length, Option, Some, None, refl, sym, ◌∙◌, ap, subst, arith}
+use Rattle.std.specs.Prelude.{max, IsTrue, IsSome, ⊤, Result, Ok, Err}
 use Rattle.std.specs.List.{Contains}
-use Rattle.vt_base.specs.Faults.{CountsFault}
-use Rattle.vt_base.specs.declared.mount.MountBad.{MountBad}
 use Rattle.vt_base.specs.declared.place.Info.{Info}
-use Rattle.vt_base.specs.declared.why.FieldValue.{FieldValue}
-use Rattle.vt_bloom.specs.Bits.{Filter}
 use Rattle.vt_disk.specs.Members.{DiskOf}
-use Rattle.vt_icache.specs.Index.{entry_of}
-use Rattle.vt_isect.specs.Agreement.{IsEntryOf}
-use Rattle.vt_isect.specs.Faults.{is_fault}
 use Rattle.vt_isect.specs.Section.{SectionState, IsAtRest, group_of}
-use Rattle.vt_isect.specs.Writeback.{Advances as SectionAdvances, IsOfSection, NextPhase}
+use Rattle.vt_isect.specs.Writeback.{Advances as SectionAdvances, NextPhase}
 use Rattle.vt_isect.specs.declared.bad.ShardErr.{ShardErr}
 use Rattle.vt_isect.specs.declared.bad.ShardErr.TheVariants.{Fault, Damaged, Stopped}
-use Rattle.vt_isect.specs.declared.head.Head.{Head}
 use Rattle.vt_isect.specs.declared.phase.Phase.{Phase}
 use Rattle.vt_isect.specs.declared.phase.Phase.TheVariants.{Rest, ReadSelector, ReadFrame, ChangeBucket, ChangeHead}
 use Rattle.vt_model.specs.History.{History}
 use Rattle.vt_model.specs.Places.{Setup, bucket_count, crowd}
 use Rattle.vt_model.specs.declared.TheConstants.{BUCKET_ROOM}
 use Rattle.vt_shard.specs.declared.TheConstants.{ROOM}
-use Rattle.vt_shard.specs.Shard.{ShardState, HasBelow, IsAboveAll}
+use Rattle.vt_shard.specs.Shard.{ShardState, IsAboveAll}
 use Rattle.vt_shard.specs.Sound.{IsSoundFrom, KeepsSound}
 use Rattle.vt_shard.specs.Writeback.{Begins, MakesCall, ReadsFrame, TakesStep, without_list}
 use Rattle.vt_twin.specs.declared.step.Step.{Step}
 use Rattle.vt_twin.specs.declared.step.Step.TheVariants.{More, Done}
-use Rattle.vt_core.specs.Recalling.{FitsBuckets, IsQuiet, IsReadBack, KeepsSection}
+use Rattle.vt_core.specs.Recalling.{IsQuiet, KeepsSection}
 use Rattle.vt_core.specs.Refusals.{told_of_shard}
 use Rattle.vt_core.specs.TakingBack.{CountsShard, FaultOrDamage, WritesBack}
 use Rattle.vt_core.proofs.Calls.{within_get}

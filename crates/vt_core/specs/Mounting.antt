@@ -1,5 +1,5 @@
 -- How a store is found.
-use Rattle.std.specs.Prelude.{◌≡◌, ◌≢◌, ◌⊎◌, ℕ, ◌<◌, ◌≤◌, IsTrue, None, Some, List, [], length, map, replicate, take, slice_get, Result, Ok, Err}
+use Rattle.std.specs.Prelude.{◌≡◌, ◌≢◌, ◌⊎◌, ℕ, ◌<◌, ◌≤◌, IsTrue, None, Some, List, [], length, map, replicate, take, slice_get, Result, Ok, Err, ◌+◌, ◌*◌, ◌-◌, MatchOption, Option, sum_by}
 use Rattle.std.specs.List.{All, AllPairs, Contains}
 use Rattle.std.specs.Option.{option_to_list}
 use Rattle.vt_base.specs.declared.place.Entry.{Entry}
@@ -158,12 +158,29 @@ pub record IsFresh {D : Type 0} (disk : DiskOf D) (tables : List Table) (devices
   pub synced : k.synced ≡ k.log.durable
   pub waiting : k.waiting ≡ replicate sessions None
 
+-- All marks, the filter's too, cover the first n blocks. Without a filter's device none do.
+pub record AreCovered {D : Type 0} (shards : List (ShardState D)) (bloom : Option (BloomState D))
+    (n : ℕ) : Type 0 where
+  pub shards_are : (i : ℕ) (s : ShardState D) → slice_get shards i ≡ Some s
+      → n ≤ s.section.head.mark
+  pub filter_is : MatchOption bloom (n ≡ 0) (λ b. n ≤ b.mark)
+
+-- Of the arenas' devices a sync of each is made, two reads of each arena's head, and one of each
+-- directory entry, but for those of the blocks that all marks cover.
+abbrev pub ReadsEntriesOnce : {D : Type 0} → DiskOf D → (tables : List Table) → PerDevice D
+    → CoreState D → Type 0
+ReadsEntriesOnce disk tables devices k = (n : ℕ) → IsTrue disk.tells
+    → AreCovered k.shards k.bloom n
+    → sum_by disk.calls k.log.disks ≤ sum_by disk.calls devices.partitions
+    + length devices.partitions + 2 * arena_count tables + (k.log.durable - n)
+
 -- all that is said of a store that was mounted
 pub record Mounts {D : Type 0} (score : List ℕ → List ℕ) (disk : DiskOf D) (tables : List Table)
     (devices : PerDevice D) (sessions : ℕ) (k : CoreState D) : Type 0 where
   pub recalls : (c : Setup) (h g : History) (base : ℕ) → IsTrue disk.tells
       → IsLogOf score disk tables devices c h g base → Recalls score disk c g base k
   pub fresh : IsFresh disk tables devices sessions k
+  pub calls : ReadsEntriesOnce disk tables devices k
   pub faults_are : map disk.faults (all_of (devices_of k)) ≡ map disk.faults (all_of devices)
 
 -- ---- what mounting leaves

@@ -1,6 +1,6 @@
 -- How the sections and the filter of a store are opened, and what is tested of them before its log
 -- is read back.
-use Rattle.std.specs.Prelude.{◌≡◌, ◌⊎◌, ⊤, ℕ, ◌+◌, ◌<◌, ◌≤◌, IsTrue, IfOk, IfErr, Option, Some, None, Result, Ok, Err, Vec, List, length, map, sum, slice_get}
+use Rattle.std.specs.Prelude.{◌≡◌, ◌⊎◌, ⊤, ℕ, ◌+◌, ◌<◌, ◌≤◌, IsTrue, IfOk, IfErr, Option, Some, None, Result, Ok, Err, Vec, List, length, map, sum, slice_get, ◌*◌, sum_by}
 use Rattle.std.specs.declared.alloc.Global.{Global}
 use Rattle.std.specs.List.{All, AllZip}
 use Rattle.std.specs.Option.{option_map, option_to_list}
@@ -230,6 +230,8 @@ pub record IsLogFound {D : Type 0} (score : List ℕ → List ℕ) (disk : DiskO
   pub held : HoldTheSame disk before log.disks
   pub settled : All (IsSynced disk) log.disks
   pub faults : map disk.faults log.disks ≡ map disk.faults before
+  pub calls : IsTrue disk.tells → sum_by disk.calls log.disks
+      ≤ sum_by disk.calls before + length before + 2 * arena_count log.tables
 
 -- all that is said of a mount
 pub record IsMountOf {D : Type 0} (score : List ℕ → List ℕ) (disk : DiskOf D) (tables : List Table)

@@ -1,9 +1,9 @@
 -- How a log is read back when a store is mounted, to find what the index and the filter lack.
-use Rattle.std.specs.Prelude.{◌≡◌, ◌≢◌, ◌⊎◌, ⊤, ℕ, ◌+◌, ◌<◌, ◌≤◌, IsTrue, None, Some, Option, Result, Ok, Err, IfErr, MatchResult, OnOk, List, [], ◌++◌, length, map, slice_get}
+use Rattle.std.specs.Prelude.{◌≡◌, ◌⊎◌, ℕ, ◌+◌, ◌<◌, ◌≤◌, IsTrue, None, Some, Result, Ok, Err, IfErr, MatchResult, OnOk, List, [], ◌++◌, length, map, slice_get, ◌-◌, sum_by}
 use Rattle.std.specs.List.{Contains}
 use Rattle.vt_base.specs.Damage.{Differ}
 use Rattle.vt_base.specs.declared.mount.MountBad.{MountBad}
-use Rattle.vt_base.specs.declared.mount.MountBad.TheVariants.{Fault, NotFormatted, TooSmall, DuplicateName, Disagree, Damaged, NoMemory}
+use Rattle.vt_base.specs.declared.mount.MountBad.TheVariants.{Fault, Disagree, Damaged}
 use Rattle.vt_base.specs.declared.mount.MountField.TheVariants.{Crowd}
 use Rattle.vt_base.specs.declared.place.Entry.{Entry}
 use Rattle.vt_base.specs.declared.place.Info.{Info}
@@ -209,3 +209,6 @@ pub record ReadsLogBack {D U : Type 0} (score : List ℕ → List ℕ) (disk : D
   pub counts : CountsMount result (map disk.faults (devices_in old))
       (map disk.faults (devices_in new))
   pub ends_early : IfErr result (EndsEarly score disk part old)
+  -- each entry of the others is read once
+  pub calls : OnOk result (IsTrue disk.tells → sum_by disk.calls new.log.disks
+      ≤ sum_by disk.calls old.log.disks + (old.log.durable - least))

@@ -1,11 +1,11 @@
 -- How one block is taken back into its shard, while a log is read back.
-use Rattle.std.specs.Prelude.{◌≡◌, ◌≢◌, ◌⊎◌, ⊤, ℕ, ◌+◌, ◌-◌, ◌<◌, ◌≤◌, Bool, true, false, IsTrue, IfErr, MatchResult, MatchBool, OnOk, None, Some, Result, Ok, Err, List, length, map, slice_get}
+use Rattle.std.specs.Prelude.{◌≡◌, ◌≢◌, ◌⊎◌, ⊤, ℕ, ◌+◌, ◌-◌, ◌<◌, ◌≤◌, Bool, false, IsTrue, IfErr, MatchResult, MatchBool, OnOk, None, Some, Result, Ok, Err, List, length, map, slice_get}
 use Rattle.std.specs.List.{AllPairs, Contains}
 use Rattle.vt_base.specs.Damage.{Differ}
 use Rattle.vt_base.specs.Faults.{HasRisen}
 use Rattle.vt_base.specs.declared.key.Key.{Key}
 use Rattle.vt_base.specs.declared.mount.MountBad.{MountBad}
-use Rattle.vt_base.specs.declared.mount.MountBad.TheVariants.{Fault, NotFormatted, TooSmall, DuplicateName, Disagree, Damaged, NoMemory}
+use Rattle.vt_base.specs.declared.mount.MountBad.TheVariants.{Fault, Disagree, Damaged}
 use Rattle.vt_base.specs.declared.mount.MountField.TheVariants.{Crowd}
 use Rattle.vt_base.specs.declared.place.Entry.{Entry}
 use Rattle.vt_base.specs.declared.place.Info.{Info}

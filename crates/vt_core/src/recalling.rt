@@ -9,6 +9,7 @@ ghost use Rattle.vt_shard.specs.Shard.{ShardState, HasScore};
 ghost use Rattle.vt_shard.specs.declared.TheConstants.{ROOM};
 ghost use Rattle.vt_core.specs.Recalling.{IsQuiet, IsUnused, ReadsLogBack, opened};
 ghost use Rattle.vt_core.specs.TakingBack.{GivesNext, LooksForEntry, PutsBack, StandsOnDisks, TakesAllBack, TakesBack, WritesBack};
+ghost use Rattle.vt_core.specs.Mounting.{AreCovered};
 
 use crate::told::told_of_shard;
 use std::marker::Brand;
@@ -28,6 +29,7 @@ pub(crate) fn least_mark<D: Disk>(shards: &[Shard<D>], bloom: &Option<Bloom<D>>)
     ensures marks { (i : ℕ) (s : ShardState D) → slice_get shards.now i ≡ Some s
         → result ≤ s.section.head.mark }
     ensures filter { MatchOption bloom.now (result ≡ 0) (λ b. result ≤ b.mark) }
+    ensures greatest { (n : ℕ) → AreCovered shards.now bloom.now n → n ≤ result }
 {
     let mut least = match bloom {
         Some(bloom) => bloom.mark(),

@@ -1,7 +1,5 @@
-use Rattle.std.proofs.Common.{◌≡◌, ◌≤◌, ◌<◌, ◌+◌, ◌++◌, ◌⊎◌, inl, inr, ℕ, List, [], length, map, reverse, take, drop, Option, Some, None, Ok, Err, refl, sym, ◌∙◌, ap, subst, arith, append-nil, length-append}
+use Rattle.std.proofs.Common.{◌≡◌, ◌≤◌, ◌++◌, ℕ, List, length, map, reverse, Option, Some, None, Ok, Err, sym, ◌∙◌, ap, subst, arith, append-nil}
 use Rattle.std.specs.Prelude.{slice_get, replicate, ⊤}
-use Rattle.std.specs.Option.{option_map}
-use Rattle.std.proofs.lemmas.List.{length-map}
 use Rattle.vt_bloom.specs.Bits.{Filter}
 use Rattle.vt_bloom.specs.Bloom.{BloomState}
 use Rattle.vt_isect.specs.Section.{IsAtRest, SectionState}
@@ -10,10 +8,8 @@ use Rattle.vt_shard.specs.Shard.{ShardState}
 use Rattle.vt_core.specs.Core.{CoreState}
 use Rattle.vt_core.specs.Opening.{IsOpened, IsMountOf, IsShardMade, RefusesBeside, TestsParts, with_log}
 use Rattle.vt_core.specs.Recalling.{IsUnused, ReadsLogBack, opened}
-use Rattle.vt_core.specs.View.{HasRoom}
 use Rattle.vt_core.specs.Whole.{IsWhole}
 use Rattle.vt_core.proofs.Beside.{all_from}
-use Rattle.vt_core.proofs.BesideWork.{closed_is}
 use Rattle.vt_core.proofs.Chains.{made_disks, unused_at, whole}
 use Rattle.vt_core.proofs.Fields.{short_regions}
 use Rattle.vt_core.proofs.Mounted.{mounts}
@@ -22,6 +18,7 @@ use Rattle.vt_core.proofs.Returned.{beside_mount, devices_same, found_mount, mem
 use Rattle.vt_core.proofs.Standing.{held_many}
 use Rattle.vt_core.proofs.Zips.{zip_beside, zip_length}
 use Rattle.vt_core.proofs.mounting.open.Goals as goal
+use Rattle.vt_core.specs.Mounting.{AreCovered}
 
 pub open_beside-requires : goal.open_beside-requires
 open_beside-requires g c = omega (arith, c.requires.many)
@@ -177,10 +174,11 @@ returns g c = λ before given.
     c.deref_mut.ensures.value c.in_default-read_back.ensures in
     let tests = subst (λ (n : ℕ). TestsParts {U = ⊤} c.args.part b.sections.items b.bloom n (Ok tt)) c.durable.ensures opens.tests in
     let marks = subst (λ (l : List (ShardState g.row.D.Denot)). (i : ℕ) (s : ShardState g.row.D.Denot) → slice_get l i ≡ Some s → c.least_mark-least.result ≤ s.section.head.mark) c.deref.ensures.value c.least_mark-least.ensures.marks in
+    let greatest = subst (λ (l : List (ShardState g.row.D.Denot)). (n : ℕ) → AreCovered l b.bloom n → n ≤ c.least_mark-least.result) c.deref.ensures.value c.least_mark-least.ensures.greatest in
     let waits : c.in-Ok-vec.waiting.items ≡ replicate c.args.sessions None = c.in-Ok-vec.ensures.items_if_clones_equal (only_none _ (λ x h. h)) in
     let is = is_state c.read_back.new.log b.bloom c.read_back.new.bits shards c.in-Ok-vec.waiting.items (replicate c.args.sessions None) c.durable-synced.result c.read_back.new.log.durable after waits c.durable-synced.ensures in
     let found = mounts score disk c.args.sections.items b.sections.items o.items c.args.sizes.lumps c.args.sizes.clean opens.sections made.0 c.args.log c.read_back.new.log b.bits c.read_back.new.bits shards c.least_mark-least.result
-    c.args.filter b.bloom opens.filter_is c.args.part tests before given (short_regions disk c.args.log given.whole) marks c.least_mark-least.ensures.filter all c.args.sessions (omega (arith, c.ranges.sessions.fits)) c.requires.some_arena c.requires.some_section (omega (arith, c.requires.many))
+    c.args.filter b.bloom opens.filter_is c.args.part tests before given (short_regions disk c.args.log given.whole) marks c.least_mark-least.ensures.filter greatest all c.args.sessions (omega (arith, c.ranges.sessions.fits)) c.requires.some_arena c.requires.some_section (omega (arith, c.requires.many))
     c.what_is_read_is_a_prefix.ensures c.no_block_lacks.ensures.none c.base_is_free-2.ensures c.first_blocks_are_legal.ensures.legal c.base_is_free.ensures.legal c.saved_filters_are_told_apart.ensures.one_saved in
     let k = state c.read_back.new.log shards b.bloom c.read_back.new.bits (replicate c.args.sessions None) c.read_back.new.log.durable in
     let whole_mount = found_mount score disk before c.args.log c.args.sections.items c.args.filter given b.sections.items b.bloom b.bits opens.sections opens.filter_is

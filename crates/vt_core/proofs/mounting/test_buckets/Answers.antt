@@ -1,7 +1,6 @@
-use Rattle.std.proofs.Common.{◌≡◌, ◌<◌, ◌≤◌, ◌+◌, ◌∷◌, [], ◌++◌, ℕ, List, length, map, take, Option, None, Some, Result, sym, ap, subst, arith, ◌∙◌}
+use Rattle.std.proofs.Common.{◌≡◌, ◌≤◌, ◌+◌, ◌∷◌, [], ◌++◌, ℕ, List, length, map, take, Option, Some, sym, ap, subst, arith, ◌∙◌}
 use Rattle.std.specs.Prelude.{MatchOption, slice_get, sum}
 use Rattle.std.proofs.lemmas.List.{length-map, length-take, take_all}
-use Rattle.vt_base.specs.declared.mount.MountBad.{MountBad}
 use Rattle.vt_base.specs.declared.mount.MountField.TheVariants.{Buckets}
 use Rattle.vt_core.specs.Refusals.{IsFirstPast, IsTally, PassesOrRefuses}
 use Rattle.vt_core.proofs.Lists.{at_map}

@@ -1,5 +1,4 @@
-use Rattle.std.proofs.Common.{◌≡◌, ◌≤◌, ℕ, inl, inr, refl}
-use Rattle.std.specs.Prelude.{sum}
+use Rattle.std.proofs.Common.{inl, inr}
 use Rattle.std.proofs.lemmas.Result.{err_from_is_err_and}
 use Rattle.vt_core.proofs.TestsParts.{parts_of}
 use Rattle.vt_core.proofs.mounting.test_parts.Goals as goal

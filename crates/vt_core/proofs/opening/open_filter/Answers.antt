@@ -1,4 +1,4 @@
-use Rattle.std.proofs.Common.{◌≡◌, ◌∷◌, [], ⊎_elim, inl, inr, ℕ, List, map, Option, None, Some, refl, sym, ◌∙◌, ap, subst, arith}
+use Rattle.std.proofs.Common.{◌∷◌, [], ⊎_elim, inl, inr, ℕ, map, Option, None, Some, refl, sym, ◌∙◌, ap, subst, arith}
 use Rattle.std.specs.Option.{option_to_list}
 use Rattle.vt_log.specs.Answers.{HoldTheSame}
 use Rattle.vt_bloom.specs.Bits.{Filter}

@@ -1,4 +1,4 @@
-use Rattle.std.proofs.Common.{◌≡◌, ◌≤◌, ◌<◌, ◌+◌, ◌∷◌, [], ◌++◌, ⊎_elim, inl, inr, ℕ, List, length, map, Some, refl, sym, ◌∙◌, ap, subst, arith, length-append, vec_capacity}
+use Rattle.std.proofs.Common.{◌≡◌, ◌<◌, ◌+◌, ◌∷◌, [], ⊎_elim, inl, inr, ℕ, List, length, map, refl, sym, ◌∙◌, ap, subst, arith, length-append}
 use Rattle.vt_isect.specs.Section.{SectionState}
 use Rattle.vt_core.specs.Opening.{CanBeOpened, IsOpened}
 use Rattle.vt_core.specs.Refusals.{CountsRefusal, told_of_section}

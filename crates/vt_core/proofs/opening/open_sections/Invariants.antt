@@ -1,4 +1,4 @@
-use Rattle.std.proofs.Common.{◌≡◌, ◌+◌, ◌≤◌, length, vec_capacity}
+use Rattle.std.proofs.Common.{◌+◌, ◌≤◌, length, vec_capacity}
 use Rattle.vt_core.proofs.Opened.{IsSplitAt}
 use Rattle.vt_core.specs.Opening.{IsOpened}
 use Rattle.vt_core.proofs.opening.open_sections.Given as goal

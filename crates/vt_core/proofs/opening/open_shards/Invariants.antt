@@ -1,6 +1,4 @@
-use Rattle.std.proofs.Common.{◌≡◌, ◌+◌, ◌≤◌, length, vec_capacity}
-use Rattle.std.specs.List.{All}
-use Rattle.vt_isect.specs.Section.{IsAtRest}
+use Rattle.std.proofs.Common.{◌≤◌, length, vec_capacity}
 use Rattle.vt_core.proofs.Opened.{IsSplitAt}
 use Rattle.vt_core.specs.Opening.{IsShardMade}
 use Rattle.vt_core.proofs.opening.open_shards.Given as goal

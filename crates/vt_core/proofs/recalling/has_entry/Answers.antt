@@ -1,8 +1,6 @@
-use Rattle.std.proofs.Common.{◌≡◌, ℕ, ◌+◌, List, Bool, length, sym, ap, subst}
-use Rattle.std.specs.Prelude.{IsTrue, Result, Ok, Err}
+use Rattle.std.proofs.Common.{Bool, length, sym, subst}
+use Rattle.std.specs.Prelude.{Ok, Err}
 use Rattle.vt_base.specs.declared.mount.MountBad.{MountBad}
-use Rattle.vt_model.specs.History.{History}
-use Rattle.vt_model.specs.Places.{Setup}
 use Rattle.vt_shard.specs.Shard.{ShardState}
 use Rattle.vt_core.specs.TakingBack.{LooksForEntry}
 use Rattle.vt_core.proofs.TakingBack.{looks_for}

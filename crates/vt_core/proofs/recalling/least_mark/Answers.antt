@@ -1,10 +1,11 @@
-use Rattle.std.proofs.Common.{◌≡◌, ◌≢◌, ◌<◌, ◌≤◌, ℕ, Some, ⊎_elim, length, sym, ◌∙◌, ap, arith}
+use Rattle.std.proofs.Common.{◌≡◌, ◌≢◌, ℕ, Some, ⊎_elim, sym, ◌∙◌, ap, arith}
 use Rattle.std.specs.Prelude.{slice_get}
 use Rattle.std.proofs.lemmas.Option.{get_or_from_slice_get}
 use Rattle.vt_shard.specs.Shard.{ShardState}
 use Rattle.vt_core.proofs.Calls.{within_get}
 use Rattle.vt_core.proofs.LogWork.{one_or_other}
 use Rattle.vt_core.proofs.recalling.least_mark.Goals as goal
+use Rattle.vt_core.proofs.Answering.{there_is}
 
 pub loop-shard-preserved : goal.loop-shard-preserved
 loop-shard-preserved g c =
@@ -17,7 +18,14 @@ loop-shard-preserved g c =
           (λ (other : i ≢ index). let it = c.loop-shard.invariant.0 i s (omega (arith, below, other)) at in omega (arith, c.min-least.ensures, it))
           (one_or_other i index),
       λ b is. let it = c.loop-shard.invariant.1 b is in omega (arith, c.min-least.ensures, it),
+      λ n covered.
+          let here : slice_get c.args.shards.now index ≡ Some c.shard-item.result =
+          there_is c.args.shards.now index c.shard-item.result c.shard-item.result (omega (arith, c.loop-shard-test.true)) (sym c.shard-item.is) in
+          omega (arith, c.min-least.ensures, c.mark.ensures, c.loop-shard.invariant.2 n covered, covered.shards_are index c.shard-item.result here),
     )
 
 pub returns-clause-marks : goal.returns-clause-marks
 returns-clause-marks g c = λ i s at. c.loop-shard.invariant.0 i s (omega (arith, c.loop-shard-test.false, within_get c.args.shards.now i s at)) at
+
+pub returns-clause-greatest : goal.returns-clause-greatest
+returns-clause-greatest g c = c.loop-shard.invariant.2

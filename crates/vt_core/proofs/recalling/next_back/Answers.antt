@@ -1,4 +1,4 @@
-use Rattle.std.proofs.Common.{◌≡◌, ◌≤◌, ℕ, List, Option, Some, None, sym, ◌∙◌, ap, subst, arith}
+use Rattle.std.proofs.Common.{◌≡◌, Option, Some, ◌∙◌, ap, subst, arith}
 use Rattle.std.specs.Prelude.{Result, Ok, Err}
 use Rattle.vt_arena.specs.declared.bad.BackBad.{BackBad}
 use Rattle.vt_arena.specs.declared.bad.BackBad.TheVariants.{Damaged}
@@ -6,7 +6,7 @@ use Rattle.vt_base.specs.declared.place.Info.{Info}
 use Rattle.vt_base.specs.declared.place.Place.{Place}
 use Rattle.vt_log.specs.Back.{TailState}
 use Rattle.vt_log.specs.Log.{LogState}
-use Rattle.vt_core.proofs.NextBack.{BackAnswers, HasNext, gives_block, gives_damage, has_next_back}
+use Rattle.vt_core.proofs.NextBack.{BackAnswers, gives_block, gives_damage, has_next_back}
 use Rattle.vt_core.proofs.recalling.next_back.Goals as goal
 
 pub returns-in-Ok-Some : goal.returns-in-Ok-Some

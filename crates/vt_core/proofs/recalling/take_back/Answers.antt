@@ -1,8 +1,8 @@
-use Rattle.std.proofs.Common.{◌≡◌, ◌<◌, ◌≤◌, ℕ, Bool, true, false, List, length, sym, ◌∙◌, ap, subst, arith}
-use Rattle.std.specs.Prelude.{Result, Ok, Err}
+use Rattle.std.proofs.Common.{◌≡◌, Bool, true, false, length, sym, ◌∙◌, subst, arith}
+use Rattle.std.specs.Prelude.{Ok}
 use Rattle.std.proofs.lemmas.Result.{err_from_is_err_and}
 use Rattle.vt_shard.specs.declared.TheConstants.{ROOM}
-use Rattle.vt_shard.specs.Shard.{ShardState, HasScore}
+use Rattle.vt_shard.specs.Shard.{ShardState}
 use Rattle.vt_core.specs.TakingBack.{LooksForEntry}
 use Rattle.vt_core.proofs.PuttingBack.{back_below_mark, back_found, back_look_err, back_other, back_put, back_write_err, back_written}
 use Rattle.vt_core.proofs.TakingBack.{looks_quiet}

@@ -1,5 +1,5 @@
-use Rattle.std.proofs.Common.{◌≡◌, ◌<◌, ℕ, List, length, Option, Some, None, sym, ap, subst, arith}
-use Rattle.std.specs.Prelude.{IsSome, ⊤, Result, Ok, Err}
+use Rattle.std.proofs.Common.{length, sym, subst, arith}
+use Rattle.std.specs.Prelude.{IsSome, ⊤, Err}
 use Rattle.vt_base.specs.declared.mount.MountBad.{MountBad}
 use Rattle.vt_shard.specs.Shard.{ShardState}
 use Rattle.vt_core.specs.TakingBack.{WritesBack}

@@ -1,4 +1,4 @@
-use Rattle.std.proofs.Common.{◌≡◌, ◌<◌, ◌≤◌, ◌+◌, length, map, take, Some, sym, ap, subst, arith}
+use Rattle.std.proofs.Common.{◌≡◌, take, Some, sym, ap, arith}
 use Rattle.std.specs.Prelude.{slice_get, sum_by}
 use Rattle.std.proofs.lemmas.List.{length-map, take_all}
 use Rattle.vt_part.specs.Parts.{table_of, tables_of}
