@@ -174,7 +174,7 @@ module _ {D : Type 0} (score : List ℕ → List ℕ) (disk : DiskOf D) (k : Cor
               numbers = λ own has. let low = it.numbers own has in omega (arith, low, one);
               bits = λ own has. stay k.bits bits info.key.score.0 own.key.score.0 marks (it.bits own has);
             });
-        filter = λ b there. let it = w.filter b there in record { counts = (marks.m ∙ it.counts.0, marks.k ∙ it.counts.1); mark = it.mark; next = it.next };
+        filter = λ b there. let it = w.filter b there in record { counts = (marks.m ∙ it.counts.0, marks.k ∙ it.counts.1); mark = it.mark; next = it.next; made = it.made };
         synced = w.synced;
         waiting = λ session number there. let low = w.waiting session number there in omega (arith, low, one);
       }

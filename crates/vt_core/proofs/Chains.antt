@@ -4,6 +4,8 @@ use Rattle.std.specs.Prelude.{slice_get, sum, ⊤, replicate}
 use Rattle.std.specs.List.{AllZip}
 use Rattle.std.proofs.lemmas.List.{length-map}
 use Rattle.std.proofs.lemmas.Option.{same_Some}
+use Rattle.vt_twin.specs.Twin.{Change}
+use Rattle.std.specs.Option.{option_map_or}
 use Rattle.vt_bloom.specs.Bits.{Filter}
 use Rattle.vt_bloom.specs.Bloom.{BloomState}
 use Rattle.vt_disk.specs.Members.{DiskOf}
@@ -203,6 +205,7 @@ module _ {D : Type 0} (score : List ℕ → List ℕ) (disk : DiskOf D) (devices
             counts = (back.counts.0 ∙ it.2.counts.0, back.counts.1 ∙ it.2.counts.1);
             mark = mark;
             next = omega (arith, it.2.next, mark);
+            made = subst (λ (o : Option Change). option_map_or (λ it. it.made) o 0 ≤ 3) (sym it.2.rest) (omega arith);
           }
 
       none_waits : (session number : ℕ) → slice_get (replicate sessions None) session ≡ Some (Some number) → ⊥

@@ -1,9 +1,11 @@
 -- The saved filter's next device call.
-use Rattle.std.proofs.Common.{◌≡◌, ◌≢◌, ◌⊎◌, ⊎_elim, inl, inr, ℕ, zero, suc, ◌≤◌, List, [], ◌∷◌, ◌++◌, length, map, take, Option, Some, None, refl, sym, ◌∙◌, ap, subst, arith}
-use Rattle.std.specs.Prelude.{◌↔◌, slice_get, IsTrue, IsSome, Result, Ok, Err}
+use Rattle.std.proofs.Common.{◌≡◌, ◌≢◌, ◌⊎◌, ⊎_elim, inl, inr, ℕ, zero, suc, ◌+◌, ◌≤◌, List, [], ◌∷◌, ◌++◌, length, map, take, Option, Some, None, refl, sym, ◌∙◌, ap, subst, arith}
+use Rattle.std.specs.Prelude.{IfOk, ◌↔◌, slice_get, IsTrue, IsSome, Result, Ok, Err}
 use Rattle.std.specs.Option.{option_map, option_to_list}
 use Rattle.std.proofs.lemmas.List.{length-map, length-take}
 use Rattle.std.proofs.lemmas.Option.{same_Some}
+use Rattle.std.proofs.lemmas.Bool.{cases_lt}
+use Rattle.vt_twin.specs.Twin.{calls_made}
 use Rattle.vt_base.specs.declared.answer.Said.{Said}
 use Rattle.vt_base.specs.declared.answer.Said.TheVariants.{Score, Block, Synced, Refused}
 use Rattle.vt_base.specs.declared.why.Why.{Why}
@@ -139,44 +141,56 @@ pub record KeepsSave {D : Type 0} (durable : ℕ) (out : Out) (old new : BloomSt
   pub k : new.k ≡ old.k
   pub mark : new.mark ≤ durable
   pub next : new.next ≤ durable
+  pub made : calls_made new.twin ≤ 3
   pub stay : (call : ℕ) → old.twin.stopped ≡ Some call → new.twin.stopped ≡ Some call
   pub cause : out ≢ Failed DiskFault → new.twin.stopped ≡ old.twin.stopped
 
-begun_keeps : {D : Type 0} (bits : Filter) (durable : ℕ) (old begun : BloomState D) → old.mark ≤ durable → old.next ≤ durable → IsBegun bits durable old begun → KeepsSave durable Moved old begun
-begun_keeps {D} bits durable old begun mark next it = ⊎_elim
-    (λ was. subst (λ (b : BloomState D). KeepsSave durable Moved old b) (sym was.1) (record { m = refl; k = refl; mark = mark; next = next; stay = λ call is. is; cause = λ _. refl }))
-    (λ new. subst (λ (b : BloomState D). KeepsSave durable Moved old b) (sym new.2) (record { m = refl; k = refl; mark = mark; next = omega arith; stay = λ call is. is; cause = λ _. refl }))
+one_call_more : (m : ℕ) → m ≤ 3 → (m ≡ 3 → ⊥) → m + 1 ≤ 3
+one_call_more m most other = ⊎_elim (λ low. omega (arith, low)) (λ high. absurd (other (omega (arith, most, high)))) (cases_lt m 3)
+
+begun_keeps : {D : Type 0} (bits : Filter) (durable : ℕ) (old begun : BloomState D) → old.mark ≤ durable → old.next ≤ durable → calls_made old.twin ≤ 3 → IsBegun bits durable old begun → KeepsSave durable Moved old begun
+begun_keeps {D} bits durable old begun mark next made it = ⊎_elim
+    (λ was. subst (λ (b : BloomState D). KeepsSave durable Moved old b) (sym was.1) (record { m = refl; k = refl; mark = mark; next = next; made = made; stay = λ call is. is; cause = λ _. refl }))
+    (λ new. subst (λ (b : BloomState D). KeepsSave durable Moved old b) (sym new.2) (record { m = refl; k = refl; mark = mark; next = omega arith; made = omega arith; stay = λ call is. is; cause = λ _. refl }))
     it
 
-call_keeps : {D : Type 0} (durable : ℕ) (old new : BloomState D) (r : Result Step TwinErr) → old.mark ≤ durable → old.next ≤ durable
-    → ((n : ℕ) → (r ≡ Err (twin_err.Stopped n)) ↔ (old.twin.stopped ≡ Some n)) → BloomAdvances r old new → KeepsSave durable (out_of_save r) old new
-call_keeps {D} durable old new (Ok More) mark next stopped it =
-    subst (λ (b : BloomState D). KeepsSave durable Moved old b) (sym it) (record { m = refl; k = refl; mark = mark; next = next; stay = λ call is. is; cause = λ _. refl })
-call_keeps {D} durable old new (Ok Done) mark next stopped it =
-    subst (λ (b : BloomState D). KeepsSave durable Moved old b) (sym it) (record { m = refl; k = refl; mark = next; next = next; stay = λ call is. is; cause = λ _. refl })
-call_keeps {D} durable old new (Err twin_err.Fault) mark next stopped it =
+pub begun_made : {D : Type 0} (bits : Filter) (durable : ℕ) (old begun : BloomState D) → IsBegun bits durable old begun → calls_made old.twin ≤ 3 → calls_made begun.twin ≤ 3
+begun_made {D} bits durable old begun it made = ⊎_elim
+    (λ was. subst (λ (b : BloomState D). calls_made b.twin ≤ 3) (sym was.1) made)
+    (λ new. subst (λ (b : BloomState D). calls_made b.twin ≤ 3) (sym new.2) (omega arith))
+    it
+
+call_keeps : {D : Type 0} (durable : ℕ) (old new : BloomState D) (r : Result Step TwinErr) → old.mark ≤ durable → old.next ≤ durable → calls_made old.twin ≤ 3
+    → IfOk r (λ step. (step ≡ Done) ↔ (calls_made old.twin ≡ 3)) → ((n : ℕ) → (r ≡ Err (twin_err.Stopped n)) ↔ (old.twin.stopped ≡ Some n)) → BloomAdvances r old new → KeepsSave durable (out_of_save r) old new
+call_keeps {D} durable old new (Ok More) mark next made last stopped it =
+    subst (λ (b : BloomState D). KeepsSave durable Moved old b) (sym it) (record { m = refl; k = refl; mark = mark; next = next; made = one_call_more (calls_made old.twin) made (λ e. let no : More ≡ Done = last.1 e in cc); stay = λ call is. is; cause = λ _. refl })
+call_keeps {D} durable old new (Ok Done) mark next made last stopped it =
+    subst (λ (b : BloomState D). KeepsSave durable Moved old b) (sym it) (record { m = refl; k = refl; mark = next; next = next; made = omega arith; stay = λ call is. is; cause = λ _. refl })
+call_keeps {D} durable old new (Err twin_err.Fault) mark next made last stopped it =
     subst (λ (b : BloomState D). KeepsSave durable (Failed DiskFault) old b) (sym it) (record {
       m = refl;
       k = refl;
       mark = mark;
       next = next;
+      made = made;
       stay = λ call is. let no : Err twin_err.Fault ≡ Err (twin_err.Stopped call) = (stopped call).1 is in absurd (cc);
       cause = λ other. absurd (other refl);
     })
-call_keeps {D} durable old new (Err (twin_err.Stopped n)) mark next stopped it =
-    subst (λ (b : BloomState D). KeepsSave durable (Failed (Stopped n)) old b) (sym it) (record { m = refl; k = refl; mark = mark; next = next; stay = λ call is. is; cause = λ _. refl })
+call_keeps {D} durable old new (Err (twin_err.Stopped n)) mark next made last stopped it =
+    subst (λ (b : BloomState D). KeepsSave durable (Failed (Stopped n)) old b) (sym it) (record { m = refl; k = refl; mark = mark; next = next; made = made; stay = λ call is. is; cause = λ _. refl })
 
-one_keeps : {D : Type 0} (bits : Filter) (durable : ℕ) (out : Out) (old new : BloomState D) → old.mark ≤ durable → old.next ≤ durable → SavesOne bits durable out old new → KeepsSave durable out old new
-one_keeps {D} bits durable out old new mark next it = ⊎_elim
-    (λ rests. subst (λ (b : BloomState D). KeepsSave durable out old b) (sym rests.2) (record { m = refl; k = refl; mark = mark; next = next; stay = λ call is. is; cause = λ _. refl }))
+one_keeps : {D : Type 0} (bits : Filter) (durable : ℕ) (out : Out) (old new : BloomState D) → old.mark ≤ durable → old.next ≤ durable → calls_made old.twin ≤ 3 → SavesOne bits durable out old new → KeepsSave durable out old new
+one_keeps {D} bits durable out old new mark next made it = ⊎_elim
+    (λ rests. subst (λ (b : BloomState D). KeepsSave durable out old b) (sym rests.2) (record { m = refl; k = refl; mark = mark; next = next; made = made; stay = λ call is. is; cause = λ _. refl }))
     (λ (s : Saves bits durable out old new).
-    let first = begun_keeps bits durable old s.begun mark next s.begins in
-    let then = call_keeps durable s.begun new s.answer first.mark first.next s.stopped s.advances in
+    let first = begun_keeps bits durable old s.begun mark next made s.begins in
+    let then = call_keeps durable s.begun new s.answer first.mark first.next first.made s.done s.stopped s.advances in
     subst (λ (o : Out). KeepsSave durable o old new) (sym s.out_is) (record {
       m = then.m ∙ first.m;
       k = then.k ∙ first.k;
       mark = then.mark;
       next = then.next;
+      made = then.made;
       stay = λ call is. then.stay call (first.stay call is);
       cause = λ other. then.cause other ∙ first.cause (λ e. cc);
     }))
@@ -304,7 +318,7 @@ module _ {D : Type 0} (score : List ℕ → List ℕ) (disk : DiskOf D) (k : Cor
       (λ it.
       let was = w.filter it.0 it.2 in
       let same : it.1 ≡ after = same_Some it.1 after (sym it.3 ∙ is) in
-      (it.0, it.2, subst (λ (b : BloomState D). KeepsSave k.log.durable out it.0 b) same (one_keeps k.bits k.log.durable out it.0 it.1 was.mark was.next it.4)))
+      (it.0, it.2, subst (λ (b : BloomState D). KeepsSave k.log.durable out it.0 b) same (one_keeps k.bits k.log.durable out it.0 it.1 was.mark was.next was.made it.4)))
       (none_or_one k.bits k.log.durable out k.bloom bloom saves)
 
   pub filter_whole : IsWhole disk (record k { bloom = bloom })
@@ -315,7 +329,7 @@ module _ {D : Type 0} (score : List ℕ → List ℕ) (disk : DiskOf D) (k : Cor
     few_sessions = w.few_sessions;
     shards = λ i s at. let it = w.shards i s at in record { live = it.live; buckets = it.buckets; some = it.some; filed = it.filed; writeback = it.writeback; mark = it.mark; next = it.next; numbers = it.numbers; bits = it.bits };
     filter = λ b is. let it = each_saved b is in let was = w.filter it.0 it.1 in
-        record { counts = (was.counts.0 ∙ sym it.2.m, was.counts.1 ∙ sym it.2.k); mark = it.2.mark; next = it.2.next };
+        record { counts = (was.counts.0 ∙ sym it.2.m, was.counts.1 ∙ sym it.2.k); mark = it.2.mark; next = it.2.next; made = it.2.made };
     synced = w.synced;
     waiting = w.waiting;
   }
@@ -334,7 +348,7 @@ module _ {D : Type 0} (score : List ℕ → List ℕ) (disk : DiskOf D) (k : Cor
       (λ at. absurd (cc)))
       (λ it.
       let was = w.filter it.0 it.2 in
-      let keeps = one_keeps k.bits k.log.durable out it.0 it.1 was.mark was.next it.4 in
+      let keeps = one_keeps k.bits k.log.durable out it.0 it.1 was.mark was.next was.made it.4 in
       subst (λ (o : Option (BloomState D)). slice_get (map (λ b. b.twin.stopped) (option_to_list o)) j ≡ Some (Some call) → slice_get (map (λ b. b.twin.stopped) (option_to_list bloom)) j ≡ Some (Some call)) (sym it.2)
       (subst (λ (o : Option (BloomState D)). slice_get (it.0.twin.stopped ∷ []) j ≡ Some (Some call) → slice_get (map (λ b. b.twin.stopped) (option_to_list o)) j ≡ Some (Some call)) (sym it.3)
       (single_stays it.0.twin.stopped it.1.twin.stopped keeps.stay j call)))
@@ -347,7 +361,7 @@ module _ {D : Type 0} (score : List ℕ → List ℕ) (disk : DiskOf D) (k : Cor
       (λ none. ap (option_map f) (none.2 ∙ sym none.1))
       (λ it.
       let was = w.filter it.0 it.2 in
-      let keeps = one_keeps k.bits k.log.durable out it.0 it.1 was.mark was.next it.4 in
+      let keeps = one_keeps k.bits k.log.durable out it.0 it.1 was.mark was.next was.made it.4 in
       ap (option_map f) it.3 ∙ ap Some (same it.0 it.1 keeps) ∙ sym (ap (option_map f) it.2))
       (none_or_one k.bits k.log.durable out k.bloom bloom saves)
 

@@ -194,7 +194,7 @@ module _ {D : Type 0} (score : List ℕ → List ℕ) (disk : DiskOf D) (k : Cor
       numbers = λ info has. let low = it.numbers info has in omega (arith, low, step.front_is);
       bits = it.bits;
     };
-    filter = λ b at. let it = w.filter b at in record { counts = it.counts; mark = omega (arith, it.mark, durable); next = omega (arith, it.next, durable) };
+    filter = λ b at. let it = w.filter b at in record { counts = it.counts; mark = omega (arith, it.mark, durable); next = omega (arith, it.next, durable); made = it.made };
     synced = omega (arith, w.synced, durable);
     waiting = λ s n at. let low = w.waiting s n at in omega (arith, low, step.front_is);
   }

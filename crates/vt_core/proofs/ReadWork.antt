@@ -120,7 +120,7 @@ module _ {D : Type 0} (score : List ℕ → List ℕ) (disk : DiskOf D) (k : Cor
         few_shards = mid.few_shards;
         few_sessions = mid.few_sessions;
         shards = λ j t there. let it = mid.shards j t there in record { live = it.live; buckets = it.buckets; some = it.some; filed = it.filed; writeback = it.writeback; mark = it.mark; next = it.next; numbers = it.numbers; bits = it.bits };
-        filter = λ b there. let it = mid.filter b there in record { counts = it.counts; mark = it.mark; next = it.next };
+        filter = λ b there. let it = mid.filter b there in record { counts = it.counts; mark = it.mark; next = it.next; made = it.made };
         synced = mid.synced;
         waiting = mid.waiting;
       }

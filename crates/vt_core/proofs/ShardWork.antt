@@ -103,7 +103,7 @@ module _ {D : Type 0} (score : List ℕ → List ℕ) (disk : DiskOf D) (k : Cor
               numbers = it.numbers;
               bits = it.bits;
             });
-        filter = λ b there. let it = w.filter b there in record { counts = it.counts; mark = it.mark; next = it.next };
+        filter = λ b there. let it = w.filter b there in record { counts = it.counts; mark = it.mark; next = it.next; made = it.made };
         synced = w.synced;
         waiting = w.waiting;
       }

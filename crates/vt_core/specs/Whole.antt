@@ -7,6 +7,7 @@ use Rattle.vt_bloom.specs.Bits.{HasBitsOf}
 use Rattle.vt_bloom.specs.Bloom.{BloomState, HasCounts}
 use Rattle.vt_isect.specs.Layout.{buckets_in}
 use Rattle.vt_shard.specs.Shard.{ShardState}
+use Rattle.vt_twin.specs.Twin.{calls_made}
 use Rattle.vt_core.specs.Core.{CoreState, setup_of, history_len}
 use Rattle.vt_core.specs.Stands.{IsLive}
 
@@ -25,11 +26,13 @@ pub record IsShardOf {D : Type 0} (disk : DiskOf D) (k : CoreState D) (i durable
   pub bits : (info : Info) → Contains s.index.dirty info → HasBitsOf k.bits info.key.score.0
 
 -- A saved filter has the form of the bits in memory, and its marks are of the first so many blocks.
+-- The fourth call of a save is the last.
 pub record IsFilterOf {D : Type 0} (k : CoreState D) (durable : ℕ) (b : BloomState D) : Type 0
   where
     pub counts : HasCounts b k.bits
     pub mark : b.mark ≤ durable
     pub next : b.next ≤ durable
+    pub made : calls_made b.twin ≤ 3
 
 pub record IsWhole {D : Type 0} (disk : DiskOf D) (k : CoreState D) : Type 0 where
   pub some_arena : 0 < length k.log.layout

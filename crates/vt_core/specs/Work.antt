@@ -1,6 +1,6 @@
 -- What the store's own work does, whatever its devices hold: the device calls of the log, of a shard
 -- and of the saved filter, and what is dropped from memory.
-use Rattle.std.specs.Prelude.{◌≡◌, ◌≢◌, ◌⊎◌, ◌↔◌, ℕ, ◌-◌, ◌<◌, IfOk, IsSome, max, Option, Some, None, Result, Ok, Err, length, take, slice_get, slice_set}
+use Rattle.std.specs.Prelude.{◌≡◌, ◌≢◌, ◌⊎◌, ◌↔◌, ℕ, ◌-◌, ◌<◌, ◌≤◌, IfOk, IsSome, max, Option, Some, None, Result, Ok, Err, length, take, slice_get, slice_set}
 use Rattle.vt_base.specs.declared.why.Site.TheVariants.{Bucket}
 use Rattle.vt_base.specs.declared.why.Why.{Why}
 use Rattle.vt_base.specs.declared.why.Why.TheVariants.{DiskFault, Stopped, Damaged}
@@ -71,6 +71,7 @@ pub record Saves {D : Type 0} (bits : Filter) (durable : ℕ) (out : Out) (old n
   pub begun : BloomState D
   pub answer : Result Step TwinErr
   pub begins : IsBegun bits durable old begun
+  pub made : calls_made begun.twin ≤ 3
   pub advances : BloomAdvances answer begun new
   pub done : IfOk answer (λ step. (step ≡ Done) ↔ (calls_made begun.twin ≡ 3))
   pub stopped : (call : ℕ)

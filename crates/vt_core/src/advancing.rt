@@ -1,9 +1,10 @@
 //! The device calls of the log and of the saved filter.
 
-ghost use Rattle.std.specs.Prelude.{◌≡◌, ◌∷◌, [], ℕ, IsSome, IsTrue, List, Some, true, false};
+ghost use Rattle.std.specs.Prelude.{◌≡◌, ◌≤◌, ◌∷◌, [], ℕ, IsSome, IsTrue, List, Some, true, false};
 ghost use Rattle.vt_bloom.specs.Bloom.{BloomState, HasCounts};
 ghost use Rattle.vt_bloom.specs.Frame.{Covers};
 ghost use Rattle.vt_model.specs.History.{History};
+ghost use Rattle.vt_twin.specs.Twin.{calls_made};
 ghost use Rattle.vt_core.specs.declared.event.Event.{Event};
 ghost use Rattle.vt_core.specs.Saving.{CallsDevice, SavesSoundly, devices_of};
 ghost use Rattle.vt_core.specs.Sound.{IsSoundFilter};
@@ -63,7 +64,8 @@ fn out_of_progress(answer: Result<Progress, LogErr>) -> Out
 
 /// Makes the next device call of a filter's saves, if there is a filter.
 fn advance_any<D: Disk>(bloom: &mut Option<Bloom<D>>, bits: &Bits, durable: u64) -> Out
-    requires { (b : BloomState D) → bloom.old ≡ Some b → HasCounts b bits.now }
+    requires counts { (b : BloomState D) → bloom.old ≡ Some b → HasCounts b bits.now }
+    requires made { (b : BloomState D) → bloom.old ≡ Some b → calls_made b.twin ≤ 3 }
     ensures saves { SavesIn bits.now durable result bloom.old bloom.new }
     ensures sound { (before after : BloomState D) → bloom.old ≡ Some before
         → bloom.new ≡ Some after → SavesSoundly D.Disk bits.now durable before after }
@@ -77,7 +79,8 @@ fn advance_any<D: Disk>(bloom: &mut Option<Bloom<D>>, bits: &Bits, durable: u64)
 
 /// Begins a save where none is under way and one is due, and makes its next device call.
 fn advance_save<D: Disk>(bloom: &mut Bloom<D>, bits: &Bits, durable: u64) -> Out
-    requires { HasCounts bloom.old bits.now }
+    requires counts { HasCounts bloom.old bits.now }
+    requires made { calls_made bloom.old.twin ≤ 3 }
     ensures saves { SavesOne bits.now durable result bloom.old bloom.new }
     ensures sound { SavesSoundly D.Disk bits.now durable bloom.old bloom.new }
     ensures calls { CallsDevice D.Disk result (bloom.old.disk ∷ []) (bloom.new.disk ∷ []) }

@@ -2,7 +2,7 @@ use Rattle.std.proofs.Common.{[], ◌∷◌, inr, sym, subst}
 use Rattle.vt_core.specs.declared.event.Out.{Out}
 use Rattle.vt_core.specs.Saving.{CallsDevice}
 use Rattle.vt_core.specs.Work.{out_of_save}
-use Rattle.vt_core.proofs.FilterWork.{calls_begun, rests_soundly, save_calls, save_soundly}
+use Rattle.vt_core.proofs.FilterWork.{begun_made, calls_begun, rests_soundly, save_calls, save_soundly}
 use Rattle.vt_core.proofs.advancing.advance_save.Goals as goal
 
 pub returns-then-not-begin_save-clause-sound : goal.returns-then-not-begin_save-clause-sound
@@ -14,6 +14,7 @@ returns-clause-saves g c = inr (record {
   begun = c.begin_save.new.bloom;
   answer = c.advance-answer.result;
   begins = c.begin_save.ensures.begun c.if-not-begin_save.false;
+  made = begun_made c.args.bits.now c.args.durable c.args.bloom.now c.begin_save.new.bloom (c.begin_save.ensures.begun c.if-not-begin_save.false) c.requires.made;
   advances = c.advance-answer.ensures.steps;
   done = c.advance-answer.ensures.done;
   stopped = c.advance-answer.ensures.stopped;

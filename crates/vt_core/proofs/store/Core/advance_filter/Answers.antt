@@ -10,7 +10,7 @@ use Rattle.vt_core.proofs.FilterWork.{filter_whole, filter_steps}
 use Rattle.vt_core.proofs.store.Core.advance_filter.Goals as goal
 
 pub advance_any-requires : goal.advance_any-requires
-advance_any-requires g c = λ b is. (c.self.invariant.0.filter b is).counts
+advance_any-requires g c = record { counts = λ b is. (c.self.invariant.0.filter b is).counts; made = λ b is. (c.self.invariant.0.filter b is).made }
 
 pub invariant_of-self : goal.invariant_of-self
 invariant_of-self g c =
