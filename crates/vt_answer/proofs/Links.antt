@@ -1,5 +1,6 @@
 -- A session over a link, part by part, and as a whole.
-use Rattle.std.proofs.Common.{◌≡◌, ◌≢◌, ℕ, ◌+◌, ◌<◌, ◌≤◌, inl, inr, List, [], ◌∷◌, ◌++◌, length, refl, sym, ◌∙◌, ap, subst, arith, append-nil, append_assoc, length-append, length-drop, Result, Ok, Err, Option, Some, None}
+use Rattle.std.proofs.Math.Seq.{drop-append_seam}
+use Rattle.std.proofs.Common.{◌≡◌, ◌≢◌, drop, ℕ, ◌+◌, ◌<◌, ◌≤◌, inl, inr, List, [], ◌∷◌, ◌++◌, length, refl, sym, ◌∙◌, ap, subst, arith, append-nil, append_assoc, length-append, length-drop, Result, Ok, Err, Option, Some, None}
 use Rattle.std.specs.Prelude.{◌-◌, min, Bool, true, false, if◌then◌else◌, IsTrue, IfOk, IfSome}
 use Rattle.std.specs.Option.{option_or}
 use Rattle.vt_base.specs.Bytes.{AreBytes, AreBytes-none, AreBytes-append}
@@ -23,7 +24,7 @@ use Rattle.vt_session.specs.Turns.{Turn, items_of, pieces_of, output_of, server_
 use Rattle.vt_session.proofs.Pieces.{turns_cut}
 use Rattle.vt_session.proofs.Talking.{fed_heard, none_more}
 use Rattle.vt_answer.specs.Clients.{tag_of, AreReplies, IsAnswered}
-use Rattle.vt_answer.specs.Links.{Advances, Comes, Goes, SaysNext, EndsSo, EndsHere, TookAll, AllSaid, ReadCause, left_to_do, SaysOver, AnswersLink}
+use Rattle.vt_answer.specs.Links.{Advances, Comes, Goes, SaysNext, EndsSo, EndsHere, TookAll, AllSaid, ReadCause, left_to_do, SaysOver, AnswersLink, since}
 use Rattle.vt_answer.specs.Members.{StoreOf}
 use Rattle.vt_answer.specs.Sessions.{Spoken, AnswersItems, AnswersNext}
 use Rattle.vt_answer.specs.Taking.{Takes}
@@ -551,23 +552,70 @@ module _ {S : Type 0} (T : StoreOf S) (s s' : S) (new : Spoken) (written sent : 
 
 -- ---- a session that goes on
 
--- So much came, and so much of it was answered, from the session's first byte on.
+-- what came behind is what was added
+pub since_is : (before after more : List ℕ) → after ≡ before ++ more → since before after ≡ more
+since_is before after more is =
+    ap (drop (length before)) is ∙ drop-append_seam before more
+
+-- what was written behind what was there
+out_of : {V : Type 0} (r : Result V Failed) (base waiting written' waiting' said : List ℕ)
+    → Writes r base waiting written' waiting' said
+    → (out : List ℕ) × (written' ≡ base ++ out) × Writes r [] waiting out waiting' said
+out_of (Ok done) base waiting written' waiting' said w = (w.0, w.1, (w.0, refl, w.2))
+out_of (Err failed) base waiting written' waiting' said w = (w.0, w.1, (w.0, refl, w.2))
+
+writes_since : {V : Type 0} (r : Result V Failed) (base waiting written' waiting' said : List ℕ)
+    → Writes r base waiting written' waiting' said
+    → Writes r [] waiting (since base written') waiting' said
+writes_since r base waiting written' waiting' said w =
+    let out = out_of r base waiting written' waiting' said w in
+    subst (λ o. Writes r [] waiting o waiting' said)
+    (sym (since_is base written' out.0 out.1)) out.2
+
+-- So much came, and so much of it was answered, behind what had come and gone before.
 pub record InSession {S : Type 0} (T : StoreOf S) (s s' : S) (new : Spoken) (P : Type 0)
-    (left left' sent written : List ℕ) (talking : Talking) : Type 0 where
+    (left left' sent₀ sent written₀ written : List ℕ) (talking : Talking) : Type 0 where
   pub came : List ℕ
-  pub so_far : Advances T s s' first new (Wrote P [] server_line written new.waiting) (at_line [])
-      talking.stage came
+  pub so_far : Advances T s s' first new (Wrote P written₀ server_line written new.waiting)
+      (at_line []) talking.stage came
   pub taken : talking.taken ≡ length came
-  pub sent_is : P → sent ≡ came
+  pub sent_is : P → sent ≡ sent₀ ++ came
   pub left_is : P → left ≡ came ++ left'
+
+module _ {S : Type 0} (T : StoreOf S) (s s' : S) (new : Spoken) (stage stage' : Stage)
+    (came : List ℕ) where
+  -- the same, of what was written since
+  advances_since : {V P : Type 0} (r : Result V Failed) (base written : List ℕ)
+      → Advances T s s' first new
+      (λ said. P → Writes r base server_line written new.waiting said) stage stage' came
+      → Advances T s s' first new
+      (λ said. P → Writes r [] server_line (since base written) new.waiting said)
+      stage stage' came
+  advances_since {P = P} r base written x =
+      let so : (said : List ℕ) → (P → Writes r base server_line written new.waiting said)
+      → P → Writes r [] server_line (since base written) new.waiting said =
+      λ said w p. writes_since r base server_line written new.waiting said (w p) in record {
+        items = x.items;
+        hears = x.hears;
+        answers = λ h hold. let a = x.answers h hold in record {
+          turns = a.turns;
+          items_are = a.items_are;
+          takes = a.takes;
+          written = so _ a.written;
+          failure_is = a.failure_is;
+        };
+        said = x.said;
+        replies = x.replies;
+        written = so _ x.written;
+      }
 
 module _ {S : Type 0} (T : StoreOf S) where
   pub session_begins : {P : Type 0} (s : S) (left sent written : List ℕ)
-      → (P → (sent ≡ []) × (written ≡ []))
-      → InSession T s s first P left left sent written (record { stage = at_line []; taken = 0 })
-  session_begins {P = P} s left sent written begins =
-      let wrote : Wrote P [] server_line written server_line [] =
-      λ p. ([], (begins p).1, sym (append-nil server_line)) in record {
+      → InSession T s s first P left left sent sent written written
+      (record { stage = at_line []; taken = 0 })
+  session_begins {P = P} s left sent written =
+      let wrote : Wrote P written server_line written server_line [] =
+      λ p. ([], sym (append-nil written), sym (append-nil server_line)) in record {
         came = [];
         so_far = record {
           items = [];
@@ -578,39 +626,62 @@ module _ {S : Type 0} (T : StoreOf S) where
           written = wrote;
         };
         taken = refl;
-        sent_is = λ p. (begins p).0;
+        sent_is = λ p. sym (append-nil sent);
         left_is = λ p. refl;
       }
 
-  module _ {P : Type 0} (s s' : S) (new : Spoken) (left left' sent written : List ℕ)
-      (talking : Talking) (x : InSession T s s' new P left left' sent written talking) where
+  module _ {P : Type 0} (s s' : S) (new : Spoken) (left left' sent₀ sent written₀ written : List ℕ)
+      (talking : Talking)
+      (x : InSession T s s' new P left left' sent₀ sent written₀ written talking) where
     -- what came was answered, once what waits went out
-    pub session_answered : P → IsOpen talking.stage → IsAnswered sent (written ++ new.waiting)
-    session_answered p unfinished =
-        subst (λ b. IsAnswered b (written ++ new.waiting)) (sym (x.sent_is p))
-        (all_answered T s s' new written x.came talking.stage {P = P} x.so_far unfinished p)
+    pub session_answered : P → (sent₀ ≡ []) × (written₀ ≡ []) → IsOpen talking.stage
+        → IsAnswered sent (written ++ new.waiting)
+    session_answered p begins unfinished =
+        subst (λ b. IsAnswered b (written ++ new.waiting))
+        (sym (x.sent_is p ∙ ap (λ l. l ++ x.came) begins.0))
+        (all_answered T s s' new written x.came talking.stage {P = P}
+        (subst (λ b. Advances T s s' first new (Wrote P b server_line written new.waiting)
+        (at_line []) talking.stage x.came) begins.1 x.so_far) unfinished p)
+
+    pub session_taken : P → talking.taken ≡ length (since sent₀ sent)
+    session_taken p = x.taken ∙ ap length (sym (since_is sent₀ sent x.came (x.sent_is p)))
 
   module _ {P V : Type 0} (s s' s'' : S) (mid new : Spoken)
-      (left left' left'' sent sent' written written' : List ℕ) (talking talking' : Talking)
-      (x : InSession T s s' mid P left left' sent written talking) where
+      (left left' left'' sent₀ sent sent' written₀ written written' : List ℕ)
+      (talking talking' : Talking)
+      (x : InSession T s s' mid P left left' sent₀ sent written₀ written talking) where
     abbrev Going : Result V Failed → Type 0
     Going r = Goes T P r s' s'' mid new written written' sent sent' left' left'' talking talking'
 
-    sent_now : (r : Result V Failed) (g : Going r) → P → sent' ≡ x.came ++ g.came
+    sent_now : (r : Result V Failed) (g : Going r) → P → sent' ≡ sent₀ ++ (x.came ++ g.came)
     sent_now r g p = g.sent_is p ∙ ap (λ l. l ++ g.came) (x.sent_is p)
+        ∙ append_assoc sent₀ x.came g.came
+
+    since_now : (r : Result V Failed) (g : Going r) → P → since sent₀ sent' ≡ x.came ++ g.came
+    since_now r g p = since_is sent₀ sent' (x.came ++ g.came) (sent_now r g p)
 
     left_now : (r : Result V Failed) (g : Going r) → P → left ≡ (x.came ++ g.came) ++ left''
     left_now r g p =
         x.left_is p ∙ ap (λ l. x.came ++ l) (g.left_is p) ∙ sym (append_assoc x.came g.came left'')
 
+    taken_now : (r : Result V Failed) (g : Going r) → talking'.taken ≡ length (x.came ++ g.came)
+    taken_now r g =
+        g.taken ∙ ap (λ n. n + length g.came) x.taken ∙ sym (length-append x.came g.came)
+
+    advances_now : (r : Result V Failed) (g : Going r) → Advances T s s'' first new
+        (λ said. P → Writes r written₀ server_line written' new.waiting said)
+        (at_line []) talking'.stage (x.came ++ g.came)
+    advances_now r g =
+        advances_more T {V = V} {P = P} r s s' s'' first mid new written₀ written written'
+        (at_line []) talking.stage talking'.stage x.came g.came g.bytes x.so_far g.advances
+
     -- a step that went well
     pub session_on : (done : V) → Going (Ok done)
-        → InSession T s s'' new P left left'' sent' written' talking'
+        → InSession T s s'' new P left left'' sent₀ sent' written₀ written' talking'
     session_on done g = record {
       came = x.came ++ g.came;
-      so_far = advances_more T {V = V} {P = P} (Ok done) s s' s'' first mid new [] written written'
-          (at_line []) talking.stage talking'.stage x.came g.came g.bytes x.so_far g.advances;
-      taken = g.taken ∙ ap (λ n. n + length g.came) x.taken ∙ sym (length-append x.came g.came);
+      so_far = advances_now (Ok done) g;
+      taken = taken_now (Ok done) g;
       sent_is = sent_now (Ok done) g;
       left_is = left_now (Ok done) g;
     }
@@ -618,41 +689,62 @@ module _ {S : Type 0} (T : StoreOf S) where
     -- one in which a write failed
     pub session_fails : (failed : Failed) → Going (Err failed) → IsHeardStage talking'.stage
         → (h : History) → T.holds s h → P
-        → AnswersLink T s s'' h new.failure sent' written' WriteFault
+        → AnswersLink T s s'' h new.failure (since sent₀ sent') (since written₀ written') WriteFault
     session_fails failed g heard h hold p =
-        subst (λ b. AnswersLink T s s'' h new.failure b written' WriteFault)
-        (sym (sent_now (Err failed) g p))
-        (to_a_fault T s s'' new written' (x.came ++ g.came) talking'.stage h hold {P = P} failed
-        (advances_more T {V = V} {P = P} (Err failed) s s' s'' first mid new [] written written'
-        (at_line []) talking.stage talking'.stage x.came g.came g.bytes x.so_far g.advances)
-        heard p)
+        subst (λ b. AnswersLink T s s'' h new.failure b (since written₀ written') WriteFault)
+        (sym (since_now (Err failed) g p))
+        (to_a_fault T s s'' new (since written₀ written') (x.came ++ g.came) talking'.stage h hold
+        {P = P} failed
+        (advances_since T s s'' new (at_line []) talking'.stage (x.came ++ g.came) {V = V} {P = P}
+        (Err failed) written₀ written' (advances_now (Err failed) g)) heard p)
 
-    pub took_fails : (failed : Failed) → Going (Err failed) → P → Took left sent' left'' WriteFault
+    pub taken_fails : (failed : Failed) → Going (Err failed) → P
+        → talking'.taken ≡ length (since sent₀ sent')
+    taken_fails failed g p =
+        taken_now (Err failed) g ∙ ap length (sym (since_now (Err failed) g p))
+
+    pub written_fails : (failed : Failed) → Going (Err failed) → P
+        → written' ≡ written₀ ++ since written₀ written'
+    written_fails failed g p =
+        let w = (advances_now (Err failed) g).written p in
+        w.1 ∙ ap (λ l. written₀ ++ l) (sym (since_is written₀ written' w.0 w.1))
+
+    pub took_fails : (failed : Failed) → Going (Err failed) → P
+        → Took left (since sent₀ sent') left'' WriteFault
     took_fails failed g p = record {
       parts = left_now (Err failed) g p
-          ∙ ap (λ l. l ++ left'') (sym (sent_now (Err failed) g p));
+          ∙ ap (λ l. l ++ left'') (sym (since_now (Err failed) g p));
       closed = λ e. absurd (cc);
       cut = λ e. absurd (cc);
     }
 
-  -- its end, with nothing left to write
-  pub session_ends : {P : Type 0} (s s' : S) (new : Spoken) (left left' sent written : List ℕ)
-      (talking : Talking) (ended : Ended)
-      (x : InSession T s s' new P left left' sent written talking)
-      → new.waiting ≡ [] → EndsSo ended talking.stage talking.taken
-      → (h : History) → T.holds s h → P → AnswersLink T s s' h new.failure sent written ended
-  session_ends {P = P} s s' new left left' sent written talking ended x none ends h hold p =
-      subst (λ b. AnswersLink T s s' h new.failure b written ended) (sym (x.sent_is p))
-      (to_its_end T s s' new written x.came talking.stage h hold {P = P} ended
-      (subst (λ w. Advances T s s' first new (Wrote P [] server_line written w) (at_line [])
-      talking.stage x.came) none x.so_far)
-      (subst (EndsSo ended talking.stage) x.taken ends) p)
+  module _ {P : Type 0} (s s' : S) (new : Spoken)
+      (left left' sent₀ sent written₀ written : List ℕ) (talking : Talking)
+      (x : InSession T s s' new P left left' sent₀ sent written₀ written talking) where
+    pub session_written : P → written ≡ written₀ ++ since written₀ written
+    session_written p =
+        let w = x.so_far.written p in
+        w.1 ∙ ap (λ l. written₀ ++ l) (sym (since_is written₀ written w.0 w.1))
+
+    -- its end, with nothing left to write
+    pub session_ends : (ended : Ended) → new.waiting ≡ []
+        → EndsSo ended talking.stage talking.taken → (h : History) → T.holds s h → P
+        → AnswersLink T s s' h new.failure (since sent₀ sent) (since written₀ written) ended
+    session_ends ended none ends h hold p =
+        subst (λ b. AnswersLink T s s' h new.failure b (since written₀ written) ended)
+        (sym (since_is sent₀ sent x.came (x.sent_is p)))
+        (to_its_end T s s' new (since written₀ written) x.came talking.stage h hold {P = P} ended
+        (subst (λ w. Advances T s s' first new (Wrote P [] server_line (since written₀ written) w)
+        (at_line []) talking.stage x.came) none
+        (advances_since T s s' new (at_line []) talking.stage x.came {V = Unit {0}} {P = P}
+        (Ok tt) written₀ written x.so_far))
+        (subst (EndsSo ended talking.stage) x.taken ends) p)
 
 module _ {S : Type 0} (T : StoreOf S) where
   -- what waits goes out at the end, or the write of it fails
   module _ {P : Type 0} (s s' : S) (old new : Spoken)
-      (left left' left'' sent sent' written written' : List ℕ) (talking : Talking)
-      (x : InSession T s s' old P left left' sent written talking)
+      (left left' left'' sent₀ sent sent' written₀ written written' : List ℕ) (talking : Talking)
+      (x : InSession T s s' old P left left' sent₀ sent written₀ written talking)
       (same : new.failure ≡ old.failure) (kept : P → (sent' ≡ sent) × (left'' ≡ left')) where
     out : {V : Type 0} (r : Result V Failed)
         → (P → Writes r written old.waiting written' new.waiting [])
@@ -660,23 +752,45 @@ module _ {S : Type 0} (T : StoreOf S) where
     out {V} r wrote = went_out {V = V} {P = P} T r s' old new written written' sent sent' left'
         left'' talking same kept wrote
 
+    pub out_session : {V : Type 0} (done : V)
+        → (P → Writes (Ok done) written old.waiting written' new.waiting [])
+        → InSession T s s' new P left left'' sent₀ sent' written₀ written' talking
+    out_session {V} done wrote =
+        session_on T {P = P} {V = V} s s' s' old new left left' left'' sent₀ sent sent' written₀
+        written written' talking talking x done (out (Ok done) wrote)
+
     pub out_ends : {V : Type 0} (done : V) (ended : Ended)
         → (P → Writes (Ok done) written old.waiting written' new.waiting [])
         → new.waiting ≡ [] → EndsSo ended talking.stage talking.taken
-        → (h : History) → T.holds s h → P → AnswersLink T s s' h new.failure sent' written' ended
+        → (h : History) → T.holds s h → P
+        → AnswersLink T s s' h new.failure (since sent₀ sent') (since written₀ written') ended
     out_ends {V} done ended wrote none ends =
-        session_ends T {P = P} s s' new left left'' sent' written' talking ended
-        (session_on T {P = P} {V = V} s s' s' old new left left' left'' sent sent' written written'
-        talking talking x done (out (Ok done) wrote)) none ends
+        session_ends T {P = P} s s' new left left'' sent₀ sent' written₀ written' talking
+        (out_session {V = V} done wrote) ended none ends
+
+    pub out_written : {V : Type 0} (done : V)
+        → (P → Writes (Ok done) written old.waiting written' new.waiting [])
+        → P → written' ≡ written₀ ++ since written₀ written'
+    out_written {V} done wrote =
+        session_written T {P = P} s s' new left left'' sent₀ sent' written₀ written' talking
+        (out_session {V = V} done wrote)
 
     pub out_fails : (failed : Failed)
         → (P → Writes {T = Unit {0}} (Err failed) written old.waiting written' new.waiting [])
         → IsHeardStage talking.stage
         → (h : History) → T.holds s h → P
-        → AnswersLink T s s' h new.failure sent' written' WriteFault
+        → AnswersLink T s s' h new.failure (since sent₀ sent') (since written₀ written') WriteFault
     out_fails failed wrote heard =
-        session_fails T {P = P} {V = Unit {0}} s s' s' old new left left' left'' sent sent' written
-        written' talking talking x failed (out {V = Unit {0}} (Err failed) wrote) heard
+        session_fails T {P = P} {V = Unit {0}} s s' s' old new left left' left'' sent₀ sent sent'
+        written₀ written written' talking talking x failed (out {V = Unit {0}} (Err failed) wrote)
+        heard
+
+    pub out_written_fails : (failed : Failed)
+        → (P → Writes {T = Unit {0}} (Err failed) written old.waiting written' new.waiting [])
+        → P → written' ≡ written₀ ++ since written₀ written'
+    out_written_fails failed wrote =
+        written_fails T {P = P} {V = Unit {0}} s s' s' old new left left' left'' sent₀ sent sent'
+        written₀ written written' talking talking x failed (out {V = Unit {0}} (Err failed) wrote)
 
 took_all : (ended : Ended) (left : List ℕ) → TookAll (Ok (Some ended)) left
     → ((ended ≡ Closed) → left ≡ []) × ((ended ≡ Cut) → left ≡ [])
@@ -690,12 +804,13 @@ took_all WriteFault left it = (λ e. absurd (cc), λ e. absurd (cc))
 took_all NoMemory left it = (λ e. absurd (cc), λ e. absurd (cc))
 
 pub took_ends : {S : Type 0} (T : StoreOf S) {P : Type 0} (s s' : S) (new : Spoken)
-    (left left' sent written : List ℕ) (talking : Talking) (ended : Ended)
-    → InSession T s s' new P left left' sent written talking
-    → (P → TookAll (Ok (Some ended)) left') → P → Took left sent left' ended
-took_ends T s s' new left left' sent written talking ended x it p =
+    (left left' sent₀ sent written₀ written : List ℕ) (talking : Talking) (ended : Ended)
+    → InSession T s s' new P left left' sent₀ sent written₀ written talking
+    → (P → TookAll (Ok (Some ended)) left') → P → Took left (since sent₀ sent) left' ended
+took_ends T s s' new left left' sent₀ sent written₀ written talking ended x it p =
     let all = took_all ended left' (it p) in record {
-      parts = x.left_is p ∙ ap (λ l. l ++ left') (sym (x.sent_is p));
+      parts = x.left_is p
+          ∙ ap (λ l. l ++ left') (sym (since_is sent₀ sent x.came (x.sent_is p)));
       closed = all.0;
       cut = all.1;
     }

@@ -1,5 +1,5 @@
 -- A session over a link: what comes in is heard as it comes, and answered over a store.
-use Rattle.std.specs.Prelude.{ℕ, ◌≡◌, ◌+◌, ◌-◌, ◌*◌, ◌<◌, ◌⊎◌, ◌++◌, ⊤, Option, Some, None, List, [], length, Result, Ok, Err}
+use Rattle.std.specs.Prelude.{ℕ, ◌≡◌, ◌+◌, ◌-◌, ◌*◌, ◌<◌, ◌⊎◌, ◌++◌, ⊤, Option, Some, None, List, [], length, drop, Result, Ok, Err}
 use Rattle.vt_base.specs.Bytes.{AreBytes}
 use Rattle.vt_base.specs.Faults.{HasRisen}
 use Rattle.vt_base.specs.declared.why.Failed.{Failed}
@@ -130,6 +130,10 @@ pub record AnswersLink {S : Type 0} (T : StoreOf S) (s s' : S) (h : History) (fa
   pub says : SaysOver ended input turns unsaid output
   pub takes : Takes T s s' h (turns ++ unsaid)
   pub failure_is : failure ≡ first_why (causes_of (turns ++ unsaid))
+
+-- what came behind what was there before
+abbrev pub since : (before after : List ℕ) → List ℕ
+since before after = drop (length before) after
 
 -- how it ended: by itself, or a write failed
 abbrev pub ended_of : Result Ended Failed → Ended

@@ -9,13 +9,17 @@ ghost use Rattle.vt_answer.specs.Clients.{IsAnswered};
 
 use vt_base::Failed;
 
-/// The other end of a session's link, from the first byte of the session on: what comes from it,
-/// and what goes out to it. It may wait for the replies to all that it sent before it sends more,
-/// so it is asked for more only once they went out.
+/// The other end of a session's link: what comes from it, and what goes out to it. It may wait for
+/// the replies to all that it sent before it sends more, so it is asked for more only once they
+/// went out.
 pub trait Client {
     /// Whether clients of this type tell what comes from them and what went out. A connection of
     /// the system doesn't.
     ghost tells: { Bool };
+
+    /// Whether clients of this type wait for replies. What such a client tells begins with the
+    /// session.
+    ghost waits: { Bool };
 
     /// The bytes that came from it, where it tells them.
     ghost sent: { Self → List ℕ };
@@ -35,7 +39,8 @@ pub trait Client {
     /// Moves bytes that come to the front of the buffer, and says how many. 0 is the end of what
     /// comes, where the buffer has room.
     fn take(&mut self, buf: &mut [u8]) -> Result<usize, Failed>
-        requires answered { IsTrue tells → IsAnswered (sent self.old) (written self.old) }
+        requires answered { IsTrue tells → IsTrue waits
+            → IsAnswered (sent self.old) (written self.old) }
         ensures fits { IfOk result (λ n. n ≤ length buf.old) }
         ensures sent { IfOk result (λ n. IsTrue tells →
             sent self.new ≡ sent self.old ++ take n buf.new) }

@@ -18,6 +18,7 @@ pub use asking::{Said, ask, reply};
 pub use client::Client;
 pub use link_client::LinkClient;
 pub use output::Output;
+pub use serving::Served;
 pub use store::Store;
 pub use streams_client::StreamsClient;
 

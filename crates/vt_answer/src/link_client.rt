@@ -4,14 +4,18 @@ use crate::Client;
 use vt_base::Failed;
 use vt_out::Link;
 
-/// A link, from its first byte on, as the client of a session.
+/// A link, as the client of a session.
 #[derive(Drop)]
-pub struct LinkClient<L: Link> {
+pub struct LinkClient<L> {
     pub link: L,
 }
 
 impl<L: Link> Client for LinkClient<L> {
+    ghost use Rattle.std.specs.Prelude.{false};
+
     ghost tells = { L.tells };
+
+    ghost waits = { false };
 
     ghost sent = { λ client. L.given client.link };
 

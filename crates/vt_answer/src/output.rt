@@ -12,7 +12,6 @@ use std::alloc::Global;
 use std::marker::Model;
 use vt_base::{Failed, MAX_BLOCK, NoMemory};
 use vt_fields::put;
-use vt_out::Sink;
 use vt_wire::{Reply, encode};
 
 /// What the server writes first.
@@ -51,20 +50,8 @@ impl Output {
         Ok(Output { buffer, used })
     }
 
-    /// Writes all that waits.
-    pub fn flush<K: Sink>(&mut self, sink: &mut K) -> Result<(), Failed>
-        ensures written { IsTrue K.tells →
-            Writes result (K.written sink.old) self.old (K.written sink.new) self.new [] }
-        ensures empty { self.new ≡ [] }
-        ensures cause { HasCause result (K.faults sink.old) (K.faults sink.new) }
-    {
-        let used = self.used;
-        self.used = 0;
-        sink.put(&self.buffer[..used])
-    }
-
     /// Writes all that waits to a client, if anything does.
-    pub fn flush_to<C: Client>(&mut self, client: &mut C) -> Result<(), Failed>
+    pub fn flush<C: Client>(&mut self, client: &mut C) -> Result<(), Failed>
         ensures written { IsTrue C.tells →
             Writes result (C.written client.old) self.old (C.written client.new) self.new [] }
         ensures empty { self.new ≡ [] }
@@ -89,21 +76,6 @@ impl Output {
             (length self.now + 57348 ≤ 131072) }
     {
         ROOM - self.used < MAX_REPLY
-    }
-
-    /// Puts a reply behind what waits. What waits is written first where there is no room for it.
-    pub fn add<K: Sink>(&mut self, sink: &mut K, tag: u8, reply: &Reply) -> Result<(), Failed>
-        requires { FitsReply (reply_of reply.now) }
-        ensures written { IsTrue K.tells →
-            Writes result (K.written sink.old) self.old (K.written sink.new) self.new
-            (spelled tag (reply_of reply.now)) }
-        ensures cause { HasCause result (K.faults sink.old) (K.faults sink.new) }
-    {
-        if ROOM - self.used < MAX_REPLY {
-            self.flush(sink)?;
-        }
-        self.push(tag, reply);
-        Ok(())
     }
 
     /// Puts a reply behind what waits.

@@ -5,12 +5,12 @@ ghost use Rattle.vt_base.specs.Bytes.{AreBytes};
 ghost use Rattle.vt_base.specs.Faults.{HasCause};
 ghost use Rattle.vt_model.specs.History.{History};
 ghost use Rattle.vt_session.specs.Hearing.{MatchNext};
-ghost use Rattle.vt_session.specs.Talk.{Took};
+ghost use Rattle.vt_session.specs.Talk.{Took, spent_len};
 ghost use Rattle.vt_session.specs.Talking.{at_line, fed, needs_more, room, EndsAnyhow, IsHeardStage, IsOpen};
 ghost use Rattle.vt_session.specs.Turns.{server_line};
 ghost use Rattle.vt_answer.specs.Clients.{IsAnswered};
 ghost use Rattle.vt_answer.specs.Condition.{GoesOn};
-ghost use Rattle.vt_answer.specs.Links.{Advances, Comes, Goes, SaysNext, EndsHere, TookAll, AllSaid, ReadCause, ReadsSo, LessIsLeft, AnswersLink, ended_of};
+ghost use Rattle.vt_answer.specs.Links.{Advances, Comes, Goes, SaysNext, EndsHere, TookAll, AllSaid, ReadCause, ReadsSo, LessIsLeft, AnswersLink, ended_of, since};
 ghost use Rattle.vt_answer.specs.Sessions.{AnswersNext, IsItemOrEnd, SinkCause};
 ghost use Rattle.vt_answer.specs.Writing.{Writes};
 
@@ -24,6 +24,15 @@ use vt_wire::{Reply, rule_text};
 /// How many bytes are taken at a time.
 const PIECE: usize = 65_536;
 
+/// What came of a session.
+#[derive(Clone, Copy, Debug, PartialEq, Eq)]
+pub struct Served {
+    /// How it ended.
+    pub ended: Ended,
+    /// How many bytes were taken.
+    pub taken: u64,
+}
+
 impl Answering {
     /// Serves a session until it ends, and tells how. The server's line goes out first, and
     /// whatever can be answered is answered, and has gone out, before more is taken.
@@ -32,29 +41,42 @@ impl Answering {
         alloc: Global,
         store: &mut T,
         client: &mut C,
-    ) -> Ended
+    ) -> Served
         requires line { self.old ≡ record { waiting = server_line; failure = None } }
-        requires begins { IsTrue C.tells →
+        requires begins { IsTrue C.tells → IsTrue C.waits →
             (C.sent client.old ≡ []) × (C.written client.old ≡ []) }
         ensures told { (h : History) → T.holds store.old h → IsTrue C.tells
             → AnswersLink T.Store store.old store.new h self.new.failure
-            (C.sent client.new) (C.written client.new) result }
-        ensures took { IsTrue C.tells →
-            Took (C.left client.old) (C.sent client.new) (C.left client.new) result }
+            (since (C.sent client.old) (C.sent client.new))
+            (since (C.written client.old) (C.written client.new)) result.ended }
+        ensures took { IsTrue C.tells → Took (C.left client.old)
+            (since (C.sent client.old) (C.sent client.new)) (C.left client.new) result.ended }
+        ensures taken { IsTrue C.tells → result.taken
+            ≡ length (since (C.sent client.old) (C.sent client.new)) }
+        ensures most { result.taken ≤ spent_len }
+        ensures written { IsTrue C.tells → C.written client.new
+            ≡ C.written client.old ++ since (C.written client.old) (C.written client.new) }
         ensures goes_on { GoesOn (T.condition store.old) (T.condition store.new) }
-        ensures reads { ReadCause result
+        ensures reads { ReadCause result.ended
             (C.read_faults client.old) (C.read_faults client.new) }
-        ensures writes { SinkCause result
+        ensures writes { SinkCause result.ended
             (C.write_faults client.old) (C.write_faults client.new) }
-        ensures memory { result ≡ Ended.NoMemory
+        ensures memory { result.ended ≡ Ended.NoMemory
             → (store.new ≡ store.old) × (client.new ≡ client.old) }
     {
         let Ok((mut talker, mut piece)) = prepare(alloc) else {
-            return Ended::NoMemory;
+            return Served {
+                ended: Ended::NoMemory,
+                taken: 0,
+            };
         };
-        match self.serve_talker(alloc, store, &mut talker, &mut piece, client) {
+        let ended = match self.serve_talker(alloc, store, &mut talker, &mut piece, client) {
             Ok(ended) => ended,
             Err(Failed) => Ended::WriteFault,
+        };
+        Served {
+            ended,
+            taken: talker.taken(),
         }
     }
 
@@ -68,15 +90,20 @@ impl Answering {
         client: &mut C,
     ) -> Result<Ended, Failed>
         requires line { self.old ≡ record { waiting = server_line; failure = None } }
-        requires begins { IsTrue C.tells →
+        requires begins { IsTrue C.tells → IsTrue C.waits →
             (C.sent client.old ≡ []) × (C.written client.old ≡ []) }
         requires talker { talker.old ≡ record { stage = at_line []; taken = 0 } }
         requires some { 0 < length piece.old }
         ensures told { (h : History) → T.holds store.old h → IsTrue C.tells
             → AnswersLink T.Store store.old store.new h self.new.failure
-            (C.sent client.new) (C.written client.new) (ended_of result) }
-        ensures took { IsTrue C.tells →
-            Took (C.left client.old) (C.sent client.new) (C.left client.new) (ended_of result) }
+            (since (C.sent client.old) (C.sent client.new))
+            (since (C.written client.old) (C.written client.new)) (ended_of result) }
+        ensures took { IsTrue C.tells → Took (C.left client.old)
+            (since (C.sent client.old) (C.sent client.new)) (C.left client.new) (ended_of result) }
+        ensures taken { IsTrue C.tells → talker.new.taken
+            ≡ length (since (C.sent client.old) (C.sent client.new)) }
+        ensures written { IsTrue C.tells → C.written client.new
+            ≡ C.written client.old ++ since (C.written client.old) (C.written client.new) }
         ensures goes_on { GoesOn (T.condition store.old) (T.condition store.new) }
         ensures reads { ReadCause (ended_of result)
             (C.read_faults client.old) (C.read_faults client.new) }
@@ -86,7 +113,7 @@ impl Answering {
     {
         loop {
             if let Some(ended) = self.step(alloc, store, talker, piece, client)? {
-                self.output.flush_to(client)?;
+                self.output.flush(client)?;
                 return Ok(ended);
             }
         }
@@ -102,7 +129,7 @@ impl Answering {
         piece: &mut [u8],
         client: &mut C,
     ) -> Result<Option<Ended>, Failed>
-        requires answered { IsTrue C.tells → IsOpen talker.old.stage
+        requires answered { IsTrue C.tells → IsTrue C.waits → IsOpen talker.old.stage
             → IsAnswered (C.sent client.old) (C.written client.old ++ self.old.waiting) }
         requires heard { IsHeardStage talker.old.stage }
         requires some { 0 < length piece.old }
@@ -120,7 +147,7 @@ impl Answering {
             (C.write_faults client.old) (C.write_faults client.new) }
     {
         if talker.needs_more() {
-            self.output.flush_to(client)?;
+            self.output.flush(client)?;
             Ok(hear_more(talker, piece, client))
         } else {
             self.answer_next(alloc, store, talker, client)
@@ -153,7 +180,7 @@ impl Answering {
             (C.write_faults client.old) (C.write_faults client.new) }
     {
         if self.output.is_full() {
-            self.output.flush_to(client)?;
+            self.output.flush(client)?;
         }
         Ok(self.say_next(alloc, store, talker))
     }
@@ -217,7 +244,8 @@ fn hear_more<C: Client>(talker: &mut Talker, piece: &mut [u8], client: &mut C) -
     requires needs { IsTrue (needs_more talker.old.stage) }
     requires unfinished { IsOpen talker.old.stage }
     requires heard { IsHeardStage talker.old.stage }
-    requires answered { IsTrue C.tells → IsAnswered (C.sent client.old) (C.written client.old) }
+    requires answered { IsTrue C.tells → IsTrue C.waits
+        → IsAnswered (C.sent client.old) (C.written client.old) }
     requires some { 0 < length piece.old }
     ensures comes { Comes (IsTrue C.tells) (C.sent client.old) (C.sent client.new)
         (C.left client.old) (C.left client.new) talker.old talker.new }

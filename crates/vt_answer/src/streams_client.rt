@@ -4,18 +4,19 @@ use crate::Client;
 use vt_base::Failed;
 use vt_out::{Sink, Source};
 
-/// What comes from a source and goes out to a sink, from their first bytes on, as the client of a
-/// session.
+/// What comes from a source and goes out to a sink, as the client of a session.
 #[derive(Drop)]
-pub struct StreamsClient<S: Source, K: Sink> {
+pub struct StreamsClient<S, K> {
     pub source: S,
     pub sink: K,
 }
 
 impl<S: Source, K: Sink> Client for StreamsClient<S, K> {
-    ghost use Rattle.std.specs.Prelude.{◌&&◌};
+    ghost use Rattle.std.specs.Prelude.{◌&&◌, false};
 
     ghost tells = { S.tells && K.tells };
+
+    ghost waits = { false };
 
     ghost sent = { λ client. S.given client.source };
 

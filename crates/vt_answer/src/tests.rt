@@ -7,8 +7,8 @@ use std::alloc::{AllocError, Global};
 use std::process::Abort;
 use std::test::Fail;
 use vt_base::{Bytes, Failed, FieldValue, NoMemory, Score, Site, Why};
-use vt_out::{MemLink, MemSink, MemSource, Sink};
-use vt_session::{Ended, Next, parse_all};
+use vt_out::{MemLink, MemSink, MemSource};
+use vt_session::Ended;
 use vt_wire::{Reply, Request};
 
 const OUR_LINE: &[u8] = b"venti-02-rattle\n";
@@ -117,83 +117,53 @@ fn joined(alloc: Global, parts: &[&[u8]]) -> Result<Vec<u8>, AllocError> {
     Ok(all)
 }
 
-/// Each message gets its reply under its tag, in order; the first failure is kept.
-#[test]
-fn replies(rt: HostRuntime) -> Result<(), Fail> {
-    let alloc = rt.alloc();
-    let input = joined(alloc, &[GREETING, WRITES, READ, REST])?;
-    let output = joined(
-        alloc,
-        &[
-            OUR_LINE,
-            WELCOME,
-            WROTE,
-            b"\x00\x05\x0d\x04bbb\x00\x02\x11\x05\x00\x02\x03\x06",
-        ],
-    )?;
-    let mut store = answering_reads(3);
-    let mut sink = MemSink::new(alloc, 1_000)?;
-    let mut answering = Answering::new(alloc)?;
-    let ended = answering.answer_input(alloc, &mut store, &input, &mut sink);
-    assert_eq!(rt; ended, Ended::Goodbye);
-    assert_eq!(rt; answering.failure(), Some(DAMAGE));
-    assert_eq!(rt; sink.written(), output.as_slice());
-    assert_eq!(rt; (store.writes, store.reads, store.syncs), (3, 1, 1));
-    Ok(())
-}
-
-/// Three reads of the longest blocks, of which two wait with the line: with all writes well, and
-/// with each of the two failing.
+/// Three reads of the longest blocks, of which two wait for the third: with all writes well, and
+/// with each of the three failing.
 #[test]
 fn long_replies(rt: HostRuntime) -> Result<(), Fail> {
     let alloc = rt.alloc();
-    let input = joined(alloc, &[GREETING, READ, READ, READ])?;
-    let first = OUR_LINE.len() + WELCOME.len() + 2 * 57_348;
-    let cases: [(&[u64], Ended, usize); 3] = [
-        (&[], Ended::Closed, first + 57_348),
-        (&[0], Ended::WriteFault, first / 2),
-        (&[1], Ended::WriteFault, first + 57_348 / 2),
+    let line = OUR_LINE.len();
+    let first = WELCOME.len() + 2 * 57_348;
+    let cases: [(&[u64], Ended, usize); 4] = [
+        (&[], Ended::Closed, line + first + 57_348),
+        (&[0], Ended::WriteFault, line / 2),
+        (&[1], Ended::WriteFault, line + first / 2),
+        (&[2], Ended::WriteFault, line + first + 57_348 / 2),
     ];
     for (failing, ended, written) in cases {
-        let mut store = answering_reads(57_344);
+        let input = joined(alloc, &[GREETING, READ, READ, READ])?;
         let failing = Vec::from_slice(alloc, failing)?;
-        let mut sink = MemSink::new(alloc, 1 << 18)?.failing(failing);
+        let mut client = StreamsClient {
+            source: MemSource::new(alloc, input),
+            sink: MemSink::new(alloc, 1 << 18)?.failing(failing),
+        };
+        let mut store = answering_reads(57_344);
         let mut answering = Answering::new(alloc)?;
-        let mut heard = parse_all(&input);
-        let found = answering.answer_all(alloc, &mut store, heard, &mut sink);
-        assert_eq!(rt; found.unwrap_or(Ended::WriteFault), ended);
-        assert_eq!(rt; sink.written().len(), written);
+        let served = answering.serve(alloc, &mut store, &mut client);
+        assert_eq!(rt; served.ended, ended);
+        assert_eq!(rt; client.sink.written().len(), written);
         assert_eq!(rt; answering.failure(), None);
     }
     Ok(())
 }
 
-/// One item at a time, and a store that is asked without a session.
+/// A store that is asked without a session, and a reply that waits.
 #[test]
-fn one_at_a_time(rt: HostRuntime) -> Result<(), Fail> {
+fn asked_alone(rt: HostRuntime) -> Result<(), Fail> {
     let alloc = rt.alloc();
     let mut store = answering_reads(3);
-    let mut sink = MemSink::new(alloc, 1_000)?;
-    let mut answering = Answering::new(alloc)?;
-    let ping = Next::Message(6, Request::Ping);
-    assert_eq!(rt;
-        answering.answer(alloc, &mut store, &ping, &mut sink).ok(),
-        Some(None)
-    );
-    assert!(rt; sink.written().is_empty());
-    let end = Next::End(Ended::Cut);
-    let ended = answering.answer(alloc, &mut store, &end, &mut sink);
-    assert_eq!(rt; ended.ok(), Some(Some(Ended::Cut)));
-    assert_eq!(rt;
-        sink.written(),
-        joined(alloc, &[OUR_LINE, b"\x00\x02\x03\x06"])?.as_slice()
-    );
     let answer = ask(alloc, &mut store, &Request::Sync);
     assert_eq!(rt; reply(&answer), Reply::Sync);
+    let mut client = StreamsClient {
+        source: MemSource::new(alloc, Vec::new(alloc)),
+        sink: MemSink::new(alloc, 100)?,
+    };
     let mut output = Output::new(alloc)?;
-    output.add(&mut sink, 6, &Reply::Ping)?;
-    output.flush(&mut sink)?;
-    assert_eq!(rt; sink.written().len(), 2 * (16 + 4));
+    output.push(6, &Reply::Ping);
+    assert!(rt; !output.is_full());
+    output.flush(&mut client)?;
+    let written = joined(alloc, &[OUR_LINE, b"\x00\x02\x03\x06"])?;
+    assert_eq!(rt; client.sink.written(), written.as_slice());
     Ok(())
 }
 
@@ -215,9 +185,11 @@ struct Patient {
 }
 
 impl Client for Patient {
-    ghost use Rattle.std.specs.Prelude.{[], false};
+    ghost use Rattle.std.specs.Prelude.{[], false, true};
 
     ghost tells = { false };
+
+    ghost waits = { true };
 
     ghost sent = { λ client. [] };
 
@@ -280,22 +252,22 @@ fn client_of(alloc: Global, parts: &[(&[u8], &[u8])], cut: usize) -> Result<Pati
     Ok(client)
 }
 
-/// What came of a session.
+/// What a session left.
 #[derive(Drop)]
-struct Served {
-    ended: Ended,
+struct Left {
+    served: Served,
     failure: Option<Why>,
     client: Patient,
     store: Scripted,
 }
 
-fn serve_all(alloc: Global, client: Patient) -> Result<Served, NoMemory> {
+fn serve_all(alloc: Global, client: Patient) -> Result<Left, NoMemory> {
     let mut client = client;
     let mut store = answering_reads(3);
     let mut answering = Answering::new(alloc)?;
-    let ended = answering.serve(alloc, &mut store, &mut client);
-    Ok(Served {
-        ended,
+    let served = answering.serve(alloc, &mut store, &mut client);
+    Ok(Left {
+        served,
         failure: answering.failure(),
         client,
         store,
@@ -325,15 +297,15 @@ fn a_client_waits_for_each_reply(rt: HostRuntime) -> Result<(), Fail> {
     )?;
     for cut in [1, 2, 3, 5, 65_537] {
         let client = client_of(alloc, &parts, cut)?;
-        let served = serve_all(alloc, client)?;
-        assert_eq!(rt; served.ended, Ended::Goodbye, "in pieces of {cut}");
+        let left = serve_all(alloc, client)?;
+        assert_eq!(rt; left.served.ended, Ended::Goodbye, "in pieces of {cut}");
         assert_eq!(rt;
-            served.client.output.as_slice(),
+            left.client.output.as_slice(),
             output.as_slice(),
             "in pieces of {cut}"
         );
-        assert_eq!(rt; served.failure, Some(DAMAGE));
-        let store = &served.store;
+        assert_eq!(rt; left.failure, Some(DAMAGE));
+        let store = &left.store;
         assert_eq!(rt; (store.writes, store.reads, store.syncs), (3, 1, 1));
     }
     Ok(())
@@ -345,19 +317,20 @@ fn served_to_an_end(rt: HostRuntime) -> Result<(), Fail> {
     let alloc = rt.alloc();
     let line = OUR_LINE.len();
     let all = line + WELCOME.len() + WROTE.len();
-    let cases: [(&[u8], usize, usize, Ended, usize); 4] = [
-        (WRITES, 9, 1_000, Ended::Closed, all),
-        (b"\x00", 9, 1_000, Ended::Cut, line + WELCOME.len()),
-        (WRITES, 1, 1_000, Ended::ReadFault, line + WELCOME.len()),
-        (WRITES, 9, all - 1, Ended::WriteFault, line + WELCOME.len()),
+    let greeted = line + WELCOME.len();
+    let cases: [(&[u8], usize, usize, (Ended, u64), usize); 4] = [
+        (WRITES, 9, 1_000, (Ended::Closed, 54), all),
+        (b"\x00", 9, 1_000, (Ended::Cut, 28), greeted),
+        (WRITES, 1, 1_000, (Ended::ReadFault, 27), greeted),
+        (WRITES, 9, all - 1, (Ended::WriteFault, 54), greeted),
     ];
-    for (last, lost, room, ended, written) in cases {
+    for (last, lost, room, end, written) in cases {
         let mut client = client_of(alloc, &[(GREETING, WELCOME), (last, b"")], 100)?;
         client.lost = lost;
         client.room = room;
-        let served = serve_all(alloc, client)?;
-        assert_eq!(rt; served.ended, ended);
-        assert_eq!(rt; served.client.output.len(), written);
+        let left = serve_all(alloc, client)?;
+        assert_eq!(rt; (left.served.ended, left.served.taken), end);
+        assert_eq!(rt; left.client.output.len(), written);
     }
     Ok(())
 }
@@ -375,16 +348,16 @@ fn streams_in_memory(rt: HostRuntime) -> Result<(), Fail> {
         link: MemLink { source, sink },
     };
     let mut answering = Answering::new(alloc)?;
-    let ended = answering.serve(alloc, &mut store, &mut client);
-    assert_eq!(rt; ended, Ended::Closed);
+    let served = answering.serve(alloc, &mut store, &mut client);
+    assert_eq!(rt; served.ended, Ended::Closed);
     assert_eq!(rt; client.link.sink.written(), output.as_slice());
     let input = joined(alloc, &[GREETING, READ])?;
     let source = MemSource::new(alloc, input).failing(vec![in alloc; 1]?);
     let sink = MemSink::new(alloc, 1_000)?;
     let mut client = StreamsClient { source, sink };
     let mut answering = Answering::new(alloc)?;
-    let ended = answering.serve(alloc, &mut store, &mut client);
-    assert_eq!(rt; ended, Ended::ReadFault);
+    let served = answering.serve(alloc, &mut store, &mut client);
+    assert_eq!(rt; served.ended, Ended::ReadFault);
     assert_eq!(rt; client.sink.written(), output.as_slice());
     Ok(())
 }

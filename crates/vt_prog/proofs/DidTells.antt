@@ -50,14 +50,10 @@ end_never_bad ends.NoMemory taken is = cc
 session_never : {R K P D : Type 0} (score : List ℕ → List ℕ) (outcome : Outcome) (work : Work R K P D)
     → DoesSession score outcome work → status_of outcome ≢ 1
 session_never score outcome work x one =
-    elim (x.end.read_failed) as (λ b. status_of (cond b (Err ReadFault) (cond x.end.ran_out
-    (Err NoMemory) (outcome_of_end x.end.ended x.end.taken))) ≡ 1 → ⊥) [
+    elim (x.end.ran_out) as (λ b. status_of (cond b (Err NoMemory)
+    (outcome_of_end x.end.ended x.end.taken)) ≡ 1 → ⊥) [
       | true ↦ λ is. cc
-      | false ↦ elim (x.end.ran_out) as (λ b. status_of (cond b (Err NoMemory)
-          (outcome_of_end x.end.ended x.end.taken)) ≡ 1 → ⊥) [
-            | true ↦ λ is. cc
-            | false ↦ end_never_bad x.end.ended x.end.taken
-          ]
+      | false ↦ end_never_bad x.end.ended x.end.taken
     ] (ap status_of (sym x.outcome_is) ∙ one)
 
 -- a word that is refused has a cause that has another status

@@ -8,7 +8,6 @@ pub mod Formatting
 pub mod Hosts
 pub mod Members
 pub mod Memory
-pub mod Reading
 pub mod Run
 pub mod Serving
 pub mod Store

@@ -2,8 +2,10 @@
 
 ghost use Rattle.std.specs.Prelude.{◌≡◌};
 ghost use Rattle.std.specs.Borrow.{sem, Lends};
+ghost use Rattle.vt_answer.specs.contracts.streams_client.StreamsClient.{the_row};
 ghost use Rattle.vt_prog.specs.Hosts.{Lent};
 
+use vt_answer::StreamsClient;
 use vt_out::{Sink, Source};
 use vt_parts::Parts;
 
@@ -23,11 +25,15 @@ pub trait Host {
     /// The host when it lends this.
     ghost lending: { Self → Lent Self.Source Self.Sink Self.FaultSink Self.Parts → Self };
 
-    /// The stream that is read.
-    fn source(&mut self) -> &mut Self::Source
-        ensures* lends { sem 𝓛 (Lends Self.row Self.Source.row self.entry result
-            (λ source. lending self.old (record (lent self.old) { source = source }))) }
-        ensures source { result.now ≡ (lent self.old).source };
+    /// The stream that is read, and that where results go.
+    fn streams(&mut self) -> &mut StreamsClient<Self::Source, Self::Sink>
+        ensures* lends { sem 𝓛 (Lends Self.row (the_row Self.Source.row Self.Sink.row) self.entry
+            result (λ streams. lending self.old (record (lent self.old) {
+              source = streams.source;
+              sink = streams.sink;
+            }))) }
+        ensures source { result.now.source ≡ (lent self.old).source }
+        ensures sink { result.now.sink ≡ (lent self.old).sink };
 
     /// Where results go.
     fn sink(&mut self) -> &mut Self::Sink
@@ -55,8 +61,7 @@ pub trait Host {
 /// A host that is what it lends.
 #[derive(Drop)]
 pub struct Outside<S, K, F, P> {
-    pub source: S,
-    pub sink: K,
+    pub streams: StreamsClient<S, K>,
     pub fault_sink: F,
     pub parts: P,
 }
@@ -73,27 +78,27 @@ impl<S: Source, K: Sink, F: Sink, P: Parts> Host for Outside<S, K, F, P> {
     type Parts = P;
 
     ghost lent = { λ host. record {
-      source = host.source;
-      sink = host.sink;
+      source = host.streams.source;
+      sink = host.streams.sink;
       fault_sink = host.fault_sink;
       parts = host.parts;
     } };
 
     ghost lending = { λ host lent. record {
-      source = lent.source;
-      sink = lent.sink;
+      streams = record { source = lent.source; sink = lent.sink };
       fault_sink = lent.fault_sink;
       parts = lent.parts;
     } };
 
     ghost lent_again = { λ host lent. refl };
 
-    fn source(&mut self) -> &mut S {
-        &mut self.source
+    fn streams(&mut self) -> &mut StreamsClient<S, K> {
+        &mut self.streams
     }
 
     fn sink(&mut self) -> &mut K {
-        &mut self.sink
+        let streams = &mut self.streams;
+        &mut streams.sink
     }
 
     fn fault_sink(&mut self) -> &mut F {

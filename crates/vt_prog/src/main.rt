@@ -9,7 +9,6 @@ mod complaint;
 mod entries;
 mod failure;
 mod host;
-mod input;
 pub mod laws;
 mod memory;
 mod printing;
@@ -31,13 +30,16 @@ use std::env;
 use std::io::ErrorKind;
 use std::process::ExitCode;
 use std::rt::Env;
+use vt_answer::StreamsClient;
 use vt_base::{NoMemory, Text};
 use vt_host::{FileParts, StdSink, StdSource};
 
 fn main(rt: HostRuntime) -> ExitCode {
     let mut host = Outside {
-        source: StdSource::new(rt.stdin()),
-        sink: StdSink::new(rt.stdout()),
+        streams: StreamsClient {
+            source: StdSource::new(rt.stdin()),
+            sink: StdSink::new(rt.stdout()),
+        },
         fault_sink: StdSink::new(rt.stderr()),
         parts: FileParts::new(rt),
     };

@@ -9,12 +9,11 @@ use Rattle.vt_session.specs.Heard.{Item, Heard}
 use Rattle.vt_session.specs.Turns.{Turn, Cause, no_memory, items_of, causes_of}
 use Rattle.vt_session.specs.Answered.{AnsweredAlone, no_faults}
 use Rattle.vt_session.specs.Talk.{Alone, Took, spent_len}
+use Rattle.vt_answer.specs.Links.{ReadCause}
 use Rattle.vt_answer.specs.Sessions.{SinkCause}
 use Rattle.vt_prog.specs.declared.commands.session.SessionEnd.{SessionEnd}
 use Rattle.vt_prog.specs.declared.failure.Failure.TheVariants.{Cut, Malformed, Spent, ReadFault, WriteFault, NoMemory}
-use Rattle.vt_prog.specs.declared.input.Reading.{Reading}
-use Rattle.vt_prog.specs.declared.input.Reading.TheVariants.{Limit, Fault}
-use Rattle.vt_prog.specs.Change.{Work}
+use Rattle.vt_prog.specs.Change.{Work, IsIdle}
 use Rattle.vt_prog.specs.Failure.{Outcome}
 use Rattle.vt_prog.specs.Store.{memory}
 
@@ -26,14 +25,6 @@ fails causes = true
 -- nothing fails but for want of memory
 abbrev pub OnlyMemory : List Cause → Type 0
 OnlyMemory causes = AllByRecursion (λ cause. cause ≡ no_memory) causes
-
--- how a session ends whose input was read so and heard to this end
-abbrev pub end_of_session : Reading → Ended → Ended
-end_of_session Limit ends.Closed = ends.Spent
-end_of_session Limit ends.Cut = ends.Spent
-end_of_session Fault ends.Closed = ends.ReadFault
-end_of_session Fault ends.Cut = ends.ReadFault
-end_of_session reading ended = ended
 
 -- The turns whose replies weren't written, since a write failed before: they were heard behind the
 -- others, and answered on the history that those left.
@@ -55,7 +46,7 @@ pub record IsSession (score : List ℕ → List ℕ) (end : SessionEnd)
   pub alone : Alone score memory no_faults [] input output turns end.ended history
   pub took : Took had input left end.ended
   pub written : after ≡ before ++ output
-  pub taken : end.ended ≢ ends.NoMemory → end.taken ≡ length input
+  pub taken : end.taken ≡ length input
   -- nothing fails but for want of memory, and exactly where it ran out in a request that was heard
   -- it is told
   pub unsaid : List Turn
@@ -66,12 +57,8 @@ pub record IsSession (score : List ℕ → List ℕ) (end : SessionEnd)
 -- Why a session ended in a fault: the counts of the source and of the sink, before it and behind
 -- it.
 pub record HasCauses (end : SessionEnd) (source source' sink sink' : ℕ) : Type 0 where
-  pub read : end.read_failed ≡ true → HasRisen source source'
-  pub no_read : end.read_failed ≡ false → source' ≡ source
-  pub read_fault : end.ended ≡ ends.ReadFault → end.read_failed ≡ true
+  pub read : ReadCause end.ended source source'
   pub write : SinkCause end.ended sink sink'
-  -- what was read is answered, also where the reading failed
-  pub memory_first : end.ended ≡ ends.NoMemory → end.read_failed ≡ false
 
 -- the outcome by the end alone, of an input of which so many bytes were taken
 abbrev pub outcome_of_end : Ended → (taken : ℕ) → Outcome
@@ -84,12 +71,10 @@ outcome_of_end ends.ReadFault taken = Err ReadFault
 outcome_of_end ends.WriteFault taken = Err WriteFault
 outcome_of_end ends.NoMemory taken = Err NoMemory
 
--- a read that failed comes first, then want of memory in a request
+-- want of memory in a request comes before the end
 abbrev pub outcome_of : SessionEnd → Outcome
 outcome_of end =
-    if end.read_failed then Err ReadFault
-    else if end.ran_out then Err NoMemory
-    else outcome_of_end end.ended end.taken
+    if end.ran_out then Err NoMemory else outcome_of_end end.ended end.taken
 
 -- the input is spelled up to its end, which is a goodbye or stands behind a whole message
 pub record EndsWell (input : List ℕ) : Type 0 where
@@ -114,4 +99,6 @@ pub record DoesSession {R K P D : Type 0} (score : List ℕ → List ℕ) (outco
       → ¬ HasRisen work.source.faults work.source.faults'
       → ¬ HasRisen work.sink.faults work.sink.faults'
       → (outcome ≡ Ok tt) ⊎ (outcome ≡ Err NoMemory)
+  -- where there is no memory for a session, nothing is done
+  pub idle : end.ended ≡ ends.NoMemory → IsIdle work
   pub unused : work.parts.after ≡ work.parts.before

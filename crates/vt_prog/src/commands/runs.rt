@@ -3,6 +3,7 @@
 use crate::{Outside, run_with};
 use std::alloc::Global;
 use std::test::Fail;
+use vt_answer::StreamsClient;
 use vt_base::{Scorer, Text};
 use vt_out::{MemSink, MemSource};
 use vt_parts::Parts;
@@ -51,8 +52,7 @@ pub fn run_words<S: Scorer, P: Parts + Drop>(
     scorer: &S,
 ) -> Result<(Ran, P), Fail> {
     let mut host = Outside {
-        source,
-        sink,
+        streams: StreamsClient { source, sink },
         fault_sink: MemSink::new(alloc, 100)?,
         parts,
     };
@@ -60,7 +60,7 @@ pub fn run_words<S: Scorer, P: Parts + Drop>(
     let status = run_with(&(), alloc, &words, &mut host, scorer);
     let ran = Ran {
         status,
-        output: Vec::from_slice(alloc, host.sink.written())?,
+        output: Vec::from_slice(alloc, host.streams.sink.written())?,
         complaint: Vec::from_slice(alloc, host.fault_sink.written())?,
     };
     Ok((ran, host.parts))

@@ -2,15 +2,13 @@
 
 ghost use Rattle.std.specs.Prelude.{◌≡◌, ◌<◌, [], None, IsTrue, IfOk};
 ghost use Rattle.vt_session.specs.Turns.{server_line};
-ghost use Rattle.vt_prog.specs.Change.{work_of};
-ghost use Rattle.vt_prog.specs.Commands.Session.{DoesSession, IsSession, HasCauses, end_of_session, outcome_of};
+ghost use Rattle.vt_prog.specs.Change.{work_of, IsIdle};
+ghost use Rattle.vt_prog.specs.Commands.Session.{DoesSession, IsSession, HasCauses, outcome_of};
 ghost use Rattle.vt_prog.specs.Failure.{HasCauseIn};
-ghost use Rattle.vt_prog.specs.Reading.{is_fault as is_fault_of};
 ghost use Rattle.vt_prog.specs.Store.{HoldsInMemory};
 
 use crate::failure::Failure;
 use crate::host::Host;
-use crate::input::{Reading, read_all};
 use crate::memory::{ARENA_LEN, empty_log};
 use crate::store::LogStore;
 use std::alloc::Global;
@@ -30,15 +28,14 @@ mod tests;
 #[derive(Clone, Copy, Debug, PartialEq, Eq)]
 pub struct SessionEnd {
     pub ended: Ended,
-    /// A read failed.
-    pub read_failed: bool,
-    /// Memory ran out in a request.
-    pub ran_out: bool,
     /// How many bytes were taken.
     pub taken: u64,
+    /// Memory ran out in a request.
+    pub ran_out: bool,
 }
 
-/// Reads the source to its end, and answers it as one session over a store that begins empty.
+/// Serves one session over a store that begins empty. What can be answered is answered, and has gone
+/// out, before more is read.
 pub fn session<H: Host, S: Scorer>(alloc: Global, host: &mut H, scorer: &S) -> Result<(), Failure>
     ensures does { DoesSession S.score_of result (work_of H.Source.Source H.Sink.Sink
         H.Parts.Parts (H.lent host.old) (H.lent host.new)) }
@@ -54,9 +51,6 @@ pub fn session<H: Host, S: Scorer>(alloc: Global, host: &mut H, scorer: &S) -> R
 fn outcome_of(end: SessionEnd) -> Result<(), Failure>
     ensures { result ≡ outcome_of end }
 {
-    if end.read_failed {
-        return Err(Failure::ReadFault);
-    }
     if end.ran_out {
         return Err(Failure::NoMemory);
     }
@@ -71,7 +65,7 @@ fn outcome_of(end: SessionEnd) -> Result<(), Failure>
     }
 }
 
-/// Reads the whole input, and then answers it.
+/// Makes the store, and serves the session.
 fn hold_session<L: Ledger, H: Host, S: Scorer>(
     alloc: Global,
     host: &mut H,
@@ -87,46 +81,24 @@ fn hold_session<L: Ledger, H: Host, S: Scorer>(
     ensures causes { HasCauses result
         (H.Source.faults (H.lent host.old).source) (H.Source.faults (H.lent host.new).source)
         (H.Sink.faults (H.lent host.old).sink) (H.Sink.faults (H.lent host.new).sink) }
+    ensures idle { result.ended ≡ Ended.NoMemory → IsIdle (work_of H.Source.Source H.Sink.Sink
+        H.Parts.Parts (H.lent host.old) (H.lent host.new)) }
     ensures fault_sink { (H.lent host.new).fault_sink ≡ (H.lent host.old).fault_sink }
     ensures parts { (H.lent host.new).parts ≡ (H.lent host.old).parts }
 {
-    let nothing = SessionEnd {
-        ended: Ended::NoMemory,
-        read_failed: false,
-        ran_out: false,
-        taken: 0,
-    };
-    // Memory for the answers is taken first: what was read is answered, also where reading fails.
     let Ok((mut store, mut answering)) = prepare::<L, S>(alloc, scorer, blank) else {
-        return nothing;
+        return SessionEnd {
+            ended: Ended::NoMemory,
+            taken: 0,
+            ran_out: false,
+        };
     };
-    let Ok((input, reading)) = read_all(alloc, host.source()) else {
-        return nothing;
-    };
-    let ended = answering.answer_input(alloc, &mut store, &input, host.sink());
+    let served = answering.serve(alloc, &mut store, host.streams());
     SessionEnd {
-        ended: ended_of(reading, ended),
-        read_failed: is_fault(reading),
+        ended: served.ended,
+        taken: served.taken,
         // A store in memory fails for want of it alone.
         ran_out: answering.failure().is_some(),
-        taken: input.len() as u64,
-    }
-}
-
-fn is_fault(reading: Reading) -> bool
-    ensures { result ≡ is_fault_of reading }
-{
-    matches!(reading, Reading::Fault)
-}
-
-/// How a session ends whose input was read so and heard to this end.
-fn ended_of(reading: Reading, ended: Ended) -> Ended
-    ensures { result ≡ end_of_session reading ended }
-{
-    match (reading, ended) {
-        (Reading::Limit, Ended::Closed | Ended::Cut) => Ended::Spent,
-        (Reading::Fault, Ended::Closed | Ended::Cut) => Ended::ReadFault,
-        _ => ended,
     }
 }
 

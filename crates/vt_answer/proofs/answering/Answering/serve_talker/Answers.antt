@@ -13,7 +13,7 @@ loop-ended-init g c =
     let r = heard_some [] AreBytes-none in record {
       session = rw (c.requires.line, c.requires.talker) (session_begins g.T.Store
           c.args.store.now (g.C.Client.left c.args.client.now) (g.C.Client.sent c.args.client.now)
-          (g.C.Client.written c.args.client.now) c.requires.begins);
+          (g.C.Client.written c.args.client.now));
       heard = rw c.requires.talker (r.0, r.1, r.2);
       some = c.requires.some;
       goes_on = stays (g.T.Store.condition c.args.store.now);
@@ -22,18 +22,18 @@ loop-ended-init g c =
     }
 
 pub step-requires-clause-answered : goal.step-requires-clause-answered
-step-requires-clause-answered g c tells unfinished =
+step-requires-clause-answered g c tells waits unfinished =
     session_answered g.T.Store {P = IsTrue g.C.Client.tells} c.args.store.now c.loop-ended.store
-    c.loop-ended.self _ _ (g.C.Client.sent c.loop-ended.client)
+    c.loop-ended.self _ _ _ (g.C.Client.sent c.loop-ended.client) _
     (g.C.Client.written c.loop-ended.client) c.loop-ended.talker c.loop-ended.invariant.session
-    tells unfinished
+    tells (c.requires.begins tells waits) unfinished
 
 pub loop-ended-preserved : goal.loop-ended-preserved
 loop-ended-preserved g c =
     let before = c.loop-ended.invariant in record {
       session = session_on g.T.Store {P = IsTrue g.C.Client.tells} c.args.store.now
           c.loop-ended.store c.step.new.store c.loop-ended.self c.step.new.self
-          _ _ _ _ _ _ _ c.loop-ended.talker c.step.new.talker before.session
+          _ _ _ _ _ _ _ _ _ c.loop-ended.talker c.step.new.talker before.session
           c.in_ok-ended.field-0 c.in_ok-ended.ensures.goes;
       heard = c.step.ensures.heard;
       some = omega arith;
@@ -49,46 +49,48 @@ returns-in_err-ended-clause-told g c h hold tells =
     let p = err_from_is_err_and c.from_residual.result c.from_residual.ensures.1 in
     rw p.1 (session_fails g.T.Store {P = IsTrue g.C.Client.tells} {V = Option Ended}
     c.args.store.now c.loop-ended.store c.step.new.store c.loop-ended.self c.step.new.self
-    _ _ _ _ _ _ _ c.loop-ended.talker c.step.new.talker c.loop-ended.invariant.session
+    _ _ _ _ _ _ _ _ _ c.loop-ended.talker c.step.new.talker c.loop-ended.invariant.session
     c.in_err-ended.field-0.0 c.in_err-ended.ensures.goes c.step.ensures.heard h hold tells)
 
-pub returns-in_err-flush_to-clause-told : goal.returns-in_err-flush_to-clause-told
-returns-in_err-flush_to-clause-told g c h hold tells =
-    let p = err_from_is_err_and c.from_residual-in_err-flush_to.result
-    c.from_residual-in_err-flush_to.ensures.1 in
+pub returns-in_err-flush-clause-told : goal.returns-in_err-flush-clause-told
+returns-in_err-flush-clause-told g c h hold tells =
+    let p = err_from_is_err_and c.from_residual-in_err-flush.result
+    c.from_residual-in_err-flush.ensures.1 in
     let x = session_on g.T.Store {P = IsTrue g.C.Client.tells} c.args.store.now
     c.loop-ended.store c.step.new.store c.loop-ended.self c.step.new.self
     (g.C.Client.left c.args.client.now) _ (g.C.Client.left c.step.new.client)
-    _ (g.C.Client.sent c.step.new.client) _ (g.C.Client.written c.step.new.client)
+    (g.C.Client.sent c.args.client.now) _ (g.C.Client.sent c.step.new.client)
+    (g.C.Client.written c.args.client.now) _ (g.C.Client.written c.step.new.client)
     c.loop-ended.talker c.step.new.talker c.loop-ended.invariant.session
     c.in_ok-ended.field-0 c.in_ok-ended.ensures.goes in
     rw p.1 (out_fails g.T.Store {P = IsTrue g.C.Client.tells} c.args.store.now c.step.new.store
-    _ (record { waiting = c.flush_to.new.self; failure = c.self.inside.failure })
-    _ _ _ _ _ _ _ c.step.new.talker (rw (← c.self.view_is) at x) refl
-    c.in_err-flush_to.ensures.kept c.in_err-flush_to.field-0.0
-    c.in_err-flush_to.ensures.written c.step.ensures.heard h hold tells)
+    _ (record { waiting = c.flush.new.self; failure = c.self.inside.failure })
+    _ _ _ _ _ _ _ _ _ c.step.new.talker (rw (← c.self.view_is) at x) refl
+    c.in_err-flush.ensures.kept c.in_err-flush.field-0.0
+    c.in_err-flush.ensures.written c.step.ensures.heard h hold tells)
 
-pub returns-in_err-flush_to-clause-reads : goal.returns-in_err-flush_to-clause-reads
-returns-in_err-flush_to-clause-reads g c =
-    let p = err_from_is_err_and c.from_residual-in_err-flush_to.result
-    c.from_residual-in_err-flush_to.ensures.1 in
-    rw p.1 (c.flush_to.ensures.read_faults ∙ no_read_fault c.in-Some.ended c.self.inside.output
+pub returns-in_err-flush-clause-reads : goal.returns-in_err-flush-clause-reads
+returns-in_err-flush-clause-reads g c =
+    let p = err_from_is_err_and c.from_residual-in_err-flush.result
+    c.from_residual-in_err-flush.ensures.1 in
+    rw p.1 (c.flush.ensures.read_faults ∙ no_read_fault c.in-Some.ended c.self.inside.output
     (g.C.Client.read_faults c.loop-ended.client) (g.C.Client.read_faults c.step.new.client)
     (rw c.in-Some.is at c.in_ok-ended.ensures.reads)
     (rw (c.in-Some.is, ← c.self.view_is) at c.in_ok-ended.ensures.said)
-    c.in_err-flush_to.ensures.some ∙ c.loop-ended.invariant.reads)
+    c.in_err-flush.ensures.some ∙ c.loop-ended.invariant.reads)
 
 pub returns-in-Some-clause-told : goal.returns-in-Some-clause-told
 returns-in-Some-clause-told g c h hold tells =
     let x = session_on g.T.Store {P = IsTrue g.C.Client.tells} c.args.store.now
     c.loop-ended.store c.step.new.store c.loop-ended.self c.step.new.self
     (g.C.Client.left c.args.client.now) _ (g.C.Client.left c.step.new.client)
-    _ (g.C.Client.sent c.step.new.client) _ (g.C.Client.written c.step.new.client)
+    (g.C.Client.sent c.args.client.now) _ (g.C.Client.sent c.step.new.client)
+    (g.C.Client.written c.args.client.now) _ (g.C.Client.written c.step.new.client)
     c.loop-ended.talker c.step.new.talker c.loop-ended.invariant.session
     c.in_ok-ended.field-0 c.in_ok-ended.ensures.goes in
     out_ends g.T.Store {P = IsTrue g.C.Client.tells} c.args.store.now c.step.new.store
-    _ (record { waiting = c.flush_to.new.self; failure = c.self.inside.failure })
-    _ _ _ _ _ _ _ c.step.new.talker (rw (← c.self.view_is) at x) refl
-    c.in_ok-flush_to.ensures.kept {V = Unit {0}} c.in_ok-flush_to.field-0 c.in-Some.ended
-    c.in_ok-flush_to.ensures.written c.flush_to.ensures.empty
+    _ (record { waiting = c.flush.new.self; failure = c.self.inside.failure })
+    _ _ _ _ _ _ _ _ _ c.step.new.talker (rw (← c.self.view_is) at x) refl
+    c.in_ok-flush.ensures.kept {V = Unit {0}} c.in_ok-flush.field-0 c.in-Some.ended
+    c.in_ok-flush.ensures.written c.flush.ensures.empty
     (rw c.in-Some.is at c.in_ok-ended.ensures.ends) h hold tells

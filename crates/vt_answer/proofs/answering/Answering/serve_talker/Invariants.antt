@@ -9,8 +9,9 @@ use Rattle.vt_answer.proofs.answering.Answering.serve_talker.Given as goal
 abbrev pub invariant-loop-ended : goal.invariant-loop-ended
 invariant-loop-ended g l = record {
   session : InSession g.T.Store l.fn.store l.store l.self (IsTrue g.C.Client.tells)
-      (g.C.Client.left l.fn.client) (g.C.Client.left l.client) (g.C.Client.sent l.client)
-      (g.C.Client.written l.client) l.talker;
+      (g.C.Client.left l.fn.client) (g.C.Client.left l.client)
+      (g.C.Client.sent l.fn.client) (g.C.Client.sent l.client)
+      (g.C.Client.written l.fn.client) (g.C.Client.written l.client) l.talker;
   heard : IsHeardStage l.talker.stage;
   some : 0 < length l.piece;
   goes_on : GoesOn (g.T.Store.condition l.fn.store) (g.T.Store.condition l.store);

@@ -7,30 +7,30 @@ use Rattle.vt_answer.proofs.Links.{went_out, some_came, all_out, none_of_the_inp
 use Rattle.vt_answer.proofs.answering.Answering.step.Goals as goal
 
 pub hear_more-requires-clause-answered : goal.hear_more-requires-clause-answered
-hear_more-requires-clause-answered g c tells =
-    all_out (g.C.Client.sent c.args.client.now) (g.C.Client.sent c.flush_to.new.client)
+hear_more-requires-clause-answered g c tells waits =
+    all_out (g.C.Client.sent c.args.client.now) (g.C.Client.sent c.flush.new.client)
     (g.C.Client.written c.args.client.now) c.self.inside.output
-    (g.C.Client.written c.flush_to.new.client) c.flush_to.new.self
-    (c.in_ok-flush_to.ensures.kept tells).0 c.flush_to.ensures.empty
-    (c.in_ok-flush_to.ensures.written tells)
-    (rw (← c.self.view_is) at (c.requires.answered tells (c.if-needs_more.ensures.unfinished refl)))
+    (g.C.Client.written c.flush.new.client) c.flush.new.self
+    (c.in_ok-flush.ensures.kept tells).0 c.flush.ensures.empty
+    (c.in_ok-flush.ensures.written tells)
+    (rw (← c.self.view_is) at (c.requires.answered tells waits (c.if-needs_more.ensures.unfinished refl)))
 
-pub returns-in_err-flush_to-clause-goes : goal.returns-in_err-flush_to-clause-goes
-returns-in_err-flush_to-clause-goes g c =
+pub returns-in_err-flush-clause-goes : goal.returns-in_err-flush-clause-goes
+returns-in_err-flush-clause-goes g c =
     let p = err_from_is_err_and c.from_residual.result c.from_residual.ensures.1 in
     rw (p.1, ← c.self.view_is) (went_out {V = Option Ended} g.T.Store
-    (Err c.in_err-flush_to.field-0.0) c.args.store.now _ _ _ _ _ _ _ _ c.args.talker.now refl
-    c.in_err-flush_to.ensures.kept c.in_err-flush_to.ensures.written)
+    (Err c.in_err-flush.field-0.0) c.args.store.now _ _ _ _ _ _ _ _ c.args.talker.now refl
+    c.in_err-flush.ensures.kept c.in_err-flush.ensures.written)
 
-pub returns-in_ok-flush_to-clause-goes : goal.returns-in_ok-flush_to-clause-goes
-returns-in_ok-flush_to-clause-goes g c =
+pub returns-in_ok-flush-clause-goes : goal.returns-in_ok-flush-clause-goes
+returns-in_ok-flush-clause-goes g c =
     rw (← c.self.view_is) (some_came {V = Option Ended} g.T.Store (Ok c.hear_more.result)
-    c.args.store.now _ _ _ _ _ (g.C.Client.sent c.flush_to.new.client) _ _
-    (g.C.Client.left c.flush_to.new.client) _ _ _ refl c.in_ok-flush_to.ensures.kept
+    c.args.store.now _ _ _ _ _ (g.C.Client.sent c.flush.new.client) _ _
+    (g.C.Client.left c.flush.new.client) _ _ _ refl c.in_ok-flush.ensures.kept
     c.hear_more.ensures.comes
     (λ tells. subst (λ w. Writes {T = Option Ended} (Ok c.hear_more.result)
-    (g.C.Client.written c.args.client.now) c.self.inside.output w c.flush_to.new.self [])
-    (sym (c.hear_more.ensures.written tells)) (c.in_ok-flush_to.ensures.written tells)))
+    (g.C.Client.written c.args.client.now) c.self.inside.output w c.flush.new.self [])
+    (sym (c.hear_more.ensures.written tells)) (c.in_ok-flush.ensures.written tells)))
 
 pub returns-else-needs_more-clause-all : goal.returns-else-needs_more-clause-all
 returns-else-needs_more-clause-all g c tells =

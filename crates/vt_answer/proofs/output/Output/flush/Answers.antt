@@ -4,4 +4,6 @@ use Rattle.vt_answer.proofs.output.Output.flush.Goals as goal
 
 pub returns-clause-written : goal.returns-clause-written
 returns-clause-written g c =
-    rw (← c.self.view_is, ← c.deref.ensures.value) (put_writes c.put.result (g.K.Sink.written c.args.sink.now) _ (g.K.Sink.written c.put.new.self) c.put.ensures.appended c.put.ensures.failed)
+    rw (← c.self.view_is, ← c.deref.ensures.value) (put_writes c.put.result
+    (g.C.Client.written c.args.client.now) _ (g.C.Client.written c.put.new.self)
+    c.put.ensures.appended c.put.ensures.failed)

@@ -14,6 +14,7 @@ returns-clause-does g c = record {
       rw c.outcome_of.ensures (ends_well g.S.Scorer.score_of c.hold_session-end.result _ _ _ _ _ _ _ _
       (g.met.H.Source.Source.left_bytes _) well (c.hold_session-end.ensures.told tells tells')
       c.hold_session-end.ensures.causes no_read no_write);
+  idle = c.hold_session-end.ensures.idle;
   unused = c.hold_session-end.ensures.parts;
 }
 
