@@ -4,12 +4,16 @@
 
 mod arenas;
 mod filter;
+mod index;
+mod opening;
 mod refusals;
 mod section;
+mod usage;
 mod words;
 
 pub use arenas::format_arenas;
 pub use filter::format_filter;
+pub use index::{Index, IndexBad, format_index};
 pub use section::format_section;
 pub use words::{
     BadName, parse_arena_size, parse_filter_size, parse_len, parse_name, parse_positions,
@@ -25,6 +29,11 @@ pub const MOST_FILTER: u64 = 1 << 20;
 
 /// How many bits of a Bloom filter a score has at most.
 pub const MOST_POSITIONS: u64 = 32;
+
+/// How many arenas and how many buckets a store has at most.
+pub const MAX_ARENAS: u64 = 4096;
+
+pub const MAX_BUCKETS: u64 = 1 << 20;
 
 #[cfg(test)]
 mod tests;

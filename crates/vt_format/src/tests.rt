@@ -1,16 +1,18 @@
 //! Words that are taken and words that aren't, and partitions that are formatted.
 
 use crate::{
-    BadName, format_arenas, format_filter, format_section, parse_arena_size, parse_filter_size,
-    parse_len, parse_name, parse_positions,
+    BadName, Index, IndexBad, format_arenas, format_filter, format_index, format_section,
+    parse_arena_size, parse_filter_size, parse_len, parse_name, parse_positions,
 };
 use std::alloc::Global;
 use std::process::Abort;
 use std::test::Fail;
-use vt_base::{MountBad, MountField, Text};
-use vt_conf::BadNumber;
+use vt_base::{MountBad, MountField, Sha1Scorer, Text};
+use vt_conf::laws::configurations_name_few_files;
+use vt_conf::{BadNumber, parse_conf};
 use vt_memdisk::{Listed, MemDisk};
 use vt_memparts::{Failing, MemParts};
+use vt_out::Silent;
 use vt_parts::Parts;
 
 #[test]
@@ -108,6 +110,13 @@ impl<P: Parts> Formats<P> {
         let positions = parse_positions(b"8").ok().ok_or("positions")?;
         Ok(format_filter(self.alloc, &mut self.parts, &file, size, positions))
     }
+
+    fn index(&mut self, conf: &[u8]) -> Result<Result<Index, IndexBad>, Fail> {
+        configurations_name_few_files();
+        let conf = parse_conf(self.alloc, conf).ok().ok_or("configuration")?;
+        let parts = &mut self.parts;
+        Ok(format_index(self.alloc, parts, Sha1Scorer, &mut Silent, &conf))
+    }
 }
 
 /// Partitions are made and grown, and those that are too short are refused.
@@ -130,10 +139,88 @@ fn make_each<P: Parts>(rt: &impl Abort, to: &mut Formats<P>) -> Result<(), Fail>
     Ok(())
 }
 
+/// An index is put to use, or refused for what is found first.
+fn indexes<P: Parts>(rt: &impl Abort, to: &mut Formats<P>) -> Result<(), Fail> {
+    assert_eq!(rt; to.arenas(b"a", 40_960)?, Ok(1));
+    assert_eq!(rt; to.arenas(b"c", 40_960)?, Ok(1));
+    assert_eq!(rt; to.section(b"i", 92_160)?, Ok(4));
+    assert_eq!(rt; to.section(b"j", 41_472)?, Ok(1));
+    assert_eq!(rt; to.filter(b"b")?, Ok(()));
+    let index = |buckets, sections| Ok(Index { buckets, sections });
+    let fault = |part| Err(IndexBad::Fault { part: Some(part) });
+    let refused = |bad| Err(IndexBad::Refused(bad));
+    let cases: [(&[u8], Result<Index, IndexBad>); 10] = [
+        (b"arenas a\nisect i\nisect j\nbloom b\n", index(5, 2)),
+        (b"arenas a\nisect j\n", index(1, 1)),
+        (b"arenas a\nisect x\n", fault(1)),
+        (b"arenas a\narenas a\nisect i\n", fault(1)),
+        (b"arenas a\nisect i\nisect i\n", fault(2)),
+        (b"arenas a\nisect i\nbloom a\n", fault(2)),
+        (
+            b"arenas a\narenas c\nisect i\n",
+            refused(MountBad::DuplicateName {
+                first: 0,
+                second: 1,
+            }),
+        ),
+        (
+            b"arenas a\nisect i\nbloom j\n",
+            refused(MountBad::NotFormatted { part: 2 }),
+        ),
+        (
+            b"arenas i\nisect x\n",
+            refused(MountBad::NotFormatted { part: 0 }),
+        ),
+        (
+            b"arenas a\nisect c\nbloom x\n",
+            refused(MountBad::TooSmall {
+                part: 1,
+                len: 40_960,
+                need: 41_472,
+            }),
+        ),
+    ];
+    for (conf, answer) in cases {
+        assert_eq!(rt; to.index(conf)?, answer);
+    }
+    Ok(())
+}
+
+/// What is answered where a call of the section's disk fails.
+fn index_one<P: Parts>(to: &mut Formats<P>) -> Result<Result<Index, IndexBad>, Fail> {
+    to.arenas(b"a", 40_960)?.ok().ok_or("arenas")?;
+    to.section(b"i", 41_472)?.ok().ok_or("section")?;
+    to.index(b"arenas a\nisect i\n")
+}
+
 #[test]
 fn partitions_are_formatted(rt: HostRuntime) -> Result<(), Fail> {
     let alloc = rt.alloc();
     let maker = Failing::new(Vec::new(alloc));
     let parts = MemParts::<MemDisk<Listed>, Failing<Global>>::new(alloc, maker);
-    make_each(&rt, &mut Formats { alloc, parts })
+    let mut to = Formats { alloc, parts };
+    make_each(&rt, &mut to)?;
+    indexes(&rt, &mut to)
+}
+
+/// The section's disk has three calls when it is formatted. Three mount it, four say that it is
+/// being built, eighteen clear its bucket, and four say that it is in use.
+#[test]
+fn calls_of_sections_fail(rt: HostRuntime) -> Result<(), Fail> {
+    let alloc = rt.alloc();
+    for call in 3..33 {
+        let disk = MemDisk::failing(alloc, 41_472, vec![in alloc; call; 1]?)?;
+        let maker = Failing::new(Vec::<u64>::new(alloc));
+        let parts = MemParts::new(alloc, maker).with(Text::copy_of(alloc, b"i")?, disk)?;
+        let answer = match call {
+            3..6 => Err(IndexBad::Fault { part: Some(1) }),
+            6..32 => Err(IndexBad::Stopped { part: 1 }),
+            _ => Ok(Index {
+                buckets: 1,
+                sections: 1,
+            }),
+        };
+        assert_eq!(rt; index_one(&mut Formats { alloc, parts })?, answer);
+    }
+    Ok(())
 }

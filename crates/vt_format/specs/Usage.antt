@@ -1,0 +1,94 @@
+-- What it is to put index sections to use (venti(8), fmtindex).
+use Rattle.std.specs.Prelude.{ℕ, ◌≡◌, ◌≢◌, ◌+◌, ◌*◌, ◌<◌, ◌≤◌, IsTrue, List, [], Some, length, slice_get, sum_by, take}
+use Rattle.vt_base.specs.Faults.{HasRisen}
+use Rattle.vt_disk.specs.Calls.{IsSynced}
+use Rattle.vt_disk.specs.Members.{DiskOf}
+use Rattle.vt_isect.specs.declared.head.Head.{Head}
+use Rattle.vt_isect.specs.Filling.{with_buckets}
+use Rattle.vt_isect.specs.Layout.{IsSection}
+use Rattle.vt_isect.specs.Section.{IsAtRest, SectionState}
+use Rattle.vt_isect.specs.Sound.{DiskHolds, Known, nothing_known}
+
+-- a head with mark 0 of a section with this place among the others
+abbrev pub head_in : (state first count total : ℕ) → Head
+head_in state first count total =
+    record { state = state; first = first; count = count; total = total; mark = 0 }
+
+-- so many of its buckets, from the first on, are known to have no entries
+abbrev pub cleared : (first count : ℕ) → Known
+cleared first count = with_buckets first count (Some []) nothing_known
+
+-- The section is in use, with its buckets from this number on, of which none has entries: whatever
+-- a crash leaves.
+pub record IsInUse {D : Type 0} (disk : DiskOf D) (first total : ℕ) (old new : SectionState D)
+    : Type 0 where
+  pub rest : IsAtRest new
+  pub name : new.name ≡ old.name
+  pub buckets : new.buckets ≡ old.buckets
+  pub head : new.head ≡ head_in 1 first old.buckets total
+  pub images : IsTrue disk.tells → (c : List ℕ) → disk.images new.disk c
+      → IsSection old.name (head_in 1 first old.buckets total) old.buckets (λ n. []) c
+  pub settled : IsSynced disk new.disk
+
+-- two calls for each bucket, and so many more, at most
+abbrev pub CallsForBuckets : {D : Type 0} → DiskOf D → (more : ℕ) → (old new : SectionState D)
+    → Type 0
+CallsForBuckets disk more old new = IsTrue disk.tells
+    → disk.calls new.disk ≤ disk.calls old.disk + (2 * old.buckets + more)
+
+-- Its head says this, behind a sync; what was known of its buckets still is, unless their numbers
+-- changed.
+pub record ChangesHead {D : Type 0} (disk : DiskOf D) (state first total : ℕ)
+    (old new : SectionState D) : Type 0 where
+  pub rest : IsAtRest new
+  pub name : new.name ≡ old.name
+  pub buckets : new.buckets ≡ old.buckets
+  pub head : new.head ≡ head_in state first old.buckets total
+  pub next : new.next ≡ new.head
+  pub settled : IsSynced disk new.disk
+  pub holds : IsTrue disk.tells → DiskHolds disk old nothing_known
+      → DiskHolds disk new nothing_known
+  pub keeps : (known : Known) → IsTrue disk.tells → first ≡ old.head.first
+      → DiskHolds disk old known → DiskHolds disk new known
+
+-- a section as it is mounted: at rest, and its disk holds its head
+pub record IsOpened {D : Type 0} (disk : DiskOf D) (t : SectionState D) : Type 0 where
+  pub rest : IsAtRest t
+  pub sound : IsTrue disk.tells → DiskHolds disk t nothing_known
+
+-- how many buckets sections have, and the number of the first one of one of them, where they stand
+-- one behind the other
+abbrev pub buckets_of : {D : Type 0} → List (SectionState D) → ℕ
+buckets_of sections = sum_by (λ section. section.buckets) sections
+
+abbrev pub first_of : {D : Type 0} → List (SectionState D) → (i : ℕ) → ℕ
+first_of sections i = buckets_of (take i sections)
+
+-- one of them was put to use
+pub record IsUsed {D : Type 0} (disk : DiskOf D) (first total : ℕ) (old new : SectionState D)
+    : Type 0 where
+  pub in_use : IsInUse disk first total old new
+  pub size : disk.size new.disk ≡ disk.size old.disk
+  pub calls : CallsForBuckets disk 24 old new
+  pub faults : disk.faults new.disk ≡ disk.faults old.disk
+
+-- all of them were
+pub record AreUsed {D : Type 0} (disk : DiskOf D) (total : ℕ) (olds news : List (SectionState D))
+    : Type 0 where
+  pub many : length news ≡ length olds
+  pub each : (i : ℕ) (old new : SectionState D) → slice_get olds i ≡ Some old
+      → slice_get news i ≡ Some new → IsUsed disk (first_of olds i) total old new
+
+-- a call of this one failed, and nothing was done to those behind it
+pub record IsStopped {D : Type 0} (disk : DiskOf D) (number i : ℕ) (old new : SectionState D)
+    : Type 0 where
+  pub size : disk.size new.disk ≡ disk.size old.disk
+  pub rose : i ≡ number → HasRisen (disk.faults old.disk) (disk.faults new.disk)
+  pub others : i ≢ number → disk.faults new.disk ≡ disk.faults old.disk
+  pub behind : number < i → new ≡ old
+
+pub record StopsAt {D : Type 0} (disk : DiskOf D) (number : ℕ) (olds news : List (SectionState D))
+    : Type 0 where
+  pub many : length news ≡ length olds
+  pub each : (i : ℕ) (old new : SectionState D) → slice_get olds i ≡ Some old
+      → slice_get news i ≡ Some new → IsStopped disk number i old new
