@@ -34,7 +34,8 @@ pub fn see_ran(ran: &Ran, output: &[u8], status: u8, complaint: &str) -> Result<
     )
 }
 
-fn words_of(alloc: Global, words: &[&str]) -> Result<Vec<Text>, Fail> {
+/// The words of a command line.
+pub fn words_of(alloc: Global, words: &[&str]) -> Result<Vec<Text>, Fail> {
     let mut all = Vec::new(alloc);
     for word in words {
         all.push(Text::copy_of(alloc, word.as_bytes())?)?;

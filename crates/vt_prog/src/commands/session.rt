@@ -22,6 +22,8 @@ use vt_session::Ended;
 use vt_steps::Steps;
 
 #[cfg(test)]
+mod patient;
+#[cfg(test)]
 mod tests;
 
 /// How a session ended, and what else its outcome depends on.

@@ -1,6 +1,7 @@
 //! Sessions from outside: what goes in, what comes out, the status and the line on the fault sink.
 
 use crate::commands::runs::{Ran, run_words, see, see_ran};
+use crate::commands::session::patient::see_patient;
 use std::alloc::Global;
 use std::test::Fail;
 use vt_base::{Scorer, Sha1Scorer, ShortScorer};
@@ -29,6 +30,10 @@ const ZERO_SCORE: &[u8] =
 const WROTE: &[u8] = b"\x00\x16\x0f\x01";
 
 const READ: &[u8] = b"\x00\x1a\x0c\x02";
+
+const READ_ABC: &[u8] = b"\x00\x1a\x0c\x02\
+\xa9\x99\x3e\x36\x47\x06\x81\x6a\xba\x3e\x25\x71\x78\x50\xc2\x6c\x9c\xd0\xd8\x9d\
+\x0d\x00\x00\x03";
 
 const GAVE_ABC: &[u8] = b"\x00\x05\x0d\x02abc";
 
@@ -314,4 +319,23 @@ fn pieces_and_faults_leave_a_front(rt: HostRuntime) -> Result<(), Fail> {
     see_failed_read(alloc)?;
     see_full_sink(alloc)?;
     see_bad_words(alloc)
+}
+
+/// A client that waits for each reply gets it, however its bytes come in.
+#[test]
+fn no_reply_waits(rt: HostRuntime) -> Result<(), Fail> {
+    let alloc = rt.alloc();
+    let parts = [
+        (LINE, 0),
+        (HELLO, WELCOME.len()),
+        (WRITE_ABC, WROTE.len() + SCORE_ABC.len()),
+        (READ_ABC, GAVE_ABC.len()),
+        (SYNC, SYNCED.len()),
+        (GOODBYE, 0),
+    ];
+    let output = sample_output(alloc)?;
+    for cut in [1, 2, 3, 5, 65_537] {
+        see_patient(alloc, &parts, cut, &output)?;
+    }
+    Ok(())
 }

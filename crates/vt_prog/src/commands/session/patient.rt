@@ -1,0 +1,126 @@
+//! A client that sends nothing before the replies to what it sent came, over the program's streams.
+
+ghost use Rattle.std.specs.Prelude.{◌<◌, ◌^◌};
+
+use crate::commands::runs::{see, words_of};
+use crate::{Outside, run_with};
+use std::alloc::Global;
+use std::cell::Cell;
+use std::test::Fail;
+use vt_answer::StreamsClient;
+use vt_base::{Failed, Sha1Scorer};
+use vt_memparts::{Failing, MemParts};
+use vt_out::{MemSink, Sink, Source};
+
+/// What is sent, and how many bytes are said to it.
+pub type Part = (&'static [u8], usize);
+
+/// A source that gives a piece only once the replies to all that it gave came, and else fails.
+#[derive(Drop)]
+struct PatientSource<'a> {
+    parts: &'a [Part],
+    /// How many bytes each piece has at most.
+    cut: usize,
+    /// How much of the first part was given.
+    given: usize,
+    /// How many bytes are owed before more is given.
+    owed: usize,
+    said: &'a Cell<usize>,
+    failed: u64,
+    ghost fits: { failed < 2 ^ 64 },
+}
+
+impl Source for PatientSource<'_> {
+    ghost use Rattle.std.specs.Prelude.{[], false};
+    ghost use Rattle.vt_base.specs.Bytes.{AreBytes-none};
+
+    ghost tells = { false };
+
+    ghost given = { λ _. [] };
+
+    ghost left = { λ _. [] };
+
+    ghost faults = { λ source. source.failed };
+
+    ghost left_bytes = { λ _. AreBytes-none };
+
+    ghost faults_fit = { λ source. source.fits };
+
+    fn take(&mut self, buf: &mut [u8]) -> Result<usize, Failed> {
+        let [(part, says), behind @ ..] = self.parts else {
+            return Ok(0);
+        };
+        if self.said.get() < self.owed {
+            self.failed = self.failed.saturating_add(1);
+            return Err(Failed);
+        }
+        let piece = part.get(self.given..).unwrap_or(&[]);
+        let n = self.cut.min(piece.len()).min(buf.len());
+        buf[..n].copy_from_slice(&piece[..n]);
+        self.given = self.given.saturating_add(n);
+        if n == piece.len() {
+            self.owed = self.owed.saturating_add(*says);
+            self.parts = behind;
+            self.given = 0;
+        }
+        Ok(n)
+    }
+}
+
+/// Where all is written, and counted for the source.
+#[derive(Drop)]
+struct PatientSink<'a> {
+    written: Vec<u8>,
+    said: &'a Cell<usize>,
+    failed: u64,
+    ghost fits: { failed < 2 ^ 64 },
+}
+
+impl Sink for PatientSink<'_> {
+    ghost use Rattle.std.specs.Prelude.{[], false};
+
+    ghost tells = { false };
+
+    ghost written = { λ _. [] };
+
+    ghost faults = { λ sink. sink.failed };
+
+    ghost faults_fit = { λ sink. sink.fits };
+
+    fn put(&mut self, piece: &[u8]) -> Result<(), Failed> {
+        if self.written.extend_from_slice(piece).is_err() {
+            self.failed = self.failed.saturating_add(1);
+            return Err(Failed);
+        }
+        self.said.set(self.said.get().saturating_add(piece.len()));
+        Ok(())
+    }
+}
+
+/// A session with this client, whose pieces have so many bytes at most, ends well and says this.
+pub fn see_patient(alloc: Global, parts: &[Part], cut: usize, output: &[u8]) -> Result<(), Fail> {
+    let said = Cell::new(0);
+    let source = PatientSource {
+        parts,
+        cut,
+        given: 0,
+        owed: 16,
+        said: &said,
+        failed: 0,
+    };
+    let sink = PatientSink {
+        written: Vec::new(alloc),
+        said: &said,
+        failed: 0,
+    };
+    let mut host = Outside {
+        streams: StreamsClient { source, sink },
+        fault_sink: MemSink::new(alloc, 100)?,
+        parts: MemParts::new(alloc, Failing::new(Vec::new(alloc))),
+    };
+    let words = words_of(alloc, &["session", ":memory:"])?;
+    let status = run_with(&(), alloc, &words, &mut host, &Sha1Scorer);
+    see(status == 0, "another status")?;
+    let written = host.streams.sink.written.as_slice();
+    see(written == output, "another output")
+}
