@@ -2,6 +2,7 @@ pub mod ArenaLevel
 pub mod ArenaLevels
 pub mod Clearing
 pub mod Failing
+pub mod FewFiles
 pub mod FilterLevel
 pub mod Finding
 pub mod Heads

@@ -5,6 +5,7 @@
 mod arenas;
 mod filter;
 mod index;
+pub mod laws;
 mod opening;
 mod refusals;
 mod section;

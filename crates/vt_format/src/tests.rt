@@ -1,5 +1,6 @@
 //! Words that are taken and words that aren't, and partitions that are formatted.
 
+use crate::laws::configurations_number_their_files;
 use crate::{
     BadName, Index, IndexBad, format_arenas, format_filter, format_index, format_section,
     parse_arena_size, parse_filter_size, parse_len, parse_name, parse_positions,
@@ -8,7 +9,6 @@ use std::alloc::Global;
 use std::process::Abort;
 use std::test::Fail;
 use vt_base::{MountBad, MountField, Sha1Scorer, Text};
-use vt_conf::laws::configurations_name_few_files;
 use vt_conf::{BadNumber, parse_conf};
 use vt_memdisk::{Listed, MemDisk};
 use vt_memparts::{Failing, MemParts};
@@ -112,8 +112,10 @@ impl<P: Parts> Formats<P> {
     }
 
     fn index(&mut self, conf: &[u8]) -> Result<Result<Index, IndexBad>, Fail> {
-        configurations_name_few_files();
-        let conf = parse_conf(self.alloc, conf).ok().ok_or("configuration")?;
+        configurations_number_their_files();
+        let Ok(conf) = parse_conf(self.alloc, conf) else {
+            return Err("configuration".into());
+        };
         let parts = &mut self.parts;
         Ok(format_index(self.alloc, parts, Sha1Scorer, &mut Silent, &conf))
     }
