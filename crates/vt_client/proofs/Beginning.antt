@@ -1,0 +1,41 @@
+-- How a greeting goes: to the lines, and behind them.
+use Rattle.std.proofs.Common.{◌≡◌, inl, inr, ℕ, true, Result, Ok, Err, List, [], ◌++◌, refl, sym, subst, append-nil}
+use Rattle.vt_client.specs.declared.err.ClientErr.{ClientErr}
+use Rattle.vt_client.specs.declared.err.ClientErr.TheVariants as errs
+use Rattle.vt_client.specs.Exchanges.{Traffic, Moves, Answers}
+use Rattle.vt_client.specs.Greetings.{Begins, EndsAtLine, Greets, client_line, welcome}
+use Rattle.vt_client.specs.Taking.{IsOfLine, TakesLine}
+use Rattle.vt_client.proofs.Moving.{Moves-append}
+
+module _ (before between after : Traffic) (put : Moves before between client_line []) where
+  -- the line went out, and then this came in
+  both : (taken : List ℕ) → Moves between after [] taken → Moves before after client_line taken
+  both taken moves =
+      subst (λ (l : List ℕ). Moves before after l taken) (append-nil client_line)
+      (Moves-append before between after client_line [] [] taken put moves)
+
+  ends_at_line : (why : ClientErr) → IsOfLine why → TakesLine between after (Err why)
+      → EndsAtLine before after (Err why)
+  ends_at_line errs.ReadFault about stops =
+      record { part = stops.part; partial = stops.partial; moves = both stops.part stops.moves }
+  ends_at_line errs.Cut about stops = (
+    record { part = stops.part; partial = stops.partial; moves = both stops.part stops.moves },
+    stops.ends refl,
+  )
+  ends_at_line errs.NoVersion about (line, lacks, moves) = (line, lacks, both line moves)
+  ends_at_line errs.WriteFault about stops = absurd about
+  ends_at_line (errs.BadReply place) about stops = absurd about
+  ends_at_line (errs.Remote text) about stops = absurd about
+  ends_at_line (errs.WrongScore want found) about stops = absurd about
+  ends_at_line errs.Spent about stops = absurd about
+  ends_at_line errs.NoMemory about stops = absurd about
+
+  pub greets_to_line : (score_of : List ℕ → List ℕ) (why : ClientErr)
+      (result : Result (Unit {0}) ClientErr) → result ≡ Err why → IsOfLine why
+      → TakesLine between after (Err why) → Greets score_of before after result
+  greets_to_line score_of why result is about stops =
+      subst (Greets score_of before after) (sym is) (inl (ends_at_line why about stops))
+
+  pub begins : TakesLine between after (Ok tt) → Begins before after
+  begins (line, offers, moves) =
+      record { line = line; offers = offers; moves = both line moves }

@@ -1,0 +1,36 @@
+use Rattle.std.proofs.Common.{◌≡◌, ℕ, ◌+◌, ◌%◌, List, Err, length, drop, sym, subst, ◌∙◌}
+use Rattle.vt_client.specs.Clients.{Asks, ClientState, committing}
+use Rattle.vt_client.proofs.Asking.{Asked, asked_by_buffer, asked_in_vain, asks_so}
+use Rattle.vt_client.proofs.client.Client.sync.Goals as goal
+use Rattle.vt_client.proofs.client.Client.sync.Goals.{in-Ok, in-Err}
+
+pub returns : goal.returns
+returns g c =
+    let old = c.self.inside in
+    let new = c.exchange.new in
+    let score_of = g.S.Scorer.score_of in
+    let was : ClientState g.row.L.Denot = record {
+      link = old.link;
+      tag = old.tag;
+      spent = old.spent;
+      counts = record { faults = old.faults; refusals = old.refusals };
+      side = old.side;
+    } in
+    let answer = c.match-exchange.answer in
+    let asked : Asked g.L.Link score_of old.tag committing old.link new.link answer =
+    elim c.match-exchange.branch [
+      | in-Ok w ↦ subst (Asked g.L.Link score_of old.tag committing old.link new.link) (sym w.answer-is)
+          (asked_by_buffer g.L.Link score_of old.tag committing old.link new.link new.buf
+          (drop (length new.buf) old.buf.items) w.deref.result.now old.buf.len w.in-Ok.len
+          w.synced_in-answer.result w.deref.ensures.value (c.exchange.auto.buf ∙ c.deref_mut.ensures.len)
+          w.in-Ok.ensures.frame w.in-Ok.ensures.exchanged w.in-Ok.ensures.sides
+          (w.synced_in-answer.ensures score_of))
+      | in-Err w ↦ subst (Asked g.L.Link score_of old.tag committing old.link new.link) (sym w.answer-is)
+          (asked_in_vain g.L.Link score_of old.tag committing old.link new.link w.in-Err.err
+          w.in-Err.ensures.exchanged w.in-Err.ensures.about w.in-Err.ensures.sides)
+    ] in
+    subst (λ (s : ClientState g.row.L.Denot). Asks g.L.Link score_of committing s
+    (record was { link = new.link; tag = (old.tag + 1) % 256; spent = c.ends-self-inside.result })
+    answer) c.self.view_is
+    (asks_so g.L.Link score_of committing was new.link c.ends-self-inside.result answer
+    c.if-self.false c.ends-self-inside.ensures asked)

@@ -1,0 +1,5 @@
+-- The ghost members of a link as one record, which a clause writes `L.Link`.
+use Rattle.vt_out.specs.declared.link.Link.{Ghosts}
+
+abbrev pub LinkOf : Type 0 → Type 1
+LinkOf L = Ghosts L

@@ -1,0 +1,112 @@
+//! A client as a store of blocks.
+
+ghost use Rattle.std.specs.Prelude.{◌≡◌};
+ghost use Rattle.vt_client.specs.Stores.{IsToldAs};
+
+use crate::{Client, ClientErr, Side};
+use std::alloc::Global;
+use vt_base::{Bytes, Kind, NoMemory, Score, Scorer, Text};
+use vt_out::Link;
+use vt_tree::{BlockErr, Blocks};
+
+impl<L: Link, S: Scorer + Drop> Scorer for Client<L, S> {
+    ghost score_of = { S.score_of };
+
+    ghost score_len = { S.score_len };
+
+    ghost score_bytes = { S.score_bytes };
+
+    fn score(&self, block: &[u8]) -> Score {
+        self.scorer.score(block)
+    }
+}
+
+impl<L: Link, S: Scorer + Drop> Client<L, S> {
+    ghost use Rattle.std.specs.Prelude.{◌≡◌, Some};
+    ghost use Rattle.vt_tree.specs.Calls.{counted};
+    ghost use Rattle.vt_client.specs.Stores.{IsToldAs, side_after};
+
+    /// What a refusal is to who sees a store of blocks, counted, with the side of a fault noted.
+    fn counted(&mut self, alloc: Global, why: ClientErr) -> BlockErr
+        ensures err { IsToldAs why result }
+        ensures left { self.new ≡ record self.old {
+          counts = counted (Some result) self.old.counts;
+          side = side_after why self.old.side;
+        } }
+    {
+        match why {
+            ClientErr::ReadFault => self.side = Some(Side::Read),
+            ClientErr::WriteFault => self.side = Some(Side::Write),
+            _ => {}
+        }
+        let err = told(alloc, why);
+        match err {
+            BlockErr::Fault => self.faults = self.faults.saturating_add(1),
+            BlockErr::NoMemory => {}
+            BlockErr::Refused(_) | BlockErr::WrongScore { .. } | BlockErr::Damaged { .. } => {
+                self.refusals = self.refusals.saturating_add(1)
+            }
+        }
+        err
+    }
+}
+
+/// The refusal that says why, or want of memory for its text.
+fn told(alloc: Global, why: ClientErr) -> BlockErr
+    ensures { IsToldAs why result }
+{
+    let text = match why {
+        ClientErr::Remote(text) => return BlockErr::Refused(text),
+        ClientErr::ReadFault | ClientErr::WriteFault => return BlockErr::Fault,
+        ClientErr::WrongScore { want, found } => return BlockErr::WrongScore { want, found },
+        ClientErr::NoMemory => return BlockErr::NoMemory,
+        ClientErr::Cut => b"peer cut".as_slice(),
+        ClientErr::BadReply(_) => b"bad reply".as_slice(),
+        ClientErr::NoVersion => b"no version".as_slice(),
+        ClientErr::Spent => b"client spent".as_slice(),
+    };
+    match Text::copy_of(alloc, text) {
+        Ok(text) => BlockErr::Refused(text),
+        Err(NoMemory) => BlockErr::NoMemory,
+    }
+}
+
+/// A server tells nothing of what it holds, and others may write to it.
+impl<L: Link, S: Scorer + Drop> Blocks for Client<L, S> {
+    ghost use Rattle.vt_client.specs.Stores.{DoesAsClient};
+
+    ghost does = { DoesAsClient L.Link S.score_of };
+
+    ghost holds = { λ c m. ⊥ };
+
+    ghost counts = { λ c. c.counts };
+
+    ghost tells = { λ c c' call m does held. absurd held };
+
+    ghost synced_is_held = { λ c m held. absurd held };
+
+    ghost write_once = { λ c m held. absurd held };
+
+    ghost counting = { λ c c' call does. does.counts };
+
+    fn get(&mut self, alloc: Global, kind: Kind, score: &Score) -> Result<Bytes, BlockErr> {
+        match Client::get(self, alloc, kind, score) {
+            Ok(bytes) => Ok(bytes),
+            Err(why) => Err(self.counted(alloc, why)),
+        }
+    }
+
+    fn put(&mut self, alloc: Global, kind: Kind, bytes: &[u8]) -> Result<Score, BlockErr> {
+        match Client::put(self, alloc, kind, bytes) {
+            Ok(score) => Ok(score),
+            Err(why) => Err(self.counted(alloc, why)),
+        }
+    }
+
+    fn sync(&mut self, alloc: Global) -> Result<(), BlockErr> {
+        match Client::sync(self, alloc) {
+            Ok(()) => Ok(()),
+            Err(why) => Err(self.counted(alloc, why)),
+        }
+    }
+}

@@ -1,0 +1,15 @@
+//! A client of a Venti server over a link (venti(6), version 02), which is a store of blocks too.
+#![tactic(auto)]
+
+mod blocks;
+mod client;
+mod err;
+mod exchange;
+mod greeting;
+pub mod laws;
+
+pub use client::Client;
+pub use err::{ClientErr, Parted, Side};
+
+#[cfg(test)]
+mod tests;
