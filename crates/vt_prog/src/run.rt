@@ -21,10 +21,10 @@ use vt_out::Sink;
 /// Does what the words of the command line say, and answers the exit status (venti(8)). A status
 /// other than 0 has its line on the fault sink, if that takes it.
 ///
-/// `session :memory:` reads the source to its end, answers it as one session of venti(6) over a
-/// store in memory, and writes the replies to the sink. `fmtarenas`, `fmtisect` and `fmtbloom` make
-/// the file that they name a partition of arenas, an index section or a Bloom filter, and print a
-/// line on the sink.
+/// `session :memory:` answers what comes from the source, as it comes, as one session of venti(6)
+/// over a store in memory, and writes the replies to the sink. `fmtarenas`, `fmtisect` and
+/// `fmtbloom` make the file that they name a partition of arenas, an index section or a Bloom
+/// filter, and print a line on the sink.
 pub fn run<R, H: Host>(rt: &R, alloc: Global, words: &[Text], host: &mut H) -> u8
     ensures did { Did H.Parts.Disk.Disk sha1 words.now result
         (work_of H.Source.Source H.Sink.Sink H.Parts.Parts (H.lent host.old) (H.lent host.new))
