@@ -1,0 +1,91 @@
+-- What is told of a part's refusal: each as the store's own, under the number of the part. Parts are
+-- counted from 0: the partitions of arenas, the index sections, the Bloom filter.
+use Rattle.std.specs.Prelude.{ℕ, List, slice_get}
+use Rattle.std.specs.Option.{option_map_or}
+use Rattle.vt_base.specs.declared.mount.MountBad.{MountBad}
+use Rattle.vt_base.specs.declared.mount.MountBad.TheVariants.{Fault, NotFormatted, TooSmall, DuplicateName, Disagree, Damaged, NoMemory}
+use Rattle.vt_base.specs.declared.mount.MountField.{MountField}
+use Rattle.vt_base.specs.declared.mount.MountField.TheVariants.{Version, Number, Sealed, Used, Clumps, ArenaSize, Count, M, K}
+use Rattle.vt_base.specs.declared.why.Site.TheVariants.{Bucket}
+use Rattle.vt_part.specs.declared.bad.Field.{Field as PartField}
+use Rattle.vt_part.specs.declared.bad.Field.TheVariants as part_field
+use Rattle.vt_part.specs.declared.bad.PartBad.{PartBad}
+use Rattle.vt_part.specs.declared.bad.PartBad.TheVariants as part_bad
+use Rattle.vt_part.specs.declared.layout.ArenaRegion.{ArenaRegion}
+use Rattle.vt_arena.specs.declared.bad.ArenaBad.{ArenaBad}
+use Rattle.vt_arena.specs.declared.bad.ArenaBad.TheVariants as arena_bad
+use Rattle.vt_arena.specs.declared.bad.Field.{Field as ArenaField}
+use Rattle.vt_arena.specs.declared.bad.Field.TheVariants as arena_field
+use Rattle.vt_isect.specs.declared.bad.SectBad.{SectBad}
+use Rattle.vt_isect.specs.declared.bad.SectBad.TheVariants as sect_bad
+use Rattle.vt_isect.specs.declared.bad.ShardErr.{ShardErr}
+use Rattle.vt_isect.specs.declared.bad.ShardErr.TheVariants as shard_err
+use Rattle.vt_bloom.specs.declared.bad.BloomBad.{BloomBad}
+use Rattle.vt_bloom.specs.declared.bad.BloomBad.TheVariants as bloom_bad
+use Rattle.vt_bloom.specs.declared.bad.Field.{Field as BloomField}
+use Rattle.vt_bloom.specs.declared.bad.Field.TheVariants as bloom_field
+use Rattle.vt_log.specs.declared.bad.LogBad.{LogBad}
+use Rattle.vt_log.specs.declared.bad.LogBad.TheVariants as log_bad
+
+abbrev pub field_of_part : PartField → MountField
+field_of_part part_field.Version = Version
+field_of_part part_field.ArenaSize = ArenaSize
+field_of_part part_field.Count = Count
+
+abbrev pub of_part : (part : ℕ) → PartBad → MountBad
+of_part part part_bad.Fault = Fault
+of_part part (part_bad.TooSmall len need) = TooSmall part len need
+of_part part part_bad.NotFormatted = NotFormatted part
+of_part part (part_bad.Torn field found want) = Disagree part (field_of_part field) found want
+of_part part (part_bad.DuplicateName first second) = DuplicateName first second
+of_part part part_bad.NoMemory = NoMemory
+
+abbrev pub field_of_arena : ArenaField → MountField
+field_of_arena arena_field.Version = Version
+field_of_arena arena_field.Number = Number
+field_of_arena arena_field.Sealed = Sealed
+field_of_arena arena_field.Used = Used
+
+abbrev pub of_arena : (part : ℕ) → ArenaBad → MountBad
+of_arena part arena_bad.Fault = Fault
+of_arena part arena_bad.NotFormatted = NotFormatted part
+of_arena part (arena_bad.Torn field found want) = Disagree part (field_of_arena field) found want
+of_arena part arena_bad.NoMemory = NoMemory
+
+-- the partition of an arena of this layout, or 0 where there is no such arena
+abbrev pub partition_of : List ArenaRegion → (arena : ℕ) → ℕ
+partition_of layout arena = option_map_or (λ r. r.part) (slice_get layout arena) 0
+
+-- the log of partitions with this layout
+abbrev pub of_log : List ArenaRegion → LogBad → MountBad
+of_log layout (log_bad.Part bad) = of_part 0 bad
+of_log layout (log_bad.Arena arena bad) = of_arena (partition_of layout arena) bad
+of_log layout (log_bad.Order arena clumps) = Disagree (partition_of layout arena) Clumps clumps 0
+of_log layout log_bad.Fault = Fault
+of_log layout log_bad.NoMemory = NoMemory
+
+abbrev pub of_section : (part : ℕ) → SectBad → MountBad
+of_section part sect_bad.Fault = Fault
+of_section part (sect_bad.TooSmall len need) = TooSmall part len need
+of_section part sect_bad.NotFormatted = NotFormatted part
+of_section part (sect_bad.Torn field found want) = Disagree part Version found want
+of_section part sect_bad.NoMemory = NoMemory
+
+abbrev pub field_of_filter : BloomField → MountField
+field_of_filter bloom_field.Version = Version
+field_of_filter bloom_field.M = M
+field_of_filter bloom_field.K = K
+
+abbrev pub of_filter : (part : ℕ) → BloomBad → MountBad
+of_filter part bloom_bad.Fault = Fault
+of_filter part (bloom_bad.TooSmall len need) = TooSmall part len need
+of_filter part bloom_bad.NotFormatted = NotFormatted part
+of_filter part (bloom_bad.Torn field found want) =
+    Disagree part (field_of_filter field) found want
+of_filter part bloom_bad.NoMemory = NoMemory
+
+-- a shard, while the log is read back; a stop comes behind a fault alone
+abbrev pub of_shard : ShardErr → MountBad
+of_shard shard_err.Fault = Fault
+of_shard (shard_err.Stopped call) = Fault
+of_shard (shard_err.Damaged bucket want found) = Damaged (Bucket bucket) want found

@@ -1,0 +1,7 @@
+//! Why a store can't be mounted, by the words in which its parts refuse: each part's own refusal as
+//! the store's, under the number of the part.
+#![tactic(auto)]
+
+mod told;
+
+pub use told::{of_arena, of_filter, of_log, of_part, of_section, of_shard};
