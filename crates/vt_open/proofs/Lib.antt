@@ -1,0 +1,11 @@
+pub mod Giving
+pub mod Handing
+pub mod Held
+pub mod Kept
+pub mod Lists
+pub mod Opened
+pub mod Recalled
+pub mod Refusing
+pub mod Shapes
+pub mod Taken
+pub mod TakingAll

@@ -1,0 +1,17 @@
+//! Opening the store that a configuration names, and handing its partitions back.
+#![tactic(auto)]
+
+mod bad;
+mod closing;
+mod files;
+mod laws;
+mod opening;
+mod taking;
+
+pub use bad::OpenBad;
+pub use closing::close_store;
+pub use files::file_of;
+pub use laws::{
+    configurations_can_be_opened, devices_have_names, opened_stores_recall, shapes_are_kept,
+};
+pub use opening::open_store;
