@@ -1,0 +1,15 @@
+pub mod WorkDone
+pub mod Pieces
+pub mod Filing
+pub mod AtShard
+pub mod TestKeeps
+pub mod AskGives
+pub mod FilterLeft
+pub mod Whys
+pub mod Risen
+pub mod Told
+pub mod SyncTold
+pub mod Ended
+pub mod EndsAll
+pub mod RequestRuns
+pub mod AllTold

@@ -1,0 +1,4 @@
+pub mod Working
+pub mod Requests
+pub mod Answers
+pub mod Ending

@@ -1,0 +1,13 @@
+//! What drives a store: it takes one event at a time, and here requests are driven to their answers
+//! and a store's use to its end. Commands call these by themselves, and a session asks a store by
+//! way of them.
+#![tactic(auto)]
+
+mod ending;
+mod laws;
+mod requests;
+mod working;
+
+pub use ending::end;
+pub use laws::requests_are_runs;
+pub use requests::{ask, sync};
