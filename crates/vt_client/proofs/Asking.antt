@@ -123,31 +123,35 @@ asked_by_frame link score_of tag w l l' frame result whole moves sides reads = r
   mild = mild link score_of w l l' tag frame result reads sides.reads sides.writes;
 }
 
--- and was read from a buffer in which it was written
+-- it was read from a buffer in which it was written
 pub asked_by_buffer : {L T : Type 0} (link : LinkOf L) (score_of : List ℕ → List ℕ) (tag : ℕ)
-    (w : Wanted T) (l l' : L) (new rest now : List ℕ) (room len : ℕ) (result : Result T ClientErr)
+    (w : Wanted T) (l l' : L) (new rest now : List ℕ) (room len : ℕ)
+    (result answer : Result T ClientErr) → answer ≡ result
     → now ≡ take room (new ++ rest) → length new ≡ room
     → (body : List ℕ) × IsFrame (take len new) body
     → (IsTrue link.tells
     → Moves (traffic_of link l) (traffic_of link l') (asked tag w.request) (take len new))
     → CountsSides {T = ℕ} link l l' (Ok len) → Reads score_of tag w (take len now) result
-    → Asked link score_of tag w l l' result
-asked_by_buffer link score_of tag w l l' new rest now room len result is full whole moves sides reads =
-    asked_by_frame link score_of tag w l l' (take len new) result whole moves
+    → Asked link score_of tag w l l' answer
+asked_by_buffer link score_of tag w l l' new rest now room len result answer answered_so is full
+    whole moves sides reads =
+    subst (Asked link score_of tag w l l') (sym answered_so)
+    (asked_by_frame link score_of tag w l l' (take len new) result whole moves
     (record { reads = sides.reads; writes = sides.writes })
     (subst (λ (b : List ℕ). Reads score_of tag w (take len b) result)
-    (is ∙ take_at new rest room full) reads)
+    (is ∙ take_at new rest room full) reads))
 
 -- none came
 pub asked_in_vain : {L T : Type 0} (link : LinkOf L) (score_of : List ℕ → List ℕ) (tag : ℕ)
-    (w : Wanted T) (l l' : L) (err : ClientErr)
+    (w : Wanted T) (l l' : L) (err : ClientErr) (answer : Result T ClientErr) → answer ≡ Err err
     → (IsTrue link.tells → Fails (traffic_of link l) (traffic_of link l') tag w.request err)
     → IsOfExchange err → CountsSides {T = ℕ} link l l' (Err err)
-    → Asked link score_of tag w l l' (Err err)
-asked_in_vain link score_of tag w l l' err fails about sides = record {
-  answers = λ told. inr (fails told);
-  mild = mild_failed link score_of w l l' err about sides;
-}
+    → Asked link score_of tag w l l' answer
+asked_in_vain link score_of tag w l l' err answer answered_so fails about sides =
+    subst (Asked link score_of tag w l l') (sym answered_so) (record {
+      answers = λ told. inr (fails told);
+      mild = mild_failed link score_of w l l' err about sides;
+    })
 
 -- of a client that is spent so after it
 pub asks_so : {L T : Type 0} (link : LinkOf L) (score_of : List ℕ → List ℕ) (w : Wanted T)

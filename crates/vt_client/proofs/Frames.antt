@@ -47,7 +47,9 @@ taken_frame (a ∷ []) rest bytes behind n len number is are = absurd (omega (ar
 taken_frame (a ∷ b ∷ []) rest bytes behind n len number is are =
     let all = a ∷ b ∷ (bytes ++ behind) in
     let size_is : frame_len all ≡ 2 + n = sym number in
-    let frame = whole_frame all are (omega (arith, size_is, is, length-append bytes behind)) in
-    (drop 2 (take (2 + n) all), subst (λ (k : ℕ). IsFrame (take k all) (drop 2 (take k all))) size_is frame)
+    let frame = whole_frame all are (omega (arith, size_is, is, length-append bytes behind)) in (
+      drop 2 (take (2 + n) all),
+      subst (λ (k : ℕ). IsFrame (take k all) (drop 2 (take k all))) size_is frame,
+    )
 taken_frame (a ∷ b ∷ c ∷ size) rest bytes behind n len number is are =
     absurd (omega (arith, len))

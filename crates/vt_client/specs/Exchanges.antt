@@ -74,7 +74,8 @@ pub record IsReply (tag wanted : ℕ) (reply : RMessage) (frame : List ℕ) : Ty
   pub fits : FitsReply reply
 
 -- the request went out under the tag, and its reply came in, and nothing else
-pub record Exchanges (before after : Traffic) (tag : ℕ) (m : TMessage) (reply : RMessage) : Type 0 where
+pub record Exchanges (before after : Traffic) (tag : ℕ) (m : TMessage) (reply : RMessage)
+    : Type 0 where
   pub frame : List ℕ
   pub is_reply : IsReply tag (awaited m) reply frame
   pub moves : Moves before after (asked tag m) frame

@@ -65,7 +65,8 @@ returns-clause-greets g c = λ score_of told.
 pub returns-clause-sides : goal.returns-clause-sides
 returns-clause-sides g c =
     (mild g.L.Link (λ bytes. bytes) welcome c.args.link.now c.exchange.new.link 0
-    (take c.in_ok-len.len c.exchange.new.buf) c.welcome_in.result (c.welcome_in.ensures (λ bytes. bytes))
+    (take c.in_ok-len.len c.exchange.new.buf) c.welcome_in.result
+    (c.welcome_in.ensures (λ bytes. bytes))
     (c.in_ok-len.ensures.sides.reads ∙ c.in_ok-take_line.ensures.sides.reads
     ∙ c.in-Ok.ensures.read_faults)
     (c.in_ok-len.ensures.sides.writes ∙ c.in_ok-take_line.ensures.sides.writes

@@ -42,7 +42,8 @@ loop-n-preserved g c =
     let front = traffic_of g.L.Link c.args.link.now in
     let here = traffic_of g.L.Link c.loop-n.link in
     let after = traffic_of g.L.Link c.take_byte.new.link in
-    let more = sym (take_more_set buf n byte (omega (arith, c.loop-n.auto.buf, c.requires, so.within))) in
+    let more = sym (take_more_set buf n byte
+    (omega (arith, c.loop-n.auto.buf, c.requires, so.within))) in
     record {
       within = omega (arith, c.loop-n-test.true);
       plain = subst (All (λ (b : ℕ). b ≢ 10)) more (All-append (λ (b : ℕ). b ≢ 10) (take n buf)

@@ -1,4 +1,4 @@
-use Rattle.std.proofs.Common.{◌≡◌, ℕ, ◌+◌, ◌%◌, List, Err, length, drop, sym, subst, ◌∙◌}
+use Rattle.std.proofs.Common.{◌≡◌, ℕ, ◌+◌, ◌%◌, List, length, drop, subst, ◌∙◌}
 use Rattle.vt_client.specs.Clients.{Asks, ClientState, committing}
 use Rattle.vt_client.proofs.Asking.{Asked, asked_by_buffer, asked_in_vain, asks_so}
 use Rattle.vt_client.proofs.client.Client.sync.Goals as goal
@@ -17,17 +17,18 @@ returns g c =
       side = old.side;
     } in
     let answer = c.match-exchange.answer in
-    let asked : Asked g.L.Link score_of old.tag committing old.link new.link answer =
+    let sent = committing in
+    let asked : Asked g.L.Link score_of old.tag sent old.link new.link answer =
     elim c.match-exchange.branch [
-      | in-Ok w ↦ subst (Asked g.L.Link score_of old.tag committing old.link new.link) (sym w.answer-is)
-          (asked_by_buffer g.L.Link score_of old.tag committing old.link new.link new.buf
+      | in-Ok w ↦ asked_by_buffer g.L.Link score_of old.tag sent old.link new.link new.buf
           (drop (length new.buf) old.buf.items) w.deref.result.now old.buf.len w.in-Ok.len
-          w.synced_in-answer.result w.deref.ensures.value (c.exchange.auto.buf ∙ c.deref_mut.ensures.len)
+          w.synced_in-answer.result answer w.answer-is w.deref.ensures.value
+          (c.exchange.auto.buf ∙ c.deref_mut.ensures.len)
           w.in-Ok.ensures.frame w.in-Ok.ensures.exchanged w.in-Ok.ensures.sides
-          (w.synced_in-answer.ensures score_of))
-      | in-Err w ↦ subst (Asked g.L.Link score_of old.tag committing old.link new.link) (sym w.answer-is)
-          (asked_in_vain g.L.Link score_of old.tag committing old.link new.link w.in-Err.err
-          w.in-Err.ensures.exchanged w.in-Err.ensures.about w.in-Err.ensures.sides)
+          (w.synced_in-answer.ensures score_of)
+      | in-Err w ↦ asked_in_vain g.L.Link score_of old.tag sent old.link new.link w.in-Err.err
+          answer w.answer-is w.in-Err.ensures.exchanged w.in-Err.ensures.about
+          w.in-Err.ensures.sides
     ] in
     subst (λ (s : ClientState g.row.L.Denot). Asks g.L.Link score_of committing s
     (record was { link = new.link; tag = (old.tag + 1) % 256; spent = c.ends-self-inside.result })
