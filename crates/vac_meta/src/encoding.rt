@@ -4,8 +4,8 @@ ghost use Rattle.std.specs.Prelude.{◌≡◌, ◌+◌, ◌≤◌, ◌++◌, tru
 ghost use Rattle.std.specs.Prelude.{OnOk, OnErr};
 ghost use Rattle.vac_meta.specs.declared.TheConstants.{MAX_NAME};
 ghost use Rattle.vac_meta.specs.declared.record.Record.{Record};
-ghost use Rattle.vac_meta.specs.Records.{FitsRecord, HasRanges, Spells, is_next, kind_byte, last_name};
-ghost use Rattle.vac_meta.specs.Records.{numbers, spelled, string};
+ghost use Rattle.vac_meta.specs.Records.{FitsRecord, HasRanges, Spells, is_next, last_name};
+ghost use Rattle.vac_meta.specs.Records.{kind_byte, numbers, spelled, string};
 
 use crate::{Record, RecordKind};
 use vt_base::NoMemory;

@@ -1,6 +1,6 @@
 -- What may be archived is good once it is in order and numbered.
-use Rattle.std.proofs.Common.{◌≡◌, ℕ, ◌+◌, ◌^◌, ◌<◌, ◌≤◌, ◌==◌, ◌||◌, ◌⊎◌, inl, inr, Bool, true, false, cond, Option, Some, None, List, [], ◌∷◌, ◌++◌, length, refl, sym, ◌∙◌, ap, subst, arith, length-append}
-use Rattle.std.specs.Prelude.{⊤, bit_and, max, nat_lt, nat_le, is_some, position}
+use Rattle.std.proofs.Common.{◌≡◌, ℕ, ◌+◌, ◌^◌, ◌<◌, ◌≤◌, ◌==◌, ◌||◌, ◌⊎◌, inl, inr, Bool, true, false, cond, Option, Some, None, List, [], ◌∷◌, ◌++◌, length, refl, sym, ◌∙◌, subst, arith, length-append}
+use Rattle.std.specs.Prelude.{⊤, nat_lt, nat_le, is_some, position}
 use Rattle.std.specs.Option.{option_or}
 use Rattle.std.specs.Ordering.{nat_cmp, is_lt}
 use Rattle.std.specs.Cmp.Lexicographic.{slice_cmp}
@@ -15,8 +15,8 @@ use Rattle.vac_meta.specs.Records.{IsName, is_next, is_barred, all_spelled, spel
 use Rattle.vac_model.specs.declared.TheConstants.{MAX_FILE, MAX_METADATA, MAX_NESTING}
 use Rattle.vac_model.specs.Archives.{record_of, records_of, metadata}
 use Rattle.vac_model.specs.Good.{IsGood, AreGood}
-use Rattle.vac_model.specs.Kept.{Numbered, placed, in_order, kept, cut_mode, count, numbered, archived, path_to}
-use Rattle.vac_model.specs.Limits.{Unfit, bad_name, too_long, too_deep, is_bad_name, is_bad_behind, is_bad, first_bad, unfit_name, unfit_listing, unfit_inside, first_unfit, HaveTimes}
+use Rattle.vac_model.specs.Kept.{placed, in_order, kept, cut_mode, count, numbered, archived, path_to}
+use Rattle.vac_model.specs.Limits.{bad_name, too_long, too_deep, is_bad_name, is_bad_behind, is_bad, first_bad, unfit_name, unfit_listing, unfit_inside, first_unfit, HaveTimes}
 use Rattle.vac_model.specs.Trees.{nesting}
 use Rattle.vac_model.proofs.InOrder.{NotBefore, AreOrdered, are_ordered}
 use Rattle.vac_model.proofs.Names.{Below, below_below, above_other}

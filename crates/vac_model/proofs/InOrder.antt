@@ -1,5 +1,5 @@
 -- Items in the order of their names.
-use Rattle.std.proofs.Common.{◌≡◌, Bool, true, false, Option, Some, None, List, ℕ, refl, sym, ◌∙◌, ap, inl, inr}
+use Rattle.std.proofs.Common.{Option, Some, None, List, ℕ, inl, inr}
 use Rattle.std.specs.Prelude.{⊤}
 use Rattle.std.specs.Ordering.{nat_cmp, is_lt}
 use Rattle.std.specs.Cmp.Lexicographic.{slice_cmp}

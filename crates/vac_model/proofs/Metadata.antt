@@ -1,13 +1,13 @@
 -- The metadata of good items spells their records.
-use Rattle.std.proofs.Common.{◌≡◌, ℕ, zero, suc, ◌+◌, ◌*◌, ◌^◌, ◌<◌, ◌≤◌, true, Option, Some, None, List, [], ◌∷◌, ◌++◌, length, refl, sym, ◌∙◌, ap, arith, length-append}
+use Rattle.std.proofs.Common.{ℕ, ◌+◌, ◌^◌, ◌<◌, ◌≤◌, Option, Some, None, List, length, refl, arith, length-append}
 use Rattle.std.specs.List.{AllByRecursion}
 use Rattle.vt_folder.specs.Items.{Items, none, file, folder, other}
 use Rattle.vac_meta.specs.declared.record.Record.{Record}
 use Rattle.vac_meta.specs.declared.record.RecordKind.{RecordKind}
 use Rattle.vac_meta.specs.declared.record.RecordKind.TheVariants.{File, Folder}
-use Rattle.vac_meta.specs.Records.{IsRecord, Ascend, Spells, all_spelled, spelled, string, numbers}
+use Rattle.vac_meta.specs.Records.{IsRecord, Ascend, Spells, all_spelled, spelled}
 use Rattle.vac_model.specs.declared.TheConstants.{MAX_METADATA}
-use Rattle.vac_model.specs.Archives.{record_of, records_of, metadata, entries_of}
+use Rattle.vac_model.specs.Archives.{record_of, records_of, metadata}
 use Rattle.vac_model.specs.Good.{IsGood, AreGood}
 use Rattle.vac_model.specs.Kept.{Numbered}
 

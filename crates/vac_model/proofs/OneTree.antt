@@ -1,8 +1,8 @@
 -- A score is that of one folder at most.
-use Rattle.std.proofs.Common.{◌≡◌, ℕ, ◌+◌, ◌<◌, Ok, Some, List, [], ◌∷◌, length, take, drop, refl, sym, ◌∙◌, ap, subst, arith}
-use Rattle.std.specs.Prelude.{Result, slice_index, IfOk}
+use Rattle.std.proofs.Common.{◌≡◌, ℕ, ◌+◌, Ok, Some, List, [], ◌∷◌, length, take, drop, refl, sym, ◌∙◌, ap, subst, arith}
+use Rattle.std.specs.Prelude.{Result, slice_index}
 use Rattle.std.proofs.lemmas.List.{ext_get_or}
-use Rattle.vt_folder.specs.Items.{Items, none, file, folder, other, Facts}
+use Rattle.vt_folder.specs.Items.{Items, none, file, folder, other}
 use Rattle.vt_tree.specs.declared.entry.Entry.{Entry}
 use Rattle.vt_tree.specs.declared.plain.Trouble.{Trouble}
 use Rattle.vt_tree.specs.declared.root.Root.{Root}
@@ -15,7 +15,7 @@ use Rattle.vac_meta.specs.declared.record.RecordKind.{RecordKind}
 use Rattle.vac_meta.specs.declared.record.RecordKind.TheVariants.{File, Folder}
 use Rattle.vac_meta.specs.Records.{Spells}
 use Rattle.vac_model.specs.Kept.{Numbered}
-use Rattle.vac_model.specs.Trees.{HasEntry, HasFile, AreFolder, HasFolder, StandFor, IsTreeOf, entry_place, described}
+use Rattle.vac_model.specs.Trees.{HasEntry, HasFile, AreFolder, HasFolder, StandFor, IsTreeOf, entry_place}
 
 -- bytes that are given at one place are the same
 same_given : (byte : ℕ → Result ℕ Trouble) (at : ℕ) (x y : List ℕ) → length x ≡ length y

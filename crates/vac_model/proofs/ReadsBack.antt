@@ -1,5 +1,5 @@
 -- An archive's blocks stand for its folder.
-use Rattle.std.proofs.Common.{◌≡◌, ℕ, zero, suc, ◌+◌, ◌*◌, ◌/◌, ◌%◌, ◌^◌, ◌<◌, ◌≤◌, true, false, Some, None, Option, List, [], ◌∷◌, ◌++◌, length, take, drop, refl, sym, ◌∙◌, ap, subst, arith, append_assoc, append-nil, length-append, take_at, drop_at, take_all}
+use Rattle.std.proofs.Common.{◌≡◌, ℕ, ◌+◌, ◌*◌, ◌/◌, ◌%◌, ◌^◌, ◌<◌, ◌≤◌, Some, None, Option, List, [], ◌∷◌, ◌++◌, length, take, drop, refl, sym, ◌∙◌, ap, subst, arith, append_assoc, length-append, take_at, drop_at, take_all}
 use Rattle.std.specs.List.{All, AllByRecursion, flat_map}
 use Rattle.std.specs.Prelude.{bit_and}
 use Rattle.std.proofs.Math.Nat.{div-add-mod', mod-lt}
@@ -9,18 +9,16 @@ use Rattle.std.proofs.lemmas.Nat.{div-mul-add}
 use Rattle.vt_folder.specs.Items.{Items, none, file, folder, other}
 use Rattle.vt_model.specs.History.{Block}
 use Rattle.vt_tree.specs.declared.entry.Entry.{Entry}
-use Rattle.vt_tree.specs.declared.root.Root.{Root}
 use Rattle.vt_tree.specs.Content.{byte_of, AreGiven, IsContent}
 use Rattle.vt_tree.specs.Entries.{IsEntry, SpellsEntry, spelled as entry_bytes}
 use Rattle.vt_tree.specs.Maps.{BlockMap, Has}
 use Rattle.vt_tree.specs.Roots.{spelled as root_bytes}
 use Rattle.vt_tree.specs.Streams.{Shape, FitsShape, depth_of, reach, stream_of, entry_of}
-use Rattle.vac_meta.specs.declared.record.Record.{Record}
 use Rattle.vac_model.specs.declared.TheConstants.{MAX_METADATA, MAX_NESTING}
 use Rattle.vac_model.specs.Archives.{file_shape, directory_shape, directory_entry, metadata_entry, entries_of, records_of, metadata, folder_blocks, blocks_of, top_bytes, root_of, archive_with}
 use Rattle.vac_model.specs.Good.{IsGood, AreGood}
 use Rattle.vac_model.specs.Kept.{Numbered}
-use Rattle.vac_model.specs.Trees.{HasEntry, HasFile, AreFolder, HasFolder, StandFor, AreTopEntries, IsTreeOf, entry_place, described, nesting}
+use Rattle.vac_model.specs.Trees.{HasEntry, AreFolder, StandFor, AreTopEntries, IsTreeOf, entry_place, nesting}
 use Rattle.vac_model.proofs.Metadata.{width, is_spelled, width_fits}
 use Rattle.vac_model.proofs.Stands.{fits_file, fits_directory, all_left, all_right, part_given, stream_entry, spells, entry_len, entries_len, place_is, flat_split}
 
@@ -47,7 +45,8 @@ module _ (score_of : List ℕ → List ℕ) (map : BlockMap) (bsize : ℕ)
     file_entry : (bytes : List ℕ) → length bytes ≤ 2 ^ 40
         → IsEntry (entry_of score_of (file_shape bsize) bytes)
     file_entry bytes short =
-        stream_entry score_of len depth_is_least (file_shape bsize) bytes (fits_file bsize least most)
+        stream_entry score_of len depth_is_least (file_shape bsize) bytes
+        (fits_file bsize least most)
         short
 
     dir_entry : (bytes : List ℕ) → length bytes ≤ 2 ^ 40
@@ -210,7 +209,8 @@ module _ (score_of : List ℕ → List ℕ) (map : BlockMap) (bsize : ℕ)
     }
 
     -- the records of items stand for them
-    stand : (last : Option (List ℕ)) (items : Items Numbered) (stream : Entry) (all front : List Entry)
+    stand : (last : Option (List ℕ)) (items : Items Numbered) (stream : Entry)
+        (all front : List Entry)
         → AreGood last items → all ≡ front ++ entries items
         → ((front : List Entry) (e : Entry) (back : List Entry) → all ≡ front ++ e ∷ back
         → HasEntry map stream (length front) e)
@@ -245,7 +245,8 @@ module _ (score_of : List ℕ → List ℕ) (map : BlockMap) (bsize : ℕ)
         let one : List Entry = front ++ d ∷ [] in
         let is_one : all ≡ one ++ (m ∷ entries others) =
         is ∙ sym (append_assoc front (d ∷ []) (m ∷ entries others)) in
-        let within : HasAll (blocks_of score_of bsize inside ++ folder_blocks score_of bsize inside) =
+        let within : HasAll (blocks_of score_of bsize inside
+        ++ folder_blocks score_of bsize inside) =
         all_left (Has score_of map)
         (blocks_of score_of bsize inside ++ folder_blocks score_of bsize inside)
         (blocks_of score_of bsize others) has in

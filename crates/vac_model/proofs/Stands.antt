@@ -1,24 +1,17 @@
 -- The streams of an archive stand for their folder, in each map that has its blocks.
-use Rattle.std.proofs.Common.{◌≡◌, ℕ, zero, suc, ◌+◌, ◌-◌, ◌*◌, ◌/◌, ◌%◌, ◌^◌, ◌<◌, ◌≤◌, ◌==◌, Bool, true, false, cond, Ok, Option, Some, None, List, [], ◌∷◌, ◌++◌, length, take, drop, get_or, refl, sym, ◌∙◌, ap, subst, arith, append_assoc, append-nil, length-append}
-use Rattle.std.specs.Prelude.{nat_lt, not, slice_index, Result, if◌then◌else◌}
+use Rattle.std.proofs.Common.{◌≡◌, ℕ, zero, suc, ◌+◌, ◌*◌, ◌/◌, ◌%◌, ◌^◌, ◌<◌, ◌≤◌, Bool, true, false, Ok, List, [], ◌∷◌, ◌++◌, length, refl, sym, ◌∙◌, ap, arith, append_assoc, length-append}
+use Rattle.std.specs.Prelude.{nat_lt, slice_index, Result, if◌then◌else◌}
 use Rattle.std.specs.List.{All, AllByRecursion, flat_map}
 use Rattle.std.proofs.Math.Nat.{div-add-mod', mod-lt, mul_assoc}
-use Rattle.std.proofs.lemmas.Bool.{cases_Bool, le-ltb}
-use Rattle.std.proofs.lemmas.Nat.{div-mul-add}
+use Rattle.std.proofs.lemmas.Bool.{le-ltb}
 use Rattle.std.proofs.lemmas.List.{get_or-append-add, get_or_append_left}
 use Rattle.std.proofs.lemmas.List.Elements.{All-head, All-tail, All-nil, All-cons}
-use Rattle.byteorder.specs.Endian.{big_bytes}
-use Rattle.vt_base.specs.declared.TheConstants.{MAX_BLOCK}
-use Rattle.vt_folder.specs.Items.{Items, none, file, folder, other, Facts}
-use Rattle.vt_model.specs.History.{Block}
 use Rattle.vt_tree.specs.declared.entry.Entry.{Entry}
 use Rattle.vt_tree.specs.declared.plain.Trouble.{Trouble}
-use Rattle.vt_tree.specs.Content.{size_of, byte_of, AreGiven, IsContent}
-use Rattle.vt_tree.specs.Entries.{IsEntry, SpellsEntry, entry_fault, flags_of, spelled as entry_bytes, spelled_with}
-use Rattle.vt_tree.specs.Maps.{BlockMap, Has, IsWriteOnce}
-use Rattle.vt_tree.specs.Streams.{Shape, FitsShape, depth_of, reach, tree_of, stream_of, entry_of}
-use Rattle.vac_model.specs.Archives.{file_shape, directory_shape, directory_entry, entries_of}
-use Rattle.vac_model.specs.Trees.{HasEntry, entry_place}
+use Rattle.vt_tree.specs.Content.{AreGiven}
+use Rattle.vt_tree.specs.Entries.{IsEntry, SpellsEntry, flags_of, spelled as entry_bytes, spelled_with}
+use Rattle.vt_tree.specs.Streams.{Shape, FitsShape, depth_of, reach, tree_of, entry_of}
+use Rattle.vac_model.specs.Archives.{file_shape, directory_shape}
 
 -- ---- shapes
 

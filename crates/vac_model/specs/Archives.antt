@@ -1,5 +1,5 @@
--- The blocks of a folder's archive, and its root (vac(1), venti(6)). A folder is two streams: one of
--- the entries of its items, and one of records that tell what the items are.
+-- The blocks of a folder's archive, and its root (vac(1), venti(6)). A folder is two streams: one
+-- of the entries of its items, and one of records that tell what the items are.
 use Rattle.std.specs.Prelude.{ℕ, ◌+◌, ◌*◌, ◌/◌, true, false, List, [], ◌∷◌, ◌++◌, codes}
 use Rattle.std.specs.List.{flat_map}
 use Rattle.vt_fields.specs.Filled.{filled}

@@ -1,6 +1,6 @@
 -- Items as an archive may hold them: in the order of their names, within the limits.
 use Rattle.std.specs.Prelude.{ℕ, ◌≡◌, ◌≤◌, ◌<◌, ◌^◌, ⊤, true, bit_and, Option, Some, None, List, length}
-use Rattle.vt_folder.specs.Items.{Items, none, file, folder, other, Facts}
+use Rattle.vt_folder.specs.Items.{Items, none, file, folder, other}
 use Rattle.vac_meta.specs.declared.TheConstants.{MAX_NAME}
 use Rattle.vac_meta.specs.Records.{IsName, is_next}
 use Rattle.vac_model.specs.declared.TheConstants.{MAX_FILE, MAX_METADATA}

@@ -1,6 +1,6 @@
 -- What of a folder is archived (vac(1)): its files and folders, in the order of their names, with
 -- the low nine bits of their modes. Each gets a number, its qid.
-use Rattle.std.specs.Prelude.{ℕ, ◌+◌, List, [], ◌∷◌, ◌++◌, bit_and, length, if◌then◌else◌}
+use Rattle.std.specs.Prelude.{ℕ, ◌+◌, List, [], ◌∷◌, ◌++◌, bit_and, if◌then◌else◌}
 use Rattle.std.specs.Ordering.{nat_cmp, is_lt}
 use Rattle.std.specs.Cmp.Lexicographic.{slice_cmp}
 use Rattle.vt_folder.specs.Items.{Items, none, file, folder, other, Facts}

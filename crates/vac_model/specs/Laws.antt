@@ -1,9 +1,9 @@
 -- What holds of all archives.
-use Rattle.std.specs.Prelude.{ℕ, ◌≡◌, Some, List, [], length}
+use Rattle.std.specs.Prelude.{ℕ, ◌≡◌, List, length}
 use Rattle.std.specs.List.{All}
 use Rattle.vt_folder.specs.Items.{Items, Facts}
 use Rattle.vt_tree.specs.Maps.{BlockMap, Has, IsWriteOnce}
-use Rattle.vac_model.specs.Archives.{Archive, archive_of}
+use Rattle.vac_model.specs.Archives.{archive_of}
 use Rattle.vac_model.specs.Kept.{Numbered, archived}
 use Rattle.vac_model.specs.Limits.{IsArchivable}
 use Rattle.vac_model.specs.Trees.{IsTreeOf}

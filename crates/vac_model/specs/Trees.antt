@@ -1,7 +1,7 @@
 -- The folder that a root stands for (vacfs(4)).
-use Rattle.std.specs.Prelude.{ℕ, ◌≡◌, ◌+◌, ◌*◌, ◌/◌, ◌%◌, ◌≤◌, ◌^◌, max, bit_and, true, false, ⊤, Some, List, [], ◌∷◌, codes, take, drop, length}
+use Rattle.std.specs.Prelude.{ℕ, ◌≡◌, ◌+◌, ◌*◌, ◌/◌, ◌%◌, ◌≤◌, max, bit_and, true, false, ⊤, Some, List, [], ◌∷◌, codes, take, drop, length}
 use Rattle.vt_fields.specs.Filled.{filled}
-use Rattle.vt_folder.specs.Items.{Items, none, file, folder, other, Facts}
+use Rattle.vt_folder.specs.Items.{Items, none, file, folder, other}
 use Rattle.vt_tree.specs.declared.entry.Entry.{Entry}
 use Rattle.vt_tree.specs.declared.root.Root.{Root}
 use Rattle.vt_tree.specs.Content.{size_of, byte_of, AreGiven, IsContent}
@@ -9,7 +9,6 @@ use Rattle.vt_tree.specs.Entries.{IsEntry, SpellsEntry}
 use Rattle.vt_tree.specs.Maps.{BlockMap}
 use Rattle.vt_tree.specs.Roots.{IsRoot, spelled as root_bytes}
 use Rattle.vac_meta.specs.declared.record.Record.{Record}
-use Rattle.vac_meta.specs.declared.record.RecordKind.{RecordKind}
 use Rattle.vac_meta.specs.declared.record.RecordKind.TheVariants.{File, Folder}
 use Rattle.vac_meta.specs.Records.{Spells}
 use Rattle.vac_model.specs.declared.TheConstants.{MAX_FILE, MAX_METADATA, MAX_NESTING, MIN_BLOCK_SIZE, MAX_BLOCK_SIZE}

@@ -15,7 +15,8 @@ returns-in_err-numbers-clause-flaw c =
     let p = err_from_is_err_and c.from_residual-in_err-numbers.result
     c.from_residual-in_err-numbers.ensures.1 in
     let name = c.in_ok-name.ensures in
-    rw (p.1, p.2) (behind_name c.args.bytes.now c.in_ok-name.name.now c.in_ok-name.rest.now name.whole
+    rw (p.1, p.2) (behind_name c.args.bytes.now c.in_ok-name.name.now c.in_ok-name.rest.now
+    name.whole
     (option_copied c.args.last) c.args.at name.allowed name.next
     ∙ stops_at_numbers (c.args.at + 2 + length c.in_ok-name.name.now) c.in_ok-name.rest.now
     c.in_err-numbers.field-0.0 c.in_err-numbers.ensures.flaw)
@@ -26,7 +27,8 @@ returns-in_err-uid-clause-flaw c =
     c.from_residual-in_err-uid.ensures.1 in
     let name = c.in_ok-name.ensures in
     let numbers = c.in_ok-numbers.ensures in
-    rw (p.1, p.2) (behind_name c.args.bytes.now c.in_ok-name.name.now c.in_ok-name.rest.now name.whole
+    rw (p.1, p.2) (behind_name c.args.bytes.now c.in_ok-name.name.now c.in_ok-name.rest.now
+    name.whole
     (option_copied c.args.last) c.args.at name.allowed name.next
     ∙ behind_numbers (c.args.at + 2 + length c.in_ok-name.name.now) c.in_ok-name.rest.now
     c.in_ok-numbers.numbers.now c.in_ok-numbers.rest.now numbers.whole numbers.len numbers.kind
@@ -41,7 +43,8 @@ returns-in_err-gid-clause-flaw c =
     let numbers = c.in_ok-numbers.ensures in
     let uid = c.in_ok-uid.ensures in
     let at : ℕ = c.args.at + 2 + length c.in_ok-name.name.now in
-    rw (p.1, p.2) (behind_name c.args.bytes.now c.in_ok-name.name.now c.in_ok-name.rest.now name.whole
+    rw (p.1, p.2) (behind_name c.args.bytes.now c.in_ok-name.name.now c.in_ok-name.rest.now
+    name.whole
     (option_copied c.args.last) c.args.at name.allowed name.next
     ∙ behind_numbers at c.in_ok-name.rest.now c.in_ok-numbers.numbers.now
     c.in_ok-numbers.rest.now numbers.whole numbers.len numbers.kind
