@@ -22,7 +22,8 @@ digits : (x y m n : ℕ) → x < 256 → y < 256 → x + 256 * m ≡ y + 256 * n
 digits x y m n p q h = (omega (arith, p, q, h), omega (arith, p, q, h))
 
 -- so many bytes with one number are alike
-little_number-unique : (n : ℕ) (a b : List ℕ) → length a ≡ n → length b ≡ n → AreSmall a → AreSmall b
+little_number-unique : (n : ℕ) (a b : List ℕ) → length a ≡ n → length b ≡ n → AreSmall a → AreSmall
+    b
     → little_number n a ≡ little_number n b → a ≡ b
 little_number-unique zero [] [] la lb sa sb h = refl
 little_number-unique zero [] (y ∷ b) la lb sa sb h = absurd (omega arith)
@@ -35,7 +36,8 @@ little_number-unique (suc n) (x ∷ a) (y ∷ b) la lb sa sb h =
     ∙ ap (λ (r : ℕ). y + 256 * r) (little_from-cons 0 n y b) in
     let two = digits x y (little_from 0 n a) (little_from 0 n b) (sa 0) (sb 0) split in
     let others : a ≡ b =
-    little_number-unique n a b (omega (arith, la)) (omega (arith, lb)) (λ i. sa (suc i)) (λ i. sb (suc i)) two.1 in
+    little_number-unique n a b (omega (arith, la)) (omega (arith, lb)) (λ i. sa (suc i)) (λ i. sb
+    (suc i)) two.1 in
     λ i. two.0 i ∷ others i
 
 pub little_bytes-number : (n : ℕ) (field : List ℕ) → length field ≡ n → AreSmall field
@@ -45,7 +47,8 @@ little_bytes-number n field len small =
     let back : little_number n (little_bytes n x) ≡ x =
     ap (little_number n) (sym (append-nil (little_bytes n x)))
     ∙ little_number-reads_back n x [] (little_from-lt 0 n field small) in
-    little_number-unique n (little_bytes n x) field (length-bytes_low_first 0 n x) len (small_bytes 0 n x) small back
+    little_number-unique n (little_bytes n x) field (length-bytes_low_first 0 n x) len (small_bytes
+    0 n x) small back
 
 small_front : (a x : List ℕ) → AreSmall (a ++ x) → AreSmall a
 small_front [] x are i = omega arith
@@ -62,5 +65,6 @@ field_is n x bytes field rest f r len are is =
     ∙ ap (λ (l : List ℕ). field ++ l) (sym r) in
     let long : length field ≡ n = omega (arith, len, ap length whole, length-append field rest) in
     let spelled : little_bytes n x ≡ field =
-    ap (little_bytes n) is ∙ little_bytes-number n field long (small_front field rest (subst AreSmall whole are)) in
+    ap (little_bytes n) is ∙ little_bytes-number n field long (small_front field rest (subst
+    AreSmall whole are)) in
     whole ∙ ap (λ (l : List ℕ). l ++ rest) (sym spelled)

@@ -27,12 +27,14 @@ same_front (a ∷ more) (b ∷ most) x y len h =
 -- what stands behind a number field
 pub behind : (n x y : ℕ) (a b : List ℕ) → little_bytes n x ++ a ≡ little_bytes n y ++ b → a ≡ b
 behind n x y a b h =
-    (same_front (little_bytes n x) (little_bytes n y) a b (length-bytes_low_first 0 n x ∙ sym (length-bytes_low_first 0 n y)) h).1
+    (same_front (little_bytes n x) (little_bytes n y) a b (length-bytes_low_first 0 n x ∙ sym
+    (length-bytes_low_first 0 n y)) h).1
 
 same_number : (n x y : ℕ) (a b : List ℕ) → x < 256 ^ n → y < 256 ^ n
     → little_bytes n x ++ a ≡ little_bytes n y ++ b → x ≡ y
 same_number n x y a b p q h =
-    sym (little_number-reads_back n x a p) ∙ ap (little_number n) h ∙ little_number-reads_back n y b q
+    sym (little_number-reads_back n x a p) ∙ ap (little_number n) h ∙ little_number-reads_back n y b
+    q
 
 pub same_string : (a b x y : List ℕ) → IsString a → IsString b → string a ++ x ≡ string b ++ y
     → (a ≡ b) × (x ≡ y)
@@ -107,19 +109,26 @@ no_auth ps k r1 w r2 e short d none (t_remove f) x = absurd (omega (arith, x.typ
 no_auth ps k r1 w r2 e short d none (t_stat f) x = absurd (omega (arith, x.type_is))
 no_auth ps k r1 w r2 e short d none (t_wstat f s) x = absurd (omega (arith, x.type_is))
 
-pub no_attach : (ps : List ℕ) (k : ℕ) (r0 : List ℕ) (l : ℕ) (r1 w r2 : List ℕ) → ps ≡ little_bytes 4 k ++ r0
+pub no_attach : (ps : List ℕ) (k : ℕ) (r0 : List ℕ) (l : ℕ) (r1 w r2 : List ℕ) → ps ≡ little_bytes 4
+    k ++ r0
     → r0 ≡ little_bytes 4 l ++ r1 → IsString w → r1 ≡ string w ++ r2 → NoEnd r2
     → (m : TMessage) → SpellsBody m 104 ps → ⊥
 no_attach ps k r0 l r1 w r2 e0 e1 short d none (t_attach f a u n) x =
     let zero' = behind 4 k f r0 (little_bytes 4 a ++ (string u ++ string n)) (sym e0 ∙ x.is) in
     let one = behind 4 l a r1 (string u ++ string n) (sym e1 ∙ zero') in
     none n x.fits.3 ((same_string w u r2 (string n) short x.fits.2 (sym d ∙ one)).1)
-no_attach ps k r0 l r1 w r2 e0 e1 short d none (t_version ms v) x = absurd (omega (arith, x.type_is))
+no_attach ps k r0 l r1 w r2 e0 e1 short d none (t_version ms v) x = absurd (omega (
+  arith,
+  x.type_is,
+))
 no_attach ps k r0 l r1 w r2 e0 e1 short d none (t_auth a u n) x = absurd (omega (arith, x.type_is))
 no_attach ps k r0 l r1 w r2 e0 e1 short d none (t_flush o) x = absurd (omega (arith, x.type_is))
 no_attach ps k r0 l r1 w r2 e0 e1 short d none (t_walk f n ns) x = absurd (omega (arith, x.type_is))
 no_attach ps k r0 l r1 w r2 e0 e1 short d none (t_open f m) x = absurd (omega (arith, x.type_is))
-no_attach ps k r0 l r1 w r2 e0 e1 short d none (t_create f n p m) x = absurd (omega (arith, x.type_is))
+no_attach ps k r0 l r1 w r2 e0 e1 short d none (t_create f n p m) x = absurd (omega (
+  arith,
+  x.type_is,
+))
 no_attach ps k r0 l r1 w r2 e0 e1 short d none (t_read f o c) x = absurd (omega (arith, x.type_is))
 no_attach ps k r0 l r1 w r2 e0 e1 short d none (t_write f o b) x = absurd (omega (arith, x.type_is))
 no_attach ps k r0 l r1 w r2 e0 e1 short d none (t_clunk f) x = absurd (omega (arith, x.type_is))

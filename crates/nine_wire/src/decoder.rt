@@ -1,6 +1,7 @@
 //! Reading what a client sends.
 
-ghost use Rattle.std.specs.Prelude.{◌≡◌, ◌≢◌, ◌↔◌, ◌++◌, ℕ, List, [], length, true, false, IfOk, IfSome, IfNone, IsOkAnd, IsErrOf};
+ghost use Rattle.std.specs.Prelude.{◌≡◌, ◌≢◌, ◌↔◌, ◌++◌, ℕ, List, [], length, true, false};
+ghost use Rattle.std.specs.Prelude.{IfOk, IfSome, IfNone, IsOkAnd, IsErrOf};
 ghost use Rattle.std.specs.List.{AllByRecursion, flat_map};
 ghost use Rattle.byteorder.specs.Endian.{little_bytes};
 ghost use Rattle.nine_wire.specs.Frames.{IsFrame, Spells};

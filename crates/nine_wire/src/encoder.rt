@@ -1,6 +1,7 @@
 //! Writing replies.
 
-ghost use Rattle.std.specs.Prelude.{◌≡◌, ◌+◌, ◌*◌, ◌≤◌, ◌++◌, ◌<◌, ◌^◌, if◌then◌else◌, length, take, drop, map};
+ghost use Rattle.std.specs.Prelude.{◌≡◌, ◌+◌, ◌*◌, ◌≤◌, ◌++◌, ◌<◌, ◌^◌, if◌then◌else◌};
+ghost use Rattle.std.specs.Prelude.{length, take, drop, map};
 ghost use Rattle.byteorder.specs.Endian.{little_bytes};
 ghost use Rattle.std.specs.List.{flat_map};
 ghost use Rattle.nine_wire.specs.Frames.{spelled};
@@ -108,8 +109,8 @@ fn put_qids(buf: &mut [u8], at: usize, qids: &[Qid]) -> usize
     at
 }
 
-/// Writes what is told of a file at this place, its size with it, and gives the place behind it. The
-/// whole has fewer than 65,536 bytes.
+/// Writes what is told of a file at this place, its size with it, and gives the place behind it.
+/// The whole has fewer than 65,536 bytes.
 pub fn put_stat(buf: &mut [u8], at: usize, stat: &Stat<'_>) -> usize
     requires fits { FitsStat (stat_of stat.now) }
     requires room { at + length (stat_bytes (stat_of stat.now)) ≤ length buf.old }

@@ -1,6 +1,7 @@
 //! Fields at the front of bytes, and fields put into a buffer. Numbers have the low byte first.
 
-ghost use Rattle.std.specs.Prelude.{◌≡◌, ◌≢◌, ◌+◌, ◌<◌, ◌≤◌, ◌^◌, ℕ, List, [], ◌∷◌, ◌++◌, length, take, drop, IfSome, IfNone};
+ghost use Rattle.std.specs.Prelude.{◌≡◌, ◌≢◌, ◌+◌, ◌<◌, ◌≤◌, ◌++◌, ℕ, List, length};
+ghost use Rattle.std.specs.Prelude.{IfSome, IfNone};
 ghost use Rattle.byteorder.specs.Endian.{little_bytes};
 ghost use Rattle.nine_wire.specs.Messages.{string, IsString};
 ghost use Rattle.nine_wire.specs.Writing.{Writes};
@@ -39,7 +40,8 @@ pub(crate) fn u64_at(bytes: &[u8]) -> Option<(u64, &[u8])>
 pub(crate) fn string_at(bytes: &[u8]) -> Option<(&[u8], &[u8])>
     ensures short { IfSome result (λ r. IsString r.0.now) }
     ensures found { IfSome result (λ r. bytes.now ≡ string r.0.now ++ r.1.now) }
-    ensures none { IfNone result ((text rest : List ℕ) → IsString text → bytes.now ≢ string text ++ rest) }
+    ensures none { IfNone result ((text rest : List ℕ) →
+        IsString text → bytes.now ≢ string text ++ rest) }
 {
     let (len, rest) = u16_at(bytes)?;
     rest.split_at_checked(usize::from(len))
