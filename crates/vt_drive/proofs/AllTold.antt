@@ -1,5 +1,5 @@
 -- All that is told of a request, by which events it was answered.
-use Rattle.std.proofs.Common.{◌≡◌, ◌≢◌, ◌⊎◌, ⊎_elim, inl, inr, ◌+◌, ◌≤◌, ℕ, List, Option, Some, None, refl, sym, ◌∙◌, ap, subst}
+use Rattle.std.proofs.Common.{◌≡◌, ◌≢◌, ◌⊎◌, ⊎_elim, ℕ, List, Option, None, sym, ◌∙◌, subst}
 use Rattle.std.specs.Prelude.{IsSome, IsTrue}
 use Rattle.vt_base.specs.declared.answer.Answer.{Answer}
 use Rattle.vt_base.specs.declared.why.Why.{Why}
@@ -9,19 +9,16 @@ use Rattle.vt_model.specs.Answer.{answer}
 use Rattle.vt_model.specs.History.{Accepted, History}
 use Rattle.vt_wire.specs.declared.message.Request.{Request}
 use Rattle.vt_wire.specs.Views.{message_of}
-use Rattle.vt_core.specs.declared.event.Event.TheVariants.{Ask}
 use Rattle.vt_core.specs.declared.event.Out.{Out}
 use Rattle.vt_core.specs.declared.event.Out.TheVariants.{NotYet, Waits, Moved, Nothing, Failed}
-use Rattle.vt_core.specs.Asking.{stop_for}
 use Rattle.vt_core.specs.Causes.{OnlyReadFrom, READS_MOST}
 use Rattle.vt_core.specs.Core.{CoreState, devices_of, setup_of}
 use Rattle.vt_core.specs.Events.{operation_in}
 use Rattle.vt_core.specs.Files.{all_of}
 use Rattle.vt_core.specs.Machine.{WaitsForNone}
 use Rattle.vt_core.specs.Sound.{IsSound}
-use Rattle.vt_core.specs.Steps.{Steps}
 use Rattle.vt_drive.specs.Answers.{DrivesRequest}
-use Rattle.vt_drive.specs.Requests.{EndsWait, IsRequested, WritesAgain}
+use Rattle.vt_drive.specs.Requests.{IsRequested}
 use Rattle.vt_drive.proofs.AskGives.{FindsNoRoom, Given, IsWaiting, gives}
 use Rattle.vt_drive.proofs.SyncTold.{told_wait}
 use Rattle.vt_drive.proofs.Told.{Told, behind_test, told_again, told_at_once, told_behind}

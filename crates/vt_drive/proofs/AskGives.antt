@@ -1,23 +1,22 @@
 -- What a request of a session that waits for nothing is given at once, whatever the devices hold.
-use Rattle.std.proofs.Common.{◌≡◌, ◌≢◌, ◌⊎◌, ⊎_elim, inl, inr, ◌+◌, ◌<◌, ◌≤◌, ℕ, Bool, true, false, cond, List, [], ◌∷◌, length, Option, Some, None, Result, Ok, Err, refl, sym, ◌∙◌, ap, subst, arith}
+use Rattle.std.proofs.Common.{◌≡◌, ◌≢◌, ◌⊎◌, ⊎_elim, inl, inr, ◌+◌, ◌<◌, ◌≤◌, ℕ, Bool, true, false, cond, List, [], length, Option, Some, None, Result, Ok, Err, refl, sym, ◌∙◌, ap, subst, arith}
 use Rattle.std.proofs.lemmas.Bool.{cases_Bool, cases_lt, ltb-false, le-ltb, lt-ltb, false≢true, true≢false}
 use Rattle.std.proofs.lemmas.Slice.Eq.{bytes_eq-Decides}
-use Rattle.std.specs.Prelude.{⊤, IsTrue, MatchBool, nat_le, nat_lt, not, ◌==◌, is_some, slice_get}
+use Rattle.std.specs.Prelude.{MatchBool, nat_le, nat_lt, not, ◌==◌, is_some, slice_get}
 use Rattle.std.specs.Str.{bytes_eq}
 use Rattle.std.proofs.lemmas.List.{nil_from_length}
 use Rattle.vt_base.specs.declared.TheConstants.{MAX_BLOCK}
 use Rattle.vt_base.specs.declared.answer.Said.{Said}
 use Rattle.vt_base.specs.declared.answer.Said.TheVariants.{Score, Block, Synced, Refused}
-use Rattle.vt_base.specs.declared.key.Key.{Key}
 use Rattle.vt_base.specs.declared.score.Score.{Score as ScoreOf}
 use Rattle.vt_base.specs.declared.why.Why.{Why}
 use Rattle.vt_base.specs.declared.why.Why.TheVariants.{Stopped, NoMemory, Collision, TooSmall, Absent}
 use Rattle.vt_base.specs.declared.why.Why.TheVariants as whys
 use Rattle.vt_base.specs.Kind.{is_kind}
-use Rattle.vt_base.specs.Protocol.{Operation, ping, read, write, sync, RMessage, r_read, r_write, r_sync, r_error, r_refused}
+use Rattle.vt_base.specs.Protocol.{Operation, ping, read, write, sync, r_read, r_write, r_error}
 use Rattle.vt_disk.specs.Members.{DiskOf}
 use Rattle.vt_model.specs.Answer.{Outcome, adds, answer, collides, lends, refuses, replies}
-use Rattle.vt_model.specs.History.{History, IsBlock, held}
+use Rattle.vt_model.specs.History.{held}
 use Rattle.vt_model.specs.Places.{Setup, bucket_count, bucket_of, crowd, next_arena}
 use Rattle.vt_model.specs.declared.TheConstants.{BUCKET_ROOM}
 use Rattle.vt_log.specs.declared.TheConstants.{QUEUE_MAX}
@@ -26,16 +25,15 @@ use Rattle.vt_session.specs.Answered.{ReachesParts}
 use Rattle.vt_shard.specs.Shard.{ShardState}
 use Rattle.vt_shard.specs.declared.TheConstants.{ROOM}
 use Rattle.vt_core.specs.declared.event.Out.{Out}
-use Rattle.vt_core.specs.declared.event.Out.TheVariants.{Said as SaidOut, Waits, NotYet, Moved, Nothing, Failed}
+use Rattle.vt_core.specs.declared.event.Out.TheVariants.{Waits, NotYet}
 use Rattle.vt_core.specs.declared.writing.Verdict.{Verdict}
 use Rattle.vt_core.specs.declared.writing.Verdict.TheVariants.{Held, New}
-use Rattle.vt_core.specs.Asking.{AnswersRequest, EndsWrite, HasNoRoom, Performs, Serves, Writes, lent, says, shard_of, stop_for, with_parts, with_waiting}
+use Rattle.vt_core.specs.Asking.{EndsWrite, Performs, Serves, Writes, lent, says, shard_of, stop_for, with_parts, with_waiting}
 use Rattle.vt_core.specs.Core.{CoreState, history_len, setup_of}
 use Rattle.vt_core.specs.Events.{reply_of}
 use Rattle.vt_core.specs.Finding.{Parts, Sought}
-use Rattle.vt_core.specs.Machine.{WaitsForNone}
 use Rattle.vt_drive.specs.Answers.{Suits}
-use Rattle.vt_drive.proofs.TestKeeps.{KeepsRoom, test_keeps}
+use Rattle.vt_drive.proofs.TestKeeps.{test_keeps}
 
 -- ---- whether it reaches the store's parts
 

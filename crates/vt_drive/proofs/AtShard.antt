@@ -1,17 +1,16 @@
 -- A store at one of its shards, before and behind a piece of work.
-use Rattle.std.proofs.Common.{◌≡◌, ◌≢◌, ◌⊎◌, ⊎_elim, inl, inr, ◌+◌, ◌<◌, ◌≤◌, ℕ, zero, suc, List, [], ◌∷◌, length, get_or, Option, Some, None, refl, sym, ◌∙◌, ap, subst, arith}
+use Rattle.std.proofs.Common.{◌≡◌, ◌≢◌, ◌⊎◌, ⊎_elim, inl, inr, ◌<◌, ◌≤◌, ℕ, zero, suc, List, [], ◌∷◌, length, Option, Some, None, refl, sym, ◌∙◌, ap, subst, arith}
 use Rattle.std.specs.Option.{option_map_or}
-use Rattle.std.specs.Prelude.{IsSome, slice_get, slice_set}
+use Rattle.std.specs.Prelude.{IsSome, slice_get}
 use Rattle.std.specs.List.{Contains}
 use Rattle.std.proofs.lemmas.List.Elements.{Contains-get_or}
-use Rattle.std.proofs.lemmas.Option.{same_Some, slice_get_within}
+use Rattle.std.proofs.lemmas.Option.{same_Some}
 use Rattle.vt_base.specs.declared.place.Info.{Info}
 use Rattle.vt_disk.specs.Members.{DiskOf}
 use Rattle.vt_isect.specs.Section.{SectionState}
 use Rattle.vt_isect.specs.Writeback.{calls_left}
 use Rattle.vt_isect.specs.declared.head.Head.{Head}
-use Rattle.vt_log.specs.Log.{LogState, front, queued}
-use Rattle.vt_log.specs.Owed.{owed}
+use Rattle.vt_log.specs.Log.{LogState, queued}
 use Rattle.vt_shard.specs.Shard.{HasBelow, ShardState}
 use Rattle.vt_shard.specs.Writeback.{HasWork}
 use Rattle.vt_shard.specs.declared.TheConstants.{ROOM}
@@ -20,9 +19,9 @@ use Rattle.vt_core.specs.declared.event.Out.TheVariants.{Said as SaidOut, Waits,
 use Rattle.vt_core.specs.Core.{CoreState, history_len}
 use Rattle.vt_core.specs.Work.{AdvancesLog, AdvancesWriteback, BeginsWriteback, ChangesShard}
 use Rattle.vt_core.proofs.Calls.{get_set, get_other}
-use Rattle.vt_drive.specs.Working.{HasFiled, HasNoSpare, HasNoWriteback, IsEnding, IsFiled, WentOn, left_with, work_left}
+use Rattle.vt_drive.specs.Working.{HasFiled, HasNoWriteback, IsEnding, IsFiled, WentOn, left_with, work_left}
 use Rattle.vt_drive.proofs.Filing.{Advanced, no_work_from, advanced, advance_less, begin_less, begin_fewer, log_less, shard_less}
-use Rattle.vt_drive.proofs.Pieces.{log_idle, log_moved, shard_idle}
+use Rattle.vt_drive.proofs.Pieces.{log_moved, shard_idle}
 
 -- a shard stands here
 pub record Stands {D : Type 0} (shard : ℕ) (k : CoreState D) (s : ShardState D) : Type 0 where

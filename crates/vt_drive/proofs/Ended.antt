@@ -1,20 +1,19 @@
 -- The end of a store's use, part by part.
-use Rattle.std.proofs.Common.{◌≡◌, ◌≢◌, ◌⊎◌, ⊎_elim, inl, inr, ◌+◌, ◌<◌, ◌≤◌, ℕ, zero, suc, List, [], ◌∷◌, ◌++◌, length, Option, Some, None, Result, Ok, Err, refl, sym, ◌∙◌, ap, subst, arith, append_assoc}
+use Rattle.std.proofs.Common.{◌≡◌, ◌≢◌, ⊎_elim, ◌+◌, ℕ, zero, suc, List, [], ◌∷◌, ◌++◌, length, Option, Some, None, Result, Ok, Err, refl, sym, ◌∙◌, ap, subst, arith}
 use Rattle.std.proofs.lemmas.Bool.{cases_lt}
 use Rattle.std.proofs.lemmas.List.Elements.{All-from_recursion, recursion_from_All}
 use Rattle.std.proofs.lemmas.Option.{same_Some}
-use Rattle.std.specs.List.{All, AllByRecursion}
+use Rattle.std.specs.List.{AllByRecursion}
 use Rattle.std.specs.Option.{option_or}
-use Rattle.std.specs.Prelude.{⊤, slice_get, slice_set}
+use Rattle.std.specs.Prelude.{slice_get, slice_set}
 use Rattle.vt_base.specs.declared.why.Why.{Why}
 use Rattle.vt_disk.specs.Members.{DiskOf}
-use Rattle.vt_bloom.specs.Bloom.{BloomState}
 use Rattle.vt_shard.specs.Shard.{ShardState}
 use Rattle.vt_core.specs.declared.event.Event.{Event}
 use Rattle.vt_core.specs.declared.event.Event.TheVariants.{FileBegin, FileAdvance}
 use Rattle.vt_core.specs.declared.event.Out.{Out}
 use Rattle.vt_core.specs.declared.event.Out.TheVariants.{Said as SaidOut, Waits, NotYet, Moved, Nothing, Failed}
-use Rattle.vt_core.specs.Core.{CoreState, history_len}
+use Rattle.vt_core.specs.Core.{CoreState}
 use Rattle.vt_core.specs.Steps.{Runs, Steps}
 use Rattle.vt_core.proofs.Runs.{one_more_event}
 use Rattle.vt_drive.specs.Ending.{FilesAll, HasFailed, TellsFirst, first_failure, first_of}

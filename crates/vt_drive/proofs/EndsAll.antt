@@ -1,19 +1,17 @@
 -- What the end of a store's use leaves, by the events of its parts.
-use Rattle.std.proofs.Common.{◌≡◌, ◌≢◌, ◌⊎◌, ⊎_elim, inl, inr, ◌+◌, ◌^◌, ◌<◌, ◌≤◌, ℕ, zero, suc, List, [], ◌∷◌, ◌++◌, length, map, Option, Some, None, Result, Ok, Err, refl, sym, ◌∙◌, ap, subst, arith}
+use Rattle.std.proofs.Common.{◌≡◌, ◌≢◌, ◌⊎◌, ⊎_elim, inl, inr, ◌+◌, ◌≤◌, ℕ, zero, suc, List, [], ◌∷◌, ◌++◌, length, map, Option, Some, None, Result, Ok, Err, refl, sym, ◌∙◌, ap, subst, arith}
 use Rattle.std.proofs.lemmas.Bool.{cases_lt}
 use Rattle.std.proofs.lemmas.List.Elements.{All-from_recursion, recursion_from_All}
 use Rattle.std.proofs.lemmas.Option.{same_Some, slice_get_within}
 use Rattle.std.specs.List.{All, AllByRecursion}
 use Rattle.std.specs.Option.{option_to_list}
-use Rattle.std.specs.Prelude.{⊤, IfErr, IsTrue, MatchResult, OnOk, slice_get, slice_index}
-use Rattle.vt_base.specs.Damage.{Differ}
+use Rattle.std.specs.Prelude.{IsTrue, MatchResult, slice_get, slice_index}
 use Rattle.vt_base.specs.declared.why.Why.{Why}
 use Rattle.vt_base.specs.declared.why.Why.TheVariants.{BadType, TooBig, TooSmall, Absent, Collision, IndexFull, ArenasFull, DiskFault, Stopped, Damaged, NoMemory}
 use Rattle.vt_disk.specs.Members.{DiskOf}
 use Rattle.vt_model.specs.History.{History}
 use Rattle.vt_bloom.specs.Bloom.{BloomState}
-use Rattle.vt_log.specs.Faults.{OneHasRisen}
-use Rattle.vt_log.specs.Log.{LogState, front, queued}
+use Rattle.vt_log.specs.Log.{LogState}
 use Rattle.vt_session.specs.Answered.{NoneFell, OneRose}
 use Rattle.vt_shard.specs.Shard.{ShardState}
 use Rattle.vt_core.specs.declared.event.Event.{Event}
@@ -26,13 +24,12 @@ use Rattle.vt_core.specs.Sound.{IsSound}
 use Rattle.vt_core.specs.Steps.{Runs, Steps}
 use Rattle.vt_core.specs.Work.{IsSaved}
 use Rattle.vt_core.proofs.Lists.{at_map}
-use Rattle.vt_drive.specs.Answers.{KeepsAll, KeepsStopped}
-use Rattle.vt_drive.specs.Ending.{AreMarkedAt, Ends, EndsFor, EndsParts, FilesAll, HasFailed, TellsFirst, first_failure, first_of}
+use Rattle.vt_drive.specs.Ending.{Ends, EndsFor, EndsParts, FilesAll, HasFailed, TellsFirst, first_failure, first_of}
 use Rattle.vt_drive.specs.Working.{DoesWork, Fails, IsFiled, IsOwnWork, NeedsDurable, Works}
-use Rattle.vt_drive.proofs.Ended.{AsRun, FailsAs, as_many, as_run, failed_left, failed_right, tells_then}
+use Rattle.vt_drive.proofs.Ended.{AsRun, as_many, as_run, failed_left, failed_right, tells_then}
 use Rattle.vt_drive.proofs.FilterLeft.{filter_gives}
 use Rattle.vt_drive.proofs.Pieces.{log_gives, shard_gives}
-use Rattle.vt_drive.proofs.Risen.{AllFit, fell_then, one_rose, rose_fell, rose_then, same_fell}
+use Rattle.vt_drive.proofs.Risen.{AllFit, fell_then, one_rose, rose_fell, rose_then}
 use Rattle.vt_drive.proofs.Whys.{IsStoppedAt, IsWhy, filter_fails, log_fails, shard_fails}
 use Rattle.vt_drive.proofs.WorkDone.{AreOwn, Worked, none_worked, runs_then, step_worked, worked_on}
 

@@ -1,7 +1,7 @@
 -- How a shard's writeback goes on, and how much is left of it.
-use Rattle.std.proofs.Common.{◌≡◌, ◌≢◌, ◌⊎◌, ⊎_elim, inl, inr, ◌+◌, ◌*◌, ◌-◌, ◌<◌, ◌≤◌, ℕ, zero, suc, Bool, true, false, cond, List, [], ◌∷◌, ◌++◌, length, map, filter, get_or, Option, Some, None, Ok, Err, Result, refl, sym, ◌∙◌, ap, subst, arith, length-append}
+use Rattle.std.proofs.Common.{◌≡◌, ◌≢◌, ◌⊎◌, ⊎_elim, inl, inr, ◌+◌, ◌*◌, ◌<◌, ◌≤◌, ℕ, Bool, true, false, cond, List, ◌++◌, length, filter, get_or, Option, Some, None, Ok, refl, sym, ◌∙◌, ap, subst, arith, length-append}
 use Rattle.std.specs.Prelude.{IsSome, max, nat_lt, ◌||◌}
-use Rattle.std.specs.List.{Contains, list_any}
+use Rattle.std.specs.List.{list_any}
 use Rattle.std.proofs.Math.Nat.{mul-le-mul_left, mul-le-mul_right, suc-mul}
 use Rattle.std.proofs.lemmas.Bool.{cases_Bool, cases_lt, ltb-true, ltb-false, lt-ltb, le-ltb}
 use Rattle.std.proofs.lemmas.List.{length-map}
@@ -9,7 +9,6 @@ use Rattle.std.proofs.lemmas.List.Elements.{Contains-get_or}
 use Rattle.std.proofs.lemmas.List.Folds.{list_any_at, list_any_none}
 use Rattle.std.proofs.lemmas.List.Sums.{count_by-le-length, length-filter}
 use Rattle.std.proofs.lemmas.List.Sorted.{length_permutation}
-use Rattle.vt_base.specs.declared.place.Entry.{Entry}
 use Rattle.vt_base.specs.declared.place.Info.{Info}
 use Rattle.vt_disk.specs.Members.{DiskOf}
 use Rattle.vt_icache.specs.Index.{entries_below, entry_of, is_below}
@@ -18,16 +17,15 @@ use Rattle.vt_isect.specs.declared.phase.Phase.{Phase}
 use Rattle.vt_isect.specs.declared.phase.Phase.TheVariants.{Rest, ReadSelector, ReadFrame, ChangeBucket, ChangeHead}
 use Rattle.vt_isect.specs.Section.{SectionState, entries_of}
 use Rattle.vt_isect.specs.Writeback.{BeginsBehind, NextPhase, calls_left, most_calls}
-use Rattle.vt_twin.specs.Twin.{calls_made}
 use Rattle.vt_twin.specs.declared.step.Step.{Step}
 use Rattle.vt_twin.specs.declared.step.Step.TheVariants.{More, Done}
 use Rattle.vt_log.specs.Log.{LogState}
 use Rattle.vt_log.specs.Owed.{owed}
 use Rattle.vt_shard.specs.Shard.{HasBelow, ShardState}
-use Rattle.vt_shard.specs.Writeback.{Begins, HasWork, TakesStep, without_list}
-use Rattle.vt_core.specs.declared.event.Out.TheVariants.{Moved, Nothing}
+use Rattle.vt_shard.specs.Writeback.{HasWork, TakesStep, without_list}
+use Rattle.vt_core.specs.declared.event.Out.TheVariants.{Moved}
 use Rattle.vt_core.specs.Work.{AdvancesWriteback, BeginsWriteback}
-use Rattle.vt_drive.specs.Working.{IsFiled, has_work, left_in, left_with, most_left}
+use Rattle.vt_drive.specs.Working.{has_work, left_in, left_with, most_left}
 use Rattle.vt_drive.proofs.Pieces.{shard_moved}
 
 -- ---- a step of a writeback

@@ -1,18 +1,17 @@
 -- How many calls are left until a filter is saved.
-use Rattle.std.proofs.Common.{◌≡◌, ◌≢◌, ◌⊎◌, ⊎_elim, inl, inr, ◌+◌, ◌-◌, ◌<◌, ◌≤◌, ℕ, Bool, true, false, cond, List, Option, Some, None, Result, Ok, Err, refl, sym, ◌∙◌, ap, subst, arith}
+use Rattle.std.proofs.Common.{◌≡◌, ⊎_elim, ◌+◌, ◌-◌, ◌<◌, ◌≤◌, ℕ, Bool, true, false, cond, Option, Some, None, Result, Ok, Err, refl, sym, ◌∙◌, ap, subst, arith}
 use Rattle.std.proofs.lemmas.Bool.{cases_Bool, cases_lt, eqb-true, eq-eqb}
 use Rattle.std.specs.Option.{option_map_or}
 use Rattle.std.specs.Prelude.{IfOk, IsSome, ◌==◌, ◌↔◌}
-use Rattle.vt_disk.specs.Members.{DiskOf}
 use Rattle.vt_bloom.specs.Bits.{Filter}
-use Rattle.vt_bloom.specs.Bloom.{BloomState, with_save, Advances as BloomAdvances}
+use Rattle.vt_bloom.specs.Bloom.{BloomState, Advances as BloomAdvances}
 use Rattle.vt_twin.specs.Twin.{Change, TwinState, calls_made}
 use Rattle.vt_twin.specs.declared.step.Step.{Step}
 use Rattle.vt_twin.specs.declared.step.Step.TheVariants.{More, Done}
 use Rattle.vt_twin.specs.declared.step.TwinErr.{TwinErr}
 use Rattle.vt_twin.specs.declared.step.TwinErr.TheVariants as twin_err
 use Rattle.vt_core.specs.declared.event.Out.{Out}
-use Rattle.vt_core.specs.declared.event.Out.TheVariants.{Said as SaidOut, Waits, NotYet, Moved, Nothing, Failed}
+use Rattle.vt_core.specs.declared.event.Out.TheVariants.{Moved, Nothing}
 use Rattle.vt_core.specs.Core.{CoreState}
 use Rattle.vt_core.specs.Work.{IsBegun, IsSaved, Saves, SavesFilter, SavesIn, SavesOne, out_of_save}
 use Rattle.vt_drive.proofs.Pieces.{IsWorkOut}

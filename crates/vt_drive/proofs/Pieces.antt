@@ -1,12 +1,10 @@
 -- What each piece of a store's own work comes to, by what it gives.
-use Rattle.std.proofs.Common.{◌≡◌, ◌≢◌, ◌⊎◌, ⊎_elim, inl, inr, ◌+◌, ◌*◌, ◌-◌, ◌<◌, ◌≤◌, ℕ, zero, suc, Bool, true, false, List, [], ◌∷◌, ◌++◌, length, map, Option, Some, None, Ok, Err, Result, refl, sym, ◌∙◌, ap, subst, arith}
-use Rattle.std.specs.Prelude.{⊤, ◌↔◌, max, IsTrue, IsSome, slice_get, slice_set}
+use Rattle.std.proofs.Common.{◌≡◌, ◌⊎◌, ⊎_elim, ◌<◌, None, Ok, Err, Result, sym, subst}
+use Rattle.std.specs.Prelude.{⊤, IsSome}
 use Rattle.vt_base.specs.declared.answer.Answer.{Answer}
-use Rattle.vt_base.specs.declared.why.Why.{Why}
 use Rattle.vt_disk.specs.Members.{DiskOf}
 use Rattle.vt_isect.specs.declared.bad.ShardErr.{ShardErr}
 use Rattle.vt_log.specs.declared.bad.LogErr.{LogErr}
-use Rattle.vt_log.specs.declared.bad.LogErr.TheVariants as log_err
 use Rattle.vt_log.specs.declared.bad.Progress.{Progress}
 use Rattle.vt_log.specs.declared.bad.Progress.TheVariants.{Idle, Step as LogStep, Durable}
 use Rattle.vt_log.specs.Answers.{Advances}
@@ -18,7 +16,7 @@ use Rattle.vt_twin.specs.declared.step.Step.{Step}
 use Rattle.vt_core.specs.declared.event.Out.{Out}
 use Rattle.vt_core.specs.declared.event.Out.TheVariants.{Said as SaidOut, Waits, NotYet, Moved, Nothing, Failed}
 use Rattle.vt_core.specs.Core.{CoreState}
-use Rattle.vt_core.specs.Work.{AdvancesLog, AdvancesWriteback, ChangesShard, out_of_progress, out_of_writeback}
+use Rattle.vt_core.specs.Work.{AdvancesLog, AdvancesWriteback, out_of_progress, out_of_writeback}
 
 -- what the store's own work may give
 abbrev pub IsWorkOut : Out → Type 0

@@ -1,5 +1,5 @@
 -- A request that was driven to its answer is a run of events.
-use Rattle.std.proofs.Common.{◌≡◌, ◌⊎◌, ⊎_elim, ℕ, List, [], ◌∷◌, ◌++◌, Result, Ok, Err, refl, sym, subst}
+use Rattle.std.proofs.Common.{◌≡◌, ⊎_elim, ℕ, List, [], ◌∷◌, ◌++◌, Result, Ok, Err, refl, sym, subst}
 use Rattle.std.specs.Prelude.{MatchResult}
 use Rattle.vt_base.specs.declared.answer.Answer.{Answer}
 use Rattle.vt_base.specs.declared.why.Why.{Why}
@@ -12,7 +12,7 @@ use Rattle.vt_core.specs.declared.event.Out.TheVariants.{Said as SaidOut, Waits,
 use Rattle.vt_core.specs.Core.{CoreState, history_len}
 use Rattle.vt_core.specs.Steps.{Runs, Steps}
 use Rattle.vt_core.proofs.Runs.{one_more_event}
-use Rattle.vt_drive.specs.Requests.{EndsWait, IsRequested, WritesAgain, refused}
+use Rattle.vt_drive.specs.Requests.{IsRequested, WritesAgain, refused}
 use Rattle.vt_drive.specs.Working.{DoesWork}
 use Rattle.vt_drive.proofs.WorkDone.{works_run}
 

@@ -1,7 +1,7 @@
 -- What is told of a sync that was waited for.
-use Rattle.std.proofs.Common.{◌≡◌, ◌≢◌, ◌⊎◌, ⊎_elim, inl, inr, ◌+◌, ◌<◌, ◌≤◌, ℕ, zero, suc, List, [], ◌∷◌, length, Option, Some, None, Result, Ok, Err, refl, sym, ◌∙◌, ap, subst, arith}
+use Rattle.std.proofs.Common.{◌≡◌, ◌⊎◌, ⊎_elim, inl, inr, ◌+◌, ◌<◌, ◌≤◌, ℕ, zero, suc, List, [], ◌∷◌, length, Option, Some, None, Result, Ok, Err, refl, sym, ◌∙◌, ap, subst, arith}
 use Rattle.std.proofs.lemmas.Option.{same_Some}
-use Rattle.std.specs.Prelude.{⊤, IsTrue, MatchResult, OnOk, max, slice_get, slice_set}
+use Rattle.std.specs.Prelude.{IsTrue, MatchResult, OnOk, max, slice_get, slice_set}
 use Rattle.vt_base.specs.declared.answer.Answer.{Answer}
 use Rattle.vt_base.specs.declared.answer.Said.{Said}
 use Rattle.vt_base.specs.declared.answer.Said.TheVariants.{Score, Block, Synced, Refused}
@@ -17,7 +17,6 @@ use Rattle.vt_log.specs.declared.bad.Progress.TheVariants.{Idle, Step as LogStep
 use Rattle.vt_log.specs.Answers.{Advances}
 use Rattle.vt_log.specs.Faults.{OneHasRisen}
 use Rattle.vt_log.specs.Log.{LogState}
-use Rattle.vt_session.specs.Answered.{OneRose}
 use Rattle.vt_session.specs.Turns.{disk_fault}
 use Rattle.vt_wire.specs.declared.message.Request.{Request}
 use Rattle.vt_wire.specs.Views.{message_of}
@@ -34,7 +33,7 @@ use Rattle.vt_core.specs.Sound.{IsSound}
 use Rattle.vt_core.specs.Steps.{GoesOn, Steps}
 use Rattle.vt_core.proofs.Calls.{get_set}
 use Rattle.vt_core.specs.Work.{AdvancesLog, out_of_progress}
-use Rattle.vt_drive.specs.Answers.{IsServed, KeepsAll, KeepsStopped, Suits}
+use Rattle.vt_drive.specs.Answers.{KeepsAll, Suits}
 use Rattle.vt_drive.specs.Requests.{EndsWait, refused}
 use Rattle.vt_drive.specs.Working.{DoesWork, IsOwnWork, NeedsDurable}
 use Rattle.vt_drive.proofs.AskGives.{IsWaiting}

@@ -1,35 +1,31 @@
 -- What is told of a request that was driven to its answer.
-use Rattle.std.proofs.Common.{◌≡◌, ◌≢◌, ◌⊎◌, ⊎_elim, inl, inr, ◌+◌, ◌-◌, ◌<◌, ◌≤◌, ℕ, zero, suc, List, [], ◌∷◌, length, Option, Some, None, Result, Ok, Err, refl, sym, ◌∙◌, ap, subst, arith}
-use Rattle.std.proofs.lemmas.Option.{same_Some}
-use Rattle.std.specs.Prelude.{⊤, IsTrue, MatchResult, OnOk, slice_get}
+use Rattle.std.proofs.Common.{◌≡◌, ◌≢◌, ⊎_elim, inl, inr, ◌+◌, ◌-◌, ◌<◌, ◌≤◌, ℕ, List, length, Option, Some, None, Result, Ok, Err, refl, sym, ◌∙◌, ap, subst, arith}
+use Rattle.std.specs.Prelude.{IsTrue, MatchResult, OnOk, slice_get}
 use Rattle.vt_base.specs.declared.answer.Answer.{Answer}
 use Rattle.vt_base.specs.declared.answer.Said.{Said}
-use Rattle.vt_base.specs.declared.answer.Said.TheVariants.{Score, Block, Synced, Refused}
+use Rattle.vt_base.specs.declared.answer.Said.TheVariants.{Synced, Refused}
 use Rattle.vt_base.specs.declared.why.Why.{Why}
 use Rattle.vt_base.specs.declared.why.Why.TheVariants.{BadType, TooBig, TooSmall, Absent, Collision, IndexFull, ArenasFull, DiskFault, Stopped, Damaged, NoMemory}
-use Rattle.vt_base.specs.Protocol.{Operation, ping, read, write, sync}
+use Rattle.vt_base.specs.Protocol.{Operation, ping, write}
 use Rattle.vt_disk.specs.Members.{DiskOf}
-use Rattle.vt_model.specs.Answer.{answer}
 use Rattle.vt_model.specs.History.{History}
-use Rattle.vt_session.specs.Answered.{MayFail, OneRose, ReachesParts}
-use Rattle.vt_session.specs.Turns.{Cause, disk_fault, why_of}
+use Rattle.vt_session.specs.Answered.{ReachesParts}
 use Rattle.vt_wire.specs.declared.message.Request.{Request}
 use Rattle.vt_wire.specs.Views.{message_of}
 use Rattle.vt_core.specs.declared.event.Event.{Event}
 use Rattle.vt_core.specs.declared.event.Event.TheVariants.{Ask, Answer as AskAnswer, LogAdvance, FileBegin, FileAdvance, BloomAdvance, EvictLump, EvictIndex}
 use Rattle.vt_core.specs.declared.event.Out.{Out}
-use Rattle.vt_core.specs.declared.event.Out.TheVariants.{Said as SaidOut, Waits, NotYet, Moved, Nothing, Failed}
+use Rattle.vt_core.specs.declared.event.Out.TheVariants.{Said as SaidOut, NotYet, Failed}
 use Rattle.vt_core.specs.Asking.{MayBeTold, says, shard_of, stop_for}
-use Rattle.vt_core.specs.Causes.{CountsSaid, CountsWhy, IsUndamagedSaid, IsUndamagedWhy, READS_MOST, OnlyReadFrom}
-use Rattle.vt_core.specs.Core.{CoreState, devices_of, each_of, history_len, machine_of, setup_of, stops_of}
-use Rattle.vt_core.specs.Events.{FailsIn, operation_in}
-use Rattle.vt_core.specs.Files.{all_of}
-use Rattle.vt_core.specs.Machine.{Machine, WaitsForNone, IsQuiet}
+use Rattle.vt_core.specs.Causes.{CountsSaid, IsUndamagedSaid, IsUndamagedWhy}
+use Rattle.vt_core.specs.Core.{CoreState, each_of, history_len, machine_of, stops_of}
+use Rattle.vt_core.specs.Events.{operation_in}
+use Rattle.vt_core.specs.Machine.{Machine, WaitsForNone}
 use Rattle.vt_core.specs.Sound.{IsSound}
 use Rattle.vt_core.specs.Steps.{Steps}
 use Rattle.vt_core.proofs.AskWork.{fails_in}
 use Rattle.vt_drive.specs.Answers.{IsServed, KeepsAll, KeepsStopped, Suits}
-use Rattle.vt_drive.specs.Requests.{IsRequested, WritesAgain, refused}
+use Rattle.vt_drive.specs.Requests.{WritesAgain, refused}
 use Rattle.vt_log.specs.declared.TheConstants.{QUEUE_MAX}
 use Rattle.vt_log.specs.Log.{queued}
 use Rattle.vt_shard.specs.Shard.{ShardState}
@@ -37,7 +33,7 @@ use Rattle.vt_shard.specs.declared.TheConstants.{ROOM}
 use Rattle.vt_drive.specs.Working.{DoesWork, NeedsDurable, NeedsRoom}
 use Rattle.vt_drive.proofs.AskGives.{FindsNoRoom, Given, IsSaid, gives}
 use Rattle.vt_drive.proofs.Whys.{IsStoppedAt, IsWhy, log_fails, log_stop_same, nothing_stopped, shard_fails, stop_for_same, stopped_before}
-use Rattle.vt_drive.proofs.WorkDone.{AreOwn, Did, Worked, did, keeps_all, keeps_on, works_well}
+use Rattle.vt_drive.proofs.WorkDone.{AreOwn, Did, did, keeps_all, keeps_on, works_well}
 
 -- all that is told but by which events
 pub record Told {D : Type 0} (score : List ℕ → List ℕ) (disk : DiskOf D) (m : Operation) (a : Answer) (old new : CoreState D) : Type 0 where

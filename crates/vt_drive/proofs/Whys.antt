@@ -1,7 +1,7 @@
 -- Why a piece of work fails, and what a stop of a part is to a store whose stops stay.
-use Rattle.std.proofs.Common.{◌≡◌, ◌≢◌, ◌⊎◌, ⊎_elim, inl, inr, ◌+◌, ◌<◌, ◌≤◌, ℕ, zero, suc, List, [], ◌∷◌, ◌++◌, length, map, Option, Some, None, Result, Ok, Err, refl, sym, ◌∙◌, ap, subst, arith}
+use Rattle.std.proofs.Common.{◌≡◌, ⊎_elim, ℕ, zero, suc, List, [], ◌∷◌, ◌++◌, length, map, Option, Some, None, Result, Ok, Err, refl, sym, ◌∙◌, ap, subst, arith}
 use Rattle.std.specs.Option.{option_and_then, option_or, option_to_list}
-use Rattle.std.specs.Prelude.{⊤, ◌↔◌, IfErr, slice_get}
+use Rattle.std.specs.Prelude.{⊤, IfErr, slice_get}
 use Rattle.std.proofs.lemmas.List.{length-map}
 use Rattle.std.proofs.lemmas.Option.{same_Some}
 use Rattle.vt_base.specs.Damage.{Differ}
@@ -24,11 +24,10 @@ use Rattle.vt_shard.specs.Shard.{ShardState}
 use Rattle.vt_twin.specs.declared.step.Step.{Step}
 use Rattle.vt_twin.specs.declared.step.TwinErr.{TwinErr}
 use Rattle.vt_twin.specs.declared.step.TwinErr.TheVariants as twin_err
-use Rattle.vt_core.specs.declared.event.Out.{Out}
-use Rattle.vt_core.specs.declared.event.Out.TheVariants.{Moved, Nothing, Failed}
+use Rattle.vt_core.specs.declared.event.Out.TheVariants.{Failed}
 use Rattle.vt_core.specs.Asking.{shard_of, stop_for}
 use Rattle.vt_core.specs.Core.{CoreState, setup_of, stops_of}
-use Rattle.vt_core.specs.Work.{AdvancesLog, AdvancesWriteback, ChangesShard, IsBegun, Saves, SavesFilter, SavesIn, out_of_progress, out_of_save, out_of_writeback, why_of_log, why_of_shard}
+use Rattle.vt_core.specs.Work.{AdvancesLog, AdvancesWriteback, ChangesShard, IsBegun, SavesFilter, SavesIn, out_of_progress, out_of_save, out_of_writeback, why_of_shard}
 
 -- ---- why
 

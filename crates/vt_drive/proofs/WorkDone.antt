@@ -1,5 +1,5 @@
 -- What pieces of a store's own work leave, one after another.
-use Rattle.std.proofs.Common.{◌≡◌, ◌≢◌, ◌≤◌, ℕ, List, [], ◌∷◌, ◌++◌, length, Some, None, Ok, Err, Result, refl, sym, ◌∙◌, ap, subst, arith}
+use Rattle.std.proofs.Common.{◌≡◌, ◌≢◌, ℕ, List, [], ◌∷◌, ◌++◌, Some, Ok, Err, Result, refl, sym, ◌∙◌, ap, subst, arith}
 use Rattle.std.specs.Prelude.{IsTrue, IfErr, MatchResult, slice_get}
 use Rattle.std.specs.Result.{IsErrAnd}
 use Rattle.vt_base.specs.declared.why.Why.{Why}
@@ -17,7 +17,7 @@ use Rattle.vt_core.specs.Machine.{Machine}
 use Rattle.vt_core.specs.Sound.{IsSound}
 use Rattle.vt_core.specs.Steps.{Does, GoesOn, Runs, Steps}
 use Rattle.vt_drive.specs.Answers.{KeepsAll, KeepsStopped}
-use Rattle.vt_drive.specs.Working.{DoesWork, Fails, IsOwnWork, WentOn, Works}
+use Rattle.vt_drive.specs.Working.{DoesWork, IsOwnWork, WentOn, Works}
 
 -- ---- what an event gives
 

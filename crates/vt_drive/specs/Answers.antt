@@ -5,7 +5,7 @@ use Rattle.vt_base.specs.declared.answer.Said.{Said}
 use Rattle.vt_base.specs.declared.answer.Said.TheVariants.{Score, Block, Synced, Refused}
 use Rattle.vt_base.specs.declared.why.Why.{Why}
 use Rattle.vt_base.specs.declared.why.Why.TheVariants.{DiskFault}
-use Rattle.vt_base.specs.Protocol.{Operation, ping, read, write, sync}
+use Rattle.vt_base.specs.Protocol.{Operation, read, write, sync}
 use Rattle.vt_disk.specs.Members.{DiskOf}
 use Rattle.vt_model.specs.Answer.{answer}
 use Rattle.vt_model.specs.History.{History}

@@ -1,6 +1,6 @@
 -- What the end of a store's use leaves: what was accepted is durable, its entries are written back,
 -- and each mark says so.
-use Rattle.std.specs.Prelude.{◌≡◌, ◌≢◌, ⊤, ℕ, ◌<◌, IsTrue, Option, Some, None, Result, Ok, Err, IfErr, OnOk, List, [], ◌∷◌, length, slice_get}
+use Rattle.std.specs.Prelude.{◌≡◌, ◌≢◌, ℕ, ◌<◌, IsTrue, Option, Some, None, Result, Ok, Err, IfErr, OnOk, List, [], ◌∷◌, length, slice_get}
 use Rattle.std.specs.List.{All}
 use Rattle.vt_base.specs.Damage.{Differ}
 use Rattle.vt_base.specs.declared.why.Why.{Why}

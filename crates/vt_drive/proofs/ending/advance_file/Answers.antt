@@ -1,10 +1,8 @@
-use Rattle.std.proofs.Common.{◌≡◌, ◌⊎◌, ⊎_elim, inl, inr, ◌<◌, ◌≤◌, ℕ, List, Ok, Err, Some, None, length, refl, sym, ◌∙◌, ap, subst, arith}
-use Rattle.vt_core.specs.declared.event.Event.{Event}
+use Rattle.std.proofs.Common.{◌≡◌, Ok, refl, arith}
 use Rattle.vt_core.specs.declared.event.Event.TheVariants.{FileAdvance}
 use Rattle.vt_core.specs.declared.event.Out.TheVariants.{Moved, Nothing}
-use Rattle.vt_core.specs.Core.{CoreState}
 use Rattle.vt_drive.proofs.AtShard.{advances_calls, ending_moves, idle_rests, ending_idles}
-use Rattle.vt_drive.proofs.WorkDone.{no_work, one_piece, piece_fails, work_then}
+use Rattle.vt_drive.proofs.WorkDone.{no_work, one_piece, work_then}
 use Rattle.vt_drive.proofs.ending.advance_file.Goals as goal
 
 pub loop-why-init : goal.loop-why-init

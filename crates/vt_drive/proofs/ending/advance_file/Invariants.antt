@@ -1,4 +1,4 @@
-use Rattle.std.proofs.Common.{◌≡◌, ◌<◌, Ok, length, ℕ}
+use Rattle.std.proofs.Common.{◌≡◌, ◌<◌, Ok, length}
 use Rattle.std.specs.Option.{option_map_or}
 use Rattle.std.specs.Prelude.{slice_get}
 use Rattle.vt_core.specs.declared.event.Event.TheVariants.{FileAdvance}

@@ -1,11 +1,9 @@
-use Rattle.std.proofs.Common.{◌≡◌, ◌≤◌, ◌<◌, ◌^◌, ℕ, Ok, Result, Some, length, refl, sym, ◌∙◌, ap, subst}
+use Rattle.std.proofs.Common.{◌≤◌, ℕ, Result, sym, ◌∙◌, ap, subst}
 use Rattle.std.specs.Prelude.{OnOk}
 use Rattle.vt_base.specs.declared.why.Why.{Why}
-use Rattle.vt_bloom.specs.Bloom.{BloomState}
 use Rattle.vt_core.specs.Core.{CoreState, devices_of, history_len}
 use Rattle.vt_core.specs.Files.{all_of}
-use Rattle.vt_core.specs.Work.{IsSaved}
-use Rattle.vt_drive.specs.Ending.{Ends, FilesAll, first_of}
+use Rattle.vt_drive.specs.Ending.{Ends, first_of}
 use Rattle.vt_drive.specs.Working.{DoesWork, NeedsDurable}
 use Rattle.vt_drive.proofs.EndsAll.{ended, saves_alone}
 use Rattle.vt_drive.proofs.Risen.{fits_in}

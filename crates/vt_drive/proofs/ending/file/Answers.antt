@@ -1,12 +1,8 @@
-use Rattle.std.proofs.Common.{◌≡◌, ◌⊎◌, ◌<◌, ℕ, Ok, Err, Result, Some, length, inl, inr, refl, sym, ◌∙◌, ap, subst, arith}
-use Rattle.std.specs.Prelude.{OnOk}
+use Rattle.std.proofs.Common.{◌≡◌, ℕ, Ok, Err, Result, inl, inr, refl, sym, subst, arith}
 use Rattle.vt_base.specs.declared.why.Why.{Why}
 use Rattle.vt_core.specs.declared.event.Event.{Event}
 use Rattle.vt_core.specs.declared.event.Event.TheVariants.{FileAdvance, FileBegin}
-use Rattle.vt_core.specs.declared.event.Out.{Out}
-use Rattle.vt_core.specs.declared.event.Out.TheVariants.{Moved, Nothing}
-use Rattle.vt_core.specs.Core.{CoreState}
-use Rattle.vt_drive.specs.Working.{DoesWork, Files, HasFiled, WentOn}
+use Rattle.vt_drive.specs.Working.{DoesWork, Files}
 use Rattle.vt_drive.proofs.AtShard.{begin_went_on, begun_ends}
 use Rattle.vt_drive.proofs.WorkDone.{AreOwn, did, handed_on, one_piece, work_for, work_then}
 use Rattle.vt_drive.specs.Working.{IsOwnWork}

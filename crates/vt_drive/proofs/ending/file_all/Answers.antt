@@ -1,9 +1,8 @@
-use Rattle.std.proofs.Common.{◌≡◌, ◌+◌, ℕ, Ok, Result, refl, sym, ◌∙◌, ap, subst}
+use Rattle.std.proofs.Common.{◌+◌, Result, refl, sym, ◌∙◌, subst}
 use Rattle.vt_base.specs.declared.why.Why.{Why}
-use Rattle.vt_drive.specs.Ending.{FilesAll, first_of}
+use Rattle.vt_drive.specs.Ending.{FilesAll}
 use Rattle.vt_drive.specs.Working.{Files, HasFiled}
 use Rattle.std.specs.Prelude.{OnOk}
-use Rattle.vt_core.specs.Core.{CoreState}
 use Rattle.vt_drive.proofs.Ended.{files_are_own, one_shard_more}
 use Rattle.vt_drive.proofs.EndsAll.{no_shard}
 use Rattle.vt_drive.proofs.WorkDone.{did}

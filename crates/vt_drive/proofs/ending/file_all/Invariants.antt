@@ -1,4 +1,4 @@
-use Rattle.std.proofs.Common.{◌≡◌, ◌≤◌, length}
+use Rattle.std.proofs.Common.{◌≡◌, length}
 use Rattle.vt_drive.specs.Ending.{FilesAll}
 use Rattle.vt_drive.proofs.ending.file_all.Given as goal
 

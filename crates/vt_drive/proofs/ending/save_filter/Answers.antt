@@ -1,5 +1,4 @@
-use Rattle.std.proofs.Common.{◌≡◌, ℕ, Ok, Err, Some, Option, refl, sym, ap, subst}
-use Rattle.vt_bloom.specs.Bloom.{BloomState}
+use Rattle.std.proofs.Common.{◌≡◌, ℕ, Ok, refl, sym, ap, subst}
 use Rattle.vt_core.specs.declared.event.Event.TheVariants.{BloomAdvance}
 use Rattle.vt_core.specs.declared.event.Out.TheVariants.{Moved, Nothing}
 use Rattle.vt_core.specs.Core.{CoreState}

@@ -1,9 +1,7 @@
-use Rattle.std.proofs.Common.{◌≡◌, ◌⊎◌, ⊎_elim, ◌<◌, ◌≤◌, ℕ, List, Ok, Err, Result, Option, Some, None, length, refl, sym, ◌∙◌, ap, subst, arith}
+use Rattle.std.proofs.Common.{◌≤◌, ℕ, List, Option, Some, length, ap, subst, arith}
 use Rattle.std.proofs.lemmas.Option.{slice_get_within}
-use Rattle.std.specs.Prelude.{OnOk, slice_get}
-use Rattle.vt_base.specs.declared.why.Why.{Why}
-use Rattle.vt_core.specs.Core.{CoreState, history_len}
-use Rattle.vt_core.specs.Machine.{WaitsAt}
+use Rattle.std.specs.Prelude.{OnOk}
+use Rattle.vt_core.specs.Core.{history_len}
 use Rattle.vt_drive.specs.Working.{DoesWork, NeedsDurable}
 use Rattle.vt_drive.proofs.SyncTold.{answered, durable_is_own}
 use Rattle.vt_drive.proofs.WorkDone.{did}

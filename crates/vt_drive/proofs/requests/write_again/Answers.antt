@@ -1,8 +1,8 @@
-use Rattle.std.proofs.Common.{◌≡◌, ◌<◌, ℕ, List, Ok, Err, Option, Some, length, refl, sym, ◌∙◌, ap, subst}
+use Rattle.std.proofs.Common.{◌≡◌, ℕ, List, Ok, Err, Option, refl, sym, ◌∙◌, ap, subst}
 use Rattle.std.specs.Prelude.{slice_get}
 use Rattle.vt_model.specs.Places.{Setup, section_of_score}
 use Rattle.vt_core.specs.Asking.{shard_of}
-use Rattle.vt_core.specs.Core.{CoreState, setup_of}
+use Rattle.vt_core.specs.Core.{setup_of}
 use Rattle.vt_core.specs.Machine.{WaitsForNone}
 use Rattle.vt_drive.specs.Requests.{refused}
 use Rattle.vt_drive.specs.Working.{DoesWork, NeedsRoom}

@@ -1,4 +1,4 @@
-use Rattle.std.proofs.Common.{◌≡◌, ◌⊎◌, ⊎_elim, sym, ◌∙◌}
+use Rattle.std.proofs.Common.{⊎_elim, sym, ◌∙◌}
 use Rattle.vt_base.specs.Protocol.{write}
 use Rattle.vt_drive.proofs.AskGives.{gives}
 use Rattle.vt_drive.proofs.Told.{said_in_room}

@@ -1,4 +1,4 @@
-use Rattle.std.proofs.Common.{◌≡◌, ◌<◌, Ok, Err, refl, arith}
+use Rattle.std.proofs.Common.{Ok, refl, arith}
 use Rattle.vt_core.specs.declared.event.Event.TheVariants.{LogAdvance}
 use Rattle.vt_core.specs.declared.event.Out.TheVariants.{Moved}
 use Rattle.vt_drive.proofs.WorkDone.{no_work, one_piece, step_worked, work_then}

@@ -1,4 +1,4 @@
-use Rattle.std.proofs.Common.{◌≡◌, ◌≤◌, Ok}
+use Rattle.std.proofs.Common.{◌≤◌, Ok}
 use Rattle.vt_core.specs.Core.{history_len}
 use Rattle.vt_log.specs.Owed.{owed}
 use Rattle.vt_drive.specs.Working.{DoesWork, NeedsDurable}

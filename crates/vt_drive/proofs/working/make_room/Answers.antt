@@ -1,9 +1,5 @@
-use Rattle.std.proofs.Common.{◌≡◌, ◌<◌, ◌≤◌, ◌-◌, ℕ, Ok, Err, Result, length, refl, sym, ◌∙◌, ap, subst, arith}
-use Rattle.std.specs.Prelude.{OnOk}
+use Rattle.std.proofs.Common.{◌≤◌, Ok, Err, Result, sym, subst, arith}
 use Rattle.vt_base.specs.declared.why.Why.{Why}
-use Rattle.vt_log.specs.declared.TheConstants.{QUEUE_MAX}
-use Rattle.vt_log.specs.Log.{queued}
-use Rattle.vt_core.specs.Core.{history_len}
 use Rattle.vt_drive.specs.Working.{DoesWork, NeedsDurable, NeedsRoom}
 use Rattle.vt_drive.proofs.SyncTold.{durable_is_own}
 use Rattle.vt_drive.proofs.Told.{always_ok, room_from_durable}

@@ -1,8 +1,5 @@
-use Rattle.std.proofs.Common.{◌≡◌, ◌<◌, ◌≤◌, ◌-◌, ℕ, Ok, Err, Result, Some, length, refl, sym, ◌∙◌, ap, subst, arith}
-use Rattle.std.specs.Prelude.{slice_get}
+use Rattle.std.proofs.Common.{Ok, Err, Result, sym, subst, arith}
 use Rattle.vt_base.specs.declared.why.Why.{Why}
-use Rattle.vt_shard.specs.declared.TheConstants.{ROOM}
-use Rattle.vt_core.specs.Core.{CoreState}
 use Rattle.vt_drive.specs.Working.{DoesWork, NeedsRoom}
 use Rattle.vt_drive.proofs.AtShard.{shard_there}
 use Rattle.vt_drive.proofs.Told.{room_is_own}

@@ -1,5 +1,4 @@
-use Rattle.std.proofs.Common.{◌≡◌, ◌<◌, ◌≤◌, Ok, length}
-use Rattle.vt_core.specs.Core.{history_len}
+use Rattle.std.proofs.Common.{◌<◌, Ok, length}
 use Rattle.vt_drive.specs.Working.{DoesWork, NeedsRoom, work_left}
 use Rattle.vt_drive.proofs.working.make_spare.Given as goal
 

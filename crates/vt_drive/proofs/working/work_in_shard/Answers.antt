@@ -1,21 +1,21 @@
-use Rattle.std.proofs.Common.{◌≡◌, ◌⊎◌, ⊎_elim, ◌<◌, ◌≤◌, ℕ, List, Ok, Err, Some, None, length, refl, sym, ◌∙◌, ap, subst, inl, inr, arith}
+use Rattle.std.proofs.Common.{◌≡◌, ◌⊎◌, ⊎_elim, ◌<◌, ◌≤◌, ℕ, List, Ok, Err, None, length, refl, sym, ◌∙◌, ap, subst, inr, arith}
 use Rattle.std.proofs.lemmas.Option.{same_Some, slice_get_within}
-use Rattle.std.specs.Prelude.{IsSome, slice_get}
+use Rattle.std.specs.Prelude.{IsSome}
 use Rattle.vt_disk.specs.Members.{DiskOf}
 use Rattle.vt_log.specs.Log.{LogState, front, queued}
 use Rattle.vt_shard.specs.Shard.{ShardState}
 use Rattle.vt_shard.specs.Writeback.{HasWork}
 use Rattle.vt_shard.specs.declared.TheConstants.{ROOM}
 use Rattle.vt_core.specs.declared.event.Event.TheVariants.{FileAdvance, FileBegin, LogAdvance}
-use Rattle.vt_core.specs.declared.event.Out.TheVariants.{Moved, Nothing, Failed}
+use Rattle.vt_core.specs.declared.event.Out.TheVariants.{Moved, Nothing}
 use Rattle.vt_core.specs.declared.event.Out.{Out}
 use Rattle.vt_core.specs.Core.{CoreState}
 use Rattle.vt_core.specs.Steps.{Steps}
 use Rattle.vt_core.specs.Work.{AdvancesLog, AdvancesWriteback, BeginsWriteback, ChangesShard}
-use Rattle.vt_drive.specs.Working.{DoesWork, HasFiled, HasNoSpare, IsFiled, NeedsRoom, work_left}
+use Rattle.vt_drive.specs.Working.{DoesWork, HasNoSpare, IsFiled, NeedsRoom}
 use Rattle.vt_drive.proofs.AtShard.{Rests, advances_less, begins_less, full_has_work, idle_rests, logs_less, unbegun_rests}
 use Rattle.vt_drive.proofs.Pieces.{log_gives, log_idle, no_other}
-use Rattle.vt_drive.proofs.WorkDone.{no_work, one_piece, piece_fails, step_worked, work_then}
+use Rattle.vt_drive.proofs.WorkDone.{one_piece, piece_fails, work_then}
 use Rattle.vt_drive.proofs.working.work_in_shard.Goals as goal
 
 -- an idle shard that was full is full
