@@ -1,0 +1,20 @@
+-- one command after another
+use Rattle.std.proofs.Common.{ap, ap₂, ◌∙◌}
+use Rattle.std.proofs.lemmas.Result.{IfOk-weaker}
+use Rattle.clap.specs.Words.{App, Shape, with_subcommand}
+use Rattle.vt_words.proofs.venti.venti.Goals as goal
+
+abbrev top : App → Shape
+top a = a.top
+
+pub returns : goal.returns
+returns c =
+    let one = c.in_ok-program.ensures
+    ∙ ap₂ with_subcommand c.program.ensures (ap top c.in_ok-session.ensures.app) in
+    let two = c.in_ok-program-2.ensures
+    ∙ ap₂ with_subcommand one (ap top c.in_ok-fmtarenas.ensures.app) in
+    let three = c.in_ok-program-3.ensures
+    ∙ ap₂ with_subcommand two (ap top c.in_ok-fmtisect.ensures.app) in
+    IfOk-weaker c.with_command-4.result _ _
+    (λ it adds. adds ∙ ap₂ with_subcommand three (ap top c.in_ok-fmtbloom.ensures.app))
+    c.with_command-4.ensures

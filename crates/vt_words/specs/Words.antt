@@ -1,0 +1,133 @@
+-- The command line of the program, and what its words ask for (venti(8)). How words are read is
+-- clap's own relation: `fault_of` lists why it doesn't take them, and `subcommand_of` gives the
+-- subcommand and its values.
+use Rattle.std.specs.Prelude.{◌≡◌, ◌≢◌, ◌⊎◌, true, List, [], ◌∷◌, Option, Some, None, codes, if◌then◌else◌, option_and_then}
+use Rattle.std.specs.Str.{bytes_eq}
+use Rattle.clap.specs.Walk.{Row, Rule, Text, first_of}
+use Rattle.clap.specs.Simple.{App, Shape, new_app, new_rule, on_top, with_rule, with_subcommand, subcommand_of}
+use Rattle.clap.specs.Faults.{fault_of}
+use Rattle.clap.specs.Kinds.{IsAmong}
+use Rattle.clap.specs.declared.error.kind.ErrorKind.{ErrorKind}
+use Rattle.clap.specs.declared.error.kind.ErrorKind.TheVariants.{DisplayHelp, DisplayVersion, OutOfMemory}
+use Rattle.vt_words.specs.declared.asked.Asked.{Asked}
+use Rattle.vt_words.specs.declared.asked.Asked.TheVariants.{Do, Help, Version, Faulty}
+use Rattle.vt_words.specs.declared.command.Command.{Command}
+use Rattle.vt_words.specs.declared.command.Command.TheVariants.{Session, FormatArenas, FormatSection, FormatFilter}
+
+-- a word that a command wants, by the name that help shows
+abbrev pub wanted : Text → Rule
+wanted id = record (new_rule id) { required = true }
+
+abbrev pub with_word : App → Text → App
+with_word app id = with_rule app (wanted id)
+
+-- ---- the commands, each with its words
+
+abbrev pub session : App
+session = with_word (new_app (codes "session")) (codes "STORE")
+
+abbrev pub fmtarenas : App
+fmtarenas =
+    with_word (with_word (with_word (with_word (new_app (codes "fmtarenas"))
+    (codes "FILE")) (codes "NAME")) (codes "LENGTH")) (codes "ARENASIZE")
+
+abbrev pub fmtisect : App
+fmtisect =
+    with_word (with_word (with_word (new_app (codes "fmtisect"))
+    (codes "FILE")) (codes "NAME")) (codes "LENGTH")
+
+abbrev pub fmtbloom : App
+fmtbloom =
+    with_word (with_word (with_word (new_app (codes "fmtbloom"))
+    (codes "FILE")) (codes "SIZE")) (codes "POSITIONS")
+
+-- the program: one of its commands, or a request for help or the version
+abbrev pub with_settings : Shape → Shape
+with_settings shape = record shape {
+  no_binary_name = true;
+  disable_help_subcommand = true;
+  subcommand_required = true;
+  arg_required_else_help = true;
+  has_version = true;
+}
+
+abbrev pub venti : App
+venti =
+    with_subcommand (with_subcommand (with_subcommand (with_subcommand
+    (on_top with_settings (new_app (codes "venti")))
+    session.top) fmtarenas.top) fmtisect.top) fmtbloom.top
+
+-- ---- what its words ask for
+
+abbrev pub session_of : List Row → Option Command
+session_of rows = option_and_then (λ store. Some (Session store)) (first_of (codes "STORE") rows)
+
+abbrev pub arenas_of : List Row → Option Command
+arenas_of rows =
+    option_and_then (λ file. option_and_then (λ name. option_and_then (λ length.
+    option_and_then (λ arena_size. Some (FormatArenas file name length arena_size))
+    (first_of (codes "ARENASIZE") rows)) (first_of (codes "LENGTH") rows))
+    (first_of (codes "NAME") rows)) (first_of (codes "FILE") rows)
+
+abbrev pub section_of : List Row → Option Command
+section_of rows =
+    option_and_then (λ file. option_and_then (λ name. option_and_then (λ length.
+    Some (FormatSection file name length))
+    (first_of (codes "LENGTH") rows)) (first_of (codes "NAME") rows))
+    (first_of (codes "FILE") rows)
+
+abbrev pub filter_of : List Row → Option Command
+filter_of rows =
+    option_and_then (λ file. option_and_then (λ size. option_and_then (λ positions.
+    Some (FormatFilter file size positions))
+    (first_of (codes "POSITIONS") rows)) (first_of (codes "SIZE") rows))
+    (first_of (codes "FILE") rows)
+
+-- the command of this name, with the values of its words
+abbrev pub command_of : Text → List Row → Option Command
+command_of name rows =
+    if bytes_eq name (codes "session") then session_of rows
+    else if bytes_eq name (codes "fmtarenas") then arenas_of rows
+    else if bytes_eq name (codes "fmtisect") then section_of rows
+    else if bytes_eq name (codes "fmtbloom") then filter_of rows
+    else None
+
+-- by the subcommand that was met, with its values
+abbrev pub said_by : Option (Text × List Row) → Option Command
+said_by met = option_and_then (λ p. command_of p.0 p.1) met
+
+abbrev pub spoken : (words : List Text) → Option Command
+spoken words = said_by (subcommand_of venti words)
+
+-- clap doesn't take the words, and it isn't help or the version that they ask for
+pub record IsRefused (words : List Text) : Type 0 where
+  pub kind : ErrorKind
+  pub among : IsAmong kind (fault_of venti words)
+  pub no_help : kind ≢ DisplayHelp
+  pub no_version : kind ≢ DisplayVersion
+
+-- The words ask for this.
+abbrev pub Asks : (words : List Text) → Asked → Type 0
+Asks words (Do command) = (fault_of venti words ≡ []) × (spoken words ≡ Some command)
+Asks words (Help text) = IsAmong DisplayHelp (fault_of venti words)
+Asks words (Version text) = IsAmong DisplayVersion (fault_of venti words)
+Asks words (Faulty text) =
+    IsRefused words ⊎ ((fault_of venti words ≡ []) × (spoken words ≡ None))
+
+-- the words of a session in memory
+abbrev pub session_words : List Text
+session_words = codes "session" ∷ codes ":memory:" ∷ []
+
+-- ---- by what clap answers
+
+abbrev pub IsSpoken : Option Command → Asked → Type 0
+IsSpoken said (Do command) = said ≡ Some command
+IsSpoken said (Faulty text) = said ≡ None
+IsSpoken said asked = ⊥
+
+abbrev pub IsUnspoken : ErrorKind → Asked → Type 0
+IsUnspoken kind (Do command) = ⊥
+IsUnspoken kind (Help text) = kind ≡ DisplayHelp
+IsUnspoken kind (Version text) = kind ≡ DisplayVersion
+IsUnspoken kind (Faulty text) =
+    (kind ≢ DisplayHelp) × (kind ≢ DisplayVersion) × (kind ≢ OutOfMemory)

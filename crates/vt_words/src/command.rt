@@ -1,0 +1,135 @@
+//! The commands of the program, with their words.
+
+ghost use Rattle.std.specs.Prelude.{◌≡◌, IfOk};
+ghost use Rattle.clap.specs.Matches.{found_of};
+ghost use Rattle.clap.specs.Walk.{first_of, rows_of};
+ghost use Rattle.vt_words.specs.Words.{command_of, session_of, arenas_of, section_of, filter_of};
+
+use clap::ArgMatches;
+use std::alloc::Global;
+use vt_base::{NoMemory, Text};
+
+/// A command, with the words behind its name, which aren't read yet.
+#[derive(Debug, Drop)]
+pub enum Command {
+    /// `session STORE`
+    Session {
+        store: Text,
+    },
+    /// `fmtarenas FILE NAME LENGTH ARENASIZE`
+    FormatArenas {
+        file: Text,
+        name: Text,
+        length: Text,
+        arena_size: Text,
+    },
+    /// `fmtisect FILE NAME LENGTH`
+    FormatSection {
+        file: Text,
+        name: Text,
+        length: Text,
+    },
+    /// `fmtbloom FILE SIZE POSITIONS`
+    FormatFilter {
+        file: Text,
+        size: Text,
+        positions: Text,
+    },
+}
+
+/// The command of this name, with the values that clap found, if it is one and has them all.
+pub(crate) fn command_of(
+    alloc: Global,
+    name: &str,
+    found: &ArgMatches<'_>,
+) -> Result<Option<Command>, NoMemory>
+    ensures { IfOk result (λ it. it ≡ command_of name.now (rows_of (found_of found.now))) }
+{
+    if name == "session" {
+        session_of(alloc, found)
+    } else if name == "fmtarenas" {
+        arenas_of(alloc, found)
+    } else if name == "fmtisect" {
+        section_of(alloc, found)
+    } else if name == "fmtbloom" {
+        filter_of(alloc, found)
+    } else {
+        Ok(None)
+    }
+}
+
+fn session_of(alloc: Global, found: &ArgMatches<'_>) -> Result<Option<Command>, NoMemory>
+    ensures { IfOk result (λ it. it ≡ session_of (rows_of (found_of found.now))) }
+{
+    let Some(store) = value_of(alloc, found, "STORE")? else {
+        return Ok(None);
+    };
+    Ok(Some(Command::Session { store }))
+}
+
+fn arenas_of(alloc: Global, found: &ArgMatches<'_>) -> Result<Option<Command>, NoMemory>
+    ensures { IfOk result (λ it. it ≡ arenas_of (rows_of (found_of found.now))) }
+{
+    let Some(file) = value_of(alloc, found, "FILE")? else {
+        return Ok(None);
+    };
+    let Some(name) = value_of(alloc, found, "NAME")? else {
+        return Ok(None);
+    };
+    let Some(length) = value_of(alloc, found, "LENGTH")? else {
+        return Ok(None);
+    };
+    let Some(arena_size) = value_of(alloc, found, "ARENASIZE")? else {
+        return Ok(None);
+    };
+    Ok(Some(Command::FormatArenas {
+        file,
+        name,
+        length,
+        arena_size,
+    }))
+}
+
+fn section_of(alloc: Global, found: &ArgMatches<'_>) -> Result<Option<Command>, NoMemory>
+    ensures { IfOk result (λ it. it ≡ section_of (rows_of (found_of found.now))) }
+{
+    let Some(file) = value_of(alloc, found, "FILE")? else {
+        return Ok(None);
+    };
+    let Some(name) = value_of(alloc, found, "NAME")? else {
+        return Ok(None);
+    };
+    let Some(length) = value_of(alloc, found, "LENGTH")? else {
+        return Ok(None);
+    };
+    Ok(Some(Command::FormatSection { file, name, length }))
+}
+
+fn filter_of(alloc: Global, found: &ArgMatches<'_>) -> Result<Option<Command>, NoMemory>
+    ensures { IfOk result (λ it. it ≡ filter_of (rows_of (found_of found.now))) }
+{
+    let Some(file) = value_of(alloc, found, "FILE")? else {
+        return Ok(None);
+    };
+    let Some(size) = value_of(alloc, found, "SIZE")? else {
+        return Ok(None);
+    };
+    let Some(positions) = value_of(alloc, found, "POSITIONS")? else {
+        return Ok(None);
+    };
+    Ok(Some(Command::FormatFilter {
+        file,
+        size,
+        positions,
+    }))
+}
+
+/// The first value of this name, if there is one.
+fn value_of(alloc: Global, found: &ArgMatches<'_>, id: &str) -> Result<Option<Text>, NoMemory>
+    ensures { IfOk result (λ it. it ≡ first_of id.now (rows_of (found_of found.now))) }
+{
+    let Some(value) = found.get_str(id) else {
+        return Ok(None);
+    };
+    Ok(Some(Text::copy_of(alloc, value.as_bytes())?))
+}

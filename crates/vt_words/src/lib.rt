@@ -1,0 +1,10 @@
+//! The words of the program's command line (venti(8)), as clap reads them.
+#![tactic(auto)]
+
+mod asked;
+mod command;
+pub mod laws;
+mod venti;
+
+pub use asked::{Asked, ask};
+pub use command::Command;

@@ -1,0 +1,138 @@
+//! The program's command line, and what its help says.
+
+ghost use Rattle.std.specs.Prelude.{◌≡◌, false, codes, IfOk};
+ghost use Rattle.clap.specs.Simple.{on_top};
+ghost use Rattle.clap.specs.Words.{app_of, new_app, shape_of, with_subcommand};
+ghost use Rattle.clap.specs.declared.builder.command.Command.TheViews.{out-Command as fields_of};
+ghost use Rattle.vt_words.specs.Words.{with_settings, with_word, session, fmtarenas, fmtisect, fmtbloom, venti};
+
+use clap::{Arg, Command};
+use std::alloc::{AllocError, Global};
+
+const EXAMPLE: &str = "\
+A store of one partition of arenas, one index section and a filter, made in a new folder:
+
+  mkdir store
+  venti fmtarenas store/arenas a0 1073750016 67108864
+  venti fmtisect store/isect i0 134217728
+  venti fmtbloom store/bloom 1048576 8
+
+A session in memory, which is spoken on the standard streams:
+
+  venti session :memory: < samples/abc.venti | od -An -tx1";
+
+/// The program, with each of its commands.
+pub(crate) fn venti<'a>(alloc: Global) -> Result<Command<'a>, AllocError>
+    ensures { IfOk result (λ it. app_of it ≡ venti) }
+{
+    let program = with_command(program(alloc), session(alloc)?)?;
+    let program = with_command(program, fmtarenas(alloc)?)?;
+    let program = with_command(program, fmtisect(alloc)?)?;
+    with_command(program, fmtbloom(alloc)?)
+}
+
+/// The program without its commands.
+fn program<'a>(alloc: Global) -> Command<'a>
+    ensures { app_of result ≡ on_top with_settings (new_app (codes "venti")) }
+{
+    Command::new(alloc, "venti")
+        .about("A write-once store of blocks, each found by the SHA-1 score of its bytes")
+        .version("0.1.0")
+        .after_help(EXAMPLE)
+        .no_binary_name(true)
+        .disable_help_subcommand(true)
+        .subcommand_required(true)
+        .arg_required_else_help(true)
+}
+
+/// The program with one more command.
+fn with_command<'a>(program: Command<'a>, command: Command<'a>) -> Result<Command<'a>, AllocError>
+    requires local { (fields_of command).has_globals ≡ false }
+    ensures { IfOk result (λ it. app_of it ≡ with_subcommand (app_of program.entry)
+        (shape_of command.entry)) }
+{
+    program.subcommand(command)
+}
+
+/// The command with one more word that it wants.
+fn with_word<'a>(
+    alloc: Global,
+    command: Command<'a>,
+    id: &'a str,
+    help: &'a str,
+) -> Result<Command<'a>, AllocError>
+    ensures app { IfOk result (λ it. app_of it ≡ with_word (app_of command.entry) id.now) }
+    ensures local { IfOk result (λ it.
+        (fields_of it).has_globals ≡ (fields_of command.entry).has_globals) }
+{
+    command.arg(Arg::new(alloc, id).required(true).help(help))
+}
+
+/// A command of no words yet.
+fn command_of<'a>(alloc: Global, name: &'a str, about: &'a str) -> Command<'a>
+    ensures app { app_of result ≡ new_app name.now }
+    ensures local { (fields_of result).has_globals ≡ false }
+{
+    Command::new(alloc, name).about(about)
+}
+
+fn session<'a>(alloc: Global) -> Result<Command<'a>, AllocError>
+    ensures app { IfOk result (λ it. app_of it ≡ session) }
+    ensures local { IfOk result (λ it. (fields_of it).has_globals ≡ false) }
+{
+    let about = "Answers one session of the protocol on the standard streams";
+    let command = command_of(alloc, "session", about);
+    with_word(
+        alloc,
+        command,
+        "STORE",
+        ":memory:, for a store in memory that begins empty",
+    )
+}
+
+const FILE: &str = "the file, which is made, or grown, where that is needed";
+
+const NAME: &str = "1 to 64 letters, digits, '.', '-' and '_'";
+
+const LENGTH: &str = "how many bytes the file has at least";
+
+fn fmtarenas<'a>(alloc: Global) -> Result<Command<'a>, AllocError>
+    ensures app { IfOk result (λ it. app_of it ≡ fmtarenas) }
+    ensures local { IfOk result (λ it. (fields_of it).has_globals ≡ false) }
+{
+    let about = "Makes a file a partition of arenas, which hold the blocks, and wipes what it held";
+    let size = "how many bytes each arena has, a multiple of 8192";
+    let command = command_of(alloc, "fmtarenas", about);
+    let command = with_word(alloc, command, "FILE", FILE)?;
+    let command = with_word(alloc, command, "NAME", NAME)?;
+    let command = with_word(alloc, command, "LENGTH", LENGTH)?;
+    with_word(alloc, command, "ARENASIZE", size)
+}
+
+fn fmtisect<'a>(alloc: Global) -> Result<Command<'a>, AllocError>
+    ensures app { IfOk result (λ it. app_of it ≡ fmtisect) }
+    ensures local { IfOk result (λ it. (fields_of it).has_globals ≡ false) }
+{
+    let about = "Makes a file a section of the index, and wipes what it held";
+    let command = command_of(alloc, "fmtisect", about);
+    let command = with_word(alloc, command, "FILE", FILE)?;
+    let command = with_word(alloc, command, "NAME", NAME)?;
+    with_word(alloc, command, "LENGTH", LENGTH)
+}
+
+fn fmtbloom<'a>(alloc: Global) -> Result<Command<'a>, AllocError>
+    ensures app { IfOk result (λ it. app_of it ≡ fmtbloom) }
+    ensures local { IfOk result (λ it. (fields_of it).has_globals ≡ false) }
+{
+    let about = "Makes a file the Bloom filter of a store, and wipes what it held";
+    let size = "how many bytes the filter has, a power of two";
+    let command = command_of(alloc, "fmtbloom", about);
+    let command = with_word(alloc, command, "FILE", FILE)?;
+    let command = with_word(alloc, command, "SIZE", size)?;
+    with_word(
+        alloc,
+        command,
+        "POSITIONS",
+        "how many bits each score has, from 1 to 32",
+    )
+}
