@@ -11,6 +11,8 @@ const ABC: Score = Score(
     *b"\xa9\x99\x3e\x36\x47\x06\x81\x6a\xba\x3e\x25\x71\x78\x50\xc2\x6c\x9c\xd0\xd8\x9d",
 );
 
+const LINE: &[u8] = b"venti-02-rattle\n";
+
 const WELCOME: &[u8] = b"venti-02-rattle\n\x00\x0f\x05\x00\x00\x09anonymous\x00\x00";
 
 /// A link on which these bytes come in, one at a time.
@@ -90,6 +92,86 @@ fn refusals_and_which_of_them_end_it(rt: HostRuntime) -> Result<(), Fail> {
         };
         assert_eq!(rt; text.as_slice(), b"client spent".as_slice());
     }
+    Ok(())
+}
+
+/// How a greeting over a link on which these bytes come in is refused, and what went out before.
+fn refused_greeting(alloc: Global, bytes: &[u8]) -> Result<Parted<MemLink>, Fail> {
+    match Client::greet(alloc, link(alloc, bytes)?, Sha1Scorer) {
+        Ok(_) => Err("greeted".into()),
+        Err(parted) => Ok(parted),
+    }
+}
+
+#[test]
+fn greetings_that_are_refused(rt: HostRuntime) -> Result<(), Fail> {
+    let alloc = rt.alloc();
+    for line in [b"venti-04-x\n".as_slice(), b"ventu-02-x\n"] {
+        let parted = refused_greeting(alloc, line)?;
+        assert!(rt; matches!(parted.why, ClientErr::NoVersion));
+        assert_eq!(rt; parted.link.sink.written(), LINE);
+    }
+    let parted = refused_greeting(alloc, b"venti-02")?;
+    assert!(rt; matches!(parted.why, ClientErr::Cut));
+    assert_eq!(rt; parted.link.sink.written(), LINE);
+    let parted = refused_greeting(alloc, b"venti-04:02-x\n\x00\x0f\x05")?;
+    assert!(rt; matches!(parted.why, ClientErr::Cut));
+    assert_eq!(rt; parted.link.sink.written().len(), 16 + 22);
+    let parted = refused_greeting(alloc, b"venti-02-x\n\x00\x06\x01\x00\x00\x02no")?;
+    let Parted { link: _link, why } = parted;
+    let ClientErr::Remote(text) = why else {
+        return Err("no text".into());
+    };
+    assert_eq!(rt; text.as_slice(), b"no".as_slice());
+    let parted = refused_greeting(alloc, b"venti-02-x\n\x00\x02\x03\x00")?;
+    assert!(rt; matches!(parted.why, ClientErr::BadReply(2)));
+    Ok(())
+}
+
+/// A client over a link of which the reads and the writes with these numbers fail.
+fn failing(
+    alloc: Global,
+    replies: &[u8],
+    reads: &[u64],
+    writes: &[u64],
+) -> Result<Client<MemLink, Sha1Scorer>, Fail> {
+    let mut bytes = Vec::from_slice(alloc, WELCOME)?;
+    bytes.extend_from_slice(replies)?;
+    let source = MemSource::new(alloc, bytes);
+    let link = MemLink {
+        source: source.failing(Vec::from_slice(alloc, reads)?),
+        sink: MemSink::new(alloc, 1000)?.failing(Vec::from_slice(alloc, writes)?),
+    };
+    match Client::greet(alloc, link, Sha1Scorer) {
+        Ok(client) => Ok(client),
+        Err(_) => Err("not greeted".into()),
+    }
+}
+
+/// A failed read and a failed write of the link are faults, of which the side is told. The line is
+/// read in sixteen calls, and a reply in two.
+#[test]
+fn faults_and_their_sides(rt: HostRuntime) -> Result<(), Fail> {
+    let alloc = rt.alloc();
+    let mut read = failing(alloc, b"\x00\x05\x0d\x01abc", &[19], &[])?;
+    assert_eq!(rt; read.side(), None);
+    let got = Blocks::get(&mut read, alloc, Kind::DATA, &ABC);
+    assert!(rt; matches!(got, Err(BlockErr::Fault)));
+    assert_eq!(rt; read.side(), Some(Side::Read));
+    let mut written = failing(alloc, b"", &[], &[2])?;
+    let put = Blocks::put(&mut written, alloc, Kind::DATA, b"abc");
+    assert!(rt; matches!(put, Err(BlockErr::Fault)));
+    assert_eq!(rt; written.side(), Some(Side::Write));
+    let Err(BlockErr::Refused(text)) = Blocks::sync(&mut written, alloc) else {
+        return Err("no text".into());
+    };
+    assert_eq!(rt; text.as_slice(), b"client spent".as_slice());
+    assert_eq!(rt; written.side(), Some(Side::Write));
+    let Err(parted) = written.goodbye() else {
+        return Err("a goodbye".into());
+    };
+    assert!(rt; matches!(parted.why, ClientErr::Spent));
+    assert_eq!(rt; parted.link.sink.faults(), 1);
     Ok(())
 }
 
