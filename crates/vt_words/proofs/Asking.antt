@@ -1,5 +1,5 @@
 -- What words ask for, by what clap answers.
-use Rattle.std.proofs.Common.{◌≡◌, ◌⊎◌, inl, inr, true, List, [], ◌∷◌, Option, Some, None, refl, sym, ◌∙◌, subst, codes, Box}
+use Rattle.std.proofs.Common.{◌≡◌, ◌⊎◌, ⊎_elim, inl, inr, true, List, [], ◌∷◌, Option, Some, None, refl, sym, ◌∙◌, subst, codes, Box}
 use Rattle.std.specs.Prelude.{option_map}
 use Rattle.std.specs.Box.{box_value}
 use Rattle.clap.specs.Words.{Text, Row, fault_of, is_simple, is_simple_and_free, subcommand_name_of, subcommand_rows, subcommand_rows_of, IsAmong}
@@ -7,13 +7,13 @@ use Rattle.clap.specs.declared.parser.matches.ArgMatches.{ArgMatches}
 use Rattle.clap.specs.declared.parser.matches.ArgMatches.TheViews.{out-ArgMatches, out-SubCommand}
 use Rattle.clap.specs.declared.parser.matches.SubCommand.{SubCommand}
 use Rattle.clap.specs.declared.error.kind.ErrorKind.{ErrorKind}
-use Rattle.clap.specs.declared.error.kind.ErrorKind.TheVariants.{OutOfMemory}
+use Rattle.clap.specs.declared.error.kind.ErrorKind.TheVariants.{DisplayHelp, DisplayVersion, DisplayHelpOnMissingArgumentOrSubcommand, OutOfMemory}
 use Rattle.clap.proofs.OnLiterals.{clap_on_literals}
 use Rattle.vt_words.specs.declared.asked.Asked.{Asked}
 use Rattle.vt_words.specs.declared.asked.Asked.TheVariants.{Do, Help, Version, Faulty}
 use Rattle.vt_words.specs.declared.command.Command.{Command}
 use Rattle.vt_words.specs.declared.command.Command.TheVariants.{Session}
-use Rattle.vt_words.specs.Words.{venti, session_words, spoken, Asks, IsSpoken, IsUnspoken}
+use Rattle.vt_words.specs.Words.{venti, session_words, spoken, Asks, IsFaulty, IsSpoken, IsUnspoken}
 
 -- ---- the program's command line is one of which clap says all
 
@@ -32,7 +32,7 @@ pub spoken_asks : (words : List Text) (asked : Asked) → fault_of venti words �
 spoken_asks words (Do command) none said = (none, said)
 spoken_asks words (Help text) none said = absurd said
 spoken_asks words (Version text) none said = absurd said
-spoken_asks words (Faulty text) none said = inr (none, said)
+spoken_asks words (Faulty text) none said = (inr (none, said.0), inl said.1)
 
 pub unspoken_asks : (words : List Text) (kind : ErrorKind) (asked : Asked)
     → (kind ≡ OutOfMemory) ⊎ IsAmong kind (fault_of venti words) → IsUnspoken kind asked → Asks words asked
@@ -47,7 +47,10 @@ unspoken_asks words kind (Version text) has is = elim has [
 ]
 unspoken_asks words kind (Faulty text) has is = elim has [
   | inl memory ↦ absurd (is.2 memory)
-  | inr among ↦ inl (record { kind = kind; among = among; no_help = is.0; no_version = is.1 })
+  | inr among ↦ (
+    inl (record { kind = kind; among = among; no_help = is.0; no_version = is.1 }),
+    ⊎_elim (λ none. inl none) (λ short. inr (subst (λ k. IsAmong k (fault_of venti words)) short among)) is.3,
+  )
 ]
 
 -- ---- a command is asked for alone
@@ -60,7 +63,7 @@ pub alone : (words : List Text) (command : Command) (asked : Asked) → Asks wor
 alone words command (Do other) x y = let both : Some other ≡ Some command = sym y.1 ∙ x.1 in cc
 alone words command (Help text) x y = absurd (none_among _ _ x.0 y)
 alone words command (Version text) x y = absurd (none_among _ _ x.0 y)
-alone words command (Faulty text) x y = elim y [
+alone words command (Faulty text) x y = elim y.0 [
   | inl refused ↦ absurd (none_among _ _ x.0 refused.among)
   | inr silent ↦ let both = sym silent.1 ∙ x.1 in absurd (cc)
 ]
@@ -68,6 +71,17 @@ alone words command (Faulty text) x y = elim y [
 pub session_taken : fault_of venti session_words ≡ []
 unfolding clap_on_literals
 session_taken = refl
+
+nothing_taken : fault_of venti [] ≡ DisplayHelpOnMissingArgumentOrSubcommand ∷ []
+unfolding clap_on_literals
+nothing_taken = refl
+
+-- the only kind among one is that one
+pub no_words : (asked : Asked) → Asks [] asked → IsFaulty asked
+no_words (Do command) asks = let wrong = sym nothing_taken ∙ asks.0 in absurd (cc)
+no_words (Help text) asks = absurd (⊎_elim (λ is. cc) (λ none. none) (subst (IsAmong DisplayHelp) nothing_taken asks))
+no_words (Version text) asks = absurd (⊎_elim (λ is. cc) (λ none. none) (subst (IsAmong DisplayVersion) nothing_taken asks))
+no_words (Faulty text) asks = tt
 
 pub session_spoken : spoken session_words ≡ Some (Session (codes ":memory:"))
 unfolding clap_on_literals

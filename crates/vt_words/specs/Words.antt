@@ -1,18 +1,18 @@
 -- The command line of the program, and what its words ask for (venti(8)). How words are read is
 -- clap's own relation: `fault_of` lists why it doesn't take them, and `subcommand_of` gives the
 -- subcommand and its values.
-use Rattle.std.specs.Prelude.{◌≡◌, ◌≢◌, ◌⊎◌, true, List, [], ◌∷◌, Option, Some, None, codes, if◌then◌else◌, option_and_then}
+use Rattle.std.specs.Prelude.{◌≡◌, ◌≢◌, ◌⊎◌, ⊤, true, List, [], ◌∷◌, Option, Some, None, codes, if◌then◌else◌, option_and_then, string_bytes}
 use Rattle.std.specs.Str.{bytes_eq}
 use Rattle.clap.specs.Walk.{Row, Rule, Text, first_of}
 use Rattle.clap.specs.Simple.{App, Shape, new_app, new_rule, on_top, with_rule, with_subcommand, subcommand_of}
 use Rattle.clap.specs.Faults.{fault_of}
 use Rattle.clap.specs.Kinds.{IsAmong}
 use Rattle.clap.specs.declared.error.kind.ErrorKind.{ErrorKind}
-use Rattle.clap.specs.declared.error.kind.ErrorKind.TheVariants.{DisplayHelp, DisplayVersion, OutOfMemory}
+use Rattle.clap.specs.declared.error.kind.ErrorKind.TheVariants.{DisplayHelp, DisplayVersion, DisplayHelpOnMissingArgumentOrSubcommand, OutOfMemory}
 use Rattle.vt_words.specs.declared.asked.Asked.{Asked}
 use Rattle.vt_words.specs.declared.asked.Asked.TheVariants.{Do, Help, Version, Faulty}
 use Rattle.vt_words.specs.declared.command.Command.{Command}
-use Rattle.vt_words.specs.declared.command.Command.TheVariants.{Session, FormatArenas, FormatSection, FormatFilter}
+use Rattle.vt_words.specs.declared.command.Command.TheVariants.{Session, FormatArenas, FormatSection, FormatFilter, FormatIndex}
 
 -- a word that a command wants, by the name that help shows
 abbrev pub wanted : Text → Rule
@@ -41,6 +41,9 @@ fmtbloom =
     with_word (with_word (with_word (new_app (codes "fmtbloom"))
     (codes "FILE")) (codes "SIZE")) (codes "POSITIONS")
 
+abbrev pub fmtindex : App
+fmtindex = with_word (new_app (codes "fmtindex")) (codes "CONF")
+
 -- the program: one of its commands, or a request for help or the version
 abbrev pub with_settings : Shape → Shape
 with_settings shape = record shape {
@@ -53,9 +56,9 @@ with_settings shape = record shape {
 
 abbrev pub venti : App
 venti =
-    with_subcommand (with_subcommand (with_subcommand (with_subcommand
+    with_subcommand (with_subcommand (with_subcommand (with_subcommand (with_subcommand
     (on_top with_settings (new_app (codes "venti")))
-    session.top) fmtarenas.top) fmtisect.top) fmtbloom.top
+    session.top) fmtarenas.top) fmtisect.top) fmtbloom.top) fmtindex.top
 
 -- ---- what its words ask for
 
@@ -83,6 +86,9 @@ filter_of rows =
     (first_of (codes "POSITIONS") rows)) (first_of (codes "SIZE") rows))
     (first_of (codes "FILE") rows)
 
+abbrev pub index_of : List Row → Option Command
+index_of rows = option_and_then (λ file. Some (FormatIndex file)) (first_of (codes "CONF") rows)
+
 -- the command of this name, with the values of its words
 abbrev pub command_of : Text → List Row → Option Command
 command_of name rows =
@@ -90,6 +96,7 @@ command_of name rows =
     else if bytes_eq name (codes "fmtarenas") then arenas_of rows
     else if bytes_eq name (codes "fmtisect") then section_of rows
     else if bytes_eq name (codes "fmtbloom") then filter_of rows
+    else if bytes_eq name (codes "fmtindex") then index_of rows
     else None
 
 -- by the subcommand that was met, with its values
@@ -106,13 +113,20 @@ pub record IsRefused (words : List Text) : Type 0 where
   pub no_help : kind ≢ DisplayHelp
   pub no_version : kind ≢ DisplayVersion
 
--- The words ask for this.
+-- The words ask for this. Short help is told only where clap misses a command.
 abbrev pub Asks : (words : List Text) → Asked → Type 0
 Asks words (Do command) = (fault_of venti words ≡ []) × (spoken words ≡ Some command)
 Asks words (Help text) = IsAmong DisplayHelp (fault_of venti words)
 Asks words (Version text) = IsAmong DisplayVersion (fault_of venti words)
 Asks words (Faulty text) =
-    IsRefused words ⊎ ((fault_of venti words ≡ []) × (spoken words ≡ None))
+    (IsRefused words ⊎ ((fault_of venti words ≡ []) × (spoken words ≡ None)))
+    × ((string_bytes text ≡ [])
+    ⊎ IsAmong DisplayHelpOnMissingArgumentOrSubcommand (fault_of venti words))
+
+-- they ask for nothing that the program knows
+abbrev pub IsFaulty : Asked → Type 0
+IsFaulty (Faulty text) = ⊤
+IsFaulty asked = ⊥
 
 -- the words of a session in memory
 abbrev pub session_words : List Text
@@ -122,7 +136,7 @@ session_words = codes "session" ∷ codes ":memory:" ∷ []
 
 abbrev pub IsSpoken : Option Command → Asked → Type 0
 IsSpoken said (Do command) = said ≡ Some command
-IsSpoken said (Faulty text) = said ≡ None
+IsSpoken said (Faulty text) = (said ≡ None) × (string_bytes text ≡ [])
 IsSpoken said asked = ⊥
 
 abbrev pub IsUnspoken : ErrorKind → Asked → Type 0
@@ -131,3 +145,4 @@ IsUnspoken kind (Help text) = kind ≡ DisplayHelp
 IsUnspoken kind (Version text) = kind ≡ DisplayVersion
 IsUnspoken kind (Faulty text) =
     (kind ≢ DisplayHelp) × (kind ≢ DisplayVersion) × (kind ≢ OutOfMemory)
+    × ((string_bytes text ≡ []) ⊎ (kind ≡ DisplayHelpOnMissingArgumentOrSubcommand))

@@ -3,7 +3,7 @@
 ghost use Rattle.std.specs.Prelude.{◌≡◌, IfOk};
 ghost use Rattle.clap.specs.Matches.{found_of};
 ghost use Rattle.clap.specs.Walk.{first_of, rows_of};
-ghost use Rattle.vt_words.specs.Words.{command_of, session_of, arenas_of, section_of, filter_of};
+ghost use Rattle.vt_words.specs.Words.{command_of, session_of, arenas_of, section_of, filter_of, index_of};
 
 use clap::ArgMatches;
 use std::alloc::Global;
@@ -35,6 +35,10 @@ pub enum Command {
         size: Text,
         positions: Text,
     },
+    /// `fmtindex CONF`
+    FormatIndex {
+        file: Text,
+    },
 }
 
 /// The command of this name, with the values that clap found, if it is one and has them all.
@@ -53,6 +57,8 @@ pub(crate) fn command_of(
         section_of(alloc, found)
     } else if name == "fmtbloom" {
         filter_of(alloc, found)
+    } else if name == "fmtindex" {
+        index_of(alloc, found)
     } else {
         Ok(None)
     }
@@ -122,6 +128,15 @@ fn filter_of(alloc: Global, found: &ArgMatches<'_>) -> Result<Option<Command>, N
         size,
         positions,
     }))
+}
+
+fn index_of(alloc: Global, found: &ArgMatches<'_>) -> Result<Option<Command>, NoMemory>
+    ensures { IfOk result (λ it. it ≡ index_of (rows_of (found_of found.now))) }
+{
+    let Some(file) = value_of(alloc, found, "CONF")? else {
+        return Ok(None);
+    };
+    Ok(Some(Command::FormatIndex { file }))
 }
 
 /// The first value of this name, if there is one.

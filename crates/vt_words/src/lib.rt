@@ -8,3 +8,6 @@ mod venti;
 
 pub use asked::{Asked, ask};
 pub use command::Command;
+
+#[cfg(test)]
+mod tests;

@@ -4,18 +4,23 @@ ghost use Rattle.std.specs.Prelude.{◌≡◌, false, codes, IfOk};
 ghost use Rattle.clap.specs.Simple.{on_top};
 ghost use Rattle.clap.specs.Words.{app_of, new_app, shape_of, with_subcommand};
 ghost use Rattle.clap.specs.declared.builder.command.Command.TheViews.{out-Command as fields_of};
-ghost use Rattle.vt_words.specs.Words.{with_settings, with_word, session, fmtarenas, fmtisect, fmtbloom, venti};
+ghost use Rattle.vt_words.specs.Words.{with_settings, with_word, session, fmtarenas, fmtisect, fmtbloom, fmtindex, venti};
 
 use clap::{Arg, Command};
 use std::alloc::{AllocError, Global};
 
-const EXAMPLE: &str = "\
-A store of one partition of arenas, one index section and a filter, made in a new folder:
+/// The version, and the toolchain that the program is proved with, as `rt version` has it.
+const VERSION: &str = "\
+0.1.0
+proved with rattle-kit-13f logic dac8208d650f15bf";
 
-  mkdir store
+const EXAMPLE: &str = "\
+A store of one partition of arenas and one index section, made in a new folder:
+
+  mkdir store && printf 'arenas store/arenas\nisect store/isect\n' > store/venti.conf
   venti fmtarenas store/arenas a0 1073750016 67108864
   venti fmtisect store/isect i0 134217728
-  venti fmtbloom store/bloom 1048576 8
+  venti fmtindex store/venti.conf
 
 A session in memory, which is spoken on the standard streams:
 
@@ -28,7 +33,8 @@ pub(crate) fn venti<'a>(alloc: Global) -> Result<Command<'a>, AllocError>
     let program = with_command(program(alloc), session(alloc)?)?;
     let program = with_command(program, fmtarenas(alloc)?)?;
     let program = with_command(program, fmtisect(alloc)?)?;
-    with_command(program, fmtbloom(alloc)?)
+    let program = with_command(program, fmtbloom(alloc)?)?;
+    with_command(program, fmtindex(alloc)?)
 }
 
 /// The program without its commands.
@@ -37,7 +43,7 @@ fn program<'a>(alloc: Global) -> Command<'a>
 {
     Command::new(alloc, "venti")
         .about("A write-once store of blocks, each found by the SHA-1 score of its bytes")
-        .version("0.1.0")
+        .version(VERSION)
         .after_help(EXAMPLE)
         .no_binary_name(true)
         .disable_help_subcommand(true)
@@ -134,5 +140,19 @@ fn fmtbloom<'a>(alloc: Global) -> Result<Command<'a>, AllocError>
         command,
         "POSITIONS",
         "how many bits each score has, from 1 to 32",
+    )
+}
+
+fn fmtindex<'a>(alloc: Global) -> Result<Command<'a>, AllocError>
+    ensures app { IfOk result (λ it. app_of it ≡ fmtindex) }
+    ensures local { IfOk result (λ it. (fields_of it).has_globals ≡ false) }
+{
+    let about = "Puts the index sections that a configuration names to use, without entries";
+    let command = command_of(alloc, "fmtindex", about);
+    with_word(
+        alloc,
+        command,
+        "CONF",
+        "the configuration, a line for each partition: 'arenas FILE', 'isect FILE', 'bloom FILE'",
     )
 }

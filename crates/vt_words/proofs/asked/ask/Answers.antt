@@ -1,7 +1,7 @@
 -- by what clap answers at the program's command line
-use Rattle.std.proofs.Common.{◌≡◌, ◌⊎◌, List, [], ap, sym, ◌∙◌, subst, map}
+use Rattle.std.proofs.Common.{◌≡◌, ◌⊎◌, List, ap, sym, ◌∙◌, subst, map}
 use Rattle.std.proofs.lemmas.Result.{IfOk-weaker}
-use Rattle.clap.specs.Words.{App, Row, Text, fault_of, is_simple, is_simple_and_free, kind_of, subcommand_of, IsAmong}
+use Rattle.clap.specs.Words.{App, Text, fault_of, is_simple, is_simple_and_free, kind_of, subcommand_of, IsAmong}
 use Rattle.clap.specs.declared.error.kind.ErrorKind.TheVariants.{OutOfMemory}
 use Rattle.vt_words.specs.Words.{said_by, IsSpoken}
 use Rattle.vt_words.proofs.Asking.{is_simple_here, is_free_here, spoken_asks, unspoken_asks}

@@ -15,6 +15,8 @@ returns c =
     ∙ ap₂ with_subcommand one (ap top c.in_ok-fmtarenas.ensures.app) in
     let three = c.in_ok-program-3.ensures
     ∙ ap₂ with_subcommand two (ap top c.in_ok-fmtisect.ensures.app) in
-    IfOk-weaker c.with_command-4.result _ _
-    (λ it adds. adds ∙ ap₂ with_subcommand three (ap top c.in_ok-fmtbloom.ensures.app))
-    c.with_command-4.ensures
+    let four = c.in_ok-program-4.ensures
+    ∙ ap₂ with_subcommand three (ap top c.in_ok-fmtbloom.ensures.app) in
+    IfOk-weaker c.with_command-5.result _ _
+    (λ it adds. adds ∙ ap₂ with_subcommand four (ap top c.in_ok-fmtindex.ensures.app))
+    c.with_command-5.ensures
