@@ -150,6 +150,7 @@ module _ {D : Type 0} (score : List ℕ → List ℕ) (disk : DiskOf D) (k : Cor
               live = subst (λ (c : Setup). IsLive c i s.section.head) (sym add_setup) was.live;
               buckets = was.buckets;
               some = was.some;
+              rest = was.rest;
               filed = was.filed;
               writeback = was.writeback;
               mark = was.mark;
@@ -167,6 +168,7 @@ module _ {D : Type 0} (score : List ℕ → List ℕ) (disk : DiskOf D) (k : Cor
               live = subst (λ (c : Setup). IsLive c j t.section.head) (sym add_setup) it.live;
               buckets = it.buckets;
               some = it.some;
+              rest = it.rest;
               filed = it.filed;
               writeback = it.writeback;
               mark = it.mark;

@@ -37,7 +37,7 @@ module _ {D : Type 0} (score : List ℕ → List ℕ) (disk : DiskOf D) (k : Cor
     some_shard = w.some_shard;
     few_shards = w.few_shards;
     few_sessions = omega (arith, w.few_sessions, many);
-    shards = λ i s at. let it = w.shards i s at in record { live = it.live; buckets = it.buckets; some = it.some; filed = it.filed; writeback = it.writeback; mark = it.mark; next = it.next; numbers = it.numbers; bits = it.bits };
+    shards = λ i s at. let it = w.shards i s at in record { live = it.live; buckets = it.buckets; some = it.some; rest = it.rest; filed = it.filed; writeback = it.writeback; mark = it.mark; next = it.next; numbers = it.numbers; bits = it.bits };
     filter = λ b at. let it = w.filter b at in record { counts = it.counts; mark = it.mark; next = it.next; made = it.made };
     synced = high;
     waiting = λ s n at. w.waiting s n (waits s n at);

@@ -172,7 +172,7 @@ module _ {D : Type 0} (score : List ℕ → List ℕ) (disk : DiskOf D) (k : Cor
     some_shard = w.some_shard;
     few_shards = w.few_shards;
     few_sessions = omega (arith, w.few_sessions, length-set k.waiting session (Some at));
-    shards = λ i s there. let it = w.shards i s there in record { live = it.live; buckets = it.buckets; some = it.some; filed = it.filed; writeback = it.writeback; mark = it.mark; next = it.next; numbers = it.numbers; bits = it.bits };
+    shards = λ i s there. let it = w.shards i s there in record { live = it.live; buckets = it.buckets; some = it.some; rest = it.rest; filed = it.filed; writeback = it.writeback; mark = it.mark; next = it.next; numbers = it.numbers; bits = it.bits };
     filter = λ b there. let it = w.filter b there in record { counts = it.counts; mark = it.mark; next = it.next; made = it.made };
     synced = w.synced;
     waiting = λ s n there. ⊎_elim (λ e. omega (arith, e, is)) (λ was. w.waiting s n was) (set_none k.waiting session at s n there);

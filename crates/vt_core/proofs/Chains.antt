@@ -182,6 +182,7 @@ module _ {D : Type 0} (score : List ℕ → List ℕ) (disk : DiskOf D) (devices
             live = live_at i after at;
             buckets = chain_room i after it ∙ ap buckets_in (sym (chain_size i after it));
             some = subst (λ (n : ℕ). 0 < n) (sym (chain_buckets i after it)) it.opens.some;
+            rest = λ none. done.quiet.phase;
             filed = omega (arith, done.filed, durable_same);
             writeback = λ below is. absurd (cc (sym done.quiet.writeback ∙ is));
             mark = mark;

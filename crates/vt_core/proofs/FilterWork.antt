@@ -327,7 +327,7 @@ module _ {D : Type 0} (score : List ℕ → List ℕ) (disk : DiskOf D) (k : Cor
     some_shard = w.some_shard;
     few_shards = w.few_shards;
     few_sessions = w.few_sessions;
-    shards = λ i s at. let it = w.shards i s at in record { live = it.live; buckets = it.buckets; some = it.some; filed = it.filed; writeback = it.writeback; mark = it.mark; next = it.next; numbers = it.numbers; bits = it.bits };
+    shards = λ i s at. let it = w.shards i s at in record { live = it.live; buckets = it.buckets; some = it.some; rest = it.rest; filed = it.filed; writeback = it.writeback; mark = it.mark; next = it.next; numbers = it.numbers; bits = it.bits };
     filter = λ b is. let it = each_saved b is in let was = w.filter it.0 it.1 in
         record { counts = (was.counts.0 ∙ sym it.2.m, was.counts.1 ∙ sym it.2.k); mark = it.2.mark; next = it.2.next; made = it.2.made };
     synced = w.synced;

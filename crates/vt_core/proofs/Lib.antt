@@ -2,6 +2,7 @@ pub mod Lists
 pub mod Combined
 pub mod Recovered
 pub mod Read
+pub mod MarksRead
 pub mod Runs
 pub mod Calls
 pub mod LogWork
@@ -27,7 +28,6 @@ pub mod Held
 pub mod LogMount
 pub mod Mounted
 pub mod Opened
-pub mod Partitions
 pub mod Refused
 pub mod Returned
 pub mod Standing

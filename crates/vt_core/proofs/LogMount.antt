@@ -1,8 +1,8 @@
 -- Mounting before the sections are opened.
-use Rattle.std.proofs.Common.{◌≡◌, ◌⊎◌, ⊎_elim, inl, inr, ◌≤◌, ◌+◌, ℕ, Bool, true, false, List, [], ◌∷◌, ◌++◌, length, map, take, Option, Some, None, Err, refl, sym, ◌∙◌, ap, subst, arith, append_assoc, ◌*◌}
+use Rattle.std.proofs.Common.{◌≡◌, ◌⊎◌, ⊎_elim, inl, inr, ◌≤◌, ◌+◌, ℕ, zero, suc, Bool, true, false, List, [], ◌∷◌, ◌++◌, length, map, take, Option, Some, None, Err, refl, sym, ◌∙◌, ap, subst, arith, append_assoc, length-append, ◌*◌}
 use Rattle.std.specs.Prelude.{IsTrue, MatchBool, sum, sum_by, ⊤, codes, if◌then◌else◌, nat_lt, not, ◌||◌, ◌==◌}
 use Rattle.std.specs.Str.{bytes_eq}
-use Rattle.std.specs.List.{All}
+use Rattle.std.specs.List.{All, flat_map, enumerate_from, range_with_len}
 use Rattle.std.specs.Option.{option_to_list}
 use Rattle.std.proofs.lemmas.List.Sums.{sum_by-take-le, sum_by-cons}
 use Rattle.vt_arena.specs.declared.bad.ArenaBad.{ArenaBad}
@@ -25,17 +25,19 @@ use Rattle.vt_log.specs.Whole.{IsWhole}
 use Rattle.vt_log.specs.declared.bad.LogBad.{LogBad}
 use Rattle.vt_log.specs.declared.bad.LogBad.TheVariants as log_bad
 use Rattle.vt_model.specs.History.{History}
-use Rattle.vt_part.specs.Layout.{AreDistinct, layout_of}
+use Rattle.vt_part.specs.Layout.{AreDistinct, arena_of, arenas_of, layout_of}
 use Rattle.vt_part.specs.Parts.{names_of, table_of, tables_of, disk_of}
 use Rattle.vt_part.specs.Table.{Table}
 use Rattle.vt_part.specs.declared.bad.PartBad.TheVariants as part_bad
 use Rattle.vt_part.specs.declared.layout.ArenaRegion.{ArenaRegion}
 use Rattle.vt_part.specs.declared.part.Part.{Part}
+use Rattle.vt_shard.specs.declared.mounting.Sizes.{Sizes}
+use Rattle.vt_told.specs.Told.{of_log}
 use Rattle.vt_core.specs.declared.devices.Devices.{Devices}
 use Rattle.vt_core.specs.Files.{PerDevice, all_of}
 use Rattle.vt_core.specs.Mounting.{IsLogRead, devices_in, tables_in}
 use Rattle.vt_core.specs.Opening.{AreHeld, IsLogFound, IsMountOf, with_log}
-use Rattle.vt_core.specs.Refusals.{CountsRefusal, PassesOrRefuses, told_of_log}
+use Rattle.vt_core.specs.Refusals.{CountsRefusal, PassesOrRefuses}
 use Rattle.vt_core.proofs.Held.{hold_still}
 use Rattle.vt_core.proofs.Refused.{counts_more}
 use Rattle.vt_core.proofs.Returned.{held_mount}
@@ -52,6 +54,25 @@ count_same (t ∷ tables) =
     let left : sum (map (λ t. t.count) (t ∷ tables)) ≡ t.count + sum (map (λ t. t.count) tables) = sum_by-cons (λ n. n) t.count (map (λ t. t.count) tables) in
     let right : arena_count (t ∷ tables) ≡ t.count + arena_count tables = sum_by-cons (λ t. t.count) t tables in
     omega (arith, rest, left, right)
+
+-- ---- how many arenas there are
+
+length_range : (a n : ℕ) → length (range_with_len a n) ≡ n
+length_range a zero = refl
+length_range a (suc n) = omega (arith, length_range (a + 1) n)
+
+length_arenas : (part : ℕ) (t : Table) → length (arenas_of part t) ≡ t.count
+length_arenas part t = length-map (range_with_len 0 t.count) (arena_of part t) ∙ length_range 0 t.count
+
+abbrev laid : ℕ → List Table → List ArenaRegion
+laid first tables = flat_map (λ numbered. arenas_of numbered.0 numbered.1) (enumerate_from first tables)
+
+pub length_laid : (first : ℕ) (tables : List Table) → length (laid first tables) ≡ sum_by (λ t. t.count) tables
+length_laid first [] = refl
+length_laid first (t ∷ tables) =
+    let both : length (laid first (t ∷ tables)) ≡ length (arenas_of first t) + length (laid (first + 1) tables) = length-append (arenas_of first t) (laid (first + 1) tables) in
+    let sums : sum_by (λ t. t.count) (t ∷ tables) ≡ t.count + sum_by (λ t. t.count) tables = sum_by-cons (λ t. t.count) t tables in
+    omega (arith, both, sums, length_arenas first t, length_laid (first + 1) tables)
 
 -- ---- a test of an arena's fields tells no fault
 
@@ -115,7 +136,7 @@ arenas_none behind i (r ∷ rest) (f ∷ fields) =
 
 -- a fault is told exactly where the log's mount told one
 counts_log : (names : List (List ℕ)) (layout : List ArenaRegion) (fields : List (List ℕ)) (why : LogBad) (old new : List ℕ) → RefusesMount names layout fields why
-    → MatchBool (is_fault why) (OneHasRisen old new) (new ≡ old) → CountsRefusal (told_of_log layout why) old new
+    → MatchBool (is_fault why) (OneHasRisen old new) (new ≡ old) → CountsRefusal (of_log layout why) old new
 counts_log names layout fields log_bad.Fault old new refuses it = it
 counts_log names layout fields log_bad.NoMemory old new refuses it = it
 counts_log names layout fields (log_bad.Order i clumps) old new refuses it = it
@@ -130,7 +151,7 @@ counts_log names layout fields (log_bad.Part part_bad.NotFormatted) old new refu
 counts_log names layout fields (log_bad.Part (part_bad.Torn field found want)) old new refuses it = absurd refuses
 counts_log names layout fields (log_bad.Part part_bad.NoMemory) old new refuses it = absurd refuses
 
-module _ {D : Type 0} (score : List ℕ → List ℕ) (disk : DiskOf D) (tables : List Table) (before devices : List D) (filter : Option D) (sessions : ℕ) where
+module _ {D : Type 0} (score : List ℕ → List ℕ) (disk : DiskOf D) (tables : List Table) (before devices : List D) (filter : Option D) (sizes : Sizes) (sessions : ℕ) where
   abbrev pd : PerDevice D
   pd = with_log before devices filter
 
@@ -139,12 +160,12 @@ module _ {D : Type 0} (score : List ℕ → List ℕ) (disk : DiskOf D) (tables 
 
   -- more arenas than there may be
   pub arenas_mount : (bad : MountBad) (back : Devices D) → devices_in back ≡ pd → tables_in back ≡ tables
-      → PassesOrRefuses Arenas 4096 0 (map (λ t. t.count) tables) (Err bad) → IsMountOf score disk tables pd sessions (Err (bad, back))
+      → PassesOrRefuses Arenas 4096 0 (map (λ t. t.count) tables) (Err bad) → IsMountOf score disk tables pd sizes sessions (Err (bad, back))
   arenas_mount bad back is are it =
       let first : 0 + it.0 ≡ it.0 = omega arith in
       let same : bad ≡ Disagree it.0 Arenas (arena_count tables) 4096 =
       it.2 ∙ ap (λ (p : ℕ). Disagree p Arenas (sum (map (λ t. t.count) tables)) 4096) first ∙ ap (λ (n : ℕ). Disagree it.0 Arenas n 4096) (count_same tables) in
-      held_mount score disk tables pd pd bad back sessions is are (still before (hold_still disk before))
+      held_mount score disk tables pd pd bad back sizes sessions is are (still before (hold_still disk before))
       (λ c setup. inr (inr (inr (inr (inr (inl (inl (it.0, it.1, same))))))))
       (subst (λ (b : MountBad). CountsRefusal b (map disk.faults (all_of pd)) (map disk.faults (all_of pd))) (sym same) refl)
       (λ c h g base tells of limits.
@@ -157,21 +178,21 @@ module _ {D : Type 0} (score : List ℕ → List ℕ) (disk : DiskOf D) (tables 
       → MatchBool (is_fault why) (OneHasRisen (map disk.faults before) (map disk.faults after)) (map disk.faults after ≡ map disk.faults before)
       → ((g : History) (base : ℕ) → IsTrue disk.tells → AreDistinct (map (λ t. t.name) tables) → IsLog score (layout_of tables) (map disk.bytes before) g base
       → (why ≡ log_bad.Fault) ⊎ (why ≡ log_bad.NoMemory))
-      → IsMountOf score disk tables pd sessions (Err (told_of_log (layout_of tables) why, back))
+      → IsMountOf score disk tables pd sizes sessions (Err (of_log (layout_of tables) why, back))
   log_mount after why back is are fields read refuses held counts found =
       let f = disk.faults in
       let rest = devices ++ option_to_list filter in
-      let bad = told_of_log (layout_of tables) why in
+      let bad = of_log (layout_of tables) why in
       let told : CountsRefusal bad (map f before ++ map f rest) (map f after ++ map f rest) =
       counts_more bad (map f rest) (map f before) (map f after) (counts_log (map (λ t. t.name) tables) (layout_of tables) fields why (map f before) (map f after) refuses counts) in
       let here : map f before ++ map f rest ≡ map f (before ++ devices ++ option_to_list filter) = sym (map-append f before rest) ∙ ap (map f) (sym (append_assoc before devices (option_to_list filter))) in
       let there : map f after ++ map f rest ≡ map f (after ++ devices ++ option_to_list filter) = sym (map-append f after rest) ∙ ap (map f) (sym (append_assoc after devices (option_to_list filter))) in
-      held_mount score disk tables pd (with_log after devices filter) bad back sessions is are (still after held)
+      held_mount score disk tables pd (with_log after devices filter) bad back sizes sessions is are (still after held)
       (λ c setup. inr (inr (inl (record { why = why; bad_is = refl; fields = fields; read = read; refuses = refuses }))))
       (subst (λ (l : List ℕ). CountsRefusal bad l (map f (after ++ devices ++ option_to_list filter))) here (subst (λ (l : List ℕ). CountsRefusal bad (map f before ++ map f rest) l) there told))
       (λ c h g base tells of limits. ⊎_elim
-      (λ fault. inl (ap (told_of_log (layout_of tables)) fault))
-      (λ memory. inr (ap (told_of_log (layout_of tables)) memory))
+      (λ fault. inl (ap (of_log (layout_of tables)) fault))
+      (λ memory. inr (ap (of_log (layout_of tables)) memory))
       (found g base tells limits.names of.read))
 
 -- what is known of a log that was just mounted

@@ -187,6 +187,7 @@ module _ {D : Type 0} (score : List ℕ → List ℕ) (disk : DiskOf D) (k : Cor
       live = subst (λ (c : Setup). IsLive c i s.section.head) (sym setup) it.live;
       buckets = it.buckets;
       some = it.some;
+      rest = it.rest;
       filed = omega (arith, it.filed, durable);
       mark = omega (arith, it.mark, durable);
       next = omega (arith, it.next, durable);

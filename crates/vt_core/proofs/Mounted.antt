@@ -24,10 +24,11 @@ use Rattle.vt_part.specs.Table.{Table, IsPartition}
 use Rattle.vt_part.specs.declared.layout.ArenaRegion.{ArenaRegion}
 use Rattle.vt_shard.specs.Shard.{ShardState}
 use Rattle.vt_shard.specs.Sound.{IsSoundFrom}
+use Rattle.vt_shard.specs.declared.mounting.Sizes.{Sizes}
 use Rattle.vt_core.specs.declared.TheConstants.{MOST_BUCKETS}
 use Rattle.vt_core.specs.Core.{CoreState, setup_of, devices_of, stops_of}
 use Rattle.vt_core.specs.Files.{PerDevice, all_of}
-use Rattle.vt_core.specs.Mounting.{IsFresh, IsHeadRead, IsLogOf, IsLogRead, IsMarkRead, IsReadAs, IsSetupOf, KeepsLimits, Mounts, Recalls, AreCovered, ReadsEntriesOnce}
+use Rattle.vt_core.specs.Mounting.{HasRoomOf, IsFresh, IsHeadRead, IsLogOf, IsLogRead, IsMarkRead, IsReadAs, IsSetupOf, KeepsLimits, Mounts, Recalls, AreCovered, ReadsEntriesOnce}
 use Rattle.vt_core.specs.Opening.{IsFilterOpened, IsLogFound, IsOpened, IsShardMade, OpensFilter, TestsParts, with_log}
 use Rattle.vt_core.specs.Recalling.{ReadsBack, ReadsLogBack, opened, Recalls as RecallsFrom}
 use Rattle.vt_core.specs.Sound.{IsSound, IsSoundFilter}
@@ -94,8 +95,8 @@ LegalPrefix = (score : List ℕ → List ℕ) (c : Setup) (h : History) (n : ℕ
 abbrev pub LegalBase : Type 0
 LegalBase = (score : List ℕ → List ℕ) (c : Setup) (base : ℕ) (h : History) → IsLegal score c h → IsLegal score (record c { base = base }) h
 
-module _ {D : Type 0} (score : List ℕ → List ℕ) (disk : DiskOf D) (devices : List D) (sections : List (SectionState D)) (made : List (ShardState D)) (lumps clean : ℕ)
-    (opens : AllZip (IsOpened disk) devices sections) (makes : AllZip (IsShardMade disk lumps clean) sections made)
+module _ {D : Type 0} (score : List ℕ → List ℕ) (disk : DiskOf D) (devices : List D) (sections : List (SectionState D)) (made : List (ShardState D)) (sizes : Sizes)
+    (opens : AllZip (IsOpened disk) devices sections) (makes : AllZip (IsShardMade disk sizes.lumps sizes.clean) sections made)
     (log log1 : LogState D) (bits bits1 : Filter) (shards : List (ShardState D)) (least : ℕ)
     (filter : Option D) (bloom : Option (BloomState D)) (filter_opens : OpensFilter disk filter bloom bits) (part : ℕ) (tests : TestsParts {U = ⊤} part sections bloom log.durable (Ok tt))
     (before : List D) (given : IsLogFound score disk before devices filter log) (short : All (λ r. r.region.len ≤ 2 ^ 30) (layout_of log.tables))
@@ -113,10 +114,10 @@ module _ {D : Type 0} (score : List ℕ → List ℕ) (disk : DiskOf D) (devices
   pd = with_log before devices filter
 
   pub is_whole : IsWhole disk k
-  is_whole = whole score disk devices sections made lumps clean opens makes log log1 bits bits1 shards back filter bloom filter_opens part tests all.rest sessions many_sessions some_arena some_section few_sections
+  is_whole = whole score disk devices sections made sizes.lumps sizes.clean opens makes log log1 bits bits1 shards back filter bloom filter_opens part tests all.rest sessions many_sessions some_arena some_section few_sections
 
-  abbrev link : (i : ℕ) (after : ShardState D) → slice_get shards i ≡ Some after → IsChain disk devices sections made lumps clean i after
-  link i after at = chain score disk devices sections made lumps clean opens makes log log1 bits bits1 shards back i after at
+  abbrev link : (i : ℕ) (after : ShardState D) → slice_get shards i ≡ Some after → IsChain disk devices sections made sizes.lumps sizes.clean i after
+  link i after at = chain score disk devices sections made sizes.lumps sizes.clean opens makes log log1 bits bits1 shards back i after at
 
   -- ---- its layout
 
@@ -124,7 +125,7 @@ module _ {D : Type 0} (score : List ℕ → List ℕ) (disk : DiskOf D) (devices
   arenas_are = ap (λ (l : LogState D). map (λ r. r.region.len) l.layout) back.log ∙ ap (λ (rs : List ArenaRegion). map (λ r. r.region.len) rs) given.layout
 
   sections_are : map (λ s. s.section.buckets) shards ≡ map (λ device. buckets_in (disk.size device)) devices
-  sections_are = room_buckets score disk devices sections made lumps clean opens makes log log1 bits bits1 shards back
+  sections_are = room_buckets score disk devices sections made sizes.lumps sizes.clean opens makes log log1 bits bits1 shards back
 
   setup_is : IsSetupOf disk log.tables pd (setup_of k)
   setup_is = record { arenas = arenas_are; sections = sections_are }
@@ -132,19 +133,19 @@ module _ {D : Type 0} (score : List ℕ → List ℕ) (disk : DiskOf D) (devices
   limits_are : KeepsLimits log.tables (setup_of k)
   limits_are = record {
     arenas = given.arenas;
-    buckets = subst (λ (l : List ℕ). sum l ≤ MOST_BUCKETS) (sym (same_buckets score disk devices sections made lumps clean opens makes log log1 bits bits1 shards back)) tests.0;
+    buckets = subst (λ (l : List ℕ). sum l ≤ MOST_BUCKETS) (sym (same_buckets score disk devices sections made sizes.lumps sizes.clean opens makes log log1 bits bits1 shards back)) tests.0;
     sections = all_from (λ n. 0 < n) (map (λ s. s.section.buckets) shards) (λ i n at.
         let s = beside shards (map (λ s. s.section.buckets) shards) i n (length-map shards (λ s. s.section.buckets)) at in
         let it = link i s.0 s.1 in
         let e : s.0.section.buckets ≡ n = same_Some s.0.section.buckets n (sym (at_map (λ s. s.section.buckets) shards i s.0 s.1) ∙ at) in
-        let some : 0 < s.0.section.buckets = subst (λ (m : ℕ). 0 < m) (sym (chain_buckets score disk devices sections made lumps clean opens makes log log1 bits bits1 shards back i s.0 it)) it.opens.some in
+        let some : 0 < s.0.section.buckets = subst (λ (m : ℕ). 0 < m) (sym (chain_buckets score disk devices sections made sizes.lumps sizes.clean opens makes log log1 bits bits1 shards back i s.0 it)) it.opens.some in
         omega (arith, some, e));
     names = given.read.mounted.distinct;
   }
 
   sizes_are : map disk.size (all_of (devices_of k)) ≡ map disk.size (all_of pd)
   sizes_are = all_map disk.size log1.disks before (map (λ s. s.section.disk) shards) devices (map (λ b. b.disk) (option_to_list bloom)) (option_to_list filter)
-      (back.disks.sizes_are ∙ given.held.sizes_are) (shard_sizes score disk devices sections made lumps clean opens makes log log1 bits bits1 shards back) (filter_same disk disk.size filter bloom bits (λ d b it. it.reads.size) filter_opens)
+      (back.disks.sizes_are ∙ given.held.sizes_are) (shard_sizes score disk devices sections made sizes.lumps sizes.clean opens makes log log1 bits bits1 shards back) (filter_same disk disk.size filter bloom bits (λ d b it. it.reads.size) filter_opens)
 
   -- ---- no fault was told
 
@@ -159,7 +160,7 @@ module _ {D : Type 0} (score : List ℕ → List ℕ) (disk : DiskOf D) (devices
       let left : map f (log1.disks ++ s1 ++ b1) ≡ map f (log1.disks ++ s1) ++ map f b1 = map-append f (log1.disks ++ s1) b1 in
       let right : map f (log.disks ++ s0 ++ b0) ≡ map f (log.disks ++ s0) ++ map f b0 = map-append f (log.disks ++ s0) b0 in
       let same : map f b1 ≡ map f b0 = filter_same disk f filter bloom bits (λ d b it. it.faults) filter_opens in
-      let last : map f (log.disks ++ s0 ++ b0) ≡ map f (before ++ devices ++ b0) = all_map f log.disks before s0 devices b0 b0 given.faults (made_faults score disk devices sections made lumps clean opens makes) refl in
+      let last : map f (log.disks ++ s0 ++ b0) ≡ map f (before ++ devices ++ b0) = all_map f log.disks before s0 devices b0 b0 given.faults (made_faults score disk devices sections made sizes.lumps sizes.clean opens makes) refl in
       let mid : map f (log1.disks ++ s1) ++ map f b1 ≡ map f (log.disks ++ s0) ++ map f b0 = cc in
       left ∙ mid ∙ sym right ∙ last
 
@@ -207,7 +208,7 @@ module _ {D : Type 0} (score : List ℕ → List ℕ) (disk : DiskOf D) (devices
   head_read : (i : ℕ) (s : ShardState D) → slice_get shards i ≡ Some s → IsHeadRead disk pd i s.section.head
   head_read i s at =
       let it = link i s at in
-      let same = chain_head score disk devices sections made lumps clean opens makes log log1 bits bits1 shards back i s it in
+      let same = chain_head score disk devices sections made sizes.lumps sizes.clean opens makes log log1 bits bits1 shards back i s it in
       subst (λ h. IsHeadRead disk pd i h) (sym same) (record {
         device = it.device;
         at = it.device_at;
@@ -215,7 +216,7 @@ module _ {D : Type 0} (score : List ℕ → List ℕ) (disk : DiskOf D) (devices
       })
 
   opened_filter : (b : BloomState D) → bloom ≡ Some b → (device : D) × (filter ≡ Some device) × IsFilterOpened disk device b bits
-  opened_filter = filter_opened score disk devices sections made lumps clean opens makes log log1 bits bits1 shards back filter bloom filter_opens part tests all.rest sessions many_sessions some_arena some_section few_sections
+  opened_filter = filter_opened score disk devices sections made sizes.lumps sizes.clean opens makes log log1 bits bits1 shards back filter bloom filter_opens part tests all.rest sessions many_sessions some_arena some_section few_sections
 
   mark_read : (b : BloomState D) → bloom ≡ Some b → IsMarkRead disk pd b.mark
   mark_read b is =
@@ -238,14 +239,19 @@ module _ {D : Type 0} (score : List ℕ → List ℕ) (disk : DiskOf D) (devices
         same_Some o b.0.twin.stopped (sym at ∙ at_map (λ b. b.twin.stopped) (option_to_list bloom) i b.0 b.1) ∙ (opened_filter b.0 (only_one bloom i b.0 b.1)).2.goes)),
   )
 
-  is_fresh : IsFresh disk log.tables pd sessions k
+  room_at : (i : ℕ) (s : ShardState D) → slice_get shards i ≡ Some s → HasRoomOf sizes s
+  room_at i s at =
+      let it = link i s at in
+      (it.keeps.lumps ∙ ap (λ (t : ShardState D). t.lumps) it.makes.is, it.keeps.clean_room ∙ ap (λ (t : ShardState D). t.index.clean_room) it.makes.is)
+
+  is_fresh : IsFresh disk log.tables pd sizes sessions k
   is_fresh = record {
     tables_are = ap (λ (l : LogState D). l.tables) back.log;
     layout = ap (λ (l : LogState D). l.layout) back.log ∙ given.layout;
     setup = setup_is;
     limits = limits_are;
     sizes = sizes_are;
-    shards = many_shards score disk devices sections made lumps clean opens makes log log1 bits bits1 shards back;
+    shards = many_shards score disk devices sections made sizes.lumps sizes.clean opens makes log log1 bits bits1 shards back;
     filter = filter_many disk filter bloom bits filter_opens;
     own_filter = λ none. let it = own_bits disk filter bloom bits filter_opens none in (back.counts.0 ∙ it.0, back.counts.1 ∙ it.1);
     log_read = log_read;
@@ -257,6 +263,7 @@ module _ {D : Type 0} (score : List ℕ → List ℕ) (disk : DiskOf D) (devices
     saves = all_bloom (λ b. b.twin.change ≡ None) bloom (λ b is. (opened_filter b is).2.rest);
     synced = refl;
     waiting = refl;
+    rooms = all_from (HasRoomOf sizes) shards room_at;
   }
 
   -- ---- on devices that stand for a history
@@ -290,7 +297,7 @@ module _ {D : Type 0} (score : List ℕ → List ℕ) (disk : DiskOf D) (devices
     shard_sound i s at =
         let it = link i s at in
         let store = of_store score disk c g tells devices of.setup.sections i it.device it.section it.device_at (was_read.sections i it.device it.device_at) it.opens in
-        let before = sound_shard score disk c g lumps clean i it.section it.before tells store it.makes in
+        let before = sound_shard score disk c g sizes.lumps sizes.clean i it.section it.before tells store it.makes in
         let after = recalled.shards i it.before s it.before_at at c before in
         let low : least ≤ s.section.head.mark = omega (arith, marks i it.before it.before_at, ap (λ h. h.mark) it.keeps.head) in
         subst (λ (n : ℕ). IsSoundFrom score (setup_of k) disk s g n 0) (sym durable_is)
@@ -353,7 +360,7 @@ module _ {D : Type 0} (score : List ℕ → List ℕ) (disk : DiskOf D) (devices
     recalls = record { sound = is_sound; setup = setup_same; durable = durable_is }
 
   pub mounts : (prefix : ReadsPrefix disk) (none_lacks : NoneLacks disk) (base_is_free : BaseIsFree disk) (legal_prefix : LegalPrefix) (legal_base : LegalBase) (one : HasOneSaved)
-      → Mounts score disk log.tables pd sessions k
+      → Mounts score disk log.tables pd sizes sessions k
   mounts prefix none_lacks base_is_free legal_prefix legal_base one = record {
     recalls = λ c h g base tells of. recalls tells prefix none_lacks base_is_free legal_prefix legal_base one c h g base of;
     fresh = is_fresh;

@@ -17,7 +17,8 @@ use Rattle.vt_log.specs.Answers.{HoldTheSame}
 use Rattle.vt_log.specs.Faults.{OneHasRisen}
 use Rattle.vt_shard.specs.Shard.{ShardState}
 use Rattle.vt_core.specs.Opening.{IsOpened, IsShardMade}
-use Rattle.vt_core.specs.Refusals.{CountsRefusal, told_of_filter, told_of_section}
+use Rattle.vt_core.specs.Refusals.{CountsRefusal}
+use Rattle.vt_told.specs.Told.{of_filter, of_section}
 use Rattle.vt_core.proofs.Held.{IsHeld, held_reads, held_still, hold_zip, risen_first, risen_right}
 use Rattle.vt_core.proofs.Opened.{IsSplitAt, split_at}
 use Rattle.vt_core.proofs.Zips.{zip_append, zip_implies, zip_length, zip_map, zip_same, zip_self}
@@ -49,21 +50,21 @@ lift : (b : Bool) (x y : ℕ) (old new : List ℕ) → (HasRisen x y → OneHasR
 lift true x y old new risen same it = risen it
 lift false x y old new risen same it = same it
 
-section_counts : (part : ℕ) (bad : SectBad) (old new : List ℕ) → MatchBool (refuses_by_fault bad) (OneHasRisen old new) (new ≡ old) → CountsRefusal (told_of_section part bad) old new
+section_counts : (part : ℕ) (bad : SectBad) (old new : List ℕ) → MatchBool (refuses_by_fault bad) (OneHasRisen old new) (new ≡ old) → CountsRefusal (of_section part bad) old new
 section_counts part sect_bad.Fault old new it = it
 section_counts part (sect_bad.TooSmall len need) old new it = it
 section_counts part sect_bad.NotFormatted old new it = it
 section_counts part (sect_bad.Torn field found want) old new it = it
 section_counts part sect_bad.NoMemory old new it = it
 
-filter_counts : (part : ℕ) (bad : BloomBad) (old new : List ℕ) → MatchBool (is_fault bad) (OneHasRisen old new) (new ≡ old) → CountsRefusal (told_of_filter part bad) old new
+filter_counts : (part : ℕ) (bad : BloomBad) (old new : List ℕ) → MatchBool (is_fault bad) (OneHasRisen old new) (new ≡ old) → CountsRefusal (of_filter part bad) old new
 filter_counts part bloom_bad.Fault old new it = it
 filter_counts part (bloom_bad.TooSmall len need) old new it = it
 filter_counts part bloom_bad.NotFormatted old new it = it
 filter_counts part (bloom_bad.Torn field found want) old new it = it
 filter_counts part bloom_bad.NoMemory old new it = it
 
-pub one_filter : (part : ℕ) (bad : BloomBad) (old new : ℕ) → MatchBool (is_fault bad) (HasRisen old new) (new ≡ old) → CountsRefusal (told_of_filter part bad) (old ∷ []) (new ∷ [])
+pub one_filter : (part : ℕ) (bad : BloomBad) (old new : ℕ) → MatchBool (is_fault bad) (HasRisen old new) (new ≡ old) → CountsRefusal (of_filter part bad) (old ∷ []) (new ∷ [])
 one_filter part bad old new it =
     filter_counts part bad (old ∷ []) (new ∷ []) (lift (is_fault bad) old new (old ∷ []) (new ∷ []) (λ rose. risen_first old new [] rose) (λ e. ap (λ (n : ℕ). n ∷ []) e) it)
 
@@ -100,7 +101,7 @@ module _ {D : Type 0} (disk : DiskOf D) (all : List D) (sections : List (Section
 
   pub back_counts : (part : ℕ) (bad : SectBad) (back waiting : List D) → waiting ≡ rest ++ after ∷ [] → back ≡ map (λ s. s.disk) sections ++ reverse waiting
       → MatchBool (refuses_by_fault bad) (HasRisen (disk.faults device) (disk.faults after)) (disk.faults after ≡ disk.faults device)
-      → CountsRefusal (told_of_section part bad) (map disk.faults all) (map disk.faults back)
+      → CountsRefusal (of_section part bad) (map disk.faults all) (map disk.faults back)
   back_counts part bad back waiting w b cause =
       let f = disk.faults in
       let less = map f it.done in
@@ -113,8 +114,8 @@ module _ {D : Type 0} (disk : DiskOf D) (all : List D) (sections : List (Section
       let both : MatchBool (refuses_by_fault bad) (OneHasRisen (less ++ f device ∷ more) (less ++ f after ∷ more)) (less ++ f after ∷ more ≡ less ++ f device ∷ more) =
       lift (refuses_by_fault bad) (f device) (f after) (less ++ f device ∷ more) (less ++ f after ∷ more)
       (λ rose. risen_right less (f device ∷ more) (f after ∷ more) (risen_first (f device) (f after) more rose)) (λ e. ap (λ (n : ℕ). less ++ n ∷ more) e) cause in
-      subst (λ (l : List ℕ). CountsRefusal (told_of_section part bad) l (map f back)) old
-      (subst (λ (l : List ℕ). CountsRefusal (told_of_section part bad) (less ++ f device ∷ more) l) new
+      subst (λ (l : List ℕ). CountsRefusal (of_section part bad) l (map f back)) old
+      (subst (λ (l : List ℕ). CountsRefusal (of_section part bad) (less ++ f device ∷ more) l) new
       (section_counts part bad (less ++ f device ∷ more) (less ++ f after ∷ more) both))
 
 -- ---- the shards

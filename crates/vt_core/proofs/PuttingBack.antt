@@ -28,7 +28,7 @@ use Rattle.vt_shard.specs.Shard.{ShardState, HasScore, bucket_at}
 use Rattle.vt_shard.specs.Sound.{IsSound as IsSoundShard, IsSoundFrom, IsSoundWithout, LooksSoundly}
 use Rattle.vt_shard.specs.declared.TheConstants.{ROOM}
 use Rattle.vt_core.specs.Recalling.{FitsBuckets, IsQuiet, IsReadBack, KeepsSection}
-use Rattle.vt_core.specs.Refusals.{told_of_shard}
+use Rattle.vt_told.specs.Told.{of_shard}
 use Rattle.vt_core.specs.TakingBack.{CountsShard, FaultOrDamage, HasEntries, HasNoRoomFor, IsCrowdedWith, IsOwnCrowd, IsSoundAt, IsUnwritten, LacksKey, LooksForEntry, PutsBack, TakesBack, WritesBack}
 use Rattle.vt_core.proofs.TakingBack.{bucket_cases, counts_looked, entries_stay, keeps_none, keeps_then, lacks_stays, look_cause, look_tells, looks_dirty, looks_keep, looks_read_back, unwritten_after}
 
@@ -45,7 +45,7 @@ any_default (x ∷ xs) (suc k) a d below = any_default xs k a d (omega (arith, b
 -- what is told of an error
 abbrev told_in : Result ℕ ShardErr → Result ⊤ MountBad
 told_in (Ok n) = Ok tt
-told_in (Err bad) = Err (told_of_shard bad)
+told_in (Err bad) = Err (of_shard bad)
 
 in_ok : (P : ℕ → Type 0) (r : Result ℕ ShardErr) (count : ℕ) → r ≡ Ok count → IfOk r P → P count
 in_ok P (Ok n) count is it = let same : n ≡ count = cc in subst P same it
@@ -87,6 +87,8 @@ module _ {D : Type 0} (disk : DiskOf D) (apart : IsUnambiguous) (part : ℕ) (in
     buckets = put_same (λ s. s.section.buckets) refl (ap (λ (s : ShardState D). s.section.buckets) put);
     head = put_same (λ s. s.section.head) refl (ap (λ (s : ShardState D). s.section.head) put);
     size = counts.looks.reads.size ∙ ap (λ (s : ShardState D). disk.size s.section.disk) put;
+    lumps = put_same (λ s. s.lumps) refl (ap (λ (s : ShardState D). s.lumps) put);
+    clean_room = put_same (λ s. s.index.clean_room) refl (ap (λ (s : ShardState D). s.index.clean_room) put);
   }
 
   put_dirty : new.index.dirty ≡ old.index.dirty ++ info ∷ []
@@ -123,6 +125,8 @@ module _ {D : Type 0} (disk : DiskOf D) (apart : IsUnambiguous) (part : ℕ) (in
         buckets = ap (λ (s : ShardState D). s.section.buckets) put;
         head = ap (λ (s : ShardState D). s.section.head) put;
         size = ap (λ (s : ShardState D). disk.size s.section.disk) put;
+        lumps = ap (λ (s : ShardState D). s.lumps) put;
+        clean_room = ap (λ (s : ShardState D). s.index.clean_room) put;
       } in
       let same = counts.looks.same in
       let range : InRange old.section.head old.section.buckets n = subst (λ (m : ℕ). InRange old.section.head old.section.buckets m) (sym n_is) own in
@@ -133,6 +137,8 @@ module _ {D : Type 0} (disk : DiskOf D) (apart : IsUnambiguous) (part : ℕ) (in
         buckets = ap (λ (s : ShardState D). s.section.buckets) same;
         head = ap (λ (s : ShardState D). s.section.head) same;
         size = counts.looks.reads.size;
+        lumps = ap (λ (s : ShardState D). s.lumps) same;
+        clean_room = ap (λ (s : ShardState D). s.index.clean_room) same;
       })
       (bucket_cases disk n r mid new counts.looks)
 
@@ -151,7 +157,7 @@ module _ {D : Type 0} (disk : DiskOf D) (apart : IsUnambiguous) (part : ℕ) (in
         faults_in (Ok m) e it = it
         faults_in (Err bad) e it = absurd (cc)
 
-    put_faults : (s : Result ⊤ MountBad) → ((x : ℕ) → r ≡ Ok x → (v : ⊤) × (s ≡ Ok v)) → ((bad : ShardErr) → r ≡ Err bad → s ≡ Err (told_of_shard bad))
+    put_faults : (s : Result ⊤ MountBad) → ((x : ℕ) → r ≡ Ok x → (v : ⊤) × (s ≡ Ok v)) → ((bad : ShardErr) → r ≡ Err bad → s ≡ Err (of_shard bad))
         → CountsShard s (disk.faults old.section.disk) (disk.faults new.section.disk)
     put_faults s done fails = subst (λ (d : D). CountsShard s (disk.faults d) (disk.faults new.section.disk)) (ap (λ (t : ShardState D). t.section.disk) put)
         (counts_looked n r tt (disk.faults mid.section.disk) (disk.faults new.section.disk) counts.looks.faults (look_cause disk n r mid new counts.looks) s done fails)
@@ -166,17 +172,17 @@ module _ {D : Type 0} (disk : DiskOf D) (apart : IsUnambiguous) (part : ℕ) (in
       unwritten = put_unwritten;
     }
 
-    pub puts_err : (bad : ShardErr) → r ≡ Err bad → PutsBack {U = ⊤} disk part info (Err (told_of_shard bad)) old new
+    pub puts_err : (bad : ShardErr) → r ≡ Err bad → PutsBack {U = ⊤} disk part info (Err (of_shard bad)) old new
     puts_err bad is = record {
       keeps = put_keeps;
       rests = λ bits below was number set. tt;
-      counts = put_faults (Err (told_of_shard bad)) (λ x e. let no : Err bad ≡ Ok x = sym is ∙ e in absurd (cc))
+      counts = put_faults (Err (of_shard bad)) (λ x e. let no : Err bad ≡ Ok x = sym is ∙ e in absurd (cc))
           (λ b e. ap told_in (sym is ∙ e));
       ends_early = inl (look_tells {T = ℕ} disk n bad mid new (subst (λ (x : Result ℕ ShardErr). Looks disk n x mid new) is counts.looks));
       sound = λ tells score c h was entry.
           let there = recalls score c h (length h) was entry in (
             sound.keeps tells score c h (length h) info.number there,
-            inl (ap told_of_shard (in_err r bad is (sound.undamaged score c h (length h) info.number tells there))),
+            inl (ap of_shard (in_err r bad is (sound.undamaged score c h (length h) info.number tells there))),
           );
       unwritten = put_unwritten;
     }

@@ -104,6 +104,7 @@ module _ {D : Type 0} (score : List ℕ → List ℕ) (disk : DiskOf D) (k : Cor
           mark = omega (arith, ap (λ (x : Head). x.mark) head);
         };
         size = reads.reads.size;
+        rest = λ none. ap (λ (t : SectionState D). t.phase) reads.section ∙ was.rest (sym reads.writeback ∙ none);
         filed = subst (λ (n : ℕ). n ≤ k.log.durable) (sym reads.filed) was.filed;
         writeback = λ below is. was.writeback below (sym reads.writeback ∙ is);
         mark = subst (λ (n : ℕ). n ≤ k.log.durable) (sym (ap (λ (x : Head). x.mark) head)) was.mark;
@@ -119,7 +120,7 @@ module _ {D : Type 0} (score : List ℕ → List ℕ) (disk : DiskOf D) (k : Cor
         some_shard = mid.some_shard;
         few_shards = mid.few_shards;
         few_sessions = mid.few_sessions;
-        shards = λ j t there. let it = mid.shards j t there in record { live = it.live; buckets = it.buckets; some = it.some; filed = it.filed; writeback = it.writeback; mark = it.mark; next = it.next; numbers = it.numbers; bits = it.bits };
+        shards = λ j t there. let it = mid.shards j t there in record { live = it.live; buckets = it.buckets; some = it.some; rest = it.rest; filed = it.filed; writeback = it.writeback; mark = it.mark; next = it.next; numbers = it.numbers; bits = it.bits };
         filter = λ b there. let it = mid.filter b there in record { counts = it.counts; mark = it.mark; next = it.next; made = it.made };
         synced = mid.synced;
         waiting = mid.waiting;

@@ -34,6 +34,7 @@ use Rattle.vt_core.specs.declared.devices.Devices.{Devices}
 use Rattle.vt_core.specs.Core.{CoreState, devices_of}
 use Rattle.vt_core.specs.Files.{PerDevice, all_of}
 use Rattle.vt_core.specs.Mounting.{IsLogOf, IsReadAs, IsSetupOf, KeepsLimits, LacksMany, LeavesStanding, Mounts, devices_in, tables_in}
+use Rattle.vt_shard.specs.declared.mounting.Sizes.{Sizes}
 use Rattle.vt_core.specs.Opening.{AgreeWith, AreHeld, IsLogFound, IsMountOf, IsOpened, IsShardMade, OpensFilter, RefusesBeside, with_log}
 use Rattle.vt_core.specs.Recalling.{EndsEarly, IsCrowdedIn, IsDamagedAt, IsDamagedIn, ReadsBack, ReadsLogBack, KeepsBytes, Recalls as RecallsFrom, opened}
 use Rattle.vt_core.specs.Refusals.{CountsRefusal, IsDamageAt, IsDamagedEntry, IsEarly, IsRefused, BucketIsCrowded}
@@ -61,13 +62,13 @@ filter_held {D} disk (Some d) bloom bits it =
     (hold_zip disk (d ∷ []) (it.0.disk ∷ []) (held_reads disk 3 d it.0.disk it.2.reads, tt))
 
 -- devices that hold what they held are handed back, for some cause
-pub held_mount : {D : Type 0} (score : List ℕ → List ℕ) (disk : DiskOf D) (tables : List Table) (pd new : PerDevice D) (bad : MountBad) (back : Devices D) (sessions : ℕ)
+pub held_mount : {D : Type 0} (score : List ℕ → List ℕ) (disk : DiskOf D) (tables : List Table) (pd new : PerDevice D) (bad : MountBad) (back : Devices D) (sizes : Sizes) (sessions : ℕ)
     → devices_in back ≡ new → tables_in back ≡ tables → AreHeld disk pd new
     → ((c : Setup) → IsSetupOf disk tables pd c → IsRefused score disk tables pd c bad)
     → CountsRefusal bad (map disk.faults (all_of pd)) (map disk.faults (all_of new))
     → ((c : Setup) (h g : History) (base : ℕ) → IsTrue disk.tells → IsLogOf score disk tables pd c h g base → KeepsLimits tables c → (bad ≡ Fault) ⊎ (bad ≡ NoMemory))
-    → IsMountOf score disk tables pd sessions (Err (bad, back))
-held_mount {D} score disk tables pd new bad back sessions is are held cause counts found = record {
+    → IsMountOf score disk tables pd sizes sessions (Err (bad, back))
+held_mount {D} score disk tables pd new bad back sizes sessions is are held cause counts found = record {
   mounts = tt;
   found = found;
   standing = λ tells. subst (λ (p : PerDevice D). LeavesStanding score disk tables pd p) (sym is) (leaves_held score disk tables pd new held);
@@ -98,13 +99,13 @@ module _ {D : Type 0} (score : List ℕ → List ℕ) (disk : DiskOf D) (before 
         filter_is = λ device is. it.filter 0 device (ap (λ (o : Option D). slice_get (option_to_list o) 0) is);
       }
 
-  pub beside_mount : (prefix : ReadsPrefix disk) (part : ℕ) → part ≡ length before → (sections : List D) (rest : Option D) (bad : MountBad) (back : Devices D) (sessions : ℕ)
+  pub beside_mount : (prefix : ReadsPrefix disk) (part : ℕ) → part ≡ length before → (sections : List D) (rest : Option D) (bad : MountBad) (back : Devices D) (sizes : Sizes) (sessions : ℕ)
       → devices_in back ≡ with_log log.disks sections rest → tables_in back ≡ log.tables → AreHeld disk (with_log [] devices filter) (with_log [] sections rest)
       → RefusesBeside disk part log.durable devices filter bad
       → CountsRefusal bad (map disk.faults (all_of (with_log [] devices filter))) (map disk.faults (all_of (with_log [] sections rest)))
       → ((c : Setup) (g : History) → IsTrue disk.tells → AgreeWith score disk c g devices filter → length g ≡ log.durable → (bad ≡ Fault) ⊎ (bad ≡ NoMemory))
-      → IsMountOf score disk log.tables pd sessions (Err (bad, back))
-  beside_mount prefix part at sections rest bad back sessions is tables held refuses counts found =
+      → IsMountOf score disk log.tables pd sizes sessions (Err (bad, back))
+  beside_mount prefix part at sections rest bad back sizes sessions is tables held refuses counts found =
       let f = disk.faults in
       let old = map f (devices ++ option_to_list filter) in
       let new = map f (sections ++ option_to_list rest) in
@@ -114,7 +115,7 @@ module _ {D : Type 0} (score : List ℕ → List ℕ) (disk : DiskOf D) (before 
       ap (λ (l : List ℕ). l ++ new) (sym given.faults) ∙ sym (map-append f log.disks (sections ++ option_to_list rest)) ∙ ap (map f) (sym (append_assoc log.disks sections (option_to_list rest))) in
       let all : CountsRefusal bad (map f (all_of pd)) (map f (log.disks ++ sections ++ option_to_list rest)) =
       subst (λ (l : List ℕ). CountsRefusal bad l (map f (log.disks ++ sections ++ option_to_list rest))) here (subst (λ (l : List ℕ). CountsRefusal bad (map f before ++ old) l) there less) in
-      held_mount score disk log.tables pd (with_log log.disks sections rest) bad back sessions is tables (record { partitions = given.held; sections = held.sections; filter = held.filter })
+      held_mount score disk log.tables pd (with_log log.disks sections rest) bad back sizes sessions is tables (record { partitions = given.held; sections = held.sections; filter = held.filter })
       (beside_cause score disk before log devices filter given part at bad refuses) all
       (λ c h g base tells of limits. found c g tells (agree_with prefix tells c h g base of limits) (sym (given.found g base tells of.read).2))
 
@@ -125,16 +126,16 @@ module _ {D : Type 0} (score : List ℕ → List ℕ) (disk : DiskOf D) (before 
     sections_held = hold_zip disk devices (map (λ s. s.disk) sections)
         (zip_map (IsHeld disk) (λ s. s.disk) devices sections (zip_implies (IsOpened disk) (λ d s. IsHeld disk d s.disk) devices sections (λ d s it. held_reads disk 3 d s.disk it.reads) opens))
 
-    pub memory_mount : (back : Devices D) (sessions : ℕ) → devices_in back ≡ with_log log.disks (map (λ s. s.disk) sections) (option_map (λ b. b.disk) bloom) → tables_in back ≡ log.tables
-        → IsMountOf score disk log.tables pd sessions (Err (NoMemory, back))
-    memory_mount back sessions is tables =
+    pub memory_mount : (back : Devices D) (sizes : Sizes) (sessions : ℕ) → devices_in back ≡ with_log log.disks (map (λ s. s.disk) sections) (option_map (λ b. b.disk) bloom) → tables_in back ≡ log.tables
+        → IsMountOf score disk log.tables pd sizes sessions (Err (NoMemory, back))
+    memory_mount back sizes sessions is tables =
         let f = disk.faults in
         let faults : map f (map (λ s. s.disk) sections) ≡ map f devices =
         zip_same f f devices (map (λ s. s.disk) sections)
         (zip_map (λ d e. f e ≡ f d) (λ s. s.disk) devices sections (zip_implies (IsOpened disk) (λ d s. f s.disk ≡ f d) devices sections (λ d s it. it.faults) opens)) in
         let saved : map f (option_to_list (option_map (λ b. b.disk) bloom)) ≡ map f (option_to_list filter) =
         ap (map f) (list_map (λ b. b.disk) bloom) ∙ filter_same disk f filter bloom bits (λ d b it. it.faults) filter_opens in
-        held_mount score disk log.tables pd (with_log log.disks (map (λ s. s.disk) sections) (option_map (λ b. b.disk) bloom)) NoMemory back sessions is tables
+        held_mount score disk log.tables pd (with_log log.disks (map (λ s. s.disk) sections) (option_map (λ b. b.disk) bloom)) NoMemory back sizes sessions is tables
         (record { partitions = given.held; sections = sections_held; filter = filter_held disk filter bloom bits filter_opens })
         (λ c setup. inr (inl refl))
         (all_map f log.disks before (map (λ s. s.disk) sections) devices (option_to_list (option_map (λ b. b.disk) bloom)) (option_to_list filter) given.faults faults saved)
@@ -298,9 +299,9 @@ module _ {D : Type 0} (score : List ℕ → List ℕ) (disk : DiskOf D) (before 
 
       pub read_mount : {U : Type 0} (prefix : ReadsPrefix disk) (legal_prefix : LegalPrefix) (agree : FilesAgree disk) (read : (d : D) → IsTrue disk.tells → disk.images d (disk.bytes d)) (least part : ℕ) → part ≡ length before
           → (bad : MountBad) → ReadsLogBack {U = U} score disk least part (Err bad) (opened log made bits) (opened log1 shards bits1)
-          → (handed : Devices D) (sessions : ℕ) → devices_in handed ≡ new → tables_in handed ≡ log1.tables
-          → IsMountOf score disk log.tables pd sessions (Err (bad, handed))
-      read_mount prefix legal_prefix agree read least part at bad all handed sessions is tables = record {
+          → (handed : Devices D) (sizes : Sizes) (sessions : ℕ) → devices_in handed ≡ new → tables_in handed ≡ log1.tables
+          → IsMountOf score disk log.tables pd sizes sessions (Err (bad, handed))
+      read_mount prefix legal_prefix agree read least part at bad all handed sizes sessions is tables = record {
         mounts = tt;
         found = λ c h g base tells of limits.
             inl (all.found c g tells (given.found g base tells of.read).0
@@ -325,9 +326,9 @@ module _ {D : Type 0} (score : List ℕ → List ℕ) (disk : DiskOf D) (before 
 
       pub found_mount : (prefix : ReadsPrefix disk) (agree : FilesAgree disk) (read : (d : D) → IsTrue disk.tells → disk.images d (disk.bytes d)) (least part : ℕ)
           → ReadsLogBack {U = Unit {0}} score disk least part (Ok tt) (opened log made bits) (opened log1 shards bits1)
-          → (k : CoreState D) (sessions : ℕ) → devices_of k ≡ new → Mounts score disk log.tables pd sessions k
-          → IsMountOf score disk log.tables pd sessions (Ok k)
-      found_mount prefix agree read least part all k sessions is mounts = record {
+          → (k : CoreState D) (sizes : Sizes) (sessions : ℕ) → devices_of k ≡ new → Mounts score disk log.tables pd sizes sessions k
+          → IsMountOf score disk log.tables pd sizes sessions (Ok k)
+      found_mount prefix agree read least part all k sizes sessions is mounts = record {
         mounts = mounts;
         found = λ c h g base tells of limits. tt;
         standing = λ tells. subst (λ (p : PerDevice D). LeavesStanding score disk log.tables pd p) (sym is)

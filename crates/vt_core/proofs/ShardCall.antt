@@ -299,6 +299,10 @@ fewer {before = before} {after = after} (Some below) is some takes info has =
     Contains-permutation (it.settled ++ after.index.dirty) before.index.dirty info (IsPermutation-sym before.index.dirty (it.settled ++ after.index.dirty) it.dirty)
     (Contains-append_right it.settled after.index.dirty info has)
 
+no_some : (o : Option ℕ) → o ≡ None → IsSome o → ⊥
+no_some None is some = absurd (cc)
+no_some (Some n) is some = absurd (cc)
+
 -- what a shard keeps in a step of its writeback
 pub step_keeps : {D : Type 0} (disk : DiskOf D) (k : CoreState D) (i : ℕ) (before after : ShardState D) (r : Result Step ShardErr) → IsShardOf disk k i k.log.durable before
     → IsSome before.writeback → TakesStep r before after → MakesCall disk r before after → Keeps disk k.log.durable before after
@@ -310,6 +314,10 @@ step_keeps {D} disk k i before after r was under takes made =
     record {
       place = takes.place;
       size = made.writes.size;
+      rest = λ none. ⊎_elim
+          (λ there. there)
+          (λ goes. absurd (no_some before.writeback (sym (takes.advances.goes_on goes) ∙ none) under))
+          (at_rest_or_not after.section.phase);
       filed = omega (arith, takes.advances.filed, was.filed);
       writeback = λ below is. ⊎_elim
           (λ rest. let none : None ≡ Some below = sym (takes.advances.ends rest) ∙ is in absurd (cc))

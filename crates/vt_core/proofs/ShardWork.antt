@@ -10,6 +10,7 @@ use Rattle.vt_model.specs.History.{History}
 use Rattle.vt_model.specs.Legal.{IsLegal}
 use Rattle.vt_model.specs.Places.{Setup}
 use Rattle.vt_isect.specs.Layout.{buckets_in}
+use Rattle.vt_isect.specs.Section.{IsAtRest}
 use Rattle.vt_isect.specs.Section.{SectionState}
 use Rattle.vt_isect.specs.declared.head.Head.{Head}
 use Rattle.vt_shard.specs.Shard.{ShardState, KeepsPlace, OnlyMark}
@@ -37,6 +38,7 @@ use Rattle.vt_core.proofs.Recovered.{GivesPrefix, images_of}
 pub record Keeps {D : Type 0} (disk : DiskOf D) (durable : ℕ) (before after : ShardState D) : Type 0 where
   pub place : KeepsPlace before after
   pub size : disk.size after.section.disk ≡ disk.size before.section.disk
+  pub rest : after.writeback ≡ None → IsAtRest after.section
   pub filed : after.filed ≤ durable
   pub writeback : (below : ℕ) → after.writeback ≡ Some below → below ≤ durable
   pub mark : after.section.head.mark ≤ durable
@@ -85,6 +87,7 @@ module _ {D : Type 0} (score : List ℕ → List ℕ) (disk : DiskOf D) (k : Cor
               live = subst (λ (c : Setup). IsLive c i after.section.head) (sym same_setup) (live_stays (setup_of k) i before.section.head after.section.head keeps.place.head was.live);
               buckets = keeps.place.buckets ∙ was.buckets ∙ ap buckets_in (sym keeps.size);
               some = subst (λ (n : ℕ). 0 < n) (sym keeps.place.buckets) was.some;
+              rest = keeps.rest;
               filed = keeps.filed;
               writeback = keeps.writeback;
               mark = keeps.mark;
@@ -96,6 +99,7 @@ module _ {D : Type 0} (score : List ℕ → List ℕ) (disk : DiskOf D) (k : Cor
               live = subst (λ (c : Setup). IsLive c j s.section.head) (sym same_setup) it.live;
               buckets = it.buckets;
               some = it.some;
+              rest = it.rest;
               filed = it.filed;
               writeback = it.writeback;
               mark = it.mark;
@@ -230,6 +234,7 @@ module _ {D : Type 0} (score : List ℕ → List ℕ) (disk : DiskOf D) (k : Cor
           mark = omega (arith, ap (λ (x : SectionState D). x.head.mark) section);
         };
         size = ap (λ (x : SectionState D). disk.size x.disk) section;
+        rest = λ none. ap (λ (x : SectionState D). x.phase) section ∙ was.rest (sym writeback ∙ none);
         filed = subst (λ (n : ℕ). n ≤ k.log.durable) (sym filed) was.filed;
         writeback = λ below under. was.writeback below (sym writeback ∙ under);
         mark = subst (λ (n : ℕ). n ≤ k.log.durable) (sym (ap (λ (x : SectionState D). x.head.mark) section)) was.mark;
@@ -287,6 +292,7 @@ begin_keeps {D} disk k i before after was it =
         mark = omega (arith, ap (λ (x : Head). x.mark) head);
       };
       size = ap (λ (x : SectionState D). disk.size x.disk) it.section;
+      rest = λ none. let no : None ≡ Some k.log.durable = sym none ∙ writeback in absurd (cc);
       filed = omega (arith, filed, was.filed);
       writeback = λ below under. omega (arith, same_Some below k.log.durable (sym under ∙ writeback));
       mark = omega (arith, ap (λ (x : Head). x.mark) head, was.mark);

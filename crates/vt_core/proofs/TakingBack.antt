@@ -35,7 +35,7 @@ use Rattle.vt_shard.specs.Shard.{ShardState, ReadBucket, HasScore, bucket_at}
 use Rattle.vt_shard.specs.Sound.{IsSoundFrom, IsSoundWithout, LooksSoundly}
 use Rattle.vt_twin.specs.Frames.{current_frame}
 use Rattle.vt_core.specs.Recalling.{IsQuiet, IsReadBack, KeepsSection}
-use Rattle.vt_core.specs.Refusals.{told_of_shard}
+use Rattle.vt_told.specs.Told.{of_shard}
 use Rattle.vt_core.specs.TakingBack.{CountsShard, FaultOrDamage, HasEntries, IsUnwritten, LacksKey, LooksForEntry, OnlyLooks}
 
 -- ---- what is told
@@ -53,7 +53,7 @@ same_bucket n bucket group frame want found damage = ⊎_elim
     of_fault (bucket_bad.Count f) is = cc
     of_fault (bucket_bad.Order e count) is = cc
 
-pub tells_bucket : (n : ℕ) (group : List Entry) (frame : List ℕ) (bad : ShardErr) → IsDamage n group frame bad → NamesDamage bad → FaultOrDamage (told_of_shard bad)
+pub tells_bucket : (n : ℕ) (group : List Entry) (frame : List ℕ) (bad : ShardErr) → IsDamage n group frame bad → NamesDamage bad → FaultOrDamage (of_shard bad)
 tells_bucket n group frame Fault damage names = inl refl
 tells_bucket n group frame (Stopped call) damage names = inl refl
 tells_bucket n group frame (Damaged bucket want found) damage names =
@@ -63,7 +63,7 @@ tells_bucket n group frame (Damaged bucket want found) damage names =
 -- a look-up doesn't tell of a stop
 pub counts_looked : {T U : Type 0} (n : ℕ) (r : Result T ShardErr) (u : U) (old new : ℕ) → CountsFault is_fault r old new
     → IfErr r (λ bad. (bad ≡ Fault) ⊎ ((frame : List ℕ) × IsFaulty n frame bad)) → (s : Result U MountBad)
-    → ((x : T) → r ≡ Ok x → (v : U) × (s ≡ Ok v)) → ((bad : ShardErr) → r ≡ Err bad → s ≡ Err (told_of_shard bad)) → CountsShard s old new
+    → ((x : T) → r ≡ Ok x → (v : U) × (s ≡ Ok v)) → ((bad : ShardErr) → r ≡ Err bad → s ≡ Err (of_shard bad)) → CountsShard s old new
 counts_looked {T} {U} n (Ok x) u old new counts cause s done fails =
     let it = done x refl in subst (λ (r : Result U MountBad). CountsShard r old new) (sym it.1) counts
 counts_looked {T} {U} n (Err Fault) u old new counts cause s done fails = subst (λ (r : Result U MountBad). CountsShard r old new) (sym (fails Fault refl)) counts
@@ -88,6 +88,8 @@ module _ {D : Type 0} (disk : DiskOf D) (old new : ShardState D) (looks : OnlyLo
     buckets = ap (λ (s : ShardState D). s.section.buckets) looks.same;
     head = ap (λ (s : ShardState D). s.section.head) looks.same;
     size = looks.reads.size;
+    lumps = ap (λ (s : ShardState D). s.lumps) looks.same;
+    clean_room = ap (λ (s : ShardState D). s.index.clean_room) looks.same;
   }
 
   pub looks_dirty : new.index.dirty ≡ old.index.dirty
@@ -129,10 +131,12 @@ keeps_then disk a b c one two = record {
   buckets = two.buckets ∙ one.buckets;
   head = two.head ∙ one.head;
   size = two.size ∙ one.size;
+  lumps = two.lumps ∙ one.lumps;
+  clean_room = two.clean_room ∙ one.clean_room;
 }
 
 pub keeps_none : {D : Type 0} (disk : DiskOf D) (s : ShardState D) → KeepsSection disk s s
-keeps_none disk s = record { name = refl; buckets = refl; head = refl; size = refl }
+keeps_none disk s = record { name = refl; buckets = refl; head = refl; size = refl; lumps = refl; clean_room = refl }
 
 pub lacks_stays : {D : Type 0} (disk : DiskOf D) (old new : ShardState D) (entries : ℕ → List Entry) (key : Key) → KeepsSection disk old new → LacksKey entries old key → LacksKey entries new key
 lacks_stays {D} disk old new entries key keeps lacks =
@@ -188,9 +192,9 @@ pub look_cause : {T : Type 0} {D : Type 0} (disk : DiskOf D) (n : ℕ) (r : Resu
 look_cause disk n (Ok x) old new looks = tt
 look_cause disk n (Err bad) old new looks = ⊎_elim (λ e. inl e) (λ it. inr (it.0, it.1)) looks.cause
 
-pub look_tells : {T : Type 0} {D : Type 0} (disk : DiskOf D) (n : ℕ) (bad : ShardErr) (old new : ShardState D) → Looks {T = T} disk n (Err bad) old new → FaultOrDamage (told_of_shard bad)
+pub look_tells : {T : Type 0} {D : Type 0} (disk : DiskOf D) (n : ℕ) (bad : ShardErr) (old new : ShardState D) → Looks {T = T} disk n (Err bad) old new → FaultOrDamage (of_shard bad)
 look_tells disk n bad old new looks = ⊎_elim
-    (λ e. inl (ap told_of_shard e))
+    (λ e. inl (ap of_shard e))
     (λ it. tells_bucket n [] it.0 bad (inl it.1) looks.names)
     looks.cause
 
@@ -201,7 +205,7 @@ of_each P xs x all has = subst P has.2 (all has.0 x has.1)
 -- what is answered of a look-up
 abbrev pub has_of : Result (Option Entry) ShardErr → Result Bool MountBad
 has_of (Ok found) = Ok (is_some found)
-has_of (Err bad) = Err (told_of_shard bad)
+has_of (Err bad) = Err (of_shard bad)
 
 module _ {D : Type 0} (disk : DiskOf D) (apart : IsUnambiguous) (key : Key) (r : Result (Option Entry) ShardErr) (old new : ShardState D)
     (has : HasScore old key.score.0) (up : LooksUp disk key r old new) where
@@ -225,6 +229,8 @@ module _ {D : Type 0} (disk : DiskOf D) (apart : IsUnambiguous) (key : Key) (r :
               buckets = ap (λ (s : ShardState D). s.section.buckets) same;
               head = ap (λ (s : ShardState D). s.section.head) same;
               size = up.looks.reads.size;
+              lumps = ap (λ (s : ShardState D). s.lumps) same;
+              clean_room = ap (λ (s : ShardState D). s.index.clean_room) same;
             })
             (bucket_cases disk (bucket_at old key.score.0) r (looked key old) new up.looks);
       }
@@ -280,10 +286,10 @@ module _ {D : Type 0} (disk : DiskOf D) (apart : IsUnambiguous) (key : Key) (r :
       none_absent (Err bad) it e = it
 
       answers : (P Q R : Type 0) (x : Result (Option Entry) ShardErr) → r ≡ x → MatchResult x (λ found. MatchOption found Q (λ _. P)) (λ _. ⊤) → R → IfErr x (λ bad. bad ≡ Fault)
-          → MatchResult (has_of x) (λ found. MatchBool found P Q) (λ bad. R × (bad ≡ told_of_shard Fault))
+          → MatchResult (has_of x) (λ found. MatchBool found P Q) (λ bad. R × (bad ≡ of_shard Fault))
       answers P Q R (Ok None) is it keeps fault = it
       answers P Q R (Ok (Some y)) is it keeps fault = it
-      answers P Q R (Err bad) is it keeps fault = (keeps, ap told_of_shard fault)
+      answers P Q R (Err bad) is it keeps fault = (keeps, ap of_shard fault)
 
       tells_of : (x : Result (Option Entry) ShardErr) → r ≡ x → IfErr (has_of x) FaultOrDamage
       tells_of (Ok found) is = tt

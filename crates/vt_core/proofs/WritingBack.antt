@@ -20,7 +20,7 @@ use Rattle.vt_shard.specs.Writeback.{Begins, MakesCall, ReadsFrame, TakesStep, w
 use Rattle.vt_twin.specs.declared.step.Step.{Step}
 use Rattle.vt_twin.specs.declared.step.Step.TheVariants.{More, Done}
 use Rattle.vt_core.specs.Recalling.{IsQuiet, KeepsSection}
-use Rattle.vt_core.specs.Refusals.{told_of_shard}
+use Rattle.vt_told.specs.Told.{of_shard}
 use Rattle.vt_core.specs.TakingBack.{CountsShard, FaultOrDamage, WritesBack}
 use Rattle.vt_core.proofs.Calls.{within_get}
 use Rattle.vt_core.proofs.ShardCall.{fewer}
@@ -66,6 +66,8 @@ begun_writing {D} disk old new below quiet above it sound = record {
     buckets = ap (λ (t : SectionState D). t.buckets) it.section;
     head = ap (λ (t : SectionState D). t.head) it.section;
     size = ap (λ (t : SectionState D). disk.size t.disk) it.section;
+    lumps = ap (λ (s : ShardState D). s.lumps) it.shard;
+    clean_room = ap (λ (s : ShardState D). s.index.clean_room) it.shard;
   };
   next = ap (λ (t : SectionState D). t.next) it.section ∙ sym (ap (λ (t : SectionState D). t.head) it.section);
   stopped = ap (λ (t : SectionState D). t.stopped) it.section ∙ quiet.stopped;
@@ -139,7 +141,14 @@ module _ {D : Type 0} (disk : DiskOf D) (old now next : ShardState D) (was : IsW
         let it = takes.advances.section in
         let head : next.section.head ≡ now.section.head =
         ap (λ (t : SectionState D). t.head) it.2 ∙ (list_same it.0.phase it.0).0 ∙ (head_stays r now.section it.0 it.1 was.next).0 in
-        keeps_then disk old now next was.keeps (record { name = takes.place.name; buckets = takes.place.buckets; head = head; size = made.writes.size })
+        keeps_then disk old now next was.keeps (record {
+          name = takes.place.name;
+          buckets = takes.place.buckets;
+          head = head;
+          size = made.writes.size;
+          lumps = takes.advances.lumps;
+          clean_room = (takes.settles was.below under_way).clean_room;
+        })
 
     step_next : next.section.next ≡ next.section.head
     step_next =
@@ -183,7 +192,7 @@ module _ {D : Type 0} (disk : DiskOf D) (old now next : ShardState D) (was : IsW
       → (IsTrue disk.tells → KeepsSound disk now next)
       → (IsTrue disk.tells → (score : List ℕ → List ℕ) (c : Setup) (h : History) (from : ℕ) → IsSoundFrom score c disk now h (length h) from
       → ((n : ℕ) → crowd score (bucket_count c) h n ≤ BUCKET_ROOM) → (bad ≡ Fault) ⊎ ((n : ℕ) × (bad ≡ Stopped n)))
-      → WritesBack {U = ⊤} disk (Err (told_of_shard bad)) old next
+      → WritesBack {U = ⊤} disk (Err (of_shard bad)) old next
   ends_early bad takes made reads sound undamaged = record {
     keeps = step_keeps (Err bad) takes made;
     rests = λ bits below before. tt;
@@ -193,19 +202,19 @@ module _ {D : Type 0} (disk : DiskOf D) (old now next : ShardState D) (was : IsW
     tells = tells bad takes reads;
     sound = λ tells score c h from before.
         let mid = was.sound tells score c h from before in
-        (sound tells score c h (length h) from mid, λ fits. ⊎_elim (λ e. ap told_of_shard e) (λ it. ap told_of_shard it.1) (undamaged tells score c h from mid fits));
+        (sound tells score c h (length h) from mid, λ fits. ⊎_elim (λ e. ap of_shard e) (λ it. ap of_shard it.1) (undamaged tells score c h from mid fits));
   }
     where
       not_stopped : (n : ℕ) → TakesStep (Err (Stopped n)) now next → ⊥
       not_stopped n t = let e : None ≡ Some n = sym was.stopped ∙ (t.stopped n).0 refl in absurd (cc)
 
       counts : (b : ShardErr) → TakesStep (Err b) now next → MakesCall disk (Err b) now next
-          → CountsShard {U = ⊤} (Err (told_of_shard b)) (disk.faults old.section.disk) (disk.faults next.section.disk)
-      counts Fault t m = subst (λ (n : ℕ). CountsShard {U = ⊤} (Err (told_of_shard Fault)) n (disk.faults next.section.disk)) was.faults m.faults
+          → CountsShard {U = ⊤} (Err (of_shard b)) (disk.faults old.section.disk) (disk.faults next.section.disk)
+      counts Fault t m = subst (λ (n : ℕ). CountsShard {U = ⊤} (Err (of_shard Fault)) n (disk.faults next.section.disk)) was.faults m.faults
       counts (Damaged bucket want found) t m = m.faults ∙ was.faults
       counts (Stopped n) t m = absurd (not_stopped n t)
 
-      tells : (b : ShardErr) → TakesStep (Err b) now next → ReadsFrame disk (Err b) now next → FaultOrDamage (told_of_shard b)
+      tells : (b : ShardErr) → TakesStep (Err b) now next → ReadsFrame disk (Err b) now next → FaultOrDamage (of_shard b)
       tells Fault t read = inl refl
       tells (Damaged bucket want found) t read =
           let phase = t.advances.section.1.0 in

@@ -3,6 +3,7 @@ use Rattle.std.specs.Prelude.{◌≡◌, ◌⊎◌, ℕ, zero, suc, Some, List, 
 use Rattle.vt_disk.specs.Disk.{Only}
 use Rattle.vt_disk.specs.Members.{DiskOf}
 use Rattle.vt_part.specs.Table.{Table}
+use Rattle.vt_shard.specs.declared.mounting.Sizes.{Sizes}
 use Rattle.vt_core.specs.declared.event.Event.{Event}
 use Rattle.vt_core.specs.declared.event.Out.{Out}
 use Rattle.vt_core.specs.Core.{CoreState, devices_of}
@@ -56,8 +57,9 @@ pub record Recovers {D : Type 0} (score : List ℕ → List ℕ) (disk : DiskOf 
   pub tries : ℕ
   pub devices : PerDevice D
   pub retried : IsRetried score disk tables tries left devices
+  pub sizes : Sizes
   pub sessions : ℕ
-  pub mounts : Mounts score disk tables devices sessions again
+  pub mounts : Mounts score disk tables devices sizes sessions again
 
 -- nothing is under way, or an event is
 abbrev pub MayTurnInto : {D : Type 0} → (List ℕ → List ℕ) → DiskOf D → (old during : CoreState D)

@@ -2,6 +2,7 @@
 use Rattle.std.specs.Prelude.{◌≡◌, ◌≢◌, ◌⊎◌, ℕ, ◌<◌, ◌≤◌, IsTrue, None, Some, List, [], length, map, replicate, take, slice_get, Result, Ok, Err, ◌+◌, ◌*◌, ◌-◌, MatchOption, Option, sum_by}
 use Rattle.std.specs.List.{All, AllPairs, Contains}
 use Rattle.std.specs.Option.{option_to_list}
+use Rattle.lru.specs.LruCache.{lru_cache}
 use Rattle.vt_base.specs.declared.place.Entry.{Entry}
 use Rattle.vt_base.specs.declared.mount.MountBad.{MountBad}
 use Rattle.vt_disk.specs.Members.{DiskOf}
@@ -25,6 +26,7 @@ use Rattle.vt_log.specs.Log.{IsMounted, LogState, disks_of}
 use Rattle.vt_log.specs.Logs.{IsLog, arena_count}
 use Rattle.vt_shard.specs.declared.TheConstants.{ROOM}
 use Rattle.vt_shard.specs.Shard.{ShardState}
+use Rattle.vt_shard.specs.declared.mounting.Sizes.{Sizes}
 use Rattle.vt_core.specs.declared.TheConstants.{MOST_ARENAS, MOST_BUCKETS}
 use Rattle.vt_core.specs.declared.devices.Devices.{Devices}
 use Rattle.vt_core.specs.Core.{CoreState, setup_of, devices_of, stops_of}
@@ -134,11 +136,15 @@ pub record IsMarkRead {D : Type 0} (disk : DiskOf D) (devices : PerDevice D) (ma
     pub read : IsTrue disk.tells → (saved : Saved) × HasSaved saved (disk.bytes device)
         × (mark ≡ saved.mark)
 
+-- a shard keeps so many blocks and so many clean entries in memory, and no block yet
+abbrev pub HasRoomOf : {D : Type 0} → Sizes → ShardState D → Type 0
+HasRoomOf sizes s = (s.lumps ≡ lru_cache [] sizes.lumps) × (s.index.clean_room ≡ sizes.clean)
+
 -- Whatever its devices hold, it stands on them and on no others, as their heads are read, and
--- nothing is queued, under way, stopped or waited for. Without a device the filter has 2^16 bits,
--- and a score 8 of them.
+-- nothing is queued, under way, stopped or waited for. No block is in memory, and each shard has
+-- just the room that it was given. Without a device the filter has 2^16 bits, and a score 8 of them.
 pub record IsFresh {D : Type 0} (disk : DiskOf D) (tables : List Table) (devices : PerDevice D)
-    (sessions : ℕ) (k : CoreState D) : Type 0 where
+    (room : Sizes) (sessions : ℕ) (k : CoreState D) : Type 0 where
   pub tables_are : k.log.tables ≡ tables
   pub layout : k.log.layout ≡ layout_of tables
   pub setup : IsSetupOf disk tables devices (setup_of k)
@@ -157,6 +163,7 @@ pub record IsFresh {D : Type 0} (disk : DiskOf D) (tables : List Table) (devices
   pub saves : All (λ b. b.twin.change ≡ None) (option_to_list k.bloom)
   pub synced : k.synced ≡ k.log.durable
   pub waiting : k.waiting ≡ replicate sessions None
+  pub rooms : All (HasRoomOf room) k.shards
 
 -- All marks, the filter's too, cover the first n blocks. Without a filter's device none do.
 pub record AreCovered {D : Type 0} (shards : List (ShardState D)) (bloom : Option (BloomState D))
@@ -176,10 +183,10 @@ ReadsEntriesOnce disk tables devices k = (n : ℕ) → IsTrue disk.tells
 
 -- all that is said of a store that was mounted
 pub record Mounts {D : Type 0} (score : List ℕ → List ℕ) (disk : DiskOf D) (tables : List Table)
-    (devices : PerDevice D) (sessions : ℕ) (k : CoreState D) : Type 0 where
+    (devices : PerDevice D) (sizes : Sizes) (sessions : ℕ) (k : CoreState D) : Type 0 where
   pub recalls : (c : Setup) (h g : History) (base : ℕ) → IsTrue disk.tells
       → IsLogOf score disk tables devices c h g base → Recalls score disk c g base k
-  pub fresh : IsFresh disk tables devices sessions k
+  pub fresh : IsFresh disk tables devices sizes sessions k
   pub calls : ReadsEntriesOnce disk tables devices k
   pub faults_are : map disk.faults (all_of (devices_of k)) ≡ map disk.faults (all_of devices)
 

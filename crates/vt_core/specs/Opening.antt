@@ -25,6 +25,7 @@ use Rattle.vt_bloom.specs.Bloom.{BloomState, HasCounts, IsSound as IsSoundBloom}
 use Rattle.vt_bloom.specs.Frame.{Saved, HasSaved}
 use Rattle.vt_shard.specs.Shard.{ShardState, mounted as mounted_shard}
 use Rattle.vt_shard.specs.Sound.{IsSoundFrom}
+use Rattle.vt_shard.specs.declared.mounting.Sizes.{Sizes}
 use Rattle.vt_log.specs.Answers.{HoldTheSame}
 use Rattle.vt_log.specs.Log.{IsMounted, LogState}
 use Rattle.vt_log.specs.Logs.{IsLog, arena_count}
@@ -235,9 +236,9 @@ pub record IsLogFound {D : Type 0} (score : List ℕ → List ℕ) (disk : DiskO
 
 -- all that is said of a mount
 pub record IsMountOf {D : Type 0} (score : List ℕ → List ℕ) (disk : DiskOf D) (tables : List Table)
-    (devices : PerDevice D) (sessions : ℕ) (result : Result (CoreState D) (MountBad × Devices D))
-    : Type 0 where
-  pub mounts : IfOk result (Mounts score disk tables devices sessions)
+    (devices : PerDevice D) (sizes : Sizes) (sessions : ℕ)
+    (result : Result (CoreState D) (MountBad × Devices D)) : Type 0 where
+  pub mounts : IfOk result (Mounts score disk tables devices sizes sessions)
   pub found : (c : Setup) (h g : History) (base : ℕ) → IsTrue disk.tells
       → IsLogOf score disk tables devices c h g base → KeepsLimits tables c
       → IfErr result (λ refusal. (refusal.0 ≡ Fault) ⊎ (refusal.0 ≡ NoMemory))

@@ -61,12 +61,14 @@ pub record IsUnused {D : Type 0} (s : ShardState D) : Type 0 where
   pub bucket : s.bucket ≡ None
   pub filed : s.filed ≡ 0
 
--- it keeps its place and its mark
+-- it keeps its place and its mark, the blocks in memory, and the room for clean entries
 pub record KeepsSection {D : Type 0} (disk : DiskOf D) (old new : ShardState D) : Type 0 where
   pub name : new.section.name ≡ old.section.name
   pub buckets : new.section.buckets ≡ old.section.buckets
   pub head : new.section.head ≡ old.section.head
   pub size : disk.size new.section.disk ≡ disk.size old.section.disk
+  pub lumps : new.lumps ≡ old.lumps
+  pub clean_room : new.index.clean_room ≡ old.index.clean_room
 
 -- What it put into its buckets and what is dirty are entries of blocks below this number, and the
 -- bits of the dirty ones are set.

@@ -1,12 +1,12 @@
 -- Why a store isn't found. A part's own refusal is told as the store's, under the part's number.
 use Rattle.std.specs.Prelude.{◌≡◌, ◌⊎◌, ◌==◌, ⊤, ℕ, ◌+◌, ◌<◌, ◌≤◌, not, if◌then◌else◌, IsTrue, MatchOption, Option, None, Some, Result, Ok, Err, List, length, map, sum, sum_by, take, slice_get}
-use Rattle.std.specs.Option.{option_map_or, option_to_list}
+use Rattle.std.specs.Option.{option_to_list}
 use Rattle.vt_base.specs.Damage.{Differ}
 use Rattle.vt_base.specs.declared.place.Entry.{Entry}
 use Rattle.vt_base.specs.declared.mount.MountBad.{MountBad}
-use Rattle.vt_base.specs.declared.mount.MountBad.TheVariants.{Fault, NotFormatted, TooSmall, DuplicateName, Disagree, Damaged, NoMemory}
+use Rattle.vt_base.specs.declared.mount.MountBad.TheVariants.{Fault, Disagree, Damaged, NoMemory}
 use Rattle.vt_base.specs.declared.mount.MountField.{MountField}
-use Rattle.vt_base.specs.declared.mount.MountField.TheVariants.{Version, Number, Sealed, Used, Clumps, Count, State, First, Total, Mark, M, K, Crowd, Arenas, Buckets}
+use Rattle.vt_base.specs.declared.mount.MountField.TheVariants.{Count, State, First, Total, Mark, Crowd, Arenas, Buckets}
 use Rattle.vt_base.specs.declared.why.FieldValue.{FieldValue}
 use Rattle.vt_base.specs.declared.why.Site.{Site}
 use Rattle.vt_base.specs.declared.why.Site.TheVariants.{Clump, Bucket}
@@ -17,95 +17,31 @@ use Rattle.vt_model.specs.declared.TheConstants.{BUCKET_ROOM}
 use Rattle.vt_twin.specs.Frames.{current_frame}
 use Rattle.vt_part.specs.Layout.{layout_of}
 use Rattle.vt_part.specs.Table.{Table}
-use Rattle.vt_part.specs.declared.bad.PartBad.TheVariants.{DuplicateName as SameName}
 use Rattle.vt_part.specs.declared.layout.ArenaRegion.{ArenaRegion}
-use Rattle.vt_arena.specs.declared.bad.ArenaBad.{ArenaBad}
-use Rattle.vt_arena.specs.declared.bad.ArenaBad.TheVariants as arena_bad
 use Rattle.vt_arena.specs.declared.bad.BackBad.TheVariants as back_bad
-use Rattle.vt_arena.specs.declared.bad.Field.{Field as ArenaField}
-use Rattle.vt_arena.specs.declared.bad.Field.TheVariants as arena_field
 use Rattle.vt_arena.specs.declared.directory.At.{At}
 use Rattle.vt_arena.specs.Directory.{last_entry, first_bad as first_bad_entry}
 use Rattle.vt_isect.specs.declared.TheConstants.{FRAME_LEN}
 use Rattle.vt_isect.specs.declared.bad.SectBad.{SectBad}
-use Rattle.vt_isect.specs.declared.bad.SectBad.TheVariants as sect_bad
-use Rattle.vt_isect.specs.declared.bad.ShardErr.{ShardErr}
 use Rattle.vt_isect.specs.declared.bad.ShardErr.TheVariants as shard_err
 use Rattle.vt_isect.specs.declared.head.Head.{Head}
 use Rattle.vt_isect.specs.Faults.{RefusesMount as RefusesSection, NamesItsCause as NamesSectionCause}
 use Rattle.vt_isect.specs.Layout.{head_place}
 use Rattle.vt_isect.specs.Merging.{IsDamage}
 use Rattle.vt_bloom.specs.declared.bad.BloomBad.{BloomBad}
-use Rattle.vt_bloom.specs.declared.bad.BloomBad.TheVariants as bloom_bad
-use Rattle.vt_bloom.specs.declared.bad.Field.{Field as BloomField}
-use Rattle.vt_bloom.specs.declared.bad.Field.TheVariants as bloom_field
 use Rattle.vt_bloom.specs.Faults.{RefusesMount as RefusesBloom, NamesItsCause as NamesBloomCause}
 use Rattle.vt_arena.specs.Heads.{clumps_in, used_in}
 use Rattle.vt_log.specs.Answers.{HoldTheSame}
 use Rattle.vt_log.specs.Faults.{AreFields, RefusesMount as RefusesLog, OneHasRisen}
 use Rattle.vt_log.specs.Logs.{IsLog, arena_count}
 use Rattle.vt_log.specs.declared.bad.LogBad.{LogBad}
-use Rattle.vt_log.specs.declared.bad.LogBad.TheVariants as log_bad
+use Rattle.vt_told.specs.Told.{of_filter, of_log, of_section}
 use Rattle.vt_core.specs.declared.TheConstants.{MOST_ARENAS, MOST_BUCKETS}
 use Rattle.vt_core.specs.declared.devices.Devices.{Devices}
 use Rattle.vt_core.specs.declared.mounting.Tally.{Tally}
 use Rattle.vt_core.specs.Files.{PerDevice, all_of}
 use Rattle.vt_core.specs.Mounting.{IsSetupOf, IsHeadRead, IsMarkRead, devices_in, tables_in}
 use Rattle.vt_core.specs.Stands.{SectionStandsFor, buckets_of}
-
--- ---- what is told of a part's refusal
-
-abbrev pub field_of_arena : ArenaField → MountField
-field_of_arena arena_field.Version = Version
-field_of_arena arena_field.Number = Number
-field_of_arena arena_field.Sealed = Sealed
-field_of_arena arena_field.Used = Used
-
-abbrev pub told_of_arena : (part : ℕ) → ArenaBad → MountBad
-told_of_arena part arena_bad.Fault = Fault
-told_of_arena part arena_bad.NotFormatted = NotFormatted part
-told_of_arena part (arena_bad.Torn field found want) =
-    Disagree part (field_of_arena field) found want
-told_of_arena part arena_bad.NoMemory = NoMemory
-
--- the partition of an arena
-abbrev pub partition_of : List ArenaRegion → (arena : ℕ) → ℕ
-partition_of layout arena = option_map_or (λ r. r.part) (slice_get layout arena) 0
-
--- of a list of mounted partitions no other refusal comes
-abbrev pub told_of_log : List ArenaRegion → LogBad → MountBad
-told_of_log layout (log_bad.Part (SameName first second)) = DuplicateName first second
-told_of_log layout (log_bad.Part bad) = NoMemory
-told_of_log layout (log_bad.Arena i bad) = told_of_arena (partition_of layout i) bad
-told_of_log layout (log_bad.Order i clumps) = Disagree (partition_of layout i) Clumps clumps 0
-told_of_log layout log_bad.Fault = Fault
-told_of_log layout log_bad.NoMemory = NoMemory
-
-abbrev pub told_of_section : (part : ℕ) → SectBad → MountBad
-told_of_section part sect_bad.Fault = Fault
-told_of_section part (sect_bad.TooSmall len need) = TooSmall part len need
-told_of_section part sect_bad.NotFormatted = NotFormatted part
-told_of_section part (sect_bad.Torn field found want) = Disagree part Version found want
-told_of_section part sect_bad.NoMemory = NoMemory
-
-abbrev pub field_of_filter : BloomField → MountField
-field_of_filter bloom_field.Version = Version
-field_of_filter bloom_field.M = M
-field_of_filter bloom_field.K = K
-
-abbrev pub told_of_filter : (part : ℕ) → BloomBad → MountBad
-told_of_filter part bloom_bad.Fault = Fault
-told_of_filter part (bloom_bad.TooSmall len need) = TooSmall part len need
-told_of_filter part bloom_bad.NotFormatted = NotFormatted part
-told_of_filter part (bloom_bad.Torn field found want) =
-    Disagree part (field_of_filter field) found want
-told_of_filter part bloom_bad.NoMemory = NoMemory
-
--- of a shard, while the log is read back; a stop comes behind a fault alone
-abbrev pub told_of_shard : ShardErr → MountBad
-told_of_shard shard_err.Fault = Fault
-told_of_shard (shard_err.Stopped call) = Fault
-told_of_shard (shard_err.Damaged bucket want found) = Damaged (Bucket bucket) want found
 
 -- ---- the tests, in order
 
@@ -120,7 +56,7 @@ filter_part devices = length devices.partitions + length devices.sections
 pub record LogIsRefused {D : Type 0} (disk : DiskOf D) (tables : List Table)
     (devices : PerDevice D) (bad : MountBad) : Type 0 where
   pub why : LogBad
-  pub bad_is : bad ≡ told_of_log (layout_of tables) why
+  pub bad_is : bad ≡ of_log (layout_of tables) why
   pub fields : List (List ℕ)
   pub read : IsTrue disk.tells
       → AreFields (layout_of tables) (map disk.bytes devices.partitions) fields
@@ -133,7 +69,7 @@ pub record SectionIsRefused {D : Type 0} (disk : DiskOf D) (part : ℕ) (devices
   pub device : D
   pub at : slice_get devices i ≡ Some device
   pub why : SectBad
-  pub bad_is : bad ≡ told_of_section (part + i) why
+  pub bad_is : bad ≡ of_section (part + i) why
   pub names : NamesSectionCause (disk.size device) why
   pub refuses : IsTrue disk.tells → RefusesSection (disk.size device)
       (current_frame head_place FRAME_LEN (disk.bytes device)) why
@@ -144,7 +80,7 @@ pub record FilterIsRefused {D : Type 0} (disk : DiskOf D) (part : ℕ) (devices 
   pub device : D
   pub at : slice_get devices 0 ≡ Some device
   pub why : BloomBad
-  pub bad_is : bad ≡ told_of_filter part why
+  pub bad_is : bad ≡ of_filter part why
   pub names : NamesBloomCause (disk.size device) why
   pub refuses : IsTrue disk.tells → RefusesBloom (disk.bytes device) (disk.size device) why
 

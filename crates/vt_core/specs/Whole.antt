@@ -1,23 +1,26 @@
 -- What a store in memory keeps, whatever its devices hold.
-use Rattle.std.specs.Prelude.{◌≡◌, ℕ, ◌<◌, ◌≤◌, ◌^◌, Some, length, slice_get}
+use Rattle.std.specs.Prelude.{◌≡◌, ℕ, ◌<◌, ◌≤◌, ◌^◌, None, Some, length, slice_get}
 use Rattle.std.specs.List.{Contains}
 use Rattle.vt_base.specs.declared.place.Info.{Info}
 use Rattle.vt_disk.specs.Members.{DiskOf}
 use Rattle.vt_bloom.specs.Bits.{HasBitsOf}
 use Rattle.vt_bloom.specs.Bloom.{BloomState, HasCounts}
 use Rattle.vt_isect.specs.Layout.{buckets_in}
+use Rattle.vt_isect.specs.Section.{IsAtRest}
 use Rattle.vt_shard.specs.Shard.{ShardState}
 use Rattle.vt_twin.specs.Twin.{calls_made}
 use Rattle.vt_core.specs.Core.{CoreState, setup_of, history_len}
 use Rattle.vt_core.specs.Stands.{IsLive}
 
--- A shard is that of section i. What it wrote back, and each of its marks, are of the first so many
--- blocks. Its dirty entries are of blocks that were accepted, whose bits the filter has.
+-- A shard is that of section i, which is at rest while no writeback is under way. What it wrote
+-- back, and each of its marks, are of the first so many blocks. Its dirty entries are of blocks that
+-- were accepted, whose bits the filter has.
 pub record IsShardOf {D : Type 0} (disk : DiskOf D) (k : CoreState D) (i durable : ℕ)
     (s : ShardState D) : Type 0 where
   pub live : IsLive (setup_of k) i s.section.head
   pub buckets : s.section.buckets ≡ buckets_in (disk.size s.section.disk)
   pub some : 0 < s.section.buckets
+  pub rest : s.writeback ≡ None → IsAtRest s.section
   pub filed : s.filed ≤ durable
   pub writeback : (below : ℕ) → s.writeback ≡ Some below → below ≤ durable
   pub mark : s.section.head.mark ≤ durable

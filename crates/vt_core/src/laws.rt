@@ -1,19 +1,22 @@
 //! What holds of stores between their events, and of their runs.
 
-ghost use Rattle.std.specs.Prelude.{◌≡◌, ◌≤◌, ◌^◌, ℕ, All, IsTrue, List, length};
+ghost use Rattle.std.specs.Prelude.{◌≡◌, ◌≤◌, ◌^◌, ℕ, All, IsTrue, List, None, Some, length, slice_get};
 ghost use Rattle.vt_model.specs.History.{History};
 ghost use Rattle.vt_model.specs.Places.{Setup};
+ghost use Rattle.vt_bloom.specs.Bloom.{BloomState};
+ghost use Rattle.vt_isect.specs.declared.head.Head.{Head};
 ghost use Rattle.vt_part.specs.Layout.{layout_of};
 ghost use Rattle.vt_part.specs.Table.{Table};
 ghost use Rattle.vt_log.specs.Logs.{StandsFor as LogStandsFor};
 ghost use Rattle.vt_log.specs.Sound.{AreImages as AreImagesOf};
+ghost use Rattle.vt_shard.specs.Shard.{ShardState};
 ghost use Rattle.vt_core.specs.declared.event.Event.{Event};
 ghost use Rattle.vt_core.specs.declared.event.Out.{Out};
 ghost use Rattle.vt_core.specs.Core.{CoreState, setup_of, devices_of, machine_of};
 ghost use Rattle.vt_core.specs.Crashing.{Act, Lives, LivesMachine, MayTurnInto, Recovers};
 ghost use Rattle.vt_core.specs.Files.{Files, PerDevice, AreImages};
 ghost use Rattle.vt_core.specs.Machine.{Crashes};
-ghost use Rattle.vt_core.specs.Mounting.{EachStands, AllStandFor, IsLogOf, IsReadAs};
+ghost use Rattle.vt_core.specs.Mounting.{EachStands, AllStandFor, IsHeadRead, IsLogOf, IsMarkRead, IsReadAs};
 ghost use Rattle.vt_core.specs.Sound.{IsSound};
 ghost use Rattle.vt_core.specs.Stands.{ArePartitions, StandsFor, StandForPrefix};
 ghost use Rattle.vt_core.specs.Steps.{Runs, RunsMachine};
@@ -98,4 +101,25 @@ pub fn stores_can_be_mounted<D: Disk>()
         → AllStandFor score D.Disk (setup_of k) k.log.tables (devices_of k) h (length h) }
 {
     crash_gives_a_prefix::<D>();
+}
+
+/// The marks of a store are those that its devices have, and no others, while nothing is being
+/// written back or saved: the head of each section as it is read, and the filter's mark.
+pub fn marks_are_read<D: Disk>()
+    ensures heads { (score : List ℕ → List ℕ) (k : CoreState D) (h : History) (i : ℕ)
+        (s : ShardState D) → IsTrue D.tells → IsSound score D.Disk k h
+        → slice_get k.shards i ≡ Some s → s.writeback ≡ None
+        → IsHeadRead D.Disk (devices_of k) i s.section.head }
+    ensures mark { (score : List ℕ → List ℕ) (k : CoreState D) (h : History) (b : BloomState D)
+        → IsTrue D.tells → IsSound score D.Disk k h → k.bloom ≡ Some b → b.twin.change ≡ None
+        → IsMarkRead D.Disk (devices_of k) b.mark }
+    ensures one_head { (devices : PerDevice D) (i : ℕ) (head other : Head) → IsTrue D.tells
+        → IsHeadRead D.Disk devices i head → IsHeadRead D.Disk devices i other → head ≡ other }
+    ensures one_mark { (devices : PerDevice D) (mark other : ℕ) → IsTrue D.tells
+        → IsMarkRead D.Disk devices mark → IsMarkRead D.Disk devices other → mark ≡ other }
+{
+    vt_isect::images_agree::<D>();
+    vt_isect::sections_are_told_apart();
+    vt_bloom::crash_gives_old_or_new::<D>();
+    vt_bloom::saved_filters_are_told_apart();
 }

@@ -16,7 +16,6 @@ mod opening;
 mod outs;
 mod recalling;
 mod store;
-mod told;
 mod waiting;
 mod writing;
 
@@ -24,7 +23,7 @@ pub use devices::Devices;
 pub use event::{Event, Out};
 pub use finding::find_block;
 pub use laws::{
-    crash_gives_a_prefix, lives_are_lives_of_the_machine, recovery_is_a_crash,
+    crash_gives_a_prefix, lives_are_lives_of_the_machine, marks_are_read, recovery_is_a_crash,
     runs_are_runs_of_the_machine, stores_can_be_mounted, what_is_read_is_a_prefix,
 };
 pub use outs::Outs;
@@ -36,6 +35,3 @@ pub const MOST_ARENAS: u32 = 4_096;
 
 /// How many buckets all sections may have.
 pub const MOST_BUCKETS: u32 = 1_048_576;
-
-#[cfg(test)]
-mod tests;

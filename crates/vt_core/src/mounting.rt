@@ -19,7 +19,6 @@ use crate::laws::what_is_read_is_a_prefix;
 use crate::opening::{close_sections, open_filter, open_sections, open_shards};
 use crate::recalling::{least_mark, read_back};
 use crate::store::Core;
-use crate::told::told_of_log;
 use crate::{MOST_ARENAS, MOST_BUCKETS};
 use std::alloc::Global;
 use vt_base::{MountBad, MountField, Scorer};
@@ -29,12 +28,14 @@ use vt_isect::{Head, Section};
 use vt_log::Log;
 use vt_part::Part;
 use vt_shard::Sizes;
+use vt_told::of_log;
 
 impl<D: Disk, S: Scorer + Drop> Core<D, S> {
     /// Finds the store of these devices. It syncs each of them, finds the log, the sections and the
     /// filter, and then reads the log's directory back from its end to the least mark, to find the
     /// entries that the sections lack and to set the bits of their scores. Without a filter's
-    /// device that mark is 0. There is room for so many sessions.
+    /// device that mark is 0. There is room for so many sessions, and each shard keeps as much in
+    /// memory as `sizes` say.
     ///
     /// It is refused by the first of these tests that fails: how many arenas there are; two
     /// partitions of one name, and each arena; each section; the filter; how many buckets there
@@ -60,7 +61,7 @@ impl<D: Disk, S: Scorer + Drop> Core<D, S> {
         // The store has the log that is read, and on devices that stand for prefixes of one legal
         // history nothing but a fault and want of memory keeps it from being found.
         ensures mounts { IfOk result (Mounts S.score_of D.Disk (tables_in devices)
-            (devices_in devices) sessions) }
+            (devices_in devices) sizes sessions) }
         ensures found { (c : Setup) (h g : History) (base : ℕ) → IsTrue D.tells
             → IsLogOf S.score_of D.Disk (tables_in devices) (devices_in devices) c h g base
             → KeepsLimits (tables_in devices) c → IfErr result (λ refusal.
@@ -91,7 +92,7 @@ impl<D: Disk, S: Scorer + Drop> Core<D, S> {
         match vt_log::mount(alloc, parts, scorer) {
             Ok(log) => open(alloc, log, sections, filter, part, sizes, sessions),
             Err((bad, parts)) => {
-                let bad = told_of_log(&parts, bad);
+                let bad = of_log(&parts, bad);
                 let devices = Devices {
                     parts,
                     sections,
@@ -124,7 +125,7 @@ fn open<D: Disk, S: Scorer + Drop>(
     ensures { (before : List D)
         → IsLogFound S.score_of D.Disk before sections.items filter log
         → IsMountOf S.score_of D.Disk log.tables (with_log before sections.items filter)
-        sessions result }
+        sizes sessions result }
 {
     what_is_read_is_a_prefix::<D>();
     vt_bloom::saved_filters_are_told_apart();

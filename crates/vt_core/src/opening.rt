@@ -12,13 +12,13 @@ ghost use Rattle.vt_core.specs.Refusals.{FilterIsRefused, SectionIsRefused};
 ghost use Rattle.vt_core.specs.View.{HasRoom};
 
 use crate::devices::close_shards;
-use crate::told::{told_of_filter, told_of_section};
 use std::alloc::Global;
 use vt_base::{MountBad, NoMemory};
 use vt_bloom::{Bits, Bloom};
 use vt_disk::Disk;
 use vt_isect::Section;
 use vt_shard::{Shard, Sizes};
+use vt_told::{of_filter, of_section};
 
 /// The counts of a filter that has no device.
 const M: u8 = 16;
@@ -52,7 +52,7 @@ pub(crate) fn open_sections<D: Disk>(
         match vt_isect::mount(alloc, device) {
             Ok(section) => sections.push_reserved(section),
             Err((bad, device)) => {
-                let bad = told_of_section(part + sections.len() as u32, bad);
+                let bad = of_section(part + sections.len() as u32, bad);
                 devices.push_reserved(device);
                 return Err((bad, close_sections(sections, devices)));
             }
@@ -146,6 +146,6 @@ pub(crate) fn open_filter<D: Disk>(
     };
     match vt_bloom::mount(alloc, device) {
         Ok((bloom, bits)) => Ok((Some(bloom), bits)),
-        Err((bad, device)) => Err((told_of_filter(part, bad), Some(device))),
+        Err((bad, device)) => Err((of_filter(part, bad), Some(device))),
     }
 }

@@ -11,7 +11,6 @@ ghost use Rattle.vt_core.specs.Recalling.{IsQuiet, IsUnused, ReadsLogBack, opene
 ghost use Rattle.vt_core.specs.TakingBack.{GivesNext, LooksForEntry, PutsBack, StandsOnDisks, TakesAllBack, TakesBack, WritesBack};
 ghost use Rattle.vt_core.specs.Mounting.{AreCovered};
 
-use crate::told::told_of_shard;
 use std::marker::Brand;
 use std::sync::ledger::{Blank, Ledger};
 use vt_arena::BackBad;
@@ -22,6 +21,7 @@ use vt_log::{Log, Tail};
 use vt_model::BUCKET_ROOM;
 use vt_shard::{Shard, no_block_lacks, others_lack_nothing};
 use vt_steps::Steps;
+use vt_told::of_shard;
 
 /// The least of all marks: for each block below it all sections have their entries, and the filter
 /// its bits. Without a filter's device it is 0.
@@ -186,7 +186,7 @@ fn has_entry<D: Disk, L: Ledger>(
     vt_bucket::frames_are_told_apart();
     match shard.lookup(&info.key, steps) {
         Ok(found) => Ok(found.is_some()),
-        Err(bad) => Err(told_of_shard(bad)),
+        Err(bad) => Err(of_shard(bad)),
     }
 }
 
@@ -200,7 +200,7 @@ fn write_back<D: Disk>(shard: &mut Shard<D>) -> Result<(), MountBad>
     }
     while shard.owed() > 0 {
         if let Err(bad) = shard.advance() {
-            return Err(told_of_shard(bad));
+            return Err(of_shard(bad));
         }
     }
     Ok(())
@@ -227,6 +227,6 @@ fn put_back<D: Disk>(shard: &mut Shard<D>, info: Info, part: u32) -> Result<(), 
             want: BUCKET_ROOM as u128,
         }),
         Ok(_) => Ok(()),
-        Err(bad) => Err(told_of_shard(bad)),
+        Err(bad) => Err(of_shard(bad)),
     }
 }

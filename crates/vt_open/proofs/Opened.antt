@@ -25,7 +25,7 @@ use Rattle.vt_core.specs.Mounting.{AllStandFor, EachStands, IsLogOf, IsSetupOf, 
 use Rattle.vt_core.specs.Refusals.{CountsRefusal, Refuses}
 use Rattle.vt_core.specs.Stands.{ArePartitions}
 use Rattle.vt_open.specs.Names.{AreUnder, HaveOneShape, files_of}
-use Rattle.vt_open.specs.Opening.{AreRead, FindsNoStore, Opens}
+use Rattle.vt_open.specs.Opening.{AreRead, FindsNoStore, Opens, sizes_of}
 use Rattle.vt_open.specs.Taking.{AreGiven, IsMounted}
 use Rattle.vt_open.specs.TakingAll.{AreAllTaken}
 use Rattle.vt_open.proofs.Held.{held_many, held_twice}
@@ -126,7 +126,7 @@ module _ {D : Type 0} (disk : DiskOf D) where
           filter = ap length (sym all.filter) ∙ shape.filter;
         }
 
-    pub opens : (score : List ℕ → List ℕ) (sessions : ℕ) (k : CoreState D) → Mounts score disk (tables_in devices) here sessions k
+    pub opens : (score : List ℕ → List ℕ) (sessions : ℕ) (k : CoreState D) → Mounts score disk (tables_in devices) here (sizes_of conf) sessions k
         → (IsTrue disk.tells → LeavesStanding score disk (tables_in devices) here (devices_of k)) → Opens score disk told conf sessions old mid k
     opens score sessions k mounts standing =
         let fresh = mounts.fresh in

@@ -1,6 +1,7 @@
 -- What it is to open a store, and to close it.
-use Rattle.std.specs.Prelude.{◌≡◌, ◌⊎◌, ⊤, ℕ, IsTrue, List, length, map}
+use Rattle.std.specs.Prelude.{◌≡◌, ◌⊎◌, ⊤, ℕ, ◌/◌, IsTrue, List, length, map, max, min}
 use Rattle.std.specs.List.{AllZip, Contains}
+use Rattle.vt_base.specs.declared.TheConstants.{MAX_BLOCK}
 use Rattle.vt_base.specs.declared.mount.MountBad.{MountBad}
 use Rattle.vt_base.specs.declared.mount.MountBad.TheVariants.{Fault, NoMemory}
 use Rattle.vt_conf.specs.declared.conf.Conf.{Conf}
@@ -19,6 +20,7 @@ use Rattle.vt_open.specs.Names.{AreUnder, HaveOneShape, files_of, names_of}
 use Rattle.vt_open.specs.Taking.{AreTaken, RefusesTaking}
 use Rattle.vt_part.specs.Table.{Table}
 use Rattle.vt_parts.specs.Parts.{Standing}
+use Rattle.vt_shard.specs.declared.mounting.Sizes.{Sizes}
 
 -- the same devices, of which the tables of those of arenas were read
 pub record AreRead {D : Type 0} (disk : DiskOf D) (handed mounted : PerDevice D) : Type 0 where
@@ -26,8 +28,16 @@ pub record AreRead {D : Type 0} (disk : DiskOf D) (handed mounted : PerDevice D)
   pub sections : mounted.sections ≡ handed.sections
   pub filter : mounted.filter ≡ handed.filter
 
+-- How much each shard keeps in memory: as many blocks and as many clean index entries as `mem` and
+-- `icmem` have room for, divided among the sections, but not too few and not too many.
+abbrev pub sizes_of : Conf → Sizes
+sizes_of conf = record {
+  lumps = min 65536 (max 4 (conf.mem / MAX_BLOCK / length conf.sections.items));
+  clean = min 1048576 (max 64 (conf.icmem / 64 / length conf.sections.items));
+}
+
 -- The partitions of all files that a configuration names were handed out, and a store was found on
--- them. These are the tables of those of arenas.
+-- them, with the room in memory that it says. These are the tables of those of arenas.
 pub record Opens {D : Type 0} (score : List ℕ → List ℕ) (disk : DiskOf D) (told : Type 0)
     (conf : Conf) (sessions : ℕ) (old new : List ℕ → Standing D) (k : CoreState D) : Type 0 where
   pub handed : PerDevice D
@@ -37,7 +47,7 @@ pub record Opens {D : Type 0} (score : List ℕ → List ℕ) (disk : DiskOf D) 
   pub read : AreRead disk handed mounted
   pub tables : List Table
   pub partitions : IsTrue disk.tells → ArePartitions tables (map disk.bytes handed.partitions)
-  pub mounts : Mounts score disk tables mounted sessions k
+  pub mounts : Mounts score disk tables mounted (sizes_of conf) sessions k
   pub standing : IsTrue disk.tells → LeavesStanding score disk tables mounted (devices_of k)
   pub faults_are : map disk.faults (all_of (devices_of k)) ≡ map disk.faults (all_of handed)
   pub devices : HaveOneShape (devices_of k) (files_of conf)

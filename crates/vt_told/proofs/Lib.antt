@@ -1,1 +1,3 @@
+pub mod LogRefused
+pub mod NamesTwo
 pub mod Partitions

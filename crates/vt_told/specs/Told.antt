@@ -1,7 +1,8 @@
 -- What is told of a part's refusal: each as the store's own, under the number of the part. Parts are
 -- counted from 0: the partitions of arenas, the index sections, the Bloom filter.
-use Rattle.std.specs.Prelude.{ℕ, List, slice_get}
+use Rattle.std.specs.Prelude.{◌≢◌, ⊤, ℕ, ◌<◌, List, slice_get}
 use Rattle.std.specs.Option.{option_map_or}
+use Rattle.vt_base.specs.Damage.{Differ}
 use Rattle.vt_base.specs.declared.mount.MountBad.{MountBad}
 use Rattle.vt_base.specs.declared.mount.MountBad.TheVariants.{Fault, NotFormatted, TooSmall, DuplicateName, Disagree, Damaged, NoMemory}
 use Rattle.vt_base.specs.declared.mount.MountField.{MountField}
@@ -89,3 +90,14 @@ abbrev pub of_shard : ShardErr → MountBad
 of_shard shard_err.Fault = Fault
 of_shard (shard_err.Stopped call) = Fault
 of_shard (shard_err.Damaged bucket want found) = Damaged (Bucket bucket) want found
+
+-- Two values that a refusal tells are two: less than is needed, what was found and what was wanted,
+-- or two partitions.
+abbrev pub NamesTwo : MountBad → Type 0
+NamesTwo Fault = ⊤
+NamesTwo (NotFormatted part) = ⊤
+NamesTwo (TooSmall part len need) = len < need
+NamesTwo (DuplicateName first second) = first < second
+NamesTwo (Disagree part field found want) = found ≢ want
+NamesTwo (Damaged site want found) = Differ want found
+NamesTwo NoMemory = ⊤

@@ -2,6 +2,8 @@
 //! the store's, under the number of the part.
 #![tactic(auto)]
 
+mod laws;
 mod told;
 
+pub use laws::refusals_name_two;
 pub use told::{of_arena, of_filter, of_log, of_part, of_section, of_shard};

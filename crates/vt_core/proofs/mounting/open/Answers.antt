@@ -31,7 +31,7 @@ returns-in-Err g c = λ before given.
     let refuses : RefusesBeside g.D.Disk c.args.part c.args.log.durable c.args.sections.items c.args.filter c.in-Err.bad =
     subst (λ (n : ℕ). RefusesBeside g.D.Disk c.args.part n c.args.sections.items c.args.filter c.in-Err.bad) c.durable.ensures e.refused in
     beside_mount score g.D.Disk before c.args.log c.args.sections.items c.args.filter given c.what_is_read_is_a_prefix.ensures c.args.part at c.in-Err.sections.items c.in-Err.filter c.in-Err.bad
-    c.hand_back.result c.args.sessions c.hand_back.ensures.devices c.hand_back.ensures.tables e.held refuses e.counts
+    c.hand_back.result c.args.sizes c.args.sessions c.hand_back.ensures.devices c.hand_back.ensures.tables e.held refuses e.counts
     (λ setup h tells agree all. e.found score setup h tells agree (all ∙ sym c.durable.ensures))
 
 pub open_shards-requires-clause-rest : goal.open_shards-requires-clause-rest
@@ -52,7 +52,7 @@ returns-in-Err-open_shards g c = λ before given.
     ∙ ap (λ (l : List g.row.D.Denot). with_log c.args.log.disks l c.device_of.result) c.in-Err-open_shards.ensures.memory
     ∙ ap (λ (o : Option g.row.D.Denot). with_log c.args.log.disks (map (λ s. s.disk) b.sections.items) o) c.device_of.ensures in
     memory_mount g.S.Scorer.score_of g.D.Disk before c.args.log c.args.sections.items c.args.filter given b.sections.items b.bloom b.bits c.in-Ok.ensures.opened.sections c.in-Ok.ensures.opened.filter_is
-    c.hand_back-in-Err-open_shards.result c.args.sessions is c.hand_back-in-Err-open_shards.ensures.tables
+    c.hand_back-in-Err-open_shards.result c.args.sizes c.args.sessions is c.hand_back-in-Err-open_shards.ensures.tables
 
 pub close_shards-sections-requires : goal.close_shards-sections-requires
 close_shards-sections-requires g c =
@@ -73,7 +73,7 @@ returns-in_default g c = λ before given.
     ∙ ap (λ (l : List g.row.D.Denot). with_log c.args.log.disks l c.device_of-in_default.result) closed
     ∙ ap (λ (o : Option g.row.D.Denot). with_log c.args.log.disks (map (λ s. s.disk) b.sections.items) o) c.device_of-in_default.ensures in
     memory_mount g.S.Scorer.score_of g.D.Disk before c.args.log c.args.sections.items c.args.filter given b.sections.items b.bloom b.bits c.in-Ok.ensures.opened.sections c.in-Ok.ensures.opened.filter_is
-    c.hand_back-in_default.result c.args.sessions is c.hand_back-in_default.ensures.tables
+    c.hand_back-in_default.result c.args.sizes c.args.sessions is c.hand_back-in_default.ensures.tables
 
 pub read_back-requires-clause-many : goal.read_back-requires-clause-many
 read_back-requires-clause-many g c =
@@ -123,7 +123,7 @@ returns-in-Err-read_back g c = λ before given.
     o.items c.args.sizes.lumps c.args.sizes.clean made.0 c.read_back.new.log c.read_back.new.bits shards all.reads
     c.what_is_read_is_a_prefix.ensures c.first_blocks_are_legal.ensures.legal c.files_agree.ensures (λ d tells. g.met.D.Disk.read_is_image d tells)
     c.least_mark-least.result c.args.part at c.in-Err-read_back.bad all
-    c.hand_back-in-Err-read_back.result c.args.sessions is c.hand_back-in-Err-read_back.ensures.tables
+    c.hand_back-in-Err-read_back.result c.args.sizes c.args.sessions is c.hand_back-in-Err-read_back.ensures.tables
 
 -- its shards, the sessions' rows and the count of synced blocks, as they are in the store that is found
 abbrev state : {D : Type 0} → LogState D → List (ShardState D) → Option (BloomState D) → Filter → List (Option ℕ) → ℕ → CoreState D
@@ -177,14 +177,14 @@ returns g c = λ before given.
     let greatest = subst (λ (l : List (ShardState g.row.D.Denot)). (n : ℕ) → AreCovered l b.bloom n → n ≤ c.least_mark-least.result) c.deref.ensures.value c.least_mark-least.ensures.greatest in
     let waits : c.in-Ok-vec.waiting.items ≡ replicate c.args.sessions None = c.in-Ok-vec.ensures.items_if_clones_equal (only_none _ (λ x h. h)) in
     let is = is_state c.read_back.new.log b.bloom c.read_back.new.bits shards c.in-Ok-vec.waiting.items (replicate c.args.sessions None) c.durable-synced.result c.read_back.new.log.durable after waits c.durable-synced.ensures in
-    let found = mounts score disk c.args.sections.items b.sections.items o.items c.args.sizes.lumps c.args.sizes.clean opens.sections made.0 c.args.log c.read_back.new.log b.bits c.read_back.new.bits shards c.least_mark-least.result
+    let found = mounts score disk c.args.sections.items b.sections.items o.items c.args.sizes opens.sections made.0 c.args.log c.read_back.new.log b.bits c.read_back.new.bits shards c.least_mark-least.result
     c.args.filter b.bloom opens.filter_is c.args.part tests before given (short_regions disk c.args.log given.whole) marks c.least_mark-least.ensures.filter greatest all c.args.sessions (omega (arith, c.ranges.sessions.fits)) c.requires.some_arena c.requires.some_section (omega (arith, c.requires.many))
     c.what_is_read_is_a_prefix.ensures c.no_block_lacks.ensures.none c.base_is_free-2.ensures c.first_blocks_are_legal.ensures.legal c.base_is_free.ensures.legal c.saved_filters_are_told_apart.ensures.one_saved in
     let k = state c.read_back.new.log shards b.bloom c.read_back.new.bits (replicate c.args.sessions None) c.read_back.new.log.durable in
     let whole_mount = found_mount score disk before c.args.log c.args.sections.items c.args.filter given b.sections.items b.bloom b.bits opens.sections opens.filter_is
     o.items c.args.sizes.lumps c.args.sizes.clean made.0 c.read_back.new.log c.read_back.new.bits shards all.reads
-    c.what_is_read_is_a_prefix.ensures c.files_agree.ensures (λ d tells. g.met.D.Disk.read_is_image d tells) c.least_mark-least.result c.args.part all k c.args.sessions
+    c.what_is_read_is_a_prefix.ensures c.files_agree.ensures (λ d tells. g.met.D.Disk.read_is_image d tells) c.least_mark-least.result c.args.part all k c.args.sizes c.args.sessions
     (devices_same score disk before c.args.log c.args.sections.items c.args.filter given b.sections.items b.bloom b.bits opens.sections opens.filter_is
     o.items c.args.sizes.lumps c.args.sizes.clean made.0 c.read_back.new.log c.read_back.new.bits shards all.reads (replicate c.args.sessions None) c.read_back.new.log.durable)
     found in
-    subst (λ (x : CoreState g.row.D.Denot). IsMountOf score disk c.args.log.tables (with_log before c.args.sections.items c.args.filter) c.args.sessions (Ok x)) (sym is) whole_mount
+    subst (λ (x : CoreState g.row.D.Denot). IsMountOf score disk c.args.log.tables (with_log before c.args.sections.items c.args.filter) c.args.sizes c.args.sessions (Ok x)) (sym is) whole_mount

@@ -3,7 +3,8 @@ use Rattle.std.specs.Option.{option_to_list}
 use Rattle.vt_log.specs.Answers.{HoldTheSame}
 use Rattle.vt_bloom.specs.Bits.{Filter}
 use Rattle.vt_core.specs.Opening.{OpensFilter}
-use Rattle.vt_core.specs.Refusals.{CountsRefusal, FilterIsRefused, told_of_filter}
+use Rattle.vt_told.specs.Told.{of_filter}
+use Rattle.vt_core.specs.Refusals.{CountsRefusal, FilterIsRefused}
 use Rattle.vt_core.proofs.Held.{held_reads, hold_still, hold_zip}
 use Rattle.vt_core.proofs.OpenWork.{one_filter}
 use Rattle.vt_core.proofs.opening.open_filter.Goals as goal
@@ -66,11 +67,11 @@ returns-in-Ok-mount-clause-counts g c =
 
 pub returns-in-Err-mount-clause-refused : goal.returns-in-Err-mount-clause-refused
 returns-in-Err-mount-clause-refused g c = inr
-    (subst (λ (o : Option g.row.D.Denot). FilterIsRefused g.D.Disk c.args.part (option_to_list o) c.told_of_filter.result) (sym c.in-Some.is) (record {
+    (subst (λ (o : Option g.row.D.Denot). FilterIsRefused g.D.Disk c.args.part (option_to_list o) c.of_filter.result) (sym c.in-Some.is) (record {
       device = c.in-Some.device;
       at = refl;
       why = c.in-Err-mount.bad;
-      bad_is = c.told_of_filter.ensures;
+      bad_is = c.of_filter.ensures;
       names = c.in-Err-mount.ensures.differs;
       refuses = c.in-Err-mount.ensures.refused;
     }))
@@ -78,7 +79,7 @@ returns-in-Err-mount-clause-refused g c = inr
 pub returns-in-Err-mount-clause-found : goal.returns-in-Err-mount-clause-found
 returns-in-Err-mount-clause-found g c = λ tells saved.
     let s = saved c.in-Some.device c.in-Some.is in
-    ⊎_elim (λ e. inl (c.told_of_filter.ensures ∙ ap (told_of_filter c.args.part) e)) (λ e. inr (c.told_of_filter.ensures ∙ ap (told_of_filter c.args.part) e))
+    ⊎_elim (λ e. inl (c.of_filter.ensures ∙ ap (of_filter c.args.part) e)) (λ e. inr (c.of_filter.ensures ∙ ap (of_filter c.args.part) e))
     (c.in-Err-mount.ensures.all_are_found s.0 tells s.1)
 
 pub returns-in-Err-mount-clause-held : goal.returns-in-Err-mount-clause-held
@@ -93,5 +94,5 @@ returns-in-Err-mount-clause-counts g c =
     let f = g.D.Disk.faults in
     let d = c.in-Some.device in
     let a = c.in-Err-mount.device in
-    subst (λ (o : Option g.row.D.Denot). CountsRefusal c.told_of_filter.result (map f (option_to_list o)) (f a ∷ [])) (sym c.in-Some.is)
-    (subst (λ b. CountsRefusal b (f d ∷ []) (f a ∷ [])) (sym c.told_of_filter.ensures) (one_filter c.args.part c.in-Err-mount.bad (f d) (f a) c.in-Err-mount.ensures.cause))
+    subst (λ (o : Option g.row.D.Denot). CountsRefusal c.of_filter.result (map f (option_to_list o)) (f a ∷ [])) (sym c.in-Some.is)
+    (subst (λ b. CountsRefusal b (f d ∷ []) (f a ∷ [])) (sym c.of_filter.ensures) (one_filter c.args.part c.in-Err-mount.bad (f d) (f a) c.in-Err-mount.ensures.cause))

@@ -1,7 +1,8 @@
 use Rattle.std.proofs.Common.{◌≡◌, ◌<◌, ◌+◌, ◌∷◌, [], ⊎_elim, inl, inr, ℕ, List, length, map, refl, sym, ◌∙◌, ap, subst, arith, length-append}
 use Rattle.vt_isect.specs.Section.{SectionState}
 use Rattle.vt_core.specs.Opening.{CanBeOpened, IsOpened}
-use Rattle.vt_core.specs.Refusals.{CountsRefusal, told_of_section}
+use Rattle.vt_told.specs.Told.{of_section}
+use Rattle.vt_core.specs.Refusals.{CountsRefusal}
 use Rattle.vt_core.proofs.Beside.{all_at, room_some}
 use Rattle.vt_core.proofs.Held.{hold_still, hold_zip}
 use Rattle.vt_core.proofs.Opened.{IsSplitAt, split_all, split_many, split_more, split_none}
@@ -97,7 +98,7 @@ returns-in-Err-clause-refused g c = inr (record {
   device = c.in-Some.device;
   at = comes_next g.D.Disk c.args.devices.items c.loop-device.sections.items c.loop-device.devices.items c.pop.new.self.items c.in-Some.device c.in-Err.device c.in-Some.ensures.items c.loop-device.invariant.split;
   why = c.in-Err.bad;
-  bad_is = c.told_of_section-bad.ensures ∙ ap (λ (n : ℕ). told_of_section (c.args.part + n) c.in-Err.bad) (c.len-in-Err.ensures ∙ c.loop-device.sections.ok.0);
+  bad_is = c.of_section-bad.ensures ∙ ap (λ (n : ℕ). of_section (c.args.part + n) c.in-Err.bad) (c.len-in-Err.ensures ∙ c.loop-device.sections.ok.0);
   names = c.in-Err.ensures.differs;
   refuses = c.in-Err.ensures.refused;
 })
@@ -106,7 +107,7 @@ pub returns-in-Err-clause-found : goal.returns-in-Err-clause-found
 returns-in-Err-clause-found g c = λ tells can.
     let at = comes_next g.D.Disk c.args.devices.items c.loop-device.sections.items c.loop-device.devices.items c.pop.new.self.items c.in-Some.device c.in-Err.device c.in-Some.ensures.items c.loop-device.invariant.split in
     let it = all_at (CanBeOpened g.D.Disk) c.args.devices.items (length c.loop-device.sections.items) c.in-Some.device can at in
-    ⊎_elim (λ e. inl (c.told_of_section-bad.ensures ∙ ap (told_of_section (c.args.part + c.len-in-Err.result)) e)) (λ e. inr (c.told_of_section-bad.ensures ∙ ap (told_of_section (c.args.part + c.len-in-Err.result)) e))
+    ⊎_elim (λ e. inl (c.of_section-bad.ensures ∙ ap (of_section (c.args.part + c.len-in-Err.result)) e)) (λ e. inr (c.of_section-bad.ensures ∙ ap (of_section (c.args.part + c.len-in-Err.result)) e))
     (c.in-Err.ensures.all_are_found it.name it.head tells it.room it.frame)
 
 pub returns-in-Err-clause-held : goal.returns-in-Err-clause-held
@@ -117,7 +118,7 @@ returns-in-Err-clause-held g c =
 pub returns-in-Err-clause-counts : goal.returns-in-Err-clause-counts
 returns-in-Err-clause-counts g c =
     let f = g.D.Disk.faults in
-    subst (λ b. CountsRefusal b (map f c.args.devices.items) (map f c.close_sections.result.items)) (sym c.told_of_section-bad.ensures)
+    subst (λ b. CountsRefusal b (map f c.args.devices.items) (map f c.close_sections.result.items)) (sym c.of_section-bad.ensures)
     (back_counts g.D.Disk c.args.devices.items c.loop-device.sections.items c.loop-device.devices.items c.pop.new.self.items c.in-Some.device c.in-Err.device c.in-Some.ensures.items c.loop-device.invariant.split
     (c.args.part + c.len-in-Err.result) c.in-Err.bad c.close_sections.result.items c.push_reserved-in-Err.new.self.items c.push_reserved-in-Err.ensures.items c.close_sections.ensures c.in-Err.ensures.cause)
 

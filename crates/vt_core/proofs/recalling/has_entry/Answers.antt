@@ -20,6 +20,6 @@ returns-in-Err g c =
     let it = c.in-Err.ensures in
     let old : ShardState g.row.D.Denot = c.args.shard.now in
     let new : ShardState g.row.D.Denot = c.lookup.new.self in
-    subst (λ (b : MountBad). LooksForEntry g.D.Disk c.args.info.now.key (Err b) old new) (sym c.told_of_shard.ensures)
+    subst (λ (b : MountBad). LooksForEntry g.D.Disk c.args.info.now.key (Err b) old new) (sym c.of_shard.ensures)
     (looks_for g.D.Disk c.frames_are_told_apart.ensures.one c.args.info.now.key (Err c.in-Err.bad) old new c.requires it.looks_up it.sound
     (λ tells score setup h i was here. it.recalls score setup h (length h) i tells was here) it.absent)

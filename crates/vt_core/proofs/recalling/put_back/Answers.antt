@@ -34,6 +34,6 @@ returns-in-Err g c =
     let mid : ShardState g.row.D.Denot = c.put.new.self in
     let new : ShardState g.row.D.Denot = c.crowd.new.self in
     let e = c.crowd.ensures in
-    subst (λ (b : MountBad). PutsBack {U = ⊤} g.D.Disk c.args.part c.args.info (Err b) old new) (sym c.told_of_shard.ensures)
+    subst (λ (b : MountBad). PutsBack {U = ⊤} g.D.Disk c.args.part c.args.info (Err b) old new) (sym c.of_shard.ensures)
     (puts_err g.D.Disk c.frames_are_told_apart.ensures.one c.args.part c.args.info old mid new c.bucket_of-bucket.result c.crowd.result c.requires.quiet c.put.ensures.put c.bucket_of-bucket.ensures c.requires.range
     e.counts c.put.ensures.recalls e.most e.sound c.in-Err.bad c.in-Err.is)

@@ -22,7 +22,7 @@ returns-in-Err g c =
     let new : ShardState g.row.D.Denot = c.advance.new.self in
     let under : IsSome now.writeback = under_way now.writeback c.owed.result c.owed.ensures.none c.loop-shard-test.true in
     let e = c.in-Err.ensures in
-    subst (λ (b : MountBad). WritesBack {U = ⊤} g.D.Disk (Err b) old new) (sym c.told_of_shard.ensures)
+    subst (λ (b : MountBad). WritesBack {U = ⊤} g.D.Disk (Err b) old new) (sym c.of_shard.ensures)
     (ends_early g.D.Disk old now new c.loop-shard.invariant under c.in-Err.bad e.takes e.calls e.reads e.sound
     (λ tells score setup h from was fits. e.undamaged score setup h (length h) from tells was fits))
 

@@ -1,10 +1,13 @@
-use Rattle.std.proofs.Common.{◌≡◌, ◌⊎◌, inl, inr, refl, ◌∙◌, subst, arith}
+use Rattle.std.proofs.Common.{◌≡◌, ◌⊎◌, inl, inr, ℕ, length, refl, ◌∙◌, ap, subst, arith}
 use Rattle.std.proofs.lemmas.Result.{err_from_is_err_and}
-use Rattle.std.specs.Prelude.{IsTrue}
+use Rattle.std.specs.Prelude.{IsTrue, max, min, ◌/◌}
+use Rattle.vt_base.specs.declared.TheConstants.{MAX_BLOCK}
 use Rattle.vt_base.specs.declared.mount.MountBad.TheVariants.{Fault, NoMemory}
 use Rattle.vt_core.specs.Files.{PerDevice, all_of}
-use Rattle.vt_core.specs.Mounting.{LeavesStanding, devices_in}
+use Rattle.vt_core.specs.Mounting.{LeavesStanding, Mounts, devices_in, tables_in}
 use Rattle.vt_open.specs.Names.{files_of}
+use Rattle.vt_open.specs.Opening.{sizes_of}
+use Rattle.vt_shard.specs.declared.mounting.Sizes.{Sizes}
 use Rattle.vt_open.proofs.Kept.{all_stay, early_stands, taking_fails}
 use Rattle.vt_open.proofs.Opened.{all_rooms, arenas_some, finds_none, found_here, left_back, many_arenas, many_sections, opens, shape_back_, stand_back}
 use Rattle.vt_open.proofs.Shapes.{one_list}
@@ -59,8 +62,16 @@ returns-in_err-devices-clause-standing g c = λ tables handed back t tells under
 pub returns-in-Ok-clause-opens : goal.returns-in-Ok-clause-opens
 returns-in-Ok-clause-opens g c =
     let e = c.in-Ok.ensures in
+    let conf = c.args.conf.now in
+    let many : c.len-sections.result ≡ length conf.sections.items = omega (arith, c.len-sections.ensures, conf.sections.ok.0) in
+    let lumps : c.block_room.result ≡ (sizes_of conf).lumps =
+    c.block_room.ensures ∙ ap (λ (n : ℕ). min 65536 (max 4 (conf.mem / MAX_BLOCK / n))) many in
+    let clean : c.entry_room.result ≡ (sizes_of conf).clean =
+    c.entry_room.ensures ∙ ap (λ (n : ℕ). min 1048576 (max 64 (conf.icmem / 64 / n))) many in
+    let sizes : record { lumps = c.block_room.result; clean = c.entry_room.result } ≡ sizes_of conf =
+    ap (λ (n : ℕ). record { lumps = n; clean = c.entry_room.result }) lumps ∙ ap (λ (n : ℕ). record { lumps = (sizes_of conf).lumps; clean = n }) clean in
     opens g.P.Disk.Disk (IsTrue g.P.Parts.tells) c.args.conf.now (g.P.Parts.standing c.args.parts.now) (g.P.Parts.standing c.take_all.new.parts) c.in_ok-devices.devices c.in_ok-devices.ensures.taken
-    g.S.Scorer.score_of c.args.sessions c.in-Ok.core e.mounts (λ tells. e.standing tells)
+    g.S.Scorer.score_of c.args.sessions c.in-Ok.core (subst (λ (z : Sizes). Mounts g.S.Scorer.score_of g.P.Disk.Disk (tables_in c.in_ok-devices.devices) (devices_in c.in_ok-devices.devices) z c.args.sessions c.in-Ok.core) sizes e.mounts) (λ tells. e.standing tells)
 
 pub returns-in-Err-clause-refused : goal.returns-in-Err-clause-refused
 returns-in-Err-clause-refused g c = inr (

@@ -11,12 +11,12 @@ use Rattle.vt_part.specs.Parts.{disk_of, table_of, tables_of}
 use Rattle.vt_part.specs.Table.{Table}
 use Rattle.vt_part.specs.declared.layout.ArenaRegion.{ArenaRegion}
 use Rattle.vt_part.specs.declared.part.Part.{Part}
+use Rattle.vt_told.specs.Told.{of_log}
 use Rattle.vt_core.specs.declared.devices.Devices.{Devices}
 use Rattle.vt_core.specs.Mounting.{devices_in, tables_in}
 use Rattle.vt_core.specs.Opening.{IsMountOf}
-use Rattle.vt_core.specs.Refusals.{PassesOrRefuses, told_of_log}
-use Rattle.vt_core.proofs.LogMount.{arenas_mount, count_same, log_given, log_mount, names_same}
-use Rattle.vt_core.proofs.Partitions.{length_laid}
+use Rattle.vt_core.specs.Refusals.{PassesOrRefuses}
+use Rattle.vt_core.proofs.LogMount.{arenas_mount, count_same, length_laid, log_given, log_mount, names_same}
 use Rattle.vt_core.proofs.Standing.{held_many}
 use Rattle.vt_core.proofs.store.Core.mount.Goals as goal
 
@@ -25,7 +25,7 @@ returns-in-Err-clause-found g c =
     let d = c.args.devices in
     let passes : PassesOrRefuses Arenas 4096 0 (map (λ t. t.count) (tables_of d.parts.items)) (Err c.in-Err.bad) =
     subst (λ (l : List (Part g.row.D.Denot)). PassesOrRefuses Arenas 4096 0 (map (λ t. t.count) (tables_of l)) (Err c.in-Err.bad)) c.deref.ensures.value c.in-Err.ensures in
-    let it = arenas_mount g.S.Scorer.score_of g.D.Disk (tables_in d) (disks_of d.parts.items) d.sections.items d.filter c.args.sessions c.in-Err.bad
+    let it = arenas_mount g.S.Scorer.score_of g.D.Disk (tables_in d) (disks_of d.parts.items) d.sections.items d.filter c.args.sizes c.args.sessions c.in-Err.bad
     (record { parts = d.parts; sections = d.sections; filter = d.filter }) refl refl passes in
     it.found
 
@@ -34,7 +34,7 @@ returns-in-Err-clause-standing g c =
     let d = c.args.devices in
     let passes : PassesOrRefuses Arenas 4096 0 (map (λ t. t.count) (tables_of d.parts.items)) (Err c.in-Err.bad) =
     subst (λ (l : List (Part g.row.D.Denot)). PassesOrRefuses Arenas 4096 0 (map (λ t. t.count) (tables_of l)) (Err c.in-Err.bad)) c.deref.ensures.value c.in-Err.ensures in
-    let it = arenas_mount g.S.Scorer.score_of g.D.Disk (tables_in d) (disks_of d.parts.items) d.sections.items d.filter c.args.sessions c.in-Err.bad
+    let it = arenas_mount g.S.Scorer.score_of g.D.Disk (tables_in d) (disks_of d.parts.items) d.sections.items d.filter c.args.sizes c.args.sessions c.in-Err.bad
     (record { parts = d.parts; sections = d.sections; filter = d.filter }) refl refl passes in
     it.standing
 
@@ -43,7 +43,7 @@ returns-in-Err-clause-refused g c =
     let d = c.args.devices in
     let passes : PassesOrRefuses Arenas 4096 0 (map (λ t. t.count) (tables_of d.parts.items)) (Err c.in-Err.bad) =
     subst (λ (l : List (Part g.row.D.Denot)). PassesOrRefuses Arenas 4096 0 (map (λ t. t.count) (tables_of l)) (Err c.in-Err.bad)) c.deref.ensures.value c.in-Err.ensures in
-    let it = arenas_mount g.S.Scorer.score_of g.D.Disk (tables_in d) (disks_of d.parts.items) d.sections.items d.filter c.args.sessions c.in-Err.bad
+    let it = arenas_mount g.S.Scorer.score_of g.D.Disk (tables_in d) (disks_of d.parts.items) d.sections.items d.filter c.args.sizes c.args.sessions c.in-Err.bad
     (record { parts = d.parts; sections = d.sections; filter = d.filter }) refl refl passes in
     it.refused
 
@@ -94,8 +94,8 @@ open-requires-clause-lumps g c = c.requires.lumps
 pub open-requires-clause-clean : goal.open-requires-clause-clean
 open-requires-clause-clean g c = c.requires.clean
 
-pub told_of_log-bad-requires-clause-many : goal.told_of_log-bad-requires-clause-many
-told_of_log-bad-requires-clause-many g c =
+pub of_log-bad-requires-clause-many : goal.of_log-bad-requires-clause-many
+of_log-bad-requires-clause-many g c =
     omega (
       arith,
       ap length c.deref-in-Err-mount.ensures.value,
@@ -105,8 +105,8 @@ told_of_log-bad-requires-clause-many g c =
       c.requires.many,
     )
 
-pub told_of_log-bad-requires-clause-few : goal.told_of_log-bad-requires-clause-few
-told_of_log-bad-requires-clause-few g c =
+pub of_log-bad-requires-clause-few : goal.of_log-bad-requires-clause-few
+of_log-bad-requires-clause-few g c =
     let few : arena_count (tables_of c.args.devices.parts.items) ≤ 4096 =
     omega (arith, c.in_default.ensures.1, ap (λ (l : List (Part g.row.D.Denot)). sum (map (λ t. t.count) (tables_of l))) c.deref.ensures.value, count_same (tables_of c.args.devices.parts.items)) in
     omega (arith, few, ap arena_count (ap tables_of c.deref-in-Err-mount.ensures.value ∙ c.in-Err-mount.ensures.handed_back))
@@ -119,8 +119,8 @@ returns-in-Ok-clause-mounts g c =
     let e = c.in-Ok.ensures in
     let given = log_given g.S.Scorer.score_of g.D.Disk d.parts.items d.sections.items d.filter c.in-Ok.log e.whole e.mounted e.layout.0 e.layout.1 few
     e.answer.0 e.answer.1 e.answer.2 (λ h base tells distinct is. e.found h base tells distinct is) e.disks e.settled e.cause e.most_calls in
-    let it : IsMountOf g.S.Scorer.score_of g.D.Disk (tables_in d) (devices_in d) c.args.sessions c.open.result =
-    subst (λ (t : List Table). IsMountOf g.S.Scorer.score_of g.D.Disk t (devices_in d) c.args.sessions c.open.result) e.layout.1 (c.open.ensures (disks_of d.parts.items) given) in
+    let it : IsMountOf g.S.Scorer.score_of g.D.Disk (tables_in d) (devices_in d) c.args.sizes c.args.sessions c.open.result =
+    subst (λ (t : List Table). IsMountOf g.S.Scorer.score_of g.D.Disk t (devices_in d) c.args.sizes c.args.sessions c.open.result) e.layout.1 (c.open.ensures (disks_of d.parts.items) given) in
     it.mounts
 
 pub returns-in-Ok-clause-found : goal.returns-in-Ok-clause-found
@@ -131,8 +131,8 @@ returns-in-Ok-clause-found g c =
     let e = c.in-Ok.ensures in
     let given = log_given g.S.Scorer.score_of g.D.Disk d.parts.items d.sections.items d.filter c.in-Ok.log e.whole e.mounted e.layout.0 e.layout.1 few
     e.answer.0 e.answer.1 e.answer.2 (λ h base tells distinct is. e.found h base tells distinct is) e.disks e.settled e.cause e.most_calls in
-    let it : IsMountOf g.S.Scorer.score_of g.D.Disk (tables_in d) (devices_in d) c.args.sessions c.open.result =
-    subst (λ (t : List Table). IsMountOf g.S.Scorer.score_of g.D.Disk t (devices_in d) c.args.sessions c.open.result) e.layout.1 (c.open.ensures (disks_of d.parts.items) given) in
+    let it : IsMountOf g.S.Scorer.score_of g.D.Disk (tables_in d) (devices_in d) c.args.sizes c.args.sessions c.open.result =
+    subst (λ (t : List Table). IsMountOf g.S.Scorer.score_of g.D.Disk t (devices_in d) c.args.sizes c.args.sessions c.open.result) e.layout.1 (c.open.ensures (disks_of d.parts.items) given) in
     it.found
 
 pub returns-in-Ok-clause-standing : goal.returns-in-Ok-clause-standing
@@ -143,8 +143,8 @@ returns-in-Ok-clause-standing g c =
     let e = c.in-Ok.ensures in
     let given = log_given g.S.Scorer.score_of g.D.Disk d.parts.items d.sections.items d.filter c.in-Ok.log e.whole e.mounted e.layout.0 e.layout.1 few
     e.answer.0 e.answer.1 e.answer.2 (λ h base tells distinct is. e.found h base tells distinct is) e.disks e.settled e.cause e.most_calls in
-    let it : IsMountOf g.S.Scorer.score_of g.D.Disk (tables_in d) (devices_in d) c.args.sessions c.open.result =
-    subst (λ (t : List Table). IsMountOf g.S.Scorer.score_of g.D.Disk t (devices_in d) c.args.sessions c.open.result) e.layout.1 (c.open.ensures (disks_of d.parts.items) given) in
+    let it : IsMountOf g.S.Scorer.score_of g.D.Disk (tables_in d) (devices_in d) c.args.sizes c.args.sessions c.open.result =
+    subst (λ (t : List Table). IsMountOf g.S.Scorer.score_of g.D.Disk t (devices_in d) c.args.sizes c.args.sessions c.open.result) e.layout.1 (c.open.ensures (disks_of d.parts.items) given) in
     it.standing
 
 pub returns-in-Ok-clause-refused : goal.returns-in-Ok-clause-refused
@@ -155,8 +155,8 @@ returns-in-Ok-clause-refused g c =
     let e = c.in-Ok.ensures in
     let given = log_given g.S.Scorer.score_of g.D.Disk d.parts.items d.sections.items d.filter c.in-Ok.log e.whole e.mounted e.layout.0 e.layout.1 few
     e.answer.0 e.answer.1 e.answer.2 (λ h base tells distinct is. e.found h base tells distinct is) e.disks e.settled e.cause e.most_calls in
-    let it : IsMountOf g.S.Scorer.score_of g.D.Disk (tables_in d) (devices_in d) c.args.sessions c.open.result =
-    subst (λ (t : List Table). IsMountOf g.S.Scorer.score_of g.D.Disk t (devices_in d) c.args.sessions c.open.result) e.layout.1 (c.open.ensures (disks_of d.parts.items) given) in
+    let it : IsMountOf g.S.Scorer.score_of g.D.Disk (tables_in d) (devices_in d) c.args.sizes c.args.sessions c.open.result =
+    subst (λ (t : List Table). IsMountOf g.S.Scorer.score_of g.D.Disk t (devices_in d) c.args.sizes c.args.sessions c.open.result) e.layout.1 (c.open.ensures (disks_of d.parts.items) given) in
     it.refused
 
 pub returns-in-Err-mount-clause-found : goal.returns-in-Err-mount-clause-found
@@ -165,13 +165,13 @@ returns-in-Err-mount-clause-found g c =
     let e = c.in-Err-mount.ensures in
     let back : Devices g.row.D.Denot = record { parts = c.in-Err-mount.parts; sections = d.sections; filter = d.filter } in
     let tables = tables_of d.parts.items in
-    let told : told_of_log (layout_of tables) c.in-Err-mount.bad ≡ c.told_of_log-bad.result =
-    sym (c.told_of_log-bad.ensures ∙ ap (λ (t : List Table). told_of_log (layout_of t) c.in-Err-mount.bad) (ap tables_of c.deref-in-Err-mount.ensures.value ∙ e.handed_back)) in
-    let it = log_mount g.S.Scorer.score_of g.D.Disk tables (disks_of d.parts.items) d.sections.items d.filter c.args.sessions (disks_of c.in-Err-mount.parts.items) c.in-Err-mount.bad back refl e.handed_back
+    let told : of_log (layout_of tables) c.in-Err-mount.bad ≡ c.of_log-bad.result =
+    sym (c.of_log-bad.ensures ∙ ap (λ (t : List Table). of_log (layout_of t) c.in-Err-mount.bad) (ap tables_of c.deref-in-Err-mount.ensures.value ∙ e.handed_back)) in
+    let it = log_mount g.S.Scorer.score_of g.D.Disk tables (disks_of d.parts.items) d.sections.items d.filter c.args.sizes c.args.sessions (disks_of c.in-Err-mount.parts.items) c.in-Err-mount.bad back refl e.handed_back
     e.answer.0 e.answer.1 (subst (λ (n : List (List ℕ)). RefusesMount n (layout_of tables) e.answer.0 c.in-Err-mount.bad) (names_same d.parts.items) e.answer.2) e.disks e.cause
     (λ h base tells distinct is. e.found h base tells (subst AreDistinct (sym (names_same d.parts.items)) distinct) is) in
-    let same : IsMountOf g.S.Scorer.score_of g.D.Disk tables (devices_in d) c.args.sessions (Err (c.told_of_log-bad.result, back)) =
-    subst (λ (b : MountBad). IsMountOf g.S.Scorer.score_of g.D.Disk tables (devices_in d) c.args.sessions (Err (b, back))) told it in
+    let same : IsMountOf g.S.Scorer.score_of g.D.Disk tables (devices_in d) c.args.sizes c.args.sessions (Err (c.of_log-bad.result, back)) =
+    subst (λ (b : MountBad). IsMountOf g.S.Scorer.score_of g.D.Disk tables (devices_in d) c.args.sizes c.args.sessions (Err (b, back))) told it in
     same.found
 
 pub returns-in-Err-mount-clause-standing : goal.returns-in-Err-mount-clause-standing
@@ -180,13 +180,13 @@ returns-in-Err-mount-clause-standing g c =
     let e = c.in-Err-mount.ensures in
     let back : Devices g.row.D.Denot = record { parts = c.in-Err-mount.parts; sections = d.sections; filter = d.filter } in
     let tables = tables_of d.parts.items in
-    let told : told_of_log (layout_of tables) c.in-Err-mount.bad ≡ c.told_of_log-bad.result =
-    sym (c.told_of_log-bad.ensures ∙ ap (λ (t : List Table). told_of_log (layout_of t) c.in-Err-mount.bad) (ap tables_of c.deref-in-Err-mount.ensures.value ∙ e.handed_back)) in
-    let it = log_mount g.S.Scorer.score_of g.D.Disk tables (disks_of d.parts.items) d.sections.items d.filter c.args.sessions (disks_of c.in-Err-mount.parts.items) c.in-Err-mount.bad back refl e.handed_back
+    let told : of_log (layout_of tables) c.in-Err-mount.bad ≡ c.of_log-bad.result =
+    sym (c.of_log-bad.ensures ∙ ap (λ (t : List Table). of_log (layout_of t) c.in-Err-mount.bad) (ap tables_of c.deref-in-Err-mount.ensures.value ∙ e.handed_back)) in
+    let it = log_mount g.S.Scorer.score_of g.D.Disk tables (disks_of d.parts.items) d.sections.items d.filter c.args.sizes c.args.sessions (disks_of c.in-Err-mount.parts.items) c.in-Err-mount.bad back refl e.handed_back
     e.answer.0 e.answer.1 (subst (λ (n : List (List ℕ)). RefusesMount n (layout_of tables) e.answer.0 c.in-Err-mount.bad) (names_same d.parts.items) e.answer.2) e.disks e.cause
     (λ h base tells distinct is. e.found h base tells (subst AreDistinct (sym (names_same d.parts.items)) distinct) is) in
-    let same : IsMountOf g.S.Scorer.score_of g.D.Disk tables (devices_in d) c.args.sessions (Err (c.told_of_log-bad.result, back)) =
-    subst (λ (b : MountBad). IsMountOf g.S.Scorer.score_of g.D.Disk tables (devices_in d) c.args.sessions (Err (b, back))) told it in
+    let same : IsMountOf g.S.Scorer.score_of g.D.Disk tables (devices_in d) c.args.sizes c.args.sessions (Err (c.of_log-bad.result, back)) =
+    subst (λ (b : MountBad). IsMountOf g.S.Scorer.score_of g.D.Disk tables (devices_in d) c.args.sizes c.args.sessions (Err (b, back))) told it in
     same.standing
 
 pub returns-in-Err-mount-clause-refused : goal.returns-in-Err-mount-clause-refused
@@ -195,11 +195,11 @@ returns-in-Err-mount-clause-refused g c =
     let e = c.in-Err-mount.ensures in
     let back : Devices g.row.D.Denot = record { parts = c.in-Err-mount.parts; sections = d.sections; filter = d.filter } in
     let tables = tables_of d.parts.items in
-    let told : told_of_log (layout_of tables) c.in-Err-mount.bad ≡ c.told_of_log-bad.result =
-    sym (c.told_of_log-bad.ensures ∙ ap (λ (t : List Table). told_of_log (layout_of t) c.in-Err-mount.bad) (ap tables_of c.deref-in-Err-mount.ensures.value ∙ e.handed_back)) in
-    let it = log_mount g.S.Scorer.score_of g.D.Disk tables (disks_of d.parts.items) d.sections.items d.filter c.args.sessions (disks_of c.in-Err-mount.parts.items) c.in-Err-mount.bad back refl e.handed_back
+    let told : of_log (layout_of tables) c.in-Err-mount.bad ≡ c.of_log-bad.result =
+    sym (c.of_log-bad.ensures ∙ ap (λ (t : List Table). of_log (layout_of t) c.in-Err-mount.bad) (ap tables_of c.deref-in-Err-mount.ensures.value ∙ e.handed_back)) in
+    let it = log_mount g.S.Scorer.score_of g.D.Disk tables (disks_of d.parts.items) d.sections.items d.filter c.args.sizes c.args.sessions (disks_of c.in-Err-mount.parts.items) c.in-Err-mount.bad back refl e.handed_back
     e.answer.0 e.answer.1 (subst (λ (n : List (List ℕ)). RefusesMount n (layout_of tables) e.answer.0 c.in-Err-mount.bad) (names_same d.parts.items) e.answer.2) e.disks e.cause
     (λ h base tells distinct is. e.found h base tells (subst AreDistinct (sym (names_same d.parts.items)) distinct) is) in
-    let same : IsMountOf g.S.Scorer.score_of g.D.Disk tables (devices_in d) c.args.sessions (Err (c.told_of_log-bad.result, back)) =
-    subst (λ (b : MountBad). IsMountOf g.S.Scorer.score_of g.D.Disk tables (devices_in d) c.args.sessions (Err (b, back))) told it in
+    let same : IsMountOf g.S.Scorer.score_of g.D.Disk tables (devices_in d) c.args.sizes c.args.sessions (Err (c.of_log-bad.result, back)) =
+    subst (λ (b : MountBad). IsMountOf g.S.Scorer.score_of g.D.Disk tables (devices_in d) c.args.sizes c.args.sessions (Err (b, back))) told it in
     same.refused
