@@ -50,8 +50,9 @@ pub fn format_arenas<P: Parts>(
     done
 }
 
-/// Makes a disk a partition of arenas without blocks.
-fn make_arenas<D: Disk + Drop>(
+/// Makes a disk a partition of as many arenas of one size as it has room for, which have no blocks,
+/// with a name of its own, and gives their count. It gives the disk back.
+pub fn make_arenas<D: Disk + Drop>(
     alloc: Global,
     mut disk: D,
     name: &Text,

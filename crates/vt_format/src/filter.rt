@@ -44,8 +44,9 @@ pub fn format_filter<P: Parts>(
     done
 }
 
-/// Makes a disk a filter without a bit.
-fn make_filter<D: Disk>(
+/// Makes a disk a filter of this many bytes, of which each score has so many bits, none of them
+/// set.
+pub fn make_filter<D: Disk>(
     alloc: Global,
     disk: &mut D,
     size: u64,

@@ -40,8 +40,9 @@ pub fn format_section<P: Parts>(
     done
 }
 
-/// Makes a disk a section that isn't in use.
-fn make_section<D: Disk>(disk: &mut D, name: &Text) -> Result<u32, MountBad>
+/// Makes a disk a section that isn't in use yet, with a name of its own, and gives the count of its
+/// buckets.
+pub fn make_section<D: Disk>(disk: &mut D, name: &Text) -> Result<u32, MountBad>
     requires name { IsName name.now }
     ensures { FormatsSection D.Disk name.now result disk.old disk.new }
 {

@@ -17,7 +17,7 @@ const PIECES: u32 = 16;
 
 /// Puts these sections to use, one behind the other, and gives the count of their buckets. Where a
 /// call fails, it gives the number of that section, and nothing is written behind it.
-pub(crate) fn put_all_to_use<D: Disk, G: Progress>(
+pub fn put_all_to_use<D: Disk, G: Progress>(
     sections: &mut [Section<D>],
     progress: &mut G,
 ) -> Result<u32, usize>
