@@ -1,5 +1,5 @@
 -- How a store serves an operation: by the model's answer on a beginning of its history, or not.
-use Rattle.std.specs.Prelude.{ℕ, ◌≡◌, ◌≤◌, ◌⊎◌, ⊤, Bool, IsTrue, Option, None, List, [], ◌∷◌, ◌++◌, length, take, Result, Ok, Err}
+use Rattle.std.specs.Prelude.{ℕ, ◌≡◌, ◌≤◌, ◌⊎◌, ⊤, Bool, IsTrue, Option, None, Some, List, [], ◌∷◌, ◌++◌, length, take, Result, Ok, Err}
 use Rattle.std.specs.List.{Contains}
 use Rattle.vt_base.specs.declared.why.Why.{Why}
 use Rattle.vt_base.specs.declared.why.Why.TheVariants.{DiskFault, Stopped, Damaged, NoMemory}
@@ -82,3 +82,13 @@ TellsCause c c' (Ok x) = ⊤
 TellsCause c c' (Err DiskFault) = OneRose c.faults c'.faults
 TellsCause c c' (Err (Stopped call)) = (part : Part) × Contains c'.stops (part, call)
 TellsCause c c' (Err why) = ⊤
+
+-- Why the store failed first over a while, if it did, is told by some call in it.
+abbrev pub TellsFailure : (c c' : Condition) → Option Why → Type 0
+TellsFailure c c' None = ⊤
+TellsFailure c c' (Some why) = TellsCause {X = Unit {0}} c c' (Err why)
+
+-- what failed first before stays so
+abbrev pub KeepsFailure : (c c' : Condition) → (failure failure' : Option Why) → Type 0
+KeepsFailure c c' None failure' = TellsFailure c c' failure'
+KeepsFailure c c' (Some why) failure' = failure' ≡ Some why

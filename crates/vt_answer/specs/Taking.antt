@@ -25,6 +25,17 @@ DoesEach {S} T s (failed tag operation number cause ∷ turns) last =
     (next : S) × DoesOne T s operation (r_refused (why_of cause)) next
     × DoesEach T next turns last
 
+-- it did these operations in their order, with these replies, each once, and nothing else, whatever
+-- it holds
+abbrev pub DoesCalls : {S : Type 0} → StoreOf S → S → List (Operation × RMessage) → S → Type 0
+DoesCalls T s [] last = last ≡ s
+DoesCalls {S} T s (call ∷ calls) last =
+    (next : S) × DoesOne T s call.0 call.1 next × DoesCalls T next calls last
+
+-- it did some operations, and nothing else
+abbrev pub DoesSome : {S : Type 0} → StoreOf S → (s s' : S) → Type 0
+DoesSome T s s' = (calls : List (Operation × RMessage)) × DoesCalls T s calls s'
+
 -- A store was asked in these turns: it held `old` before them, and holds `new` behind them, which
 -- answers them, and whose first blocks are those of `old`. Where it is alone, they are answered by
 -- their own blocks behind `old`. Its parts tell of each failure, which is no damage, and what a

@@ -1,7 +1,7 @@
 //! Answering what a session hears, over any store of blocks (venti(6)).
 //!
-//! A session hears, asks the store, and replies, one request at a time, so that a reader of pieces
-//! and one of a whole input are answered alike.
+//! A session hears, asks the store, and replies, one request at a time, as its input comes in: no
+//! reply waits for more of it.
 #![tactic(auto)]
 
 mod answering;

@@ -4,6 +4,7 @@ use Rattle.std.specs.Option.{option_or}
 use Rattle.vt_base.specs.Protocol.{r_error}
 use Rattle.vt_wire.specs.Rules.{rule_words}
 use Rattle.vt_wire.specs.Views.{message_of}
+use Rattle.vt_answer.proofs.Doing.{message_does}
 use Rattle.vt_answer.proofs.Items.{no_item, settled_item, message_item}
 use Rattle.vt_answer.proofs.answering.Answering.say.Goals as goal
 use Rattle.vt_answer.proofs.answering.Answering.say.Goals.{in-Ok+in-Block-1, in-Ok+in-Hello-1, in-Err-1}
@@ -44,3 +45,8 @@ returns-in-Message-clause-answers g c h hold =
     (c.ask-answer.ensures.served h hold) c.ask-answer.ensures.once
     (c.or-self-inside.ensures ∙ ap (option_or c.self.inside.failure) c.failure_of.ensures)
     (rw c.reply.ensures at c.push-in-Message.ensures))
+
+pub returns-in-Message-clause-does : goal.returns-in-Message-clause-does
+returns-in-Message-clause-does g c =
+    message_does g.T.Store c.args.store.now c.ask-answer.new.store
+    (message_of c.in-Message.request) c.ask-answer.result c.ask-answer.ensures.once
