@@ -1,29 +1,72 @@
 -- What a store did, call by call.
-use Rattle.std.proofs.Common.{List, [], ◌∷◌, ◌++◌, refl, subst, Result}
+use Rattle.std.proofs.Common.{◌≡◌, Option, Some, None, List, [], ◌∷◌, ◌++◌, refl, sym, ◌∙◌, ap, subst, Result, Ok, Err}
+use Rattle.std.specs.Option.{option_or}
 use Rattle.vt_base.specs.Protocol.{Operation, TMessage, t_hello, t_goodbye, t_ask, RMessage}
 use Rattle.vt_base.specs.declared.why.Why.{Why}
 use Rattle.vt_answer.specs.declared.asking.Said.{Said}
 use Rattle.vt_answer.specs.Asking.{DoesMessage, reply_to}
 use Rattle.vt_answer.specs.Members.{StoreOf}
-use Rattle.vt_answer.specs.Taking.{DoesCalls, DoesSome}
+use Rattle.vt_answer.specs.Serving.{answered, failure_of}
+use Rattle.vt_answer.specs.Taking.{DoesCalls, DoesSome, first_told}
+
+-- what failed first
+or_none : (a : Option Why) → a ≡ option_or a None
+or_none None = refl
+or_none (Some why) = refl
+
+or_or : (a b c : Option Why) → option_or (option_or a b) c ≡ option_or a (option_or b c)
+or_or None b c = refl
+or_or (Some why) b c = refl
+
+first_more : (calls more : List (Operation × Result RMessage Why))
+    → first_told (calls ++ more) ≡ option_or (first_told calls) (first_told more)
+first_more [] more = refl
+first_more (call ∷ calls) more =
+    ap (option_or (failure_of call.1)) (first_more calls more)
+    ∙ sym (or_or (failure_of call.1) (first_told calls) (first_told more))
 
 module _ {S : Type 0} (T : StoreOf S) where
-  pub does_none : (s : S) → DoesSome T s s
-  does_none s = ([], refl)
+  pub does_none : (s : S) (failure : Option Why) → DoesSome T s s failure failure
+  does_none s failure = record { calls = []; does = refl; failure_is = or_none failure }
 
-  calls_more : (s mid last : S) (calls more : List (Operation × RMessage)) → DoesCalls T s calls mid
-      → DoesCalls T mid more last → DoesCalls T s (calls ++ more) last
+  calls_more : (s mid last : S) (calls more : List (Operation × Result RMessage Why))
+      → DoesCalls T s calls mid → DoesCalls T mid more last → DoesCalls T s (calls ++ more) last
   calls_more s mid last [] more it then =
       subst (λ (z : S). DoesCalls T z more last) it then
   calls_more s mid last (call ∷ calls) more it then =
       (it.0, it.1, calls_more it.0 mid last calls more it.2 then)
 
-  pub does_more : (s mid last : S) → DoesSome T s mid → DoesSome T mid last → DoesSome T s last
-  does_more s mid last it then = (it.0 ++ then.0, calls_more s mid last it.0 then.0 it.1 then.1)
+  pub does_more : (s mid last : S) (failure failure' failure'' : Option Why)
+      → DoesSome T s mid failure failure' → DoesSome T mid last failure' failure''
+      → DoesSome T s last failure failure''
+  does_more s mid last failure failure' failure'' it then = record {
+    calls = it.calls ++ then.calls;
+    does = calls_more s mid last it.calls then.calls it.does then.does;
+    failure_is = then.failure_is
+        ∙ ap (λ (f : Option Why). option_or f (first_told then.calls)) it.failure_is
+        ∙ or_or failure (first_told it.calls) (first_told then.calls)
+        ∙ ap (option_or failure) (sym (first_more it.calls then.calls));
+  }
+
+  same_failure : (answer : Result Said Why)
+      → failure_of answer ≡ failure_of (answered (λ said. reply_to (Ok said)) answer)
+  same_failure (Ok said) = refl
+  same_failure (Err why) = refl
 
   -- a message asks for one operation, or for none
   pub message_does : (s s' : S) (m : TMessage) (answer : Result Said Why)
-      → DoesMessage T s s' m answer → DoesSome T s s'
-  message_does s s' (t_hello version) answer it = ([], it)
-  message_does s s' t_goodbye answer it = absurd it
-  message_does s s' (t_ask m) answer it = ((m, reply_to answer) ∷ [], (s', it, refl))
+      (failure failure' : Option Why) → DoesMessage T s s' m answer
+      → failure' ≡ option_or failure (failure_of answer)
+      → DoesSome T s s' failure failure'
+  message_does s s' (t_hello version) answer failure failure' it failed = record {
+    calls = [];
+    does = it.1;
+    failure_is = failed ∙ ap (λ (a : Result Said Why). option_or failure (failure_of a)) it.0;
+  }
+  message_does s s' t_goodbye answer failure failure' it failed = absurd it
+  message_does s s' (t_ask m) answer failure failure' it failed = record {
+    calls = (m, answered (λ said. reply_to (Ok said)) answer) ∷ [];
+    does = (s', it, refl);
+    failure_is = failed ∙ ap (option_or failure) (same_failure answer
+        ∙ or_none (failure_of (answered (λ said. reply_to (Ok said)) answer)));
+  }

@@ -12,10 +12,10 @@ use Rattle.vt_wire.specs.Messages.{spelled}
 use Rattle.vt_session.specs.Heard.{Item, settled}
 use Rattle.vt_session.specs.Hearing.{MatchMessage}
 use Rattle.vt_session.specs.Turns.{Turn, told, Cause, disk_fault, stopped, damaged, no_memory, why_of, item_of_turn, items_of, spelled_turn, cause_of, causes_of, first_why}
-use Rattle.vt_answer.specs.Asking.{reply_to, ServesMessage, DoesMessage, failure_of}
+use Rattle.vt_answer.specs.Asking.{reply_to, ServesMessage, DoesMessage}
 use Rattle.vt_answer.specs.Condition.{GoesOn, Condition}
 use Rattle.vt_answer.specs.Members.{StoreOf}
-use Rattle.vt_answer.specs.Serving.{Answers, tells_failure}
+use Rattle.vt_answer.specs.Serving.{Answers, failure_of, tells_failure}
 use Rattle.vt_answer.specs.Sessions.{AnswersItems}
 use Rattle.vt_answer.specs.Taking.{Takes}
 use Rattle.vt_answer.specs.Writing.{Writes}
@@ -113,7 +113,7 @@ module _ {S : Type 0} (T : StoreOf S) where
         → failure' ≡ option_or failure (failure_of answer) → writes (spelled tag (reply_to answer))
         → MatchMessage tag m (λ item. AnswersItems T s s' h failure failure' writes (item ∷ []))
     message_item (t_hello version) answer hold serves does failed written =
-        let is : s ≡ s' = sym does in
+        let is : s ≡ s' = sym does.1 in
         let takes = subst (λ (z : S). Takes T s z h (told tag r_hello ∷ [])) is
         (takes_told T s h tag r_hello hold) in
         by_turn s s' h failure failure' writes (told tag r_hello) _ takes written
@@ -122,11 +122,11 @@ module _ {S : Type 0} (T : StoreOf S) where
     message_item t_goodbye answer hold serves does failed written = absurd serves
     message_item (t_ask m) (Ok x) hold serves does failed written =
         by_turn s s' h failure failure' writes _ _
-        (takes_served T s s' h tag m (reply_to (Ok x)) on does serves) written
+        (takes_served T s s' h tag m (Ok (reply_to (Ok x))) on does serves) written
         (ap (spelled tag) (sym serves.reply_is)) failed
     message_item (t_ask m) (Err why) hold (inl refused) does failed written =
         by_turn s s' h failure failure' writes _ _
-        (takes_served T s s' h tag m (r_refused why) on does refused.1) written
+        (takes_served T s s' h tag m (Err why) on does refused.1) written
         (ap (spelled tag) (sym refused.1.reply_is))
         (failed ∙ ap (λ (b : Bool). option_or failure (cond b (Some why) None)) refused.0)
     message_item (t_ask m) (Err why) hold (inr fails) does failed written =

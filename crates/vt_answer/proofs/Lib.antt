@@ -2,5 +2,4 @@ pub mod Written
 pub mod Taking
 pub mod Items
 pub mod Links
-pub mod Failing
 pub mod Doing

@@ -1,9 +1,9 @@
 -- A store that is asked in turns, one after another.
-use Rattle.std.proofs.Common.{◌≡◌, ℕ, ◌≤◌, List, [], ◌∷◌, ◌++◌, length, take, refl, sym, ◌∙◌, ap, subst, arith, append-nil, append_assoc, length-append}
+use Rattle.std.proofs.Common.{◌≡◌, ℕ, ◌≤◌, List, [], ◌∷◌, ◌++◌, length, take, refl, sym, ◌∙◌, ap, subst, arith, append-nil, append_assoc, length-append, Result, Err}
 use Rattle.std.specs.List.{AllByRecursion, Contains}
 use Rattle.std.proofs.Math.Seq.{take-append_seam}
 use Rattle.std.proofs.lemmas.Grind.{flat_map-append}
-use Rattle.vt_base.specs.Protocol.{Operation, ping, read, write, sync, RMessage, r_refused}
+use Rattle.vt_base.specs.Protocol.{Operation, ping, read, write, sync, RMessage}
 use Rattle.vt_base.specs.declared.why.Why.{Why}
 use Rattle.vt_model.specs.History.{History}
 use Rattle.vt_model.specs.Answer.{answer, Outcome}
@@ -14,7 +14,7 @@ use Rattle.vt_session.proofs.Turns.{turns_join, turns_join_later}
 use Rattle.vt_session.proofs.Causes.{counts_join}
 use Rattle.vt_answer.specs.Condition.{Condition, faults_over, GoesOn, IsNoDamage, IsNoFault}
 use Rattle.vt_answer.specs.Members.{StoreOf}
-use Rattle.vt_answer.specs.Serving.{Answers, Fails, IsCovered}
+use Rattle.vt_answer.specs.Serving.{Answers, Fails, IsCovered, reply_in}
 use Rattle.vt_answer.specs.Taking.{DoesOne, DoesEach, Takes}
 
 -- ---- each of several
@@ -128,12 +128,14 @@ module _ {S : Type 0} (T : StoreOf S) where
     does = refl;
   }
 
-  pub takes_served : (s s' : S) (h : History) (tag : ℕ) (m : Operation) (reply : RMessage)
-      → GoesOn (T.condition s) (T.condition s') → DoesOne T s m reply s'
-      → (x : Answers T.score_of (T.condition s) (T.condition s') (T.holds s') h m reply)
+  pub takes_served : (s s' : S) (h : History) (tag : ℕ) (m : Operation)
+      (given : Result RMessage Why)
+      → GoesOn (T.condition s) (T.condition s') → DoesOne T s m given s'
+      → (x : Answers T.score_of (T.condition s) (T.condition s') (T.holds s') h m
+      (reply_in given))
       → Takes T s s' h (served tag m x.number
       (answer T.score_of (T.condition s).setup (take x.number x.new) m) ∷ [])
-  takes_served s s' h tag m reply on once x =
+  takes_served s s' h tag m given on once x =
       let c = (T.condition s).setup in
       let outcome = answer T.score_of c (take x.number x.new) m in record {
         new = x.new;
@@ -150,11 +152,11 @@ module _ {S : Type 0} (T : StoreOf S) where
         stops = λ a none. x.stops a;
         synced = covered_one tag m x.number outcome (T.condition s').durable x.covered;
         goes_on = on;
-        does = (s', subst (λ (r : RMessage). DoesOne T s m r s') (sym x.reply_is) once, refl);
+        does = (s', record { answer = given; says = sym x.reply_is; does = once }, refl);
       }
 
   pub takes_failed : (s s' : S) (h : History) (tag : ℕ) (m : Operation) (why : Why)
-      → GoesOn (T.condition s) (T.condition s') → DoesOne T s m (r_refused why) s'
+      → GoesOn (T.condition s) (T.condition s') → DoesOne T s m (Err why) s'
       → (x : Fails T.score_of (T.condition s) (T.condition s') (T.holds s') h m why)
       → Takes T s s' h (failed tag m x.number x.cause ∷ [])
   takes_failed s s' h tag m why on once x = record {
@@ -169,7 +171,7 @@ module _ {S : Type 0} (T : StoreOf S) where
     stops = λ a none. x.stops a none.0;
     synced = tt;
     goes_on = on;
-    does = (s', subst (λ (w : Why). DoesOne T s m (r_refused w) s') x.why_is once, refl);
+    does = (s', subst (λ (w : Why). DoesOne T s m (Err w) s') x.why_is once, refl);
   }
 
   -- ---- more turns

@@ -1,12 +1,12 @@
 -- What a store is asked by a message of a client, and what is said to it.
-use Rattle.std.specs.Prelude.{◌≡◌, if◌then◌else◌, Option, Some, None, Result, Ok, Err}
+use Rattle.std.specs.Prelude.{◌≡◌, Result, Ok, Err}
 use Rattle.vt_base.specs.declared.why.Why.{Why}
 use Rattle.vt_base.specs.Protocol.{TMessage, t_hello, t_goodbye, t_ask, RMessage, r_hello, r_ping, r_sync, r_write, r_read, r_refused}
 use Rattle.vt_model.specs.History.{History}
 use Rattle.vt_answer.specs.declared.asking.Said.{Said}
 use Rattle.vt_answer.specs.declared.asking.Said.TheVariants.{Hello, Ping, Synced, Score, Block}
 use Rattle.vt_answer.specs.Members.{StoreOf}
-use Rattle.vt_answer.specs.Serving.{Serves, tells_failure}
+use Rattle.vt_answer.specs.Serving.{Serves, answered}
 use Rattle.vt_answer.specs.Taking.{DoesOne}
 
 -- the reply that says what is answered to a message
@@ -30,11 +30,7 @@ ServesMessage T s s' h (t_ask m) answer =
 -- the store does what the message asks, once, and nothing else; a hello needs no store
 abbrev pub DoesMessage : {S : Type 0} → StoreOf S → (s s' : S) → TMessage → Result Said Why
     → Type 0
-DoesMessage T s s' (t_hello version) answer = s' ≡ s
+DoesMessage T s s' (t_hello version) answer = (answer ≡ Ok Hello) × (s' ≡ s)
 DoesMessage T s s' t_goodbye answer = ⊥
-DoesMessage T s s' (t_ask m) answer = DoesOne T s m (reply_to answer) s'
-
--- why the store failed, if it did
-abbrev pub failure_of : {X : Type 0} → Result X Why → Option Why
-failure_of (Ok x) = None
-failure_of (Err why) = if tells_failure why then Some why else None
+DoesMessage T s s' (t_ask m) answer =
+    DoesOne T s m (answered (λ said. reply_to (Ok said)) answer) s'

@@ -1,5 +1,5 @@
 -- How a store serves an operation: by the model's answer on a beginning of its history, or not.
-use Rattle.std.specs.Prelude.{ℕ, ◌≡◌, ◌≤◌, ◌⊎◌, ⊤, Bool, IsTrue, Option, None, Some, List, [], ◌∷◌, ◌++◌, length, take, Result, Ok, Err}
+use Rattle.std.specs.Prelude.{ℕ, ◌≡◌, ◌≤◌, ◌⊎◌, ⊤, Bool, IsTrue, if◌then◌else◌, Option, None, Some, List, [], ◌∷◌, ◌++◌, length, take, Result, Ok, Err}
 use Rattle.std.specs.List.{Contains}
 use Rattle.vt_base.specs.declared.why.Why.{Why}
 use Rattle.vt_base.specs.declared.why.Why.TheVariants.{DiskFault, Stopped, Damaged, NoMemory}
@@ -18,10 +18,20 @@ tells_failure (Damaged site want found) = Bool.true
 tells_failure NoMemory = Bool.true
 tells_failure why = Bool.false
 
--- the reply that says what an operation gave
-abbrev pub said : {X : Type 0} → (X → RMessage) → Result X Why → RMessage
-said message (Ok x) = message x
-said message (Err why) = r_refused why
+-- what an operation gave, as a message, or why it is refused
+abbrev pub answered : {X : Type 0} → (X → RMessage) → Result X Why → Result RMessage Why
+answered message (Ok x) = Ok (message x)
+answered message (Err why) = Err why
+
+-- the reply that says it
+abbrev pub reply_in : Result RMessage Why → RMessage
+reply_in (Ok reply) = reply
+reply_in (Err why) = r_refused why
+
+-- why the store failed, if it did
+abbrev pub failure_of : {X : Type 0} → Result X Why → Option Why
+failure_of (Ok x) = None
+failure_of (Err why) = if tells_failure why then Some why else None
 
 -- A history went on from `old` to `new`, by blocks that others added and by this one, if there is
 -- one, which is block `number`. Where nobody else adds, it is the only one, and comes next.
@@ -82,13 +92,3 @@ TellsCause c c' (Ok x) = ⊤
 TellsCause c c' (Err DiskFault) = OneRose c.faults c'.faults
 TellsCause c c' (Err (Stopped call)) = (part : Part) × Contains c'.stops (part, call)
 TellsCause c c' (Err why) = ⊤
-
--- Why the store failed first over a while, if it did, is told by some call in it.
-abbrev pub TellsFailure : (c c' : Condition) → Option Why → Type 0
-TellsFailure c c' None = ⊤
-TellsFailure c c' (Some why) = TellsCause {X = Unit {0}} c c' (Err why)
-
--- what failed first before stays so
-abbrev pub KeepsFailure : (c c' : Condition) → (failure failure' : Option Why) → Type 0
-KeepsFailure c c' None failure' = TellsFailure c c' failure'
-KeepsFailure c c' (Some why) failure' = failure' ≡ Some why

@@ -1,40 +1,59 @@
 -- What a store was asked in turns, one after another.
-use Rattle.std.specs.Prelude.{◌≡◌, ◌≤◌, IsTrue, List, [], ◌∷◌, ◌++◌, length}
+use Rattle.std.specs.Prelude.{◌≡◌, ◌≤◌, IsTrue, Option, None, List, [], ◌∷◌, ◌++◌, length, Result, Ok, Err}
 use Rattle.std.specs.List.{AllByRecursion}
-use Rattle.vt_base.specs.Protocol.{Operation, ping, read, write, sync, RMessage, r_refused}
+use Rattle.std.specs.Option.{option_or}
+use Rattle.vt_base.specs.declared.why.Why.{Why}
+use Rattle.vt_base.specs.Protocol.{Operation, ping, read, write, sync, RMessage, r_ping}
 use Rattle.vt_model.specs.History.{History}
 use Rattle.vt_session.specs.Turns.{Turn, told, served, failed, causes_of, synced_numbers, why_of}
 use Rattle.vt_session.specs.Answered.{AnsweredBy, AnsweredAlone, AreToldBy}
 use Rattle.vt_answer.specs.Condition.{faults_over, GoesOn, IsNoDamage, IsNoFault}
 use Rattle.vt_answer.specs.Members.{StoreOf}
+use Rattle.vt_answer.specs.Serving.{failure_of, reply_in}
 
--- the store did this operation, once, and nothing else; a ping needs no store
-abbrev pub DoesOne : {S : Type 0} → StoreOf S → S → Operation → RMessage → S → Type 0
-DoesOne T s ping reply s' = s' ≡ s
-DoesOne T s (read score kind count) reply s' = T.does s (read score kind count) reply s'
-DoesOne T s (write kind bytes) reply s' = T.does s (write kind bytes) reply s'
-DoesOne T s sync reply s' = T.does s sync reply s'
+-- the store did this operation, once, with this answer, and nothing else; a ping needs no store
+abbrev pub DoesOne : {S : Type 0} → StoreOf S → S → Operation → Result RMessage Why → S → Type 0
+DoesOne T s ping answer s' = (answer ≡ Ok r_ping) × (s' ≡ s)
+DoesOne T s (read score kind count) answer s' = T.does s (read score kind count) answer s'
+DoesOne T s (write kind bytes) answer s' = T.does s (write kind bytes) answer s'
+DoesOne T s sync answer s' = T.does s sync answer s'
+
+-- and what it answered is said by this reply
+pub record DoesSaying {S : Type 0} (T : StoreOf S) (s : S) (operation : Operation) (reply : RMessage)
+    (s' : S) : Type 0 where
+  pub answer : Result RMessage Why
+  pub says : reply_in answer ≡ reply
+  pub does : DoesOne T s operation answer s'
 
 -- it did the operations of these turns in their order, each once, and nothing else
 abbrev pub DoesEach : {S : Type 0} → StoreOf S → S → List Turn → S → Type 0
 DoesEach T s [] last = last ≡ s
 DoesEach T s (told tag reply ∷ turns) last = DoesEach T s turns last
 DoesEach {S} T s (served tag operation number outcome ∷ turns) last =
-    (next : S) × DoesOne T s operation outcome.reply next × DoesEach T next turns last
+    (next : S) × DoesSaying T s operation outcome.reply next × DoesEach T next turns last
 DoesEach {S} T s (failed tag operation number cause ∷ turns) last =
-    (next : S) × DoesOne T s operation (r_refused (why_of cause)) next
-    × DoesEach T next turns last
+    (next : S) × DoesOne T s operation (Err (why_of cause)) next × DoesEach T next turns last
 
--- it did these operations in their order, with these replies, each once, and nothing else, whatever
+-- it did these operations in their order, with these answers, each once, and nothing else, whatever
 -- it holds
-abbrev pub DoesCalls : {S : Type 0} → StoreOf S → S → List (Operation × RMessage) → S → Type 0
+abbrev pub DoesCalls : {S : Type 0} → StoreOf S → S → List (Operation × Result RMessage Why) → S
+    → Type 0
 DoesCalls T s [] last = last ≡ s
 DoesCalls {S} T s (call ∷ calls) last =
     (next : S) × DoesOne T s call.0 call.1 next × DoesCalls T next calls last
 
--- it did some operations, and nothing else
-abbrev pub DoesSome : {S : Type 0} → StoreOf S → (s s' : S) → Type 0
-DoesSome T s s' = (calls : List (Operation × RMessage)) × DoesCalls T s calls s'
+-- why it failed first in these, if it did
+abbrev pub first_told : List (Operation × Result RMessage Why) → Option Why
+first_told [] = None
+first_told (call ∷ calls) = option_or (failure_of call.1) (first_told calls)
+
+-- It did some operations, and nothing else; where it hadn't failed before, what failed first in
+-- these is told from then on.
+pub record DoesSome {S : Type 0} (T : StoreOf S) (s s' : S) (failure failure' : Option Why)
+    : Type 0 where
+  pub calls : List (Operation × Result RMessage Why)
+  pub does : DoesCalls T s calls s'
+  pub failure_is : failure' ≡ option_or failure (first_told calls)
 
 -- A store was asked in these turns: it held `old` before them, and holds `new` behind them, which
 -- answers them, and whose first blocks are those of `old`. Where it is alone, they are answered by

@@ -4,9 +4,9 @@ ghost use Rattle.std.specs.Prelude.{◌≡◌, ◌≢◌};
 ghost use Rattle.vt_model.specs.History.{History};
 ghost use Rattle.vt_wire.specs.Messages.{FitsReply};
 ghost use Rattle.vt_wire.specs.Views.{message_of, reply_of};
-ghost use Rattle.vt_answer.specs.Asking.{reply_to, ServesMessage, DoesMessage, failure_of as failure_in};
+ghost use Rattle.vt_answer.specs.Asking.{reply_to, ServesMessage, DoesMessage};
 ghost use Rattle.vt_answer.specs.Condition.{GoesOn};
-ghost use Rattle.vt_answer.specs.Serving.{TellsCause};
+ghost use Rattle.vt_answer.specs.Serving.{TellsCause, failure_of as failure_in};
 
 use crate::store::Store;
 use std::alloc::Global;

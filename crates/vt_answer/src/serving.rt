@@ -11,7 +11,6 @@ ghost use Rattle.vt_session.specs.Turns.{server_line};
 ghost use Rattle.vt_answer.specs.Clients.{IsAnswered};
 ghost use Rattle.vt_answer.specs.Condition.{GoesOn};
 ghost use Rattle.vt_answer.specs.Links.{Advances, Comes, Goes, SaysNext, EndsHere, TookAll, AllSaid, ReadCause, ReadsSo, LessIsLeft, AnswersLink, ended_of, since};
-ghost use Rattle.vt_answer.specs.Serving.{KeepsFailure, TellsFailure};
 ghost use Rattle.vt_answer.specs.Sessions.{AnswersNext, IsItemOrEnd, SinkCause};
 ghost use Rattle.vt_answer.specs.Taking.{DoesSome};
 ghost use Rattle.vt_answer.specs.Writing.{Writes};
@@ -59,9 +58,7 @@ impl Answering {
         ensures written { IsTrue C.tells → C.written client.new
             ≡ C.written client.old ++ since (C.written client.old) (C.written client.new) }
         ensures goes_on { GoesOn (T.condition store.old) (T.condition store.new) }
-        ensures failure { TellsFailure (T.condition store.old) (T.condition store.new)
-            self.new.failure }
-        ensures does { DoesSome T.Store store.old store.new }
+        ensures does { DoesSome T.Store store.old store.new None self.new.failure }
         ensures reads { ReadCause result.ended
             (C.read_faults client.old) (C.read_faults client.new) }
         ensures writes { SinkCause result.ended
@@ -110,9 +107,7 @@ impl Answering {
         ensures written { IsTrue C.tells → C.written client.new
             ≡ C.written client.old ++ since (C.written client.old) (C.written client.new) }
         ensures goes_on { GoesOn (T.condition store.old) (T.condition store.new) }
-        ensures failure { TellsFailure (T.condition store.old) (T.condition store.new)
-            self.new.failure }
-        ensures does { DoesSome T.Store store.old store.new }
+        ensures does { DoesSome T.Store store.old store.new None self.new.failure }
         ensures reads { ReadCause (ended_of result)
             (C.read_faults client.old) (C.read_faults client.new) }
         ensures writes { SinkCause (ended_of result)
@@ -150,9 +145,7 @@ impl Answering {
         ensures less { LessIsLeft result talker.old talker.new }
         ensures heard { IsHeardStage talker.new.stage }
         ensures goes_on { GoesOn (T.condition store.old) (T.condition store.new) }
-        ensures failure { KeepsFailure (T.condition store.old) (T.condition store.new)
-            self.old.failure self.new.failure }
-        ensures does { DoesSome T.Store store.old store.new }
+        ensures does { DoesSome T.Store store.old store.new self.old.failure self.new.failure }
         ensures reads { ReadsSo result (C.read_faults client.old) (C.read_faults client.new) }
         ensures writes { HasCause result
             (C.write_faults client.old) (C.write_faults client.new) }
@@ -186,9 +179,7 @@ impl Answering {
         ensures less { LessIsLeft result talker.old talker.new }
         ensures heard { IsHeardStage talker.new.stage }
         ensures goes_on { GoesOn (T.condition store.old) (T.condition store.new) }
-        ensures failure { KeepsFailure (T.condition store.old) (T.condition store.new)
-            self.old.failure self.new.failure }
-        ensures does { DoesSome T.Store store.old store.new }
+        ensures does { DoesSome T.Store store.old store.new self.old.failure self.new.failure }
         ensures reads { ReadsSo result (C.read_faults client.old) (C.read_faults client.new) }
         ensures writes { HasCause result
             (C.write_faults client.old) (C.write_faults client.new) }
@@ -217,9 +208,7 @@ impl Answering {
         ensures less { LessIsLeft (Ok result) talker.old talker.new }
         ensures heard { IsHeardStage talker.new.stage }
         ensures goes_on { GoesOn (T.condition store.old) (T.condition store.new) }
-        ensures failure { KeepsFailure (T.condition store.old) (T.condition store.new)
-            self.old.failure self.new.failure }
-        ensures does { DoesSome T.Store store.old store.new }
+        ensures does { DoesSome T.Store store.old store.new self.old.failure self.new.failure }
     {
         let Some(next) = talker.next() else {
             return None;
@@ -238,9 +227,7 @@ impl Answering {
         ensures says { SaysNext next.now self.old.waiting self.new.waiting }
         ensures end { MatchNext next.now (λ item. result ≡ None) (λ ended. result ≡ Some ended) }
         ensures goes_on { GoesOn (T.condition store.old) (T.condition store.new) }
-        ensures failure { KeepsFailure (T.condition store.old) (T.condition store.new)
-            self.old.failure self.new.failure }
-        ensures does { DoesSome T.Store store.old store.new }
+        ensures does { DoesSome T.Store store.old store.new self.old.failure self.new.failure }
     {
         match *next {
             Next::End(ended) => Some(ended),

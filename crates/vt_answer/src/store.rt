@@ -1,11 +1,12 @@
 //! What a session asks.
 
-ghost use Rattle.std.specs.Prelude.{◌≡◌, ◌≤◌, ℕ, List, IfOk, length};
+ghost use Rattle.std.specs.Prelude.{◌≡◌, ◌≤◌, ℕ, List, Result, IfOk, length};
+ghost use Rattle.vt_base.specs.declared.why.Why.{Why};
 ghost use Rattle.vt_base.specs.declared.TheConstants.{MAX_BLOCK};
 ghost use Rattle.vt_base.specs.Protocol.{Operation, read, write, sync, RMessage, r_read, r_write, r_sync};
 ghost use Rattle.vt_model.specs.History.{History};
 ghost use Rattle.vt_answer.specs.Condition.{Condition, GoesOn};
-ghost use Rattle.vt_answer.specs.Serving.{Serves, TellsCause, said};
+ghost use Rattle.vt_answer.specs.Serving.{Serves, TellsCause, answered};
 
 use std::alloc::Global;
 use vt_base::{Bytes, Score, Why};
@@ -27,7 +28,7 @@ pub trait Store {
 
     /// What an implementation says of its own of an operation, which it answers so: which calls of
     /// its devices it makes, for one.
-    ghost does: { Self → Operation → RMessage → Self → Type 0 };
+    ghost does: { Self → Operation → Result RMessage Why → Self → Type 0 };
 
     /// Takes a block in, and gives its score. A sync makes it durable.
     fn write(&mut self, alloc: Global, kind: u8, bytes: &[u8]) -> Result<Score, Why>
@@ -37,7 +38,7 @@ pub trait Store {
         ensures cause { TellsCause (condition self.old) (condition self.new) result }
         ensures goes_on { GoesOn (condition self.old) (condition self.new) }
         ensures once { does self.old (write kind bytes.now)
-            (said (λ score. r_write score.0) result) self.new }
+            (answered (λ score. r_write score.0) result) self.new }
         ensures scored { IfOk result (λ score. score.0 ≡ score_of bytes.now) };
 
     /// The bytes of a block, if it has `count` at most.
@@ -48,7 +49,7 @@ pub trait Store {
         ensures cause { TellsCause (condition self.old) (condition self.new) result }
         ensures goes_on { GoesOn (condition self.old) (condition self.new) }
         ensures once { does self.old (read score.now.0 kind count)
-            (said (λ block. r_read block) result) self.new }
+            (answered (λ block. r_read block) result) self.new }
         ensures most { IfOk result (λ block. length block ≤ MAX_BLOCK) };
 
     /// Makes every block durable that was accepted before it.
@@ -58,7 +59,7 @@ pub trait Store {
             sync (λ _. r_sync) result }
         ensures cause { TellsCause (condition self.old) (condition self.new) result }
         ensures goes_on { GoesOn (condition self.old) (condition self.new) }
-        ensures once { does self.old sync (said (λ _. r_sync) result) self.new };
+        ensures once { does self.old sync (answered (λ _. r_sync) result) self.new };
 
     /// No more is durable than it holds.
     ghost durable_is_held: { (store : Self) (h : History) → holds store h

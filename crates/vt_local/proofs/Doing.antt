@@ -1,7 +1,7 @@
 -- What a call of the store comes to as a call of a store of blocks.
 use Rattle.std.proofs.Common.{◌≡◌, ℕ, Some, Result, Ok, Err, List, refl, subst}
 use Rattle.vt_base.specs.Kind.{IsKind}
-use Rattle.vt_base.specs.Protocol.{Operation, read, write, sync as sync_all, RMessage, r_read, r_write, r_sync, r_refused}
+use Rattle.vt_base.specs.Protocol.{Operation, read, write, sync as sync_all, RMessage, r_read, r_write, r_sync}
 use Rattle.vt_base.specs.declared.TheConstants.{MAX_BLOCK}
 use Rattle.vt_base.specs.declared.score.Score.{Score}
 use Rattle.vt_base.specs.declared.why.Why.{Why}
@@ -23,7 +23,7 @@ module _ {S : Type 0} (T : StoreOf S) (l l' : LocalState S)
 
   pub got : (kind wire : ℕ) (s bytes : List ℕ) → wire ≡ kind → IsKind wire
       → Replies (read s wire MAX_BLOCK) (Ok (r_read bytes))
-      → T.does l.store (read s wire MAX_BLOCK) (r_read bytes) l'.store → l'.counts ≡ l.counts
+      → T.does l.store (read s wire MAX_BLOCK) (Ok (r_read bytes)) l'.store → l'.counts ≡ l.counts
       → l'.refused ≡ l.refused → DoesLocal T l (get kind s (Ok bytes)) l'
   got kind wire s bytes is known serves once counts refused =
       subst (λ (k : ℕ). DoesLocal T l (get k s (Ok bytes)) l') is (record {
@@ -41,7 +41,7 @@ module _ {S : Type 0} (T : StoreOf S) (l l' : LocalState S)
   pub not_got : (kind wire : ℕ) (s : List ℕ) (why : Why) (err : BlockErr) → wire ≡ kind
       → IsKind wire → IsToldAs why err → Replies (read s wire MAX_BLOCK) (Err why)
       → TellsCause {X = RMessage} (T.condition l.store) (T.condition l'.store) (Err why)
-      → T.does l.store (read s wire MAX_BLOCK) (r_refused why) l'.store
+      → T.does l.store (read s wire MAX_BLOCK) (Err why) l'.store
       → l'.counts ≡ counted (Some err) l.counts → l'.refused ≡ Some why
       → DoesLocal T l (get kind s (Err err)) l'
   not_got kind wire s why err is known told serves cause once counts refused =
@@ -59,7 +59,7 @@ module _ {S : Type 0} (T : StoreOf S) (l l' : LocalState S)
 
   pub took : (kind wire : ℕ) (bytes : List ℕ) (score : Score) → wire ≡ kind → IsKind wire
       → Replies (write wire bytes) (Ok (r_write score.0))
-      → T.does l.store (write wire bytes) (r_write score.0) l'.store → l'.counts ≡ l.counts
+      → T.does l.store (write wire bytes) (Ok (r_write score.0)) l'.store → l'.counts ≡ l.counts
       → l'.refused ≡ l.refused → DoesLocal T l (put (record { kind = kind; bytes = bytes }) (Ok
       score)) l'
   took kind wire bytes score is known serves once counts refused =
@@ -79,7 +79,7 @@ module _ {S : Type 0} (T : StoreOf S) (l l' : LocalState S)
   pub not_taken : (kind wire : ℕ) (bytes : List ℕ) (why : Why) (err : BlockErr) → wire ≡ kind
       → IsKind wire → IsToldAs why err → Replies (write wire bytes) (Err why)
       → TellsCause {X = RMessage} (T.condition l.store) (T.condition l'.store) (Err why)
-      → T.does l.store (write wire bytes) (r_refused why) l'.store
+      → T.does l.store (write wire bytes) (Err why) l'.store
       → l'.counts ≡ counted (Some err) l.counts → l'.refused ≡ Some why
       → DoesLocal T l (put (record { kind = kind; bytes = bytes }) (Err err)) l'
   not_taken kind wire bytes why err is known told serves cause once counts refused =
@@ -96,7 +96,7 @@ module _ {S : Type 0} (T : StoreOf S) (l l' : LocalState S)
         refused = refused;
       })
 
-  pub synced : Replies sync_all (Ok r_sync) → T.does l.store sync_all r_sync l'.store
+  pub synced : Replies sync_all (Ok r_sync) → T.does l.store sync_all (Ok r_sync) l'.store
       → l'.counts ≡ l.counts → l'.refused ≡ l.refused
       → DoesLocal T l (sync (Ok tt)) l'
   synced serves once counts refused = record {
@@ -113,7 +113,7 @@ module _ {S : Type 0} (T : StoreOf S) (l l' : LocalState S)
 
   pub not_synced : (why : Why) (err : BlockErr) → IsToldAs why err → Replies sync_all (Err why)
       → TellsCause {X = RMessage} (T.condition l.store) (T.condition l'.store) (Err why)
-      → T.does l.store sync_all (r_refused why) l'.store
+      → T.does l.store sync_all (Err why) l'.store
       → l'.counts ≡ counted (Some err) l.counts → l'.refused ≡ Some why
       → DoesLocal T l (sync (Err err)) l'
   not_synced why err told serves cause once counts refused = record {

@@ -8,7 +8,7 @@ use Rattle.vt_model.specs.History.{History, held as held_by}
 use Rattle.vt_model.specs.Legal.{IsLegal}
 use Rattle.vt_answer.specs.Condition.{GoesOn}
 use Rattle.vt_local.specs.Members.{StoreOf}
-use Rattle.vt_answer.specs.Serving.{Serves, TellsCause, said}
+use Rattle.vt_answer.specs.Serving.{Serves, TellsCause}
 use Rattle.vt_tree.specs.declared.err.BlockErr.{BlockErr}
 use Rattle.vt_tree.specs.declared.err.BlockErr.TheVariants.{Fault, Refused, WrongScore, Damaged, NoMemory}
 use Rattle.vt_tree.specs.Calls.{Call, get, put, sync, asked_of, refusal_of, Counts, counted}
@@ -74,7 +74,7 @@ pub record DoesLocal {S : Type 0} (T : StoreOf S) (l : LocalState S) (call : Cal
   pub reply : Result RMessage Why
   pub stands : StandsFor call reply
   pub kind : HasKind call
-  pub once : T.does l.store (asked_of call) (said (λ r. r) reply) l'.store
+  pub once : T.does l.store (asked_of call) reply l'.store
   pub serves : (h : History) → T.holds l.store h
       → Serves T.score_of (T.condition l.store) (T.condition l'.store) (T.holds l'.store) h
       (asked_of call) (λ r. r) reply

@@ -50,7 +50,7 @@ impl Store for Scripted {
 
     ghost holds = { λ s h. ⊥ };
 
-    ghost does = { λ s m reply s'. ⊤ };
+    ghost does = { λ s m answer s'. ⊤ };
 
     ghost durable_is_held = { λ s h hold. absurd hold };
 

@@ -1,5 +1,6 @@
 -- A store over one log, as a session asks it.
-use Rattle.std.specs.Prelude.{ℕ, ◌≡◌, Bool, Option, Some, None, List, [], ◌∷◌, map}
+use Rattle.std.specs.Prelude.{ℕ, ◌≡◌, Bool, Option, Some, None, List, [], ◌∷◌, map, Result, Ok}
+use Rattle.vt_base.specs.declared.why.Why.{Why}
 use Rattle.vt_base.specs.Protocol.{Operation, ping, read, write, sync, RMessage, r_sync}
 use Rattle.vt_disk.specs.Members.{DiskOf}
 use Rattle.vt_log.specs.Log.{queued}
@@ -27,9 +28,9 @@ condition_of disk s = record {
 -- A write commits only while the queue is full; a read only reads; and where a sync is answered,
 -- nothing is queued.
 abbrev pub DoesInLog : {D : Type 0} → (score_of : List ℕ → List ℕ) → DiskOf D
-    → (old : StoreState D) → Operation → RMessage → (new : StoreState D) → Type 0
-DoesInLog score_of disk old ping reply new = new ≡ old
-DoesInLog score_of disk old (read score kind count) reply new =
+    → (old : StoreState D) → Operation → Result RMessage Why → (new : StoreState D) → Type 0
+DoesInLog score_of disk old ping answer new = new ≡ old
+DoesInLog score_of disk old (read score kind count) answer new =
     OnlyReads score_of disk 2 old.log new.log × (new.entries ≡ old.entries)
-DoesInLog score_of disk old (write kind bytes) reply new = MakesRoom old.log new.log
-DoesInLog score_of disk old sync reply new = reply ≡ r_sync → queued new.log ≡ 0
+DoesInLog score_of disk old (write kind bytes) answer new = MakesRoom old.log new.log
+DoesInLog score_of disk old sync answer new = answer ≡ Ok r_sync → queued new.log ≡ 0

@@ -22,7 +22,7 @@ impl<D: Disk, L: Ledger, S: Scorer> Store for LogStore<D, L, S> {
 
     ghost holds = { λ s h. Holds S.score_of D.Disk s h };
 
-    ghost does = { λ s m reply s'. DoesInLog S.score_of D.Disk s m reply s' };
+    ghost does = { λ s m answer s'. DoesInLog S.score_of D.Disk s m answer s' };
 
     ghost durable_is_held = { λ s h hold. subst (λ n. s.log.durable ≤ n) hold.sound.front
         (le-add_right s.log.durable (queued s.log)) };

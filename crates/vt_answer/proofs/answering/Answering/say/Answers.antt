@@ -48,5 +48,15 @@ returns-in-Message-clause-answers g c h hold =
 
 pub returns-in-Message-clause-does : goal.returns-in-Message-clause-does
 returns-in-Message-clause-does g c =
-    message_does g.T.Store c.args.store.now c.ask-answer.new.store
-    (message_of c.in-Message.request) c.ask-answer.result c.ask-answer.ensures.once
+    let is : c.match-answer.self ≡ record {
+      waiting = c.push-in-Message.new.self;
+      failure = c.or-self-inside.result;
+    } = elim c.match-answer.branch [
+      | in-Ok+in-Block-1 w ↦ w.self-is
+      | in-Ok+in-Hello-1 w ↦ w.self-is
+      | in-Err-1 w ↦ w.self-is
+    ] in
+    rw (is, ← c.self.view_is) (message_does g.T.Store c.args.store.now c.ask-answer.new.store
+    (message_of c.in-Message.request) c.ask-answer.result c.self.inside.failure
+    c.or-self-inside.result c.ask-answer.ensures.once
+    (c.or-self-inside.ensures ∙ ap (option_or c.self.inside.failure) c.failure_of.ensures))

@@ -1,12 +1,11 @@
 -- each step is part of the session, from its first byte on
-use Rattle.std.proofs.Common.{[], Option, IsTrue, refl, ◌∙◌, arith}
+use Rattle.std.proofs.Common.{[], None, Option, IsTrue, refl, ◌∙◌, arith}
 use Rattle.std.proofs.lemmas.Result.{err_from_is_err_and}
 use Rattle.vt_base.specs.Bytes.{AreBytes-none}
 use Rattle.vt_session.specs.declared.Ended.{Ended}
 use Rattle.vt_session.proofs.Hearings.{heard_some}
 use Rattle.vt_answer.proofs.Links.{session_begins, session_answered, session_on, session_fails, out_ends, out_fails, no_read_fault}
 use Rattle.vt_answer.proofs.Doing.{does_none, does_more}
-use Rattle.vt_answer.proofs.Failing.{tells_on}
 use Rattle.vt_answer.proofs.Taking.{stays, goes_on_on}
 use Rattle.vt_answer.proofs.answering.Answering.serve_talker.Goals as goal
 
@@ -19,8 +18,7 @@ loop-ended-init g c =
       heard = rw c.requires.talker (r.0, r.1, r.2);
       some = c.requires.some;
       goes_on = stays (g.T.Store.condition c.args.store.now);
-      failure = rw c.requires.line tt;
-      does = does_none g.T.Store c.args.store.now;
+      does = rw c.requires.line (does_none g.T.Store c.args.store.now None);
       reads = refl;
       writes = refl;
     }
@@ -44,11 +42,8 @@ loop-ended-preserved g c =
       goes_on = goes_on_on (g.T.Store.condition c.args.store.now)
           (g.T.Store.condition c.loop-ended.store) (g.T.Store.condition c.step.new.store)
           before.goes_on c.step.ensures.goes_on;
-      failure = tells_on (g.T.Store.condition c.args.store.now)
-          (g.T.Store.condition c.loop-ended.store) (g.T.Store.condition c.step.new.store)
-          before.goes_on c.step.ensures.goes_on _ _ before.failure c.step.ensures.failure;
-      does = does_more g.T.Store c.args.store.now c.loop-ended.store c.step.new.store before.does
-          c.step.ensures.does;
+      does = does_more g.T.Store c.args.store.now c.loop-ended.store c.step.new.store None _ _
+          before.does c.step.ensures.does;
       reads = (rw c.in_default.is at c.in_ok-ended.ensures.reads) ∙ before.reads;
       writes = c.in_ok-ended.ensures.writes ∙ before.writes;
     }
@@ -106,27 +101,15 @@ returns-in-Some-clause-told g c h hold tells =
 
 pub returns-in_err-ended-clause-does : goal.returns-in_err-ended-clause-does
 returns-in_err-ended-clause-does g c =
-    does_more g.T.Store c.args.store.now c.loop-ended.store c.step.new.store
+    does_more g.T.Store c.args.store.now c.loop-ended.store c.step.new.store None _ _
     c.loop-ended.invariant.does c.step.ensures.does
-
-pub returns-in_err-flush-clause-failure : goal.returns-in_err-flush-clause-failure
-returns-in_err-flush-clause-failure g c =
-    tells_on (g.T.Store.condition c.args.store.now) (g.T.Store.condition c.loop-ended.store)
-    (g.T.Store.condition c.step.new.store) c.loop-ended.invariant.goes_on c.step.ensures.goes_on _ _
-    c.loop-ended.invariant.failure (rw (← c.self.view_is) at c.step.ensures.failure)
 
 pub returns-in_err-flush-clause-does : goal.returns-in_err-flush-clause-does
 returns-in_err-flush-clause-does g c =
-    does_more g.T.Store c.args.store.now c.loop-ended.store c.step.new.store
-    c.loop-ended.invariant.does c.step.ensures.does
-
-pub returns-in-Some-clause-failure : goal.returns-in-Some-clause-failure
-returns-in-Some-clause-failure g c =
-    tells_on (g.T.Store.condition c.args.store.now) (g.T.Store.condition c.loop-ended.store)
-    (g.T.Store.condition c.step.new.store) c.loop-ended.invariant.goes_on c.step.ensures.goes_on _ _
-    c.loop-ended.invariant.failure (rw (← c.self.view_is) at c.step.ensures.failure)
+    does_more g.T.Store c.args.store.now c.loop-ended.store c.step.new.store None _ _
+    c.loop-ended.invariant.does (rw (← c.self.view_is) at c.step.ensures.does)
 
 pub returns-in-Some-clause-does : goal.returns-in-Some-clause-does
 returns-in-Some-clause-does g c =
-    does_more g.T.Store c.args.store.now c.loop-ended.store c.step.new.store
-    c.loop-ended.invariant.does c.step.ensures.does
+    does_more g.T.Store c.args.store.now c.loop-ended.store c.step.new.store None _ _
+    c.loop-ended.invariant.does (rw (← c.self.view_is) at c.step.ensures.does)

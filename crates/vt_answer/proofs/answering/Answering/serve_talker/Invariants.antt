@@ -1,9 +1,8 @@
 -- what came so far was heard and answered, and what was said is written or waits
-use Rattle.std.proofs.Common.{◌≡◌, ◌<◌, length, IsTrue}
+use Rattle.std.proofs.Common.{◌≡◌, ◌<◌, length, IsTrue, None}
 use Rattle.vt_session.specs.Talking.{IsHeardStage}
 use Rattle.vt_answer.specs.Condition.{GoesOn}
 use Rattle.vt_answer.specs.Links.{left_to_do}
-use Rattle.vt_answer.specs.Serving.{TellsFailure}
 use Rattle.vt_answer.specs.Taking.{DoesSome}
 use Rattle.vt_answer.proofs.Links.{InSession}
 use Rattle.vt_answer.proofs.answering.Answering.serve_talker.Given as goal
@@ -17,9 +16,7 @@ invariant-loop-ended g l = record {
   heard : IsHeardStage l.talker.stage;
   some : 0 < length l.piece;
   goes_on : GoesOn (g.T.Store.condition l.fn.store) (g.T.Store.condition l.store);
-  failure : TellsFailure (g.T.Store.condition l.fn.store) (g.T.Store.condition l.store)
-      l.self.failure;
-  does : DoesSome g.T.Store l.fn.store l.store;
+  does : DoesSome g.T.Store l.fn.store l.store None l.self.failure;
   reads : g.C.Client.read_faults l.client ≡ g.C.Client.read_faults l.fn.client;
   writes : g.C.Client.write_faults l.client ≡ g.C.Client.write_faults l.fn.client;
 }

@@ -3,6 +3,7 @@ use Rattle.std.proofs.Common.{[], Ok, Err, Option, refl, sym, subst}
 use Rattle.std.proofs.lemmas.Result.{err_from_is_err_and}
 use Rattle.vt_session.specs.declared.Ended.{Ended}
 use Rattle.vt_answer.specs.Writing.{Writes}
+use Rattle.vt_answer.proofs.Doing.{does_none}
 use Rattle.vt_answer.proofs.Links.{went_out, some_came, all_out, none_of_the_input}
 use Rattle.vt_answer.proofs.answering.Answering.step.Goals as goal
 
@@ -41,3 +42,7 @@ pub returns-else-needs_more-clause-said : goal.returns-else-needs_more-clause-sa
 returns-else-needs_more-clause-said g c =
     (none_of_the_input [] c.answer_next.new.self.waiting
     c.answer_next.result c.answer_next.ensures.itself).1
+
+pub returns-in_ok-flush-clause-does : goal.returns-in_ok-flush-clause-does
+returns-in_ok-flush-clause-does g c =
+    rw (← c.self.view_is) (does_none g.T.Store c.args.store.now c.self.inside.failure)
