@@ -35,7 +35,7 @@ get_right {X} (y ∷ xs) ys (suc n) i x is at =
     let next : suc n + i ≡ suc (n + i) = omega arith in
     ap (λ (j : ℕ). slice_get (y ∷ xs ++ ys) j) next ∙ get_right xs ys n i x (omega (arith, is)) at
 
-all_then : {X : Type 0} (P : X → Type 0) (xs ys : List X) → AllByRecursion P xs → AllByRecursion P ys → AllByRecursion P (xs ++ ys)
+pub all_then : {X : Type 0} (P : X → Type 0) (xs ys : List X) → AllByRecursion P xs → AllByRecursion P ys → AllByRecursion P (xs ++ ys)
 all_then P [] ys a b = b
 all_then P (x ∷ xs) ys a b = (a.0, all_then P xs ys a.1 b)
 
@@ -103,7 +103,7 @@ none_failed score disk Needs (event ∷ events) (out ∷ outs) old new it = went
 none_failed score disk Needs [] (out ∷ outs) old new it = absurd it
 none_failed score disk Needs (event ∷ events) [] old new it = absurd it
 
-are_own : {D : Type 0} (score : List ℕ → List ℕ) (disk : DiskOf D) (Needs : Event → CoreState D → Type 0) → AreOwn Needs → (events : List Event) (outs : List Out) (old new : CoreState D)
+pub are_own : {D : Type 0} (score : List ℕ → List ℕ) (disk : DiskOf D) (Needs : Event → CoreState D → Type 0) → AreOwn Needs → (events : List Event) (outs : List Out) (old new : CoreState D)
     → Works score disk Needs events outs old new → AllByRecursion IsOwnWork events
 are_own score disk Needs own [] [] old new it = tt
 are_own score disk Needs own (event ∷ events) (out ∷ outs) old new it = (own event old it.1, are_own score disk Needs own events outs it.0 new it.4)

@@ -113,7 +113,7 @@ own_stay score disk [] (out ∷ outs) old new run i call at = absurd run
 own_stay score disk (event ∷ events) [] old new run i call at = absurd run
 
 -- the counts of a step that failed
-why_fell : (why : Why) (old new : List ℕ) → AllFit old → CountsWhy why old new → NoneFell old new
+pub why_fell : (why : Why) (old new : List ℕ) → AllFit old → CountsWhy why old new → NoneFell old new
 why_fell DiskFault old new fit it = rose_fell old new fit it
 why_fell (Stopped call) old new fit it = λ i. omega (arith, ap (λ (ns : List ℕ). slice_index ns i) it)
 why_fell (Damaged site want found) old new fit it = λ i. omega (arith, ap (λ (ns : List ℕ). slice_index ns i) it)
@@ -404,8 +404,9 @@ module _ {D : Type 0} (score : List ℕ → List ℕ) (disk : DiskOf D) (fit : (
               shards = λ i s at.
                   let filed = parts.shards i s at (none_has (FileAdvance i) events outs first) in
                   let most = (after.whole.shards i s at).mark in
-                  omega (arith, all, most, ⊎_elim (λ low. absurd (filed.1 (inr low))) (λ high. high) (cases_lt s.section.head.mark new.log.durable));
-              filter = λ b at. (parts.filter b at (none_has BloomAdvance events outs first)).1 ∙ all;
+                  let high : new.log.durable ≤ s.section.head.mark = ⊎_elim (λ low. absurd (filed.1 (inr low))) (λ high. high) (cases_lt s.section.head.mark new.log.durable) in
+                  (filed.0, omega (arith, all, most, high));
+              filter = λ b at. subst (λ (n : ℕ). IsSaved n b) all (parts.filter b at (none_has BloomAdvance events outs first));
             };
       }
 

@@ -13,3 +13,5 @@ pub mod Ended
 pub mod EndsAll
 pub mod RequestRuns
 pub mod AllTold
+pub mod DrivenStops
+pub mod DrivenServes

@@ -1,6 +1,7 @@
 -- What is told of a sync that was waited for.
 use Rattle.std.proofs.Common.{◌≡◌, ◌⊎◌, ⊎_elim, inl, inr, ◌+◌, ◌<◌, ◌≤◌, ℕ, zero, suc, List, [], ◌∷◌, length, Option, Some, None, Result, Ok, Err, refl, sym, ◌∙◌, ap, subst, arith}
 use Rattle.std.proofs.lemmas.Option.{same_Some}
+use Rattle.std.specs.Option.{option_map}
 use Rattle.std.specs.Prelude.{IsTrue, MatchResult, OnOk, max, slice_get, slice_set}
 use Rattle.vt_base.specs.declared.answer.Answer.{Answer}
 use Rattle.vt_base.specs.declared.answer.Said.{Said}
@@ -8,6 +9,7 @@ use Rattle.vt_base.specs.declared.answer.Said.TheVariants.{Score, Block, Synced,
 use Rattle.vt_base.specs.declared.why.Why.{Why}
 use Rattle.vt_base.specs.declared.why.Why.TheVariants.{BadType, TooBig, TooSmall, Absent, Collision, IndexFull, ArenasFull, DiskFault, Stopped, Damaged, NoMemory}
 use Rattle.vt_base.specs.Protocol.{Operation, sync}
+use Rattle.vt_bloom.specs.Bloom.{BloomState}
 use Rattle.vt_disk.specs.Members.{DiskOf}
 use Rattle.vt_model.specs.History.{History}
 use Rattle.vt_log.specs.declared.bad.LogErr.{LogErr}
@@ -94,16 +96,17 @@ record Kept {D : Type 0} (disk : DiskOf D) (old new : CoreState D) : Type 0 wher
   layout : new.log.layout ≡ old.log.layout
   setup : setup_of new ≡ setup_of old
   shards : length new.shards ≡ length old.shards
+  filter : option_map (λ (b : BloomState D). b.m) new.bloom ≡ option_map (λ (b : BloomState D). b.m) old.bloom
   sizes : each_of disk.size new ≡ each_of disk.size old
   len : history_len old ≤ history_len new
   durable : old.log.durable ≤ new.log.durable
   synced : old.synced ≤ new.synced
 
 kept_by : {D : Type 0} (disk : DiskOf D) (old new : CoreState D) → GoesOn disk old new → Kept disk old new
-kept_by disk old new on = record { tables = on.tables; layout = on.layout; setup = on.setup; shards = on.shards; sizes = on.sizes; len = on.len; durable = on.durable; synced = on.synced }
+kept_by disk old new on = record { tables = on.tables; layout = on.layout; setup = on.setup; shards = on.shards; filter = on.filter; sizes = on.sizes; len = on.len; durable = on.durable; synced = on.synced }
 
 kept_in : {D : Type 0} (disk : DiskOf D) (old new : CoreState D) → KeepsAll disk old new → Kept disk old new
-kept_in disk old new on = record { tables = on.tables; layout = on.layout; setup = on.setup; shards = on.shards; sizes = on.sizes; len = on.len; durable = on.durable; synced = on.synced }
+kept_in disk old new on = record { tables = on.tables; layout = on.layout; setup = on.setup; shards = on.shards; filter = on.filter; sizes = on.sizes; len = on.len; durable = on.durable; synced = on.synced }
 
 kept_then : {D : Type 0} (disk : DiskOf D) (old mid new : CoreState D) → Kept disk old mid → Kept disk mid new → Kept disk old new
 kept_then disk old mid new a b = record {
@@ -111,6 +114,7 @@ kept_then disk old mid new a b = record {
   layout = b.layout ∙ a.layout;
   setup = b.setup ∙ a.setup;
   shards = b.shards ∙ a.shards;
+  filter = b.filter ∙ a.filter;
   sizes = b.sizes ∙ a.sizes;
   len = omega (arith, a.len, b.len);
   durable = omega (arith, a.durable, b.durable);
@@ -123,6 +127,7 @@ all_kept disk old new on waiting = record {
   layout = on.layout;
   setup = on.setup;
   shards = on.shards;
+  filter = on.filter;
   sizes = on.sizes;
   waiting = waiting;
   len = on.len;

@@ -102,6 +102,7 @@ keeps_all disk old new on waiting = record {
   layout = on.layout;
   setup = on.setup;
   shards = on.shards;
+  filter = on.filter;
   sizes = on.sizes;
   waiting = waiting;
   len = on.len;
@@ -110,7 +111,7 @@ keeps_all disk old new on waiting = record {
 }
 
 pub all_kept : {D : Type 0} (disk : DiskOf D) (k : CoreState D) → KeepsAll disk k k
-all_kept disk k = record { tables = refl; layout = refl; setup = refl; shards = refl; sizes = refl; waiting = refl; len = omega arith; durable = omega arith; synced = omega arith }
+all_kept disk k = record { tables = refl; layout = refl; setup = refl; shards = refl; filter = refl; sizes = refl; waiting = refl; len = omega arith; durable = omega arith; synced = omega arith }
 
 pub keeps_on : {D : Type 0} (disk : DiskOf D) (old mid new : CoreState D) → KeepsAll disk old mid → KeepsAll disk mid new → KeepsAll disk old new
 keeps_on disk old mid new a b = record {
@@ -118,6 +119,7 @@ keeps_on disk old mid new a b = record {
   layout = b.layout ∙ a.layout;
   setup = b.setup ∙ a.setup;
   shards = b.shards ∙ a.shards;
+  filter = b.filter ∙ a.filter;
   sizes = b.sizes ∙ a.sizes;
   waiting = b.waiting ∙ a.waiting;
   len = omega (arith, a.len, b.len);

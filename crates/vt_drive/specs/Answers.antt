@@ -1,5 +1,6 @@
 -- What the answer to a request that was driven to its end says, and what it leaves.
 use Rattle.std.specs.Prelude.{◌≡◌, ◌≢◌, ◌⊎◌, ⊤, ℕ, ◌+◌, ◌≤◌, max, IsTrue, None, Some, Result, Ok, Err, List, length, slice_get}
+use Rattle.std.specs.Option.{option_map}
 use Rattle.vt_base.specs.declared.answer.Answer.{Answer}
 use Rattle.vt_base.specs.declared.answer.Said.{Said}
 use Rattle.vt_base.specs.declared.answer.Said.TheVariants.{Score, Block, Synced, Refused}
@@ -29,6 +30,7 @@ pub record KeepsAll {D : Type 0} (disk : DiskOf D) (old new : CoreState D) : Typ
   pub layout : new.log.layout ≡ old.log.layout
   pub setup : setup_of new ≡ setup_of old
   pub shards : length new.shards ≡ length old.shards
+  pub filter : option_map (λ b. b.m) new.bloom ≡ option_map (λ b. b.m) old.bloom
   pub sizes : each_of disk.size new ≡ each_of disk.size old
   pub waiting : new.waiting ≡ old.waiting
   pub len : history_len old ≤ history_len new

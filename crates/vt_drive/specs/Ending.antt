@@ -76,12 +76,13 @@ pub record EndsParts {D : Type 0} (score : List ℕ → List ℕ) (disk : DiskOf
       → ¬ HasFailed BloomAdvance events outs → IsSaved new.log.durable b
   pub tells : TellsFirst result outs
 
--- the log has so many blocks on its disks, and every shard and the filter are marked so
+-- The log has so many blocks on its disks, and every shard and the filter are marked so, with
+-- nothing under way in them: their devices have these marks.
 pub record AreMarkedAt {D : Type 0} (n : ℕ) (k : CoreState D) : Type 0 where
   pub durable : k.log.durable ≡ n
   pub shards : (i : ℕ) (s : ShardState D) → slice_get k.shards i ≡ Some s
-      → s.section.head.mark ≡ n
-  pub filter : (b : BloomState D) → k.bloom ≡ Some b → b.mark ≡ n
+      → (s.writeback ≡ None) × (s.section.head.mark ≡ n)
+  pub filter : (b : BloomState D) → k.bloom ≡ Some b → IsSaved n b
 
 -- why a store's end fails: a count rose in it, a part had stopped before, or two values differ
 abbrev pub EndsFor : {D : Type 0} → DiskOf D → Why → (old new : CoreState D) → Type 0

@@ -8,13 +8,14 @@ use Rattle.vt_base.specs.Protocol.{write}
 use Rattle.vt_disk.specs.Members.{DiskOf}
 use Rattle.vt_wire.specs.declared.message.Request.{Request}
 use Rattle.vt_wire.specs.Views.{message_of}
+use Rattle.vt_core.specs.declared.event.Event.{Event}
 use Rattle.vt_core.specs.declared.event.Event.TheVariants.{Ask, Answer as AskAnswer}
 use Rattle.vt_core.specs.declared.event.Out.TheVariants.{Said as SaidOut, Waits, NotYet}
 use Rattle.vt_core.specs.Asking.{shard_of}
 use Rattle.vt_core.specs.Core.{CoreState, history_len}
 use Rattle.vt_core.specs.Events.{operation_in}
 use Rattle.vt_core.specs.Steps.{Steps}
-use Rattle.vt_drive.specs.Working.{DoesWork, NeedsDurable, NeedsRoom}
+use Rattle.vt_drive.specs.Working.{DoesWork, IsOwnWork, NeedsDurable, NeedsRoom}
 
 -- the store's work failed, and that is answered
 abbrev pub refused : Why → (at : ℕ) → Answer
@@ -60,3 +61,11 @@ abbrev pub IsRequested : {D : Type 0} → (List ℕ → List ℕ) → DiskOf D �
 IsRequested score disk session request now answer old new =
     Steps score disk (Ask session request now) (SaidOut answer) old new
     ⊎ IsPutOff score disk session request now answer old new
+
+-- Which events that takes: it is asked, by its session and with its time, a sync's answer is asked
+-- for, and all else is the store's own work.
+abbrev pub IsForRequest : (session : ℕ) → Request → (now : ℕ) → Event → Type 0
+IsForRequest session request now (Ask by asked time) =
+    (by ≡ session) × (asked ≡ request) × (time ≡ now)
+IsForRequest session request now (AskAnswer by) = by ≡ session
+IsForRequest session request now event = IsOwnWork event

@@ -1,21 +1,44 @@
 //! What requests and ends are, event by event.
 
-ghost use Rattle.std.specs.Prelude.{ℕ, List};
+ghost use Rattle.std.specs.Prelude.{◌≡◌, ◌↔◌, ℕ, List, Result};
+ghost use Rattle.std.specs.List.{All};
+ghost use Rattle.vt_base.specs.Protocol.{Operation, RMessage};
 ghost use Rattle.vt_base.specs.declared.answer.Answer.{Answer};
+ghost use Rattle.vt_base.specs.declared.why.Why.{Why};
 ghost use Rattle.vt_core.specs.Core.{CoreState};
 ghost use Rattle.vt_core.specs.Steps.{Runs};
 ghost use Rattle.vt_core.specs.declared.event.Event.{Event};
 ghost use Rattle.vt_core.specs.declared.event.Out.{Out};
-ghost use Rattle.vt_drive.specs.Requests.{IsRequested};
+ghost use Rattle.vt_drive.specs.Driven.{DoesRequest, DrivenState, HoldsOn, condition_of};
+ghost use Rattle.vt_drive.specs.Requests.{IsForRequest, IsRequested};
+ghost use Rattle.vt_model.specs.History.{History};
 ghost use Rattle.vt_wire.specs.declared.message.Request.{Request};
 
+use crate::Driven;
+use vt_answer::Store;
+use vt_base::Scorer;
 use vt_disk::Disk;
 
 /// A request that was driven to its answer is a run of events, and so all holds of it that holds of
 /// runs: at each moment of it whatever a crash leaves of all devices, taken together, stands for a
-/// prefix of the history with every durable block.
+/// prefix of the history with every durable block. The request is asked with its own time, and no
+/// other one is.
 pub fn requests_are_runs<D: Disk>()
     ensures { (score : List ℕ → List ℕ) (session : ℕ) (request : Request) (now : ℕ) (a : Answer)
         (old new : CoreState D) → IsRequested score D.Disk session request now a old new
-        → (events : List Event) × (outs : List Out) × Runs score D.Disk events outs old new }
+        → (events : List Event) × (outs : List Out) × All (IsForRequest session request now) events
+        × Runs score D.Disk events outs old new }
+{}
+
+/// A store on devices, in the words of stores that sessions ask.
+pub fn core_as_store<D: Disk, S: Scorer>()
+    ensures scores { (bytes : List ℕ) →
+        ⟦<Driven<D, S> as Store>⟧.score_of bytes ≡ S.score_of bytes }
+    ensures condition { (d : DrivenState D) →
+        ⟦<Driven<D, S> as Store>⟧.condition d ≡ condition_of D.Disk d }
+    ensures holds { (d : DrivenState D) (h : History) →
+        ⟦<Driven<D, S> as Store>⟧.holds d h ↔ HoldsOn S.score_of D.Disk d h }
+    ensures does { (d d' : DrivenState D) (m : Operation) (result : Result RMessage Why) →
+        ⟦<Driven<D, S> as Store>⟧.does d m result d'
+        ↔ DoesRequest S.score_of D.Disk m result d d' }
 {}

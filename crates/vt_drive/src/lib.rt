@@ -3,11 +3,13 @@
 //! way of them.
 #![tactic(auto)]
 
+mod driven;
 mod ending;
 mod laws;
 mod requests;
 mod working;
 
+pub use driven::Driven;
 pub use ending::end;
-pub use laws::requests_are_runs;
+pub use laws::{core_as_store, requests_are_runs};
 pub use requests::{ask, sync};

@@ -1,0 +1,110 @@
+//! A store on devices, as the store that one session asks.
+
+ghost use Rattle.std.specs.Prelude.{◌≡◌};
+ghost use Rattle.vt_core.specs.Machine.{WaitsForNone};
+
+use crate::requests::ask;
+use std::alloc::Global;
+use std::marker::Model;
+use vt_answer::Store;
+use vt_base::{Bytes, MAX_BLOCK, Said, Score, Scorer, Why};
+use vt_core::Core;
+use vt_disk::Disk;
+use vt_wire::Request;
+
+/// A store on devices, and the session that asks it: each operation is a request of session 0, and
+/// all clumps that it adds get one time.
+#[derive(Drop)]
+pub struct Driven<D: Disk, S: Scorer> {
+    core: Core<D, S>,
+    alloc: Global,
+    now: u32,
+}
+
+impl<D: Disk, S: Scorer> Model for Driven<D, S> {
+    ghost use Rattle.vt_drive.specs.Driven.{DrivenState};
+    ghost use Rattle.vt_core.specs.Machine.{WaitsForNone};
+
+    ghost Value = { DrivenState D };
+
+    ghost view = { λ d. record { core = d.core; now = d.now } };
+
+    ghost invariant = { λ d. WaitsForNone d.core.waiting 0 };
+}
+
+impl<D: Disk, S: Scorer> Driven<D, S> {
+    /// The first session of a store, which waits for nothing. `now` is the second at which it
+    /// began, the time of the clumps that it adds.
+    pub fn new(core: Core<D, S>, alloc: Global, now: u32) -> Self
+        requires { WaitsForNone core.waiting 0 }
+        ensures { result ≡ record { core = core; now = now } }
+    {
+        Driven { core, alloc, now }
+    }
+
+    /// The store, whose first session waits for nothing.
+    pub fn into_core(self) -> Core<D, S>
+        ensures core { result ≡ self.core }
+        ensures free { WaitsForNone result.waiting 0 }
+    {
+        self.core
+    }
+}
+
+impl<D: Disk, S: Scorer> Store for Driven<D, S> {
+    ghost use Rattle.vt_drive.specs.Driven.{HoldsOn, DoesRequest, condition_of};
+    ghost use Rattle.std.specs.Prelude.{◌≤◌};
+    ghost use Rattle.std.proofs.Common.{subst};
+    ghost use Rattle.std.proofs.Math.Nat.{le-add_right};
+    ghost use Rattle.vt_log.specs.Log.{queued};
+
+    ghost score_of = { S.score_of };
+
+    ghost condition = { λ d. condition_of D.Disk d };
+
+    ghost holds = { λ d h. HoldsOn S.score_of D.Disk d h };
+
+    ghost does = { λ d m result d'. DoesRequest S.score_of D.Disk m result d d' };
+
+    ghost durable_is_held = { λ d h hold. subst (λ n. d.core.log.durable ≤ n) hold.1.log.front
+        (le-add_right d.core.log.durable (queued d.core.log)) };
+
+    fn write(&mut self, alloc: Global, kind: u8, bytes: &[u8]) -> Result<Score, Why> {
+        match ask(
+            &mut self.core,
+            alloc,
+            0,
+            Request::Write { kind, bytes },
+            self.now,
+        )
+        .said
+        {
+            Said::Score(score) => Ok(score),
+            Said::Refused(why) => Err(why),
+            Said::Block(_) | Said::Synced => unreachable!(),
+        }
+    }
+
+    fn read(&mut self, alloc: Global, score: &Score, kind: u8, count: u32) -> Result<Bytes, Why> {
+        // No block has more bytes than that.
+        let count = count.min(MAX_BLOCK as u32);
+        let request = Request::Read {
+            score: *score,
+            kind,
+            count,
+        };
+        match ask(&mut self.core, alloc, 0, request, self.now).said {
+            Said::Block(block) => Ok(block),
+            Said::Refused(why) => Err(why),
+            Said::Score(_) | Said::Synced => unreachable!(),
+        }
+    }
+
+    fn sync(&mut self) -> Result<(), Why> {
+        match ask(&mut self.core, self.alloc, 0, Request::Sync, self.now).said {
+            Said::Synced => Ok(()),
+            Said::Refused(why) => Err(why),
+            Said::Score(_) | Said::Block(_) => unreachable!(),
+        }
+    }
+}
