@@ -70,15 +70,8 @@ impl<D: Disk, S: Scorer> Store for Driven<D, S> {
         (le-add_right d.core.log.durable (queued d.core.log)) };
 
     fn write(&mut self, alloc: Global, kind: u8, bytes: &[u8]) -> Result<Score, Why> {
-        match ask(
-            &mut self.core,
-            alloc,
-            0,
-            Request::Write { kind, bytes },
-            self.now,
-        )
-        .said
-        {
+        let request = Request::Write { kind, bytes };
+        match ask(&mut self.core, alloc, 0, request, self.now).said {
             Said::Score(score) => Ok(score),
             Said::Refused(why) => Err(why),
             Said::Block(_) | Said::Synced => unreachable!(),
