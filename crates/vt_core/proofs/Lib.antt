@@ -3,6 +3,7 @@ pub mod Combined
 pub mod Recovered
 pub mod Read
 pub mod MarksRead
+pub mod NamesTwo
 pub mod Runs
 pub mod Calls
 pub mod LogWork

@@ -79,6 +79,20 @@ pub record Steps {D : Type 0} (score : List ℕ → List ℕ) (disk : DiskOf D) 
   pub stops : KeepsStops out old new
   pub goes_on : GoesOn disk old new
 
+-- what a store was mounted with stays, however many events there were, and no block is lost
+pub record KeepsStore {D : Type 0} (disk : DiskOf D) (old new : CoreState D) : Type 0 where
+  pub tables : new.log.tables ≡ old.log.tables
+  pub layout : new.log.layout ≡ old.log.layout
+  pub setup : setup_of new ≡ setup_of old
+  pub shards : length new.shards ≡ length old.shards
+  pub filter : option_map (λ b. b.m) new.bloom ≡ option_map (λ b. b.m) old.bloom
+  pub counts : (new.bits.m ≡ old.bits.m) × (new.bits.k ≡ old.bits.k)
+  pub sizes : each_of disk.size new ≡ each_of disk.size old
+  pub sessions : length new.waiting ≡ length old.waiting
+  pub len : history_len old ≤ history_len new
+  pub durable : old.log.durable ≤ new.log.durable
+  pub synced : old.synced ≤ new.synced
+
 -- ---- one after another
 
 -- a run of events, from one state of the store to another

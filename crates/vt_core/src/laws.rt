@@ -1,7 +1,9 @@
 //! What holds of stores between their events, and of their runs.
 
 ghost use Rattle.std.specs.Prelude.{◌≡◌, ◌≤◌, ◌^◌, ℕ, All, IsTrue, List, None, Some, length, slice_get};
+ghost use Rattle.vt_base.specs.declared.mount.MountBad.{MountBad};
 ghost use Rattle.vt_model.specs.History.{History};
+ghost use Rattle.vt_model.specs.Legal.{IsLegal};
 ghost use Rattle.vt_model.specs.Places.{Setup};
 ghost use Rattle.vt_bloom.specs.Bloom.{BloomState};
 ghost use Rattle.vt_isect.specs.declared.head.Head.{Head};
@@ -10,16 +12,18 @@ ghost use Rattle.vt_part.specs.Table.{Table};
 ghost use Rattle.vt_log.specs.Logs.{StandsFor as LogStandsFor};
 ghost use Rattle.vt_log.specs.Sound.{AreImages as AreImagesOf};
 ghost use Rattle.vt_shard.specs.Shard.{ShardState};
+ghost use Rattle.vt_told.specs.Told.{NamesTwo};
 ghost use Rattle.vt_core.specs.declared.event.Event.{Event};
 ghost use Rattle.vt_core.specs.declared.event.Out.{Out};
 ghost use Rattle.vt_core.specs.Core.{CoreState, setup_of, devices_of, machine_of};
 ghost use Rattle.vt_core.specs.Crashing.{Act, Lives, LivesMachine, MayTurnInto, Recovers};
 ghost use Rattle.vt_core.specs.Files.{Files, PerDevice, AreImages};
 ghost use Rattle.vt_core.specs.Machine.{Crashes};
-ghost use Rattle.vt_core.specs.Mounting.{EachStands, AllStandFor, IsHeadRead, IsLogOf, IsMarkRead, IsReadAs};
+ghost use Rattle.vt_core.specs.Mounting.{EachStands, AllStandFor, IsHeadRead, IsLogOf, IsMarkRead, IsReadAs, IsSetupOf};
+ghost use Rattle.vt_core.specs.Refusals.{IsRefused};
 ghost use Rattle.vt_core.specs.Sound.{IsSound};
 ghost use Rattle.vt_core.specs.Stands.{ArePartitions, StandsFor, StandForPrefix};
-ghost use Rattle.vt_core.specs.Steps.{Runs, RunsMachine};
+ghost use Rattle.vt_core.specs.Steps.{KeepsStore, Runs, RunsMachine};
 
 use vt_disk::Disk;
 
@@ -91,7 +95,7 @@ pub fn what_is_read_is_a_prefix<D: Disk>()
 }
 
 /// What a store leaves, at any time, can be mounted: every combination of images stands for a prefix
-/// of its history and, where all of it is durable, for all of it.
+/// of its history and, where all of it is durable, for all of it; and there is a log that is read.
 pub fn stores_can_be_mounted<D: Disk>()
     ensures prefix { (score : List ℕ → List ℕ) (k : CoreState D) (h : History)
         → IsSound score D.Disk k h
@@ -99,6 +103,9 @@ pub fn stores_can_be_mounted<D: Disk>()
     ensures all { (score : List ℕ → List ℕ) (k : CoreState D) (h : History)
         → IsSound score D.Disk k h → k.log.durable ≡ length h
         → AllStandFor score D.Disk (setup_of k) k.log.tables (devices_of k) h (length h) }
+    ensures log { (score : List ℕ → List ℕ) (k : CoreState D) (h : History) → IsTrue D.tells
+        → IsSound score D.Disk k h → (g : History) × (base : ℕ)
+        × IsLogOf score D.Disk k.log.tables (devices_of k) (setup_of k) h g base }
 {
     crash_gives_a_prefix::<D>();
 }
@@ -122,4 +129,27 @@ pub fn marks_are_read<D: Disk>()
     vt_isect::sections_are_told_apart();
     vt_bloom::crash_gives_old_or_new::<D>();
     vt_bloom::saved_filters_are_told_apart();
+}
+
+/// Devices of which every combination of images stands for a prefix of one history have a log, with
+/// its base, that is read of them.
+pub fn devices_have_a_log<D: Disk>()
+    ensures { (score : List ℕ → List ℕ) (c : Setup) (tables : List Table)
+        (devices : PerDevice D) (h : History) → IsTrue D.tells → IsLegal score c h
+        → IsSetupOf D.Disk tables devices c → EachStands score D.Disk c tables 0 devices h
+        → (g : History) × (base : ℕ) × IsLogOf score D.Disk tables devices c h g base }
+{}
+
+/// A run of events keeps what the store was mounted with, and loses no block.
+pub fn runs_keep_the_store<D: Disk>()
+    ensures { (score : List ℕ → List ℕ) (events : List Event) (outs : List Out)
+        (old new : CoreState D) → Runs score D.Disk events outs old new → KeepsStore D.Disk old new }
+{}
+
+/// A refusal to mount names two values that differ, whatever the devices hold.
+pub fn refusals_name_two<D: Disk>()
+    ensures { (score : List ℕ → List ℕ) (tables : List Table) (devices : PerDevice D)
+        (c : Setup) (bad : MountBad) → IsRefused score D.Disk tables devices c bad → NamesTwo bad }
+{
+    vt_told::refusals_name_two();
 }

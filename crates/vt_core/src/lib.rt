@@ -23,8 +23,9 @@ pub use devices::Devices;
 pub use event::{Event, Out};
 pub use finding::find_block;
 pub use laws::{
-    crash_gives_a_prefix, lives_are_lives_of_the_machine, marks_are_read, recovery_is_a_crash,
-    runs_are_runs_of_the_machine, stores_can_be_mounted, what_is_read_is_a_prefix,
+    crash_gives_a_prefix, devices_have_a_log, lives_are_lives_of_the_machine, marks_are_read,
+    recovery_is_a_crash, refusals_name_two, runs_are_runs_of_the_machine, runs_keep_the_store,
+    stores_can_be_mounted, what_is_read_is_a_prefix,
 };
 pub use outs::Outs;
 pub use store::Core;

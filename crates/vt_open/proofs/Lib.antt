@@ -4,7 +4,9 @@ pub mod Held
 pub mod Kept
 pub mod Lists
 pub mod Opened
+pub mod ReadOn
 pub mod Recalled
+pub mod RefusedStores
 pub mod Refusing
 pub mod Shapes
 pub mod Taken

@@ -1,11 +1,12 @@
 -- A store that is mounted on partitions that were handed out, or refused.
-use Rattle.std.proofs.Common.{◌≡◌, ◌+◌, ◌<◌, ◌≤◌, ℕ, zero, suc, List, [], ◌∷◌, ◌++◌, length, map, Some, sym, ◌∙◌, ap, subst, arith, length-append}
+use Rattle.std.proofs.Common.{◌≡◌, ◌⊎◌, ◌+◌, ◌<◌, ◌≤◌, ℕ, zero, suc, List, [], ◌∷◌, ◌++◌, length, map, Some, sym, ◌∙◌, ap, subst, arith, length-append}
 use Rattle.std.specs.Prelude.{slice_get, IsTrue}
 use Rattle.std.specs.List.{All, AllByRecursion, AllZip}
 use Rattle.std.proofs.lemmas.List.{length-map, map-append}
 use Rattle.std.proofs.lemmas.List.Elements.{All-from_recursion}
 use Rattle.std.proofs.lemmas.List.Sums.{sum_by-cons}
 use Rattle.vt_base.specs.declared.mount.MountBad.{MountBad}
+use Rattle.vt_base.specs.declared.mount.MountBad.TheVariants.{Fault, NoMemory}
 use Rattle.vt_conf.specs.declared.conf.Conf.{Conf}
 use Rattle.vt_disk.specs.Calls.{OnlyReads}
 use Rattle.vt_disk.specs.Members.{DiskOf}
@@ -14,24 +15,23 @@ use Rattle.vt_log.specs.Log.{disks_of}
 use Rattle.vt_log.specs.Logs.{arena_count}
 use Rattle.vt_model.specs.History.{History}
 use Rattle.vt_model.specs.Places.{Setup}
-use Rattle.vt_part.specs.Laws.{IsUnambiguous}
 use Rattle.vt_part.specs.Parts.{disk_of, table_of, tables_of}
 use Rattle.vt_part.specs.Table.{Table, IsPartition, end_of}
 use Rattle.vt_part.specs.declared.part.Part.{Part}
 use Rattle.vt_core.specs.declared.devices.Devices.{Devices}
 use Rattle.vt_core.specs.Core.{CoreState, devices_of}
-use Rattle.vt_core.specs.Files.{PerDevice, Files, all_of}
-use Rattle.vt_core.specs.Mounting.{AllStandFor, EachStands, IsLogOf, IsSetupOf, KeepsLimits, LeavesStanding, Mounts, devices_in, tables_in}
+use Rattle.vt_core.specs.Files.{PerDevice, all_of}
+use Rattle.vt_core.specs.Mounting.{IsLogOf, KeepsLimits, LeavesStanding, Mounts, devices_in, tables_in}
 use Rattle.vt_core.specs.Refusals.{CountsRefusal, Refuses}
 use Rattle.vt_core.specs.Stands.{ArePartitions}
 use Rattle.vt_open.specs.Names.{AreUnder, HaveOneShape, files_of}
 use Rattle.vt_open.specs.Opening.{AreRead, FindsNoStore, Opens, sizes_of}
 use Rattle.vt_open.specs.Taking.{AreGiven, IsMounted}
 use Rattle.vt_open.specs.TakingAll.{AreAllTaken}
-use Rattle.vt_open.proofs.Held.{held_many, held_twice}
+use Rattle.vt_open.proofs.Held.{held_many}
 use Rattle.vt_open.proofs.Lists.{zip_length}
-use Rattle.vt_open.proofs.Recalled.{all_read, all_read_on, log_read, read_holds, same_tables, setup_read, stands_read, tables_are}
-use Rattle.vt_open.proofs.Shapes.{one_list, shape_of, shape_on}
+use Rattle.vt_open.proofs.Recalled.{read_holds}
+use Rattle.vt_open.proofs.Shapes.{shape_of, shape_on}
 use Rattle.vt_open.proofs.Taken.{Stands}
 use Rattle.vt_open.proofs.TakingAll.{mounted_faults}
 
@@ -171,8 +171,10 @@ module _ {D : Type 0} (disk : DiskOf D) where
       pub stand_back : told → AreUnder new conf (devices_in back)
       stand_back t = record { shape = shape_back_ score back bad refuses; under = given.stand t (all.taken.out t) (all.taken.apart t) }
 
-      pub finds_none : FindsNoStore score disk told conf old new bad
-      finds_none = record {
+      pub finds_none : (IsTrue disk.tells → LeavesStanding score disk (tables_in devices) here (devices_in back))
+          → ((c : Setup) (h g : History) (base : ℕ) → IsTrue disk.tells → IsLogOf score disk (tables_in devices) here c h g base → KeepsLimits (tables_in devices) c → (bad ≡ Fault) ⊎ (bad ≡ NoMemory))
+          → FindsNoStore score disk told conf old new bad
+      finds_none standing found = record {
         handed = all.handed;
         back = devices_in back;
         shape = all.shape;
@@ -188,65 +190,6 @@ module _ {D : Type 0} (disk : DiskOf D) where
         counts = subst (λ (l : List ℕ). CountsRefusal bad l (map disk.faults (all_of (devices_in back)))) same_faults refuses.counts;
         early = λ soon. subst (λ (l : List D). HoldTheSame disk l (devices_in back).sections) (sym all.sections) (refuses.early soon);
         sizes = refuses.sizes ∙ same_sizes;
+        found = found;
+        standing = standing;
       }
-
-    -- ---- on devices that stand for prefixes
-
-    module _ (one : IsUnambiguous) (tells : IsTrue disk.tells) (read : (d : D) → disk.images d (disk.bytes d)) (t : told) (score : List ℕ → List ℕ) where
-      abbrev read_files : PerDevice D → Files
-      read_files p = record { partitions = map disk.bytes p.partitions; sections = map disk.bytes p.sections; filter = map disk.bytes p.filter }
-
-      mine : (handed : PerDevice D) → AreUnder old conf handed → handed ≡ all.handed
-      mine handed under = one_list old conf handed all.handed under (record { shape = all.shape; under = all.taken.stood t })
-
-      are : ArePartitions (tables_in devices) (map disk.bytes all.handed.partitions)
-      are = are_partitions all.handed.partitions devices.parts.items all.mounted tells
-
-      -- the log of the partitions under the names is that of the mounted ones
-      pub log_here : (handed : PerDevice D) (tables : List Table) (c : Setup) (h g : History) (base : ℕ) → AreUnder old conf handed → IsLogOf score disk tables handed c h g base
-          → IsLogOf score disk (tables_in devices) here c h g base × (tables ≡ tables_in devices)
-      log_here handed tables c h g base under log =
-          let these : IsLogOf score disk tables all.handed c h g base = subst (λ (p : PerDevice D). IsLogOf score disk tables p c h g base) (mine handed under) log in
-          let same : tables ≡ tables_in devices = tables_are disk one read score c tables (tables_in devices) 0 all.handed h these.each are in
-          let those : IsLogOf score disk (tables_in devices) all.handed c h g base = subst (λ (l : List Table). IsLogOf score disk l all.handed c h g base) same these in
-          (log_read disk all.handed here tables_are_read score (tables_in devices) c h g base those, same)
-
-      pub found_here : (handed : PerDevice D) (tables : List Table) (c : Setup) (h g : History) (base : ℕ) (P : Type 0)
-          → ((c : Setup) (h g : History) (base : ℕ) → IsTrue disk.tells → IsLogOf score disk (tables_in devices) here c h g base → KeepsLimits (tables_in devices) c → P)
-          → AreUnder old conf handed → IsLogOf score disk tables handed c h g base → KeepsLimits tables c → P
-      found_here handed tables c h g base P found under log limits =
-          let it = log_here handed tables c h g base under log in
-          found c h g base tells it.0 (subst (λ (l : List Table). KeepsLimits l c) it.1 limits)
-
-      -- what is left of the mounted devices is left of those that were handed out
-      pub left_of : (tables : List Table) (back : PerDevice D) → LeavesStanding score disk (tables_in devices) here back → LeavesStanding score disk tables all.handed back
-      left_of tables back left =
-          let holds = read_holds disk all.handed here tables_are_read in
-          record {
-            prefix = λ c h least legal setup each.
-                let same : tables ≡ tables_in devices = tables_are disk one read score c tables (tables_in devices) least all.handed h each are in
-                let those : EachStands score disk c (tables_in devices) least all.handed h = subst (λ (l : List Table). EachStands score disk c l least all.handed h) same each in
-                let setups : IsSetupOf disk (tables_in devices) all.handed c = subst (λ (l : List Table). IsSetupOf disk l all.handed c) same setup in
-                subst (λ (l : List Table). EachStands score disk c l least back h) (sym same)
-                (left.prefix c h least legal (setup_read disk all.handed here tables_are_read (tables_in devices) c setups) (stands_read disk all.handed here tables_are_read score c (tables_in devices) least h those));
-            same = λ c h n legal setup every.
-                let image = all_read disk read all.handed in
-                let same : tables ≡ tables_in devices = same_tables one tables (tables_in devices) (map disk.bytes all.handed.partitions) (every (read_files all.handed) image).partitions are in
-                let those : AllStandFor score disk c (tables_in devices) all.handed h n = subst (λ (l : List Table). AllStandFor score disk c l all.handed h n) same every in
-                let setups : IsSetupOf disk (tables_in devices) all.handed c = subst (λ (l : List Table). IsSetupOf disk l all.handed c) same setup in
-                subst (λ (l : List Table). AllStandFor score disk c l back h n) (sym same)
-                (left.same c h n legal (setup_read disk all.handed here tables_are_read (tables_in devices) c setups) (all_read_on disk all.handed here tables_are_read score c (tables_in devices) n h those));
-            partitions = held_twice disk all.handed.partitions here.partitions back.partitions holds left.partitions;
-            filter = subst (λ (l : List D). HoldTheSame disk l back.filter) (sym all.filter) left.filter;
-            sizes = left.sizes ∙ ap (map disk.size) (sym all.sections);
-            sections = λ c h g base i before after log at_old at_new.
-                let same : tables ≡ tables_in devices = tables_are disk one read score c tables (tables_in devices) 0 all.handed h log.each are in
-                let those : IsLogOf score disk (tables_in devices) all.handed c h g base = subst (λ (l : List Table). IsLogOf score disk l all.handed c h g base) same log in
-                left.sections c h g base i before after (log_read disk all.handed here tables_are_read score (tables_in devices) c h g base those)
-                (ap (λ (l : List D). slice_get l i) (sym all.sections) ∙ at_old) at_new;
-          }
-
-      -- and by the names
-      pub left_back : (tables : List Table) (handed back : PerDevice D) → AreUnder old conf handed → LeavesStanding score disk (tables_in devices) here back → LeavesStanding score disk tables handed back
-      left_back tables handed back under left =
-          subst (λ (p : PerDevice D). LeavesStanding score disk tables p back) (sym (mine handed under)) (left_of tables back left)

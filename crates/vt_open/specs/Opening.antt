@@ -7,12 +7,13 @@ use Rattle.vt_base.specs.declared.mount.MountBad.TheVariants.{Fault, NoMemory}
 use Rattle.vt_conf.specs.declared.conf.Conf.{Conf}
 use Rattle.vt_core.specs.Core.{CoreState, devices_of}
 use Rattle.vt_core.specs.Files.{PerDevice, all_of}
-use Rattle.vt_core.specs.Mounting.{IsSetupOf, LeavesStanding, Mounts}
+use Rattle.vt_core.specs.Mounting.{IsLogOf, IsSetupOf, KeepsLimits, LeavesStanding, Mounts}
 use Rattle.vt_core.specs.Refusals.{CountsRefusal, IsEarly, IsRefused}
 use Rattle.vt_core.specs.Stands.{ArePartitions}
 use Rattle.vt_disk.specs.Calls.{OnlyReads}
 use Rattle.vt_disk.specs.Members.{DiskOf}
 use Rattle.vt_log.specs.Answers.{HoldTheSame}
+use Rattle.vt_model.specs.History.{History}
 use Rattle.vt_model.specs.Places.{Setup}
 use Rattle.vt_open.specs.declared.bad.OpenBad.{OpenBad}
 use Rattle.vt_open.specs.declared.bad.OpenBad.TheVariants.{Missing, Refused}
@@ -21,6 +22,7 @@ use Rattle.vt_open.specs.Taking.{AreTaken, RefusesTaking}
 use Rattle.vt_part.specs.Table.{Table}
 use Rattle.vt_parts.specs.Parts.{Standing}
 use Rattle.vt_shard.specs.declared.mounting.Sizes.{Sizes}
+use Rattle.vt_told.specs.Told.{NamesTwo}
 
 -- the same devices, of which the tables of those of arenas were read
 pub record AreRead {D : Type 0} (disk : DiskOf D) (handed mounted : PerDevice D) : Type 0 where
@@ -72,6 +74,11 @@ pub record FindsNoStore {D : Type 0} (score : List ℕ → List ℕ) (disk : Dis
   pub counts : CountsRefusal bad (map disk.faults (all_of handed)) (map disk.faults (all_of back))
   pub early : IsEarly bad → HoldTheSame disk handed.sections back.sections
   pub sizes : map disk.size (all_of back) ≡ map disk.size (all_of handed)
+  -- on partitions that stand for prefixes of one history
+  pub found : (c : Setup) (h g : History) (base : ℕ) → IsTrue disk.tells
+      → IsLogOf score disk tables mounted c h g base → KeepsLimits tables c
+      → (bad ≡ Fault) ⊎ (bad ≡ NoMemory)
+  pub standing : IsTrue disk.tells → LeavesStanding score disk tables mounted back
 
 -- Not all partitions are handed out, or no store is found on them.
 abbrev pub RefusesStore : {D : Type 0} → (List ℕ → List ℕ) → DiskOf D → (told : Type 0) → Conf
@@ -81,6 +88,11 @@ RefusesStore score disk told conf old new faults faults' bad =
     faults faults' bad
     ⊎ ((why : MountBad) × (bad ≡ Refused why) × (faults' ≡ faults)
     × FindsNoStore score disk told conf old new why)
+
+-- two values that a refusal names are two
+abbrev pub NamesCause : OpenBad → Type 0
+NamesCause (Missing part) = ⊤
+NamesCause (Refused bad) = NamesTwo bad
 
 -- a call failed, or memory ran out
 abbrev pub IsFaultOrMemory : OpenBad → Type 0

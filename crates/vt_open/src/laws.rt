@@ -7,14 +7,15 @@ ghost use Rattle.vt_conf.specs.Configuration.{Configures};
 ghost use Rattle.vt_conf.specs.declared.conf.Conf.{Conf};
 ghost use Rattle.vt_core.specs.Core.{CoreState, devices_of, each_of};
 ghost use Rattle.vt_core.specs.Files.{PerDevice, all_of};
-ghost use Rattle.vt_core.specs.Mounting.{IsLogOf, Recalls};
+ghost use Rattle.vt_core.specs.Mounting.{IsLogOf, KeepsLimits, LeavesStanding, Recalls};
 ghost use Rattle.vt_core.specs.Steps.{Runs};
 ghost use Rattle.vt_core.specs.declared.event.Event.{Event};
 ghost use Rattle.vt_core.specs.declared.event.Out.{Out};
 ghost use Rattle.vt_model.specs.History.{History};
 ghost use Rattle.vt_model.specs.Places.{Setup};
 ghost use Rattle.vt_open.specs.Names.{AreUnder, HaveOneShape, files_of};
-ghost use Rattle.vt_open.specs.Opening.{Opens};
+ghost use Rattle.vt_open.specs.declared.bad.OpenBad.{OpenBad};
+ghost use Rattle.vt_open.specs.Opening.{IsFaultOrMemory, NamesCause, Opens, RefusesStore};
 ghost use Rattle.vt_open.specs.Taking.{AreGiven};
 ghost use Rattle.vt_part.specs.Table.{Table};
 ghost use Rattle.vt_parts.specs.Parts.{Standing, there};
@@ -46,15 +47,49 @@ pub fn devices_have_names<D: Disk>()
         → (devices : PerDevice D) × AreUnder standing conf devices }
 {}
 
-/// A store that was opened has the log of its partitions, with just its blocks and its base.
+/// A store that was opened has the log of its partitions, with just its blocks and its base, and
+/// their tables.
 pub fn opened_stores_recall<D: Disk>()
-    ensures { (score : List ℕ → List ℕ) (tells : Bool) (conf : Conf) (sessions : ℕ)
+    ensures recalls { (score : List ℕ → List ℕ) (tells : Bool) (conf : Conf) (sessions : ℕ)
         (old new : List ℕ → Standing D) (k : CoreState D) (tables : List Table)
-        (devices : PerDevice D) (c : Setup) (h g : History) (base : ℕ)
-        → IsTrue tells → IsTrue D.tells → Opens score D.Disk (IsTrue tells) conf sessions old new k → AreUnder old conf devices
-        → IsLogOf score D.Disk tables devices c h g base → Recalls score D.Disk c g base k }
+        (devices : PerDevice D) (c : Setup) (h g : History) (base : ℕ) → IsTrue tells
+        → IsTrue D.tells → Opens score D.Disk (IsTrue tells) conf sessions old new k
+        → AreUnder old conf devices → IsLogOf score D.Disk tables devices c h g base
+        → Recalls score D.Disk c g base k }
+    ensures tables { (score : List ℕ → List ℕ) (tells : Bool) (conf : Conf) (sessions : ℕ)
+        (old new : List ℕ → Standing D) (k : CoreState D) (tables : List Table)
+        (devices : PerDevice D) (c : Setup) (h g : History) (base : ℕ) → IsTrue tells
+        → IsTrue D.tells → Opens score D.Disk (IsTrue tells) conf sessions old new k
+        → AreUnder old conf devices → IsLogOf score D.Disk tables devices c h g base
+        → k.log.tables ≡ tables }
 {
     partitions_are_told_apart();
+}
+
+/// Where a store isn't opened, two values that are told are two. Where every combination of the
+/// partitions' images stood for a prefix of a legal history, and the limits are kept, a call failed
+/// or memory ran out; and whatever call failed, a crash then loses nothing more.
+pub fn refused_stores_stand<D: Disk>()
+    ensures differs { (score : List ℕ → List ℕ) (tells : Bool) (conf : Conf)
+        (old new : List ℕ → Standing D) (before after : ℕ) (bad : OpenBad)
+        → RefusesStore score D.Disk (IsTrue tells) conf old new before after bad
+        → NamesCause bad }
+    ensures found { (score : List ℕ → List ℕ) (tells : Bool) (conf : Conf)
+        (old new : List ℕ → Standing D) (before after : ℕ) (bad : OpenBad) (tables : List Table)
+        (devices : PerDevice D) (c : Setup) (h g : History) (base : ℕ) → IsTrue tells
+        → IsTrue D.tells → RefusesStore score D.Disk (IsTrue tells) conf old new before after bad
+        → AreUnder old conf devices → IsLogOf score D.Disk tables devices c h g base
+        → KeepsLimits tables c → IsFaultOrMemory bad }
+    ensures standing { (score : List ℕ → List ℕ) (tells : Bool) (conf : Conf)
+        (old new : List ℕ → Standing D) (before after : ℕ) (bad : OpenBad) (tables : List Table)
+        (devices back : PerDevice D) → IsTrue tells → IsTrue D.tells
+        → RefusesStore score D.Disk (IsTrue tells) conf old new before after bad
+        → AreUnder old conf devices → AreUnder new conf back
+        → LeavesStanding score D.Disk tables devices back }
+{
+    partitions_are_told_apart();
+    vt_told::refusals_name_two();
+    vt_core::refusals_name_two::<D>();
 }
 
 /// A run of events keeps how many devices of each kind there are, as whatever keeps their sizes and

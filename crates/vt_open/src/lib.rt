@@ -12,6 +12,7 @@ pub use bad::OpenBad;
 pub use closing::close_store;
 pub use files::file_of;
 pub use laws::{
-    configurations_can_be_opened, devices_have_names, opened_stores_recall, shapes_are_kept,
+    configurations_can_be_opened, devices_have_names, opened_stores_recall, refused_stores_stand,
+    shapes_are_kept,
 };
 pub use opening::open_store;

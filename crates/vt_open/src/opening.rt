@@ -6,17 +6,17 @@ ghost use Rattle.vt_core.specs.Mounting.{IsLogOf, KeepsLimits, LeavesStanding};
 ghost use Rattle.vt_model.specs.History.{History};
 ghost use Rattle.vt_model.specs.Places.{Setup};
 ghost use Rattle.vt_open.specs.Names.{AreUnder};
-ghost use Rattle.vt_open.specs.Opening.{IsFaultOrMemory, Opens, RefusesStore};
+ghost use Rattle.vt_open.specs.Opening.{IsFaultOrMemory, NamesCause, Opens, RefusesStore};
 ghost use Rattle.vt_part.specs.Table.{Table};
 
 use crate::bad::OpenBad;
 use crate::closing::give_all;
+use crate::laws::refused_stores_stand;
 use crate::taking::take_all;
 use std::alloc::Global;
 use vt_base::Scorer;
 use vt_conf::{Conf, block_room, entry_room};
 use vt_core::Core;
-use vt_part::partitions_are_told_apart;
 use vt_parts::Parts;
 use vt_shard::Sizes;
 
@@ -43,11 +43,12 @@ pub fn open_store<P: Parts, S: Scorer + Drop>(
         (P.standing parts.old) (P.standing parts.new)) }
     ensures faults { OnOk result (P.faults parts.new ≡ P.faults parts.old) }
 
-    // A refusal has its cause, and the partitions that were handed out are back. Where every
-    // combination of their images stood for a prefix of a legal history, nothing but a failed call
-    // or want of memory keeps the store from being opened.
+    // A refusal has its cause, with two values that are two, and the partitions that were handed out
+    // are back. Where every combination of their images stood for a prefix of a legal history,
+    // nothing but a failed call or want of memory keeps the store from being opened.
     ensures refused { IfErr result (RefusesStore S.score_of P.Disk.Disk (IsTrue P.tells) conf.now
         (P.standing parts.old) (P.standing parts.new) (P.faults parts.old) (P.faults parts.new)) }
+    ensures differs { IfErr result NamesCause }
     ensures found { (tables : List Table) (devices : PerDevice P.Disk) (c : Setup)
         (h g : History) (base : ℕ) → IsTrue P.tells → IsTrue P.Disk.tells
         → AreUnder (P.standing parts.old) conf.now devices
@@ -60,7 +61,7 @@ pub fn open_store<P: Parts, S: Scorer + Drop>(
         → AreUnder (P.standing parts.new) conf.now back
         → OnErr result (LeavesStanding S.score_of P.Disk.Disk tables devices back) }
 {
-    partitions_are_told_apart();
+    refused_stores_stand::<P::Disk>();
     let devices = take_all(alloc, parts, conf)?;
     let sections = conf.sections.len() as u32;
     let sizes = Sizes {

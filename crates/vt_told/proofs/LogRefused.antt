@@ -1,5 +1,5 @@
 -- The values that the refusal of a log names differ.
-use Rattle.std.proofs.Common.{◌≡◌, ◌≢◌, ◌⊎◌, inl, inr, ⊎_elim, ℕ, ◌+◌, ◌<◌, ◌≤◌, Bool, true, false, cond, List, [], ◌∷◌, Option, Some, None, length, refl, sym, ◌∙◌, ap, subst, arith}
+use Rattle.std.proofs.Common.{◌≡◌, ◌≢◌, ◌⊎◌, inl, inr, ⊎_elim, ℕ, ◌+◌, Bool, true, false, List, [], ◌∷◌, Option, Some, None, refl, sym, subst, arith}
 use Rattle.std.specs.Prelude.{⊤, codes, nat_lt, not, take, ◌==◌, ◌||◌, if◌then◌else◌}
 use Rattle.std.specs.Str.{bytes_eq}
 use Rattle.std.proofs.lemmas.Bool.Decides.{nat_tests}
@@ -12,7 +12,7 @@ use Rattle.vt_arena.specs.Heads.{clumps_in, number_in, sealed_in, version_in}
 use Rattle.vt_arena.specs.Places.{arena_room}
 use Rattle.vt_log.specs.declared.bad.LogBad.{LogBad}
 use Rattle.vt_log.specs.declared.bad.LogBad.TheVariants as log_bad
-use Rattle.vt_log.specs.Faults.{bad_arena, first_bad, first_of_two, out_of_order}
+use Rattle.vt_log.specs.Faults.{bad_arena, first_bad, first_of_two}
 use Rattle.vt_part.specs.declared.layout.ArenaRegion.{ArenaRegion}
 
 -- the refusal's two values differ
@@ -29,11 +29,12 @@ NamesLog (log_bad.Order i clumps) = clumps ≢ 0
 NamesLog log_bad.Fault = ⊥
 NamesLog log_bad.NoMemory = ⊥
 
-if_some : {X : Type 0} (b : Bool) (x y : X) (rest : Option X) → (if b then Some x else rest) ≡ Some y → ((b ≡ true) × (y ≡ x)) ⊎ (rest ≡ Some y)
+-- a test of several, one after another
+pub if_some : {X : Type 0} (b : Bool) (x y : X) (rest : Option X) → (if b then Some x else rest) ≡ Some y → ((b ≡ true) × (y ≡ x)) ⊎ (rest ≡ Some y)
 if_some true x y rest is = inl (refl, sym (same_Some x y is))
 if_some false x y rest is = inr is
 
-not_equal : (a b : ℕ) → not (a == b) ≡ true → a ≢ b
+pub not_equal : (a b : ℕ) → not (a == b) ≡ true → a ≢ b
 not_equal a b differ same = grind (arith, nat_tests)
 
 more_than : (a b : ℕ) → nat_lt b a ≡ true → a ≢ b
