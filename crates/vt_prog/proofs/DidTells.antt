@@ -6,9 +6,9 @@ use Rattle.vt_disk.specs.Members.{DiskOf}
 use Rattle.vt_session.specs.declared.Ended.{Ended}
 use Rattle.vt_session.specs.declared.Ended.TheVariants as ends
 use Rattle.vt_prog.specs.declared.command.Command.{Command}
-use Rattle.vt_prog.specs.declared.command.Command.TheVariants.{Session, FormatArenas, FormatSection, FormatFilter}
+use Rattle.vt_prog.specs.declared.command.Command.TheVariants.{Session, FormatArenas, FormatSection, FormatFilter, FormatIndex}
 use Rattle.vt_prog.specs.declared.failure.Failure.{Failure}
-use Rattle.vt_prog.specs.declared.failure.Failure.TheVariants.{BadWords, NotFormatted, TooSmall, Disagree, DiskFault, BadNumber, BadName, Cut, Malformed, Spent, ReadFault, WriteFault, NoMemory}
+use Rattle.vt_prog.specs.declared.failure.Failure.TheVariants.{BadWords, BadConf, NotFormatted, TooSmall, Disagree, SameName, DiskFault, BadNumber, BadName, Cut, Malformed, Spent, ReadFault, FileFault, WriteFault, NoMemory}
 use Rattle.vt_prog.specs.Change.{Work}
 use Rattle.vt_prog.specs.Command.{command_of}
 use Rattle.vt_prog.specs.Commands.Fmtarenas.{AsksForNoArenas}
@@ -19,9 +19,10 @@ use Rattle.vt_prog.specs.Failure.{Outcome, HasFailed, status_of, HasCauseIn}
 use Rattle.vt_prog.specs.Formatting.{RefusesWord}
 use Rattle.vt_prog.specs.Run.{Does, DoesWords, EndsIdle}
 use Rattle.vt_prog.proofs.Causes.{formats_never}
+use Rattle.vt_prog.proofs.IndexCauses.{index_never}
 
-module _ {R K P D : Type 0} (disk : DiskOf D) (score : List ℕ → List ℕ) (words : List (List ℕ))
-    (outcome : Outcome) (work : Work R K P D) where
+module _ {R K I P D : Type 0} (disk : DiskOf D) (score : List ℕ → List ℕ) (words : List (List ℕ))
+    (outcome : Outcome) (work : Work R K I P D) where
   abbrev ByCommand : Option Command → Type 0
   ByCommand command = MatchOption command (EndsIdle (Err BadWords) outcome work)
       (λ command. Does disk score command outcome work ⊎ EndsIdle (Err NoMemory) outcome work)
@@ -47,7 +48,7 @@ end_never_bad ends.ReadFault taken is = cc
 end_never_bad ends.WriteFault taken is = cc
 end_never_bad ends.NoMemory taken is = cc
 
-session_never : {R K P D : Type 0} (score : List ℕ → List ℕ) (outcome : Outcome) (work : Work R K P D)
+session_never : {R K I P D : Type 0} (score : List ℕ → List ℕ) (outcome : Outcome) (work : Work R K I P D)
     → DoesSession score outcome work → status_of outcome ≢ 1
 session_never score outcome work x one =
     elim (x.end.ran_out) as (λ b. status_of (cond b (Err NoMemory)
@@ -60,7 +61,7 @@ session_never score outcome work x one =
 abbrev IsOther : Failure → Type 0
 IsOther failure = status_of (Err failure) ≢ 1
 
-word_never : {R K P D : Type 0} (IsWhy : Failure → Type 0) (outcome : Outcome) (work : Work R K P D)
+word_never : {R K I P D : Type 0} (IsWhy : Failure → Type 0) (outcome : Outcome) (work : Work R K I P D)
     → ((failure : Failure) → IsWhy failure → IsOther failure) → RefusesWord IsWhy outcome work → status_of outcome ≢ 1
 word_never IsWhy outcome work others x one = others x.failure x.why (ap status_of (sym x.outcome_is) ∙ one)
 
@@ -83,7 +84,7 @@ filter_words : (size positions : List ℕ) (failure : Failure) → AsksForNoFilt
 filter_words size positions failure why = ⊎_elim
     (λ of_size. number_other _ failure of_size.1) (λ of_positions. number_other _ failure of_positions.2) why
 
-does_never : {R K P D : Type 0} (disk : DiskOf D) (score : List ℕ → List ℕ) (command : Command) (outcome : Outcome) (work : Work R K P D)
+does_never : {R K I P D : Type 0} (disk : DiskOf D) (score : List ℕ → List ℕ) (command : Command) (outcome : Outcome) (work : Work R K I P D)
     → Does disk score command outcome work → status_of outcome ≢ 1
 does_never disk score Session outcome work does = session_never score outcome work does
 does_never disk score (FormatArenas file name length arena_size) outcome work does = ⊎_elim
@@ -95,22 +96,25 @@ does_never disk score (FormatSection file name length) outcome work does = ⊎_e
 does_never disk score (FormatFilter file size positions) outcome work does = ⊎_elim
     (word_never (AsksForNoFilter size positions) outcome work (filter_words size positions))
     (λ x. formats_never disk file _ _ _ outcome work x.4) does
+does_never disk score (FormatIndex file) outcome work does = index_never disk file outcome work does
 
-pub never_bad : {R K P D : Type 0} (disk : DiskOf D) (score : List ℕ → List ℕ) (command : Command) (outcome : Outcome) (work : Work R K P D)
+pub never_bad : {R K I P D : Type 0} (disk : DiskOf D) (score : List ℕ → List ℕ) (command : Command) (outcome : Outcome) (work : Work R K I P D)
     → Does disk score command outcome work ⊎ EndsIdle (Err NoMemory) outcome work → status_of outcome ≢ 1
 never_bad disk score command outcome work done = ⊎_elim
     (does_never disk score command outcome work) (λ idle one. let wrong = ap status_of (sym idle.is) ∙ one in cc) done
 
 -- ---- by the status
 
-module _ {R K P D : Type 0} (disk : DiskOf D) (work : Work R K P D) where
+module _ {R K I P D : Type 0} (disk : DiskOf D) (work : Work R K I P D) where
   pub disk_risen : (outcome : Outcome) → status_of outcome ≡ 4 → HasCauseIn disk work outcome
       → HasRisen work.parts.faults work.parts.faults' ⊎ HasFailed disk work.parts
   disk_risen (Ok done) is cause = absurd (cc)
   disk_risen (Err BadWords) is cause = absurd (cc)
+  disk_risen (Err (BadConf bad)) is cause = absurd (cc)
   disk_risen (Err (NotFormatted file)) is cause = absurd (cc)
   disk_risen (Err (TooSmall file len need)) is cause = absurd (cc)
   disk_risen (Err (Disagree file field found want)) is cause = absurd (cc)
+  disk_risen (Err (SameName file other)) is cause = absurd (cc)
   disk_risen (Err DiskFault) is cause = cause
   disk_risen (Err (BadNumber at)) is cause = absurd (cc)
   disk_risen (Err (BadName at)) is cause = absurd (cc)
@@ -118,23 +122,27 @@ module _ {R K P D : Type 0} (disk : DiskOf D) (work : Work R K P D) where
   disk_risen (Err (Malformed place)) is cause = absurd (cc)
   disk_risen (Err (Spent taken)) is cause = absurd (cc)
   disk_risen (Err ReadFault) is cause = absurd (cc)
+  disk_risen (Err FileFault) is cause = absurd (cc)
   disk_risen (Err WriteFault) is cause = absurd (cc)
   disk_risen (Err NoMemory) is cause = absurd (cc)
 
   pub read_risen : (outcome : Outcome) → status_of outcome ≡ 6 → HasCauseIn disk work outcome
-      → HasRisen work.source.faults work.source.faults'
+      → HasRisen work.source.faults work.source.faults' ⊎ HasRisen work.files.faults work.files.faults'
   read_risen (Ok done) is cause = absurd (cc)
   read_risen (Err BadWords) is cause = absurd (cc)
+  read_risen (Err (BadConf bad)) is cause = absurd (cc)
   read_risen (Err (NotFormatted file)) is cause = absurd (cc)
   read_risen (Err (TooSmall file len need)) is cause = absurd (cc)
   read_risen (Err (Disagree file field found want)) is cause = absurd (cc)
+  read_risen (Err (SameName file other)) is cause = absurd (cc)
   read_risen (Err DiskFault) is cause = absurd (cc)
   read_risen (Err (BadNumber at)) is cause = absurd (cc)
   read_risen (Err (BadName at)) is cause = absurd (cc)
   read_risen (Err (Cut taken)) is cause = absurd (cc)
   read_risen (Err (Malformed place)) is cause = absurd (cc)
   read_risen (Err (Spent taken)) is cause = absurd (cc)
-  read_risen (Err ReadFault) is cause = cause
+  read_risen (Err ReadFault) is cause = inl cause
+  read_risen (Err FileFault) is cause = inr cause
   read_risen (Err WriteFault) is cause = absurd (cc)
   read_risen (Err NoMemory) is cause = absurd (cc)
 
@@ -142,9 +150,11 @@ module _ {R K P D : Type 0} (disk : DiskOf D) (work : Work R K P D) where
       → HasRisen work.sink.faults work.sink.faults'
   write_risen (Ok done) is cause = absurd (cc)
   write_risen (Err BadWords) is cause = absurd (cc)
+  write_risen (Err (BadConf bad)) is cause = absurd (cc)
   write_risen (Err (NotFormatted file)) is cause = absurd (cc)
   write_risen (Err (TooSmall file len need)) is cause = absurd (cc)
   write_risen (Err (Disagree file field found want)) is cause = absurd (cc)
+  write_risen (Err (SameName file other)) is cause = absurd (cc)
   write_risen (Err DiskFault) is cause = absurd (cc)
   write_risen (Err (BadNumber at)) is cause = absurd (cc)
   write_risen (Err (BadName at)) is cause = absurd (cc)
@@ -152,6 +162,7 @@ module _ {R K P D : Type 0} (disk : DiskOf D) (work : Work R K P D) where
   write_risen (Err (Malformed place)) is cause = absurd (cc)
   write_risen (Err (Spent taken)) is cause = absurd (cc)
   write_risen (Err ReadFault) is cause = absurd (cc)
+  write_risen (Err FileFault) is cause = absurd (cc)
   write_risen (Err WriteFault) is cause = cause
   write_risen (Err NoMemory) is cause = absurd (cc)
 
@@ -161,7 +172,7 @@ well_status outcome status is well = ⊎_elim
     (λ good. inl (is ∙ ap status_of good)) (λ short. inr (is ∙ ap status_of short)) well
 
 -- a session on input that ends well
-pub session_well : {R K P D : Type 0} (score : List ℕ → List ℕ) (outcome : Outcome) (work : Work R K P D)
+pub session_well : {R K I P D : Type 0} (score : List ℕ → List ℕ) (outcome : Outcome) (work : Work R K I P D)
     → (DoesSession score outcome work → (outcome ≡ Ok tt) ⊎ (outcome ≡ Err NoMemory))
     → DoesSession score outcome work ⊎ EndsIdle (Err NoMemory) outcome work → (outcome ≡ Ok tt) ⊎ (outcome ≡ Err NoMemory)
 session_well score outcome work well done = ⊎_elim well (λ idle. inr idle.is) done

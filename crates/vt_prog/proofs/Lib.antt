@@ -1,5 +1,6 @@
 pub mod Whole
 pub mod Complete
+pub mod IndexCauses
 pub mod InMemory
 pub mod Outcomes
 pub mod Puts
@@ -15,3 +16,5 @@ pub mod Adds
 pub mod AnswerToRead
 pub mod AnswerToWrite
 pub mod EmptyLog
+pub mod NameAt
+pub mod WholeFile

@@ -11,7 +11,7 @@ use Rattle.vt_prog.specs.Failure.{HasCauseIn}
 use Rattle.vt_answer.specs.Links.{ReadCause}
 use Rattle.vt_answer.specs.Sessions.{SinkCause}
 
-by_end : {R K P D : Type 0} (disk : DiskOf D) (work : Work R K P D) (ended : Ended) (taken : ℕ)
+by_end : {R K I P D : Type 0} (disk : DiskOf D) (work : Work R K I P D) (ended : Ended) (taken : ℕ)
     → ReadCause ended work.source.faults work.source.faults'
     → SinkCause ended work.sink.faults work.sink.faults'
     → HasCauseIn disk work (outcome_of_end ended taken)
@@ -24,7 +24,7 @@ by_end disk work ends.ReadFault taken read write = read
 by_end disk work ends.WriteFault taken read write = write
 by_end disk work ends.NoMemory taken read write = tt
 
-pub end_has_cause : {R K P D : Type 0} (disk : DiskOf D) (end : SessionEnd) (work : Work R K P D)
+pub end_has_cause : {R K I P D : Type 0} (disk : DiskOf D) (end : SessionEnd) (work : Work R K I P D)
     → HasCauses end work.source.faults work.source.faults' work.sink.faults work.sink.faults'
     → HasCauseIn disk work (outcome_of end)
 end_has_cause disk end work causes =

@@ -1,10 +1,10 @@
--- What a run did to the streams and the partitions of its host.
-use Rattle.std.specs.Prelude.{ℕ, ◌≡◌, ◌⊎◌, ◌++◌, Bool, IsTrue, List}
+-- What a run did to the streams, the files and the partitions of its host.
+use Rattle.std.specs.Prelude.{ℕ, ◌≡◌, ◌⊎◌, ◌++◌, Bool, IsTrue, List, Option}
 use Rattle.vt_base.specs.Faults.{HasRisen}
 use Rattle.vt_out.specs.Streams.{AppendsPrefix}
 use Rattle.vt_parts.specs.Parts.{Standing}
 use Rattle.vt_prog.specs.Hosts.{Lent}
-use Rattle.vt_prog.specs.Members.{SourceOf, SinkOf, PartsOf}
+use Rattle.vt_prog.specs.Members.{SourceOf, SinkOf, FilesOf, PartsOf}
 
 -- A stream before the run and behind it: the stream itself; its bytes, left or written, where it
 -- tells them; and its count of faults.
@@ -39,6 +39,26 @@ sink_change sink before after = record {
   faults' = sink.faults after;
 }
 
+-- The files before the run and behind it: they themselves; what each holds, where they tell it,
+-- which no run changes; and their count of faults.
+pub record FilesChange (Files : Type 0) : Type 0 where
+  pub before : Files
+  pub after : Files
+  pub tells : Bool
+  pub content : (name : List ℕ) → Option (List ℕ)
+  pub faults : ℕ
+  pub faults' : ℕ
+
+abbrev pub files_change : {I : Type 0} → FilesOf I → (before after : I) → FilesChange I
+files_change files before after = record {
+  before = before;
+  after = after;
+  tells = files.tells;
+  content = files.content before;
+  faults = files.faults before;
+  faults' = files.faults after;
+}
+
 -- The partitions before the run and behind it: they themselves; what stands under which name, where
 -- they tell it; and their count of faults.
 pub record PartsChange (Parts Disk : Type 0) : Type 0 where
@@ -62,24 +82,31 @@ parts_change parts before after = record {
 }
 
 -- what a run did before its line on the fault sink
-pub record Work (R K P D : Type 0) : Type 0 where
+pub record Work (R K I P D : Type 0) : Type 0 where
   pub source : Change R
   pub sink : Change K
+  pub files : FilesChange I
   pub parts : PartsChange P D
 
-abbrev pub work_of : {R K F P D : Type 0} → SourceOf R → SinkOf K → PartsOf P D
-    → (before after : Lent R K F P) → Work R K P D
-work_of source sink parts before after = record {
+abbrev pub work_of : {R K F I P D : Type 0} → SourceOf R → SinkOf K → FilesOf I → PartsOf P D
+    → (before after : Lent R K F I P) → Work R K I P D
+work_of source sink files parts before after = record {
   source = source_change source before.source after.source;
   sink = sink_change sink before.sink after.sink;
+  files = files_change files before.files after.files;
   parts = parts_change parts before.parts after.parts;
 }
 
--- nothing was read, written or handed out
-pub record IsIdle {R K P D : Type 0} (work : Work R K P D) : Type 0 where
+-- nothing but files was read, and nothing was written or handed out
+pub record ReadsFiles {R K I P D : Type 0} (work : Work R K I P D) : Type 0 where
   pub unread : work.source.after ≡ work.source.before
   pub unwritten : work.sink.after ≡ work.sink.before
   pub unused : work.parts.after ≡ work.parts.before
+
+-- nor was a file read
+pub record IsIdle {R K I P D : Type 0} (work : Work R K I P D) : Type 0 where
+  pub rest : ReadsFiles work
+  pub unopened : work.files.after ≡ work.files.before
 
 -- Where the stream tells what was written, the line was; or the write failed behind a front of it.
 abbrev pub Attempts : {F : Type 0} → Change F → (line : List ℕ) → Type 0

@@ -2,7 +2,7 @@
 use Rattle.std.specs.Prelude.{ℕ, ◌&&◌, List, [], ◌∷◌, Option, Some, None, codes, if◌then◌else◌}
 use Rattle.std.specs.Str.{bytes_eq}
 use Rattle.vt_prog.specs.declared.command.Command.{Command}
-use Rattle.vt_prog.specs.declared.command.Command.TheVariants.{Session, FormatArenas, FormatSection, FormatFilter}
+use Rattle.vt_prog.specs.declared.command.Command.TheVariants.{Session, FormatArenas, FormatSection, FormatFilter, FormatIndex}
 
 -- the words of a session in memory
 abbrev pub session_words : List (List ℕ)
@@ -12,6 +12,7 @@ session_words = codes "session" ∷ codes ":memory:" ∷ []
 abbrev pub command_of_two : (name store : List ℕ) → Option Command
 command_of_two name store =
     if bytes_eq name (codes "session") && bytes_eq store (codes ":memory:") then Some Session
+    else if bytes_eq name (codes "fmtindex") then Some (FormatIndex store)
     else None
 
 abbrev pub command_of_four : (name file second third : List ℕ) → Option Command

@@ -1,4 +1,5 @@
 pub mod Fmtarenas
 pub mod Fmtbloom
+pub mod Fmtindex
 pub mod Fmtisect
 pub mod Session

@@ -2,6 +2,7 @@ pub mod Asked
 pub mod Change
 pub mod Command
 pub mod Commands
+pub mod Configurations
 pub mod Failure
 pub mod Fields
 pub mod Formatting

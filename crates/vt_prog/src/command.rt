@@ -31,6 +31,10 @@ pub enum Command {
         size: Text,
         positions: Text,
     },
+    /// `fmtindex CONF`
+    FormatIndex {
+        file: Text,
+    },
 }
 
 /// The command that these words spell, if they spell one.
@@ -39,7 +43,7 @@ pub fn command_of(alloc: Global, words: &[Text]) -> Result<Option<Command>, NoMe
     ensures none { OnErr result (IsSome (command_of words.now)) }
 {
     match words {
-        [name, store] => Ok(command_of_two(name, store)),
+        [name, store] => command_of_two(alloc, name, store),
         [name, file, second, third] => command_of_four(alloc, name, file, second, third),
         [name, file, second, third, fourth] => {
             command_of_five(alloc, name, file, second, third, fourth)
@@ -48,13 +52,18 @@ pub fn command_of(alloc: Global, words: &[Text]) -> Result<Option<Command>, NoMe
     }
 }
 
-fn command_of_two(name: &Text, store: &Text) -> Option<Command>
-    ensures { result ≡ command_of_two name.now store.now }
+fn command_of_two(alloc: Global, name: &Text, store: &Text) -> Result<Option<Command>, NoMemory>
+    ensures found { IfOk result (λ command. command ≡ command_of_two name.now store.now) }
+    ensures none { OnErr result (IsSome (command_of_two name.now store.now)) }
 {
     if is_word(name, b"session") && is_word(store, b":memory:") {
-        Some(Command::Session)
+        Ok(Some(Command::Session))
+    } else if is_word(name, b"fmtindex") {
+        Ok(Some(Command::FormatIndex {
+            file: copy_of(alloc, store)?,
+        }))
     } else {
-        None
+        Ok(None)
     }
 }
 

@@ -2,6 +2,7 @@
 
 pub mod fmtarenas;
 pub mod fmtbloom;
+pub mod fmtindex;
 pub mod fmtisect;
 #[cfg(test)]
 mod runs;

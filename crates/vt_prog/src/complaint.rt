@@ -2,6 +2,7 @@
 
 ghost use Rattle.std.specs.Prelude.{◌≡◌, ◌++◌, [], ◌∷◌, codes, decimal, map, IsTrue, OnOk, OnErr};
 ghost use Rattle.vt_base.specs.Faults.{HasCause};
+ghost use Rattle.vt_conf.specs.Causes.{text_of};
 ghost use Rattle.vt_out.specs.Streams.{AppendsPrefix};
 ghost use Rattle.vt_prog.specs.Change.{sink_change, Attempts};
 ghost use Rattle.vt_prog.specs.Failure.{line, line_of};
@@ -11,6 +12,7 @@ use crate::failure::Failure;
 use crate::printing::put_pieces;
 use itoa::Buffer;
 use vt_base::{Failed, MountField};
+use vt_conf::{ConfWhy, conf_text};
 use vt_out::Sink;
 
 /// Says why a command did not end well. Where it did, nothing is said.
@@ -22,6 +24,7 @@ pub fn complain_of<F: Sink>(sink: &mut F, outcome: &Result<(), Failure>)
     };
     match failure {
         Failure::BadWords => complain(sink, &[b"bad command line"]),
+        Failure::BadConf(bad) => complain_of_conf(sink, bad.line, &bad.why),
         Failure::NotFormatted { file } => complain(sink, &[file.as_slice(), b": not formatted"]),
         Failure::TooSmall { file, len, need } => complain_of_len(
             sink,
@@ -35,6 +38,10 @@ pub fn complain_of<F: Sink>(sink: &mut F, outcome: &Result<(), Failure>)
             found,
             want,
         } => complain_of_field(sink, file.as_slice(), *field, *found, *want),
+        Failure::SameName { file, other } => complain(
+            sink,
+            &[file.as_slice(), b": name is that of ", other.as_slice()],
+        ),
         Failure::DiskFault => complain(sink, &[b"disk fault"]),
         Failure::BadNumber(at) => complain_at(sink, b"bad number at ", *at),
         Failure::BadName(at) => complain_at(sink, b"bad name at ", *at),
@@ -42,9 +49,27 @@ pub fn complain_of<F: Sink>(sink: &mut F, outcome: &Result<(), Failure>)
         Failure::Malformed(place) => complain_at(sink, b"malformed at ", *place),
         Failure::Spent(taken) => complain_at(sink, b"spent at ", *taken),
         Failure::ReadFault => complain(sink, &[b"read fault"]),
+        Failure::FileFault => complain(sink, &[b"read fault"]),
         Failure::WriteFault => complain(sink, &[b"write fault"]),
         Failure::NoMemory => complain(sink, &[b"no memory"]),
     }
+}
+
+/// Writes a line on a configuration that is refused.
+fn complain_of_conf<F: Sink>(sink: &mut F, number: usize, why: &ConfWhy)
+    ensures { Attempts (sink_change F.Sink sink.old sink.new) (line (codes "config line "
+        ∷ decimal number ∷ codes ": " ∷ text_of why.now ∷ [])) }
+{
+    let mut digits = Buffer::new();
+    complain(
+        sink,
+        &[
+            b"config line ",
+            digits.format(number).as_bytes(),
+            b": ",
+            conf_text(why).as_bytes(),
+        ],
+    );
 }
 
 /// Writes a line on a file that is too short.

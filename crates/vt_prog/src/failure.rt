@@ -4,6 +4,7 @@ ghost use Rattle.std.specs.Prelude.{◌≡◌};
 ghost use Rattle.vt_prog.specs.Failure.{status_of};
 
 use vt_base::{MountField, Text};
+use vt_conf::ConfBad;
 
 /// Why a command ends with a status other than 0. A file is told by the name that it has on the
 /// command line.
@@ -11,6 +12,8 @@ use vt_base::{MountField, Text};
 pub enum Failure {
     /// The words are no command.
     BadWords,
+    /// The configuration is refused.
+    BadConf(ConfBad),
     NotFormatted {
         file: Text,
     },
@@ -27,6 +30,11 @@ pub enum Failure {
         found: u128,
         want: u128,
     },
+    /// The partition in the file has the name of that in the other one.
+    SameName {
+        file: Text,
+        other: Text,
+    },
     /// A call of a partition failed, or it couldn't be had.
     DiskFault,
     /// A word is no number that may stand there; the place of its first wrong byte.
@@ -40,6 +48,8 @@ pub enum Failure {
     /// As many bytes came as may be taken.
     Spent(u64),
     ReadFault,
+    /// A file couldn't be read.
+    FileFault,
     WriteFault,
     NoMemory,
 }
@@ -53,14 +63,18 @@ pub fn status(outcome: &Result<(), Failure>) -> u8
     };
     match failure {
         Failure::BadWords => 1,
-        Failure::NotFormatted { .. } | Failure::TooSmall { .. } | Failure::Disagree { .. } => 3,
+        Failure::BadConf(_) => 2,
+        Failure::NotFormatted { .. }
+        | Failure::TooSmall { .. }
+        | Failure::Disagree { .. }
+        | Failure::SameName { .. } => 3,
         Failure::DiskFault => 4,
         Failure::BadNumber(_)
         | Failure::BadName(_)
         | Failure::Cut(_)
         | Failure::Malformed(_)
         | Failure::Spent(_) => 5,
-        Failure::ReadFault => 6,
+        Failure::ReadFault | Failure::FileFault => 6,
         Failure::WriteFault => 7,
         Failure::NoMemory => 8,
     }

@@ -6,10 +6,10 @@ ghost use Rattle.vt_answer.specs.contracts.streams_client.StreamsClient.{the_row
 ghost use Rattle.vt_prog.specs.Hosts.{Lent};
 
 use vt_answer::StreamsClient;
-use vt_out::{Sink, Source};
+use vt_out::{Clock, Files, Sink, Source};
 use vt_parts::Parts;
 
-/// Lends the program its streams, and partitions by name.
+/// Lends the program its streams, and files and partitions by name, and tells it the time.
 pub trait Host {
     type Source: Source;
 
@@ -17,13 +17,16 @@ pub trait Host {
 
     type FaultSink: Sink;
 
+    type Files: Files;
+
     type Parts: Parts;
 
     /// What it lends.
-    ghost lent: { Self → Lent Self.Source Self.Sink Self.FaultSink Self.Parts };
+    ghost lent: { Self → Lent Self.Source Self.Sink Self.FaultSink Self.Files Self.Parts };
 
     /// The host when it lends this.
-    ghost lending: { Self → Lent Self.Source Self.Sink Self.FaultSink Self.Parts → Self };
+    ghost lending: { Self → Lent Self.Source Self.Sink Self.FaultSink Self.Files Self.Parts
+        → Self };
 
     /// The stream that is read, and that where results go.
     fn streams(&mut self) -> &mut StreamsClient<Self::Source, Self::Sink>
@@ -47,26 +50,38 @@ pub trait Host {
             (λ sink. lending self.old (record (lent self.old) { fault_sink = sink }))) }
         ensures fault_sink { result.now ≡ (lent self.old).fault_sink };
 
+    /// The files that are read whole.
+    fn files(&mut self) -> &mut Self::Files
+        ensures* lends { sem 𝓛 (Lends Self.row Self.Files.row self.entry result
+            (λ files. lending self.old (record (lent self.old) { files = files }))) }
+        ensures files { result.now ≡ (lent self.old).files };
+
     /// The partitions.
     fn parts(&mut self) -> &mut Self::Parts
         ensures* lends { sem 𝓛 (Lends Self.row Self.Parts.row self.entry result
             (λ parts. lending self.old (record (lent self.old) { parts = parts }))) }
         ensures parts { result.now ≡ (lent self.old).parts };
 
+    /// The time, in seconds since the beginning of 1970.
+    fn now(&mut self) -> u32
+        ensures { lent self.new ≡ lent self.old };
+
     ghost lent_again: { (host : Self)
-        (lent' : Lent Self.Source Self.Sink Self.FaultSink Self.Parts) →
+        (lent' : Lent Self.Source Self.Sink Self.FaultSink Self.Files Self.Parts) →
         lent (lending host lent') ≡ lent' };
 }
 
-/// A host that is what it lends.
+/// A host that is what it lends, and a clock.
 #[derive(Drop)]
-pub struct Outside<S, K, F, P> {
+pub struct Outside<S, K, F, I, P, C> {
     pub streams: StreamsClient<S, K>,
     pub fault_sink: F,
+    pub files: I,
     pub parts: P,
+    pub clock: C,
 }
 
-impl<S: Source, K: Sink, F: Sink, P: Parts> Host for Outside<S, K, F, P> {
+impl<S: Source, K: Sink, F: Sink, I: Files, P: Parts, C: Clock> Host for Outside<S, K, F, I, P, C> {
     ghost use Rattle.std.proofs.Common.{refl};
 
     type Source = S;
@@ -75,19 +90,24 @@ impl<S: Source, K: Sink, F: Sink, P: Parts> Host for Outside<S, K, F, P> {
 
     type FaultSink = F;
 
+    type Files = I;
+
     type Parts = P;
 
     ghost lent = { λ host. record {
       source = host.streams.source;
       sink = host.streams.sink;
       fault_sink = host.fault_sink;
+      files = host.files;
       parts = host.parts;
     } };
 
     ghost lending = { λ host lent. record {
       streams = record { source = lent.source; sink = lent.sink };
       fault_sink = lent.fault_sink;
+      files = lent.files;
       parts = lent.parts;
+      clock = host.clock;
     } };
 
     ghost lent_again = { λ host lent. refl };
@@ -105,7 +125,15 @@ impl<S: Source, K: Sink, F: Sink, P: Parts> Host for Outside<S, K, F, P> {
         &mut self.fault_sink
     }
 
+    fn files(&mut self) -> &mut I {
+        &mut self.files
+    }
+
     fn parts(&mut self) -> &mut P {
         &mut self.parts
+    }
+
+    fn now(&mut self) -> u32 {
+        self.clock.now()
     }
 }

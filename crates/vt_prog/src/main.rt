@@ -6,6 +6,7 @@ ghost use Rattle.std.specs.Prelude.{◌≡◌, IfOk, map, drop, string_bytes};
 mod command;
 mod commands;
 mod complaint;
+mod configuration;
 mod entries;
 mod failure;
 mod host;
@@ -20,6 +21,7 @@ use crate::run::end;
 pub use command::{Command, command_of};
 pub use commands::fmtarenas::fmtarenas;
 pub use commands::fmtbloom::fmtbloom;
+pub use commands::fmtindex::fmtindex;
 pub use commands::fmtisect::fmtisect;
 pub use commands::session::{SessionEnd, session};
 pub use failure::{Failure, status};
@@ -32,7 +34,7 @@ use std::process::ExitCode;
 use std::rt::Env;
 use vt_answer::StreamsClient;
 use vt_base::{NoMemory, Text};
-use vt_host::{FileParts, StdSink, StdSource};
+use vt_host::{FileParts, StdClock, StdFiles, StdSink, StdSource};
 
 fn main(rt: HostRuntime) -> ExitCode {
     let mut host = Outside {
@@ -41,7 +43,9 @@ fn main(rt: HostRuntime) -> ExitCode {
             sink: StdSink::new(rt.stdout()),
         },
         fault_sink: StdSink::new(rt.stderr()),
+        files: StdFiles::new(rt),
         parts: FileParts::new(rt),
+        clock: StdClock(rt),
     };
     ExitCode::from(match arguments(&rt) {
         Ok(words) => run(&rt, rt.alloc(), &words, &mut host),

@@ -9,6 +9,7 @@ ghost use Rattle.vt_prog.specs.Run.{Did, Does, DoesWords};
 use crate::command::{Command, command_of};
 use crate::commands::fmtarenas::fmtarenas;
 use crate::commands::fmtbloom::fmtbloom;
+use crate::commands::fmtindex::fmtindex;
 use crate::commands::fmtisect::fmtisect;
 use crate::commands::session::session;
 use crate::complaint::complain_of;
@@ -24,10 +25,12 @@ use vt_out::Sink;
 /// `session :memory:` answers what comes from the source, as it comes, as one session of venti(6)
 /// over a store in memory, and writes the replies to the sink. `fmtarenas`, `fmtisect` and
 /// `fmtbloom` make the file that they name a partition of arenas, an index section or a Bloom
-/// filter, and print a line on the sink.
+/// filter, and print a line on the sink. `fmtindex` puts the sections that a configuration names to
+/// use as an index.
 pub fn run<R, H: Host>(rt: &R, alloc: Global, words: &[Text], host: &mut H) -> u8
     ensures did { Did H.Parts.Disk.Disk sha1 words.now result
-        (work_of H.Source.Source H.Sink.Sink H.Parts.Parts (H.lent host.old) (H.lent host.new))
+        (work_of H.Source.Source H.Sink.Sink H.Files.Files H.Parts.Parts (H.lent host.old)
+        (H.lent host.new))
         (sink_change H.FaultSink.Sink
         (H.lent host.old).fault_sink (H.lent host.new).fault_sink) }
 {
@@ -43,7 +46,8 @@ pub fn run_with<R, H: Host, S: Scorer>(
     scorer: &S,
 ) -> u8
     ensures did { Did H.Parts.Disk.Disk S.score_of words.now result
-        (work_of H.Source.Source H.Sink.Sink H.Parts.Parts (H.lent host.old) (H.lent host.new))
+        (work_of H.Source.Source H.Sink.Sink H.Files.Files H.Parts.Parts (H.lent host.old)
+        (H.lent host.new))
         (sink_change H.FaultSink.Sink
         (H.lent host.old).fault_sink (H.lent host.new).fault_sink) }
 {
@@ -68,10 +72,10 @@ fn do_words<H: Host, S: Scorer>(
     host: &mut H,
     scorer: &S,
 ) -> Result<(), Failure>
-    ensures cause { HasCauseIn H.Parts.Disk.Disk (work_of H.Source.Source H.Sink.Sink H.Parts.Parts
-        (H.lent host.old) (H.lent host.new)) result }
+    ensures cause { HasCauseIn H.Parts.Disk.Disk (work_of H.Source.Source H.Sink.Sink H.Files.Files
+        H.Parts.Parts (H.lent host.old) (H.lent host.new)) result }
     ensures does { DoesWords H.Parts.Disk.Disk S.score_of words.now result (work_of H.Source.Source
-        H.Sink.Sink H.Parts.Parts (H.lent host.old) (H.lent host.new)) }
+        H.Sink.Sink H.Files.Files H.Parts.Parts (H.lent host.old) (H.lent host.new)) }
     ensures quiet { (H.lent host.new).fault_sink ≡ (H.lent host.old).fault_sink }
 {
     match command_of(alloc, words) {
@@ -88,10 +92,10 @@ fn do_command<H: Host, S: Scorer>(
     host: &mut H,
     scorer: &S,
 ) -> Result<(), Failure>
-    ensures cause { HasCauseIn H.Parts.Disk.Disk (work_of H.Source.Source H.Sink.Sink H.Parts.Parts
-        (H.lent host.old) (H.lent host.new)) result }
+    ensures cause { HasCauseIn H.Parts.Disk.Disk (work_of H.Source.Source H.Sink.Sink H.Files.Files
+        H.Parts.Parts (H.lent host.old) (H.lent host.new)) result }
     ensures does { Does H.Parts.Disk.Disk S.score_of command result (work_of H.Source.Source
-        H.Sink.Sink H.Parts.Parts (H.lent host.old) (H.lent host.new)) }
+        H.Sink.Sink H.Files.Files H.Parts.Parts (H.lent host.old) (H.lent host.new)) }
     ensures quiet { (H.lent host.new).fault_sink ≡ (H.lent host.old).fault_sink }
 {
     match command {
@@ -110,5 +114,6 @@ fn do_command<H: Host, S: Scorer>(
             size,
             positions,
         } => fmtbloom(alloc, host, file, &size, &positions),
+        Command::FormatIndex { file } => fmtindex(alloc, host, &file, scorer),
     }
 }

@@ -87,8 +87,8 @@ pub record EndsWell (input : List ℕ) : Type 0 where
 -- One session in memory was run: how it ended, the bytes that came in and went out, and why a fault
 -- is told. Input that ends well, without a fault of the streams, is answered to its end, unless
 -- memory runs out.
-pub record DoesSession {R K P D : Type 0} (score : List ℕ → List ℕ) (outcome : Outcome)
-    (work : Work R K P D) : Type 0 where
+pub record DoesSession {R K I P D : Type 0} (score : List ℕ → List ℕ) (outcome : Outcome)
+    (work : Work R K I P D) : Type 0 where
   pub end : SessionEnd
   pub outcome_is : outcome ≡ outcome_of end
   pub told : IsTrue work.source.tells → IsTrue work.sink.tells
@@ -101,4 +101,5 @@ pub record DoesSession {R K P D : Type 0} (score : List ℕ → List ℕ) (outco
       → (outcome ≡ Ok tt) ⊎ (outcome ≡ Err NoMemory)
   -- where there is no memory for a session, nothing is done
   pub idle : end.ended ≡ ends.NoMemory → IsIdle work
+  pub unopened : work.files.after ≡ work.files.before
   pub unused : work.parts.after ≡ work.parts.before

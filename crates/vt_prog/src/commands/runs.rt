@@ -5,7 +5,7 @@ use std::alloc::Global;
 use std::test::Fail;
 use vt_answer::StreamsClient;
 use vt_base::{Scorer, Text};
-use vt_out::{MemSink, MemSource};
+use vt_out::{MemClock, MemFiles, MemSink, MemSource};
 use vt_parts::Parts;
 
 /// What a run left.
@@ -43,7 +43,8 @@ pub fn words_of(alloc: Global, words: &[&str]) -> Result<Vec<Text>, Fail> {
     Ok(all)
 }
 
-/// Runs the program with these words over these streams and partitions, which it gives back.
+/// Runs the program with these words over these streams and partitions, which it gives back. There
+/// is no file.
 pub fn run_words<S: Scorer, P: Parts + Drop>(
     alloc: Global,
     words: &[&str],
@@ -52,10 +53,33 @@ pub fn run_words<S: Scorer, P: Parts + Drop>(
     parts: P,
     scorer: &S,
 ) -> Result<(Ran, P), Fail> {
+    run_over(
+        alloc,
+        words,
+        source,
+        sink,
+        MemFiles::new(alloc),
+        parts,
+        scorer,
+    )
+}
+
+/// The same, with these files.
+pub fn run_over<S: Scorer, P: Parts + Drop>(
+    alloc: Global,
+    words: &[&str],
+    source: MemSource,
+    sink: MemSink,
+    files: MemFiles,
+    parts: P,
+    scorer: &S,
+) -> Result<(Ran, P), Fail> {
     let mut host = Outside {
         streams: StreamsClient { source, sink },
         fault_sink: MemSink::new(alloc, 100)?,
+        files,
         parts,
+        clock: MemClock::new(0),
     };
     let words = words_of(alloc, words)?;
     let status = run_with(&(), alloc, &words, &mut host, scorer);

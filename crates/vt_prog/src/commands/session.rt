@@ -39,10 +39,10 @@ pub struct SessionEnd {
 /// Serves one session over a store that begins empty. What can be answered is answered, and has gone
 /// out, before more is read.
 pub fn session<H: Host, S: Scorer>(alloc: Global, host: &mut H, scorer: &S) -> Result<(), Failure>
-    ensures does { DoesSession S.score_of result (work_of H.Source.Source H.Sink.Sink
+    ensures does { DoesSession S.score_of result (work_of H.Source.Source H.Sink.Sink H.Files.Files
         H.Parts.Parts (H.lent host.old) (H.lent host.new)) }
-    ensures cause { HasCauseIn H.Parts.Disk.Disk (work_of H.Source.Source H.Sink.Sink H.Parts.Parts
-        (H.lent host.old) (H.lent host.new)) result }
+    ensures cause { HasCauseIn H.Parts.Disk.Disk (work_of H.Source.Source H.Sink.Sink H.Files.Files
+        H.Parts.Parts (H.lent host.old) (H.lent host.new)) result }
     ensures quiet { (H.lent host.new).fault_sink ≡ (H.lent host.old).fault_sink }
 {
     let end = hold_session::<Brand, H, S>(alloc, host, scorer, Blank::new(1));
@@ -84,8 +84,9 @@ fn hold_session<L: Ledger, H: Host, S: Scorer>(
         (H.Source.faults (H.lent host.old).source) (H.Source.faults (H.lent host.new).source)
         (H.Sink.faults (H.lent host.old).sink) (H.Sink.faults (H.lent host.new).sink) }
     ensures idle { result.ended ≡ Ended.NoMemory → IsIdle (work_of H.Source.Source H.Sink.Sink
-        H.Parts.Parts (H.lent host.old) (H.lent host.new)) }
+        H.Files.Files H.Parts.Parts (H.lent host.old) (H.lent host.new)) }
     ensures fault_sink { (H.lent host.new).fault_sink ≡ (H.lent host.old).fault_sink }
+    ensures files { (H.lent host.new).files ≡ (H.lent host.old).files }
     ensures parts { (H.lent host.new).parts ≡ (H.lent host.old).parts }
 {
     let Ok((mut store, mut answering)) = prepare::<L, S>(alloc, scorer, blank) else {

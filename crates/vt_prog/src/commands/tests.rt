@@ -1,18 +1,18 @@
 //! Commands that format: words, what is printed, the status and the line on the fault sink.
 
-use crate::commands::runs::{run_words, see, see_ran};
+use crate::commands::runs::{run_over, run_words, see, see_ran};
 use std::alloc::Global;
 use std::test::Fail;
-use vt_base::{Sha1Scorer, Text};
+use vt_base::{Bytes, Sha1Scorer, Text};
 use vt_memparts::{Failing, MemParts};
-use vt_out::{MemSink, MemSource};
+use vt_out::{MemFiles, MemSink, MemSource};
 use vt_parts::Parts;
 
 /// The words, the status, what is printed, and the line on the fault sink.
 type Row = (&'static [&'static str], u8, &'static str, &'static str);
 
 /// Each over what those before it left.
-const ROWS: [Row; 23] = [
+const ROWS: [Row; 32] = [
     // What is made.
     (
         &["fmtarenas", "a.part", "a0", "40960", "32768"],
@@ -143,7 +143,52 @@ const ROWS: [Row; 23] = [
         "",
         "venti: bad command line\n",
     ),
-    (&["fmtindex", "v.conf"], 1, "", "venti: bad command line\n"),
+    (&["fmtindex"], 1, "", "venti: bad command line\n"),
+    // What an index is made of, and why it isn't.
+    (
+        &["fmtindex", "v.conf"],
+        0,
+        "fmtindex main: 4 buckets in 1 sections\n",
+        "",
+    ),
+    (&["fmtindex", "x.conf"], 6, "", "venti: read fault\n"),
+    (
+        &["fmtindex", "size.conf"],
+        2,
+        "",
+        "venti: config line 4: bad size\n",
+    ),
+    (
+        &["fmtindex", "empty.conf"],
+        2,
+        "",
+        "venti: config line 0: no arenas\n",
+    ),
+    (
+        &["fmtindex", "long.conf"],
+        2,
+        "",
+        "venti: config line 0: too long\n",
+    ),
+    (&["fmtindex", "none.conf"], 4, "", "venti: disk fault\n"),
+    (
+        &["fmtindex", "other.conf"],
+        3,
+        "",
+        "venti: b.part: too small: 16384, need 41472\n",
+    ),
+    (
+        &["fmtarenas", "c.part", "a.-_1", "40960", "32768"],
+        0,
+        "fmtarenas a.-_1: 1 arenas of 32768 bytes\n",
+        "",
+    ),
+    (
+        &["fmtindex", "twice.conf"],
+        3,
+        "",
+        "venti: c.part: name is that of a.part\n",
+    ),
     // What was handed out, and isn't back.
     (
         &["fmtisect", "lent.part", "i0", "92160"],
@@ -153,12 +198,45 @@ const ROWS: [Row; 23] = [
     ),
 ];
 
+/// Configurations, and a file that is one byte longer than one may be.
+const CONFS: [(&str, &str); 5] = [
+    (
+        "v.conf",
+        "index main\narenas a.part\nisect i.part\nbloom b.part\nmem 1m\n",
+    ),
+    (
+        "size.conf",
+        "index main\narenas a.part\nisect i.part\nmem 1x\n",
+    ),
+    ("empty.conf", ""),
+    ("none.conf", "arenas a.part\nisect none.part\n"),
+    ("other.conf", "arenas a.part\nisect b.part\n"),
+];
+
+const TWICE: &str = "arenas a.part\narenas c.part\nisect i.part\n";
+
+fn files(alloc: Global) -> Result<MemFiles, Fail> {
+    let long = Bytes::from_vec(vec![in alloc; b'#'; 65_537]?);
+    let mut files = MemFiles::new(alloc)
+        .with(Text::copy_of(alloc, b"long.conf")?, long)?
+        .with(
+            Text::copy_of(alloc, b"twice.conf")?,
+            Bytes::copy_of(alloc, TWICE.as_bytes())?,
+        )?;
+    for (name, text) in CONFS {
+        let name = Text::copy_of(alloc, name.as_bytes())?;
+        files = files.with(name, Bytes::copy_of(alloc, text.as_bytes())?)?;
+    }
+    Ok(files)
+}
+
 /// Runs the program without input, and sees that it leaves this. Gives the partitions back.
 fn see_row<P: Parts + Drop>(alloc: Global, parts: P, row: Row) -> Result<P, Fail> {
     let (words, status, output, complaint) = row;
     let source = MemSource::new(alloc, Vec::new(alloc));
     let sink = MemSink::new(alloc, 100)?;
-    let (ran, parts) = run_words(alloc, words, source, sink, parts, &Sha1Scorer)?;
+    let files = files(alloc)?;
+    let (ran, parts) = run_over(alloc, words, source, sink, files, parts, &Sha1Scorer)?;
     see_ran(&ran, output.as_bytes(), status, complaint)?;
     Ok(parts)
 }

@@ -7,6 +7,13 @@ returns-in-BadWords g c tells = rw (c.in-Err.is, c.in-BadWords.is) (c.complain.e
 pub returns-in-NotFormatted : goal.returns-in-NotFormatted
 returns-in-NotFormatted g c tells = rw (c.in-Err.is, c.in-NotFormatted.is) (rw c.as_slice.ensures at (c.complain-in-NotFormatted.ensures tells))
 
+pub returns-in-BadConf : goal.returns-in-BadConf
+returns-in-BadConf g c tells = rw (c.in-Err.is, c.in-BadConf.is) (c.complain_of_conf.ensures tells)
+
+pub returns-in-SameName : goal.returns-in-SameName
+returns-in-SameName g c tells = rw (c.in-Err.is, c.in-SameName.is)
+    (rw (c.as_slice-in-SameName.ensures, c.as_slice-in-SameName-2.ensures) at (c.complain-in-SameName.ensures tells))
+
 pub returns-in-TooSmall : goal.returns-in-TooSmall
 returns-in-TooSmall g c tells = rw (c.in-Err.is, c.in-TooSmall.is) (rw c.as_slice-in-TooSmall.ensures at (c.complain_of_len.ensures tells))
 
@@ -30,6 +37,9 @@ returns-in-Spent g c tells = rw (c.in-Err.is, c.in-Spent.is) (c.complain_at-in-S
 
 pub returns-in-ReadFault : goal.returns-in-ReadFault
 returns-in-ReadFault g c tells = rw (c.in-Err.is, c.in-ReadFault.is) (c.complain-in-ReadFault.ensures tells)
+
+pub returns-in-FileFault : goal.returns-in-FileFault
+returns-in-FileFault g c tells = rw (c.in-Err.is, c.in-FileFault.is) (c.complain-in-FileFault.ensures tells)
 
 pub returns-in-WriteFault : goal.returns-in-WriteFault
 returns-in-WriteFault g c tells = rw (c.in-Err.is, c.in-WriteFault.is) (c.complain-in-WriteFault.ensures tells)

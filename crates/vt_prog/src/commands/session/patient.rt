@@ -10,7 +10,7 @@ use std::test::Fail;
 use vt_answer::StreamsClient;
 use vt_base::{Failed, Sha1Scorer};
 use vt_memparts::{Failing, MemParts};
-use vt_out::{MemSink, Sink, Source};
+use vt_out::{MemClock, MemFiles, MemSink, Sink, Source};
 
 /// What is sent, and how many bytes are said to it.
 pub type Part = (&'static [u8], usize);
@@ -116,7 +116,9 @@ pub fn see_patient(alloc: Global, parts: &[Part], cut: usize, output: &[u8]) -> 
     let mut host = Outside {
         streams: StreamsClient { source, sink },
         fault_sink: MemSink::new(alloc, 100)?,
+        files: MemFiles::new(alloc),
         parts: MemParts::new(alloc, Failing::new(Vec::new(alloc))),
+        clock: MemClock::new(0),
     };
     let words = words_of(alloc, &["session", ":memory:"])?;
     let status = run_with(&(), alloc, &words, &mut host, &Sha1Scorer);

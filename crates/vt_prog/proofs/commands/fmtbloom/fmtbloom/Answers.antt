@@ -18,6 +18,7 @@ returns-in-Ok-clause-does g c =
         others = rw c.parts.ensures.parts at c.in-Ok.ensures.others;
         told = rw sink_is at c.print_filter.ensures;
         unread = refl;
+        unopened = refl;
       },
     ))
 
@@ -36,5 +37,6 @@ returns-in-Err-clause-does g c =
         others = rw c.parts.ensures.parts at c.in-Err.ensures.others;
         told = ((c.refusal_of.result, refl, c.refusal_of.ensures), refl);
         unread = refl;
+        unopened = refl;
       },
     ))

@@ -31,7 +31,10 @@ returns-clause-idle g c none =
     let again = g.met.H.Host.lent_again in
     let same = (c.serve-served.ensures.memory none).1 in
     simp again (record {
-      unread = ap (λ s. s.source) same ∙ c.streams.ensures.source;
-      unwritten = ap (λ s. s.sink) same ∙ c.streams.ensures.sink;
-      unused = refl;
+      rest = record {
+        unread = ap (λ s. s.source) same ∙ c.streams.ensures.source;
+        unwritten = ap (λ s. s.sink) same ∙ c.streams.ensures.sink;
+        unused = refl;
+      };
+      unopened = refl;
     })

@@ -15,11 +15,12 @@ returns-clause-does g c = record {
       (g.met.H.Source.Source.left_bytes _) well (c.hold_session-end.ensures.told tells tells')
       c.hold_session-end.ensures.causes no_read no_write);
   idle = c.hold_session-end.ensures.idle;
+  unopened = c.hold_session-end.ensures.files;
   unused = c.hold_session-end.ensures.parts;
 }
 
 pub returns-clause-cause : goal.returns-clause-cause
 returns-clause-cause g c =
     rw c.outcome_of.ensures (end_has_cause g.H.Parts.Disk.Disk c.hold_session-end.result
-    (work_of g.H.Source.Source g.H.Sink.Sink g.H.Parts.Parts (g.H.Host.lent c.args.host.now)
+    (work_of g.H.Source.Source g.H.Sink.Sink g.H.Files.Files g.H.Parts.Parts (g.H.Host.lent c.args.host.now)
     (g.H.Host.lent c.hold_session-end.new.host)) c.hold_session-end.ensures.causes)
