@@ -80,10 +80,10 @@ refused_two {D} disk log section filter score tables devices c bad it = ⊎_elim
     (λ a. head_two (section_part devices a.i) (first_bucket c.sections a.i) (buckets_of c a.i) (bucket_count c) a.head bad a.wrong)
     (λ rest. ⊎_elim
     (λ a. two_of bad a.part Mark a.mark _ a.bad_is (above a.mark _ a.above))
-    (λ rest. ⊎_elim
+    (λ late. ⊎_elim
     (λ a. two_of bad (section_part devices a.i) Crowd a.found _ a.bad_is (above a.found _ a.above))
     (λ a. subst NamesTwo (sym a.bad_is) a.differ)
-    rest)
+    late.1)
     rest)
     rest)
     rest)

@@ -1,7 +1,7 @@
 -- Why a store isn't found, and what is handed back.
-use Rattle.std.proofs.Common.{◌≡◌, ⊎_elim, inl, inr, ◌+◌, ℕ, List, ◌++◌, length, map, Option, Some, None, Err, refl, sym, ◌∙◌, ap, subst, arith}
+use Rattle.std.proofs.Common.{◌≡◌, ⊎_elim, inl, inr, ◌+◌, ◌<◌, ◌≤◌, ℕ, List, ◌++◌, length, map, Option, Some, None, Ok, Err, refl, sym, ◌∙◌, ap, subst, arith}
 use Rattle.std.specs.Prelude.{slice_get, sum, sum_by, ⊤, slice_index}
-use Rattle.std.specs.List.{AllZip}
+use Rattle.std.specs.List.{All, AllZip}
 use Rattle.std.specs.Option.{option_to_list}
 use Rattle.std.proofs.lemmas.List.{length-map}
 use Rattle.std.proofs.lemmas.Option.{same_Some}
@@ -21,12 +21,13 @@ use Rattle.vt_core.specs.declared.devices.Devices.{Devices}
 use Rattle.vt_core.specs.Files.{PerDevice, all_of}
 use Rattle.vt_core.specs.Mounting.{IsHeadRead, IsSetupOf, devices_in, tables_in, IsMarkRead}
 use Rattle.vt_core.specs.Opening.{IsLogFound, IsOpened, OpensFilter, RefusesBeside, TestsParts, buckets_in_each, with_log, IsMarkOf, wrong_at}
-use Rattle.vt_core.specs.Refusals.{CountsRefusal, IsEarly, IsRefused, Refuses, FilterIsRefused, HasMark, IsFirstPast, SectionIsRefused, first_wrong, section_part, wrong_head}
+use Rattle.vt_core.specs.Refusals.{CountsRefusal, IsEarly, IsRefused, Refuses, FilterIsRefused, HasMark, IsFirstPast, PassesTests, SectionIsRefused, first_wrong, section_part, wrong_head}
 use Rattle.vt_core.specs.Stands.{buckets_of}
+use Rattle.vt_core.proofs.Beside.{all_from}
 use Rattle.vt_core.proofs.Fields.{clumps_are}
 use Rattle.vt_core.proofs.Held.{counts_in, risen_left, risen_right}
-use Rattle.vt_core.proofs.Lists.{at_map, beside, same_lists, index_map}
-use Rattle.vt_core.proofs.Zips.{zip_beside, zip_length}
+use Rattle.vt_core.proofs.Lists.{at_map, beside, same_lists, index_map, only_one}
+use Rattle.vt_core.proofs.Zips.{zip_beside, zip_length, zip_other}
 use Rattle.vt_isect.specs.Layout.{buckets_in}
 
 -- ---- what is handed back
@@ -93,9 +94,9 @@ module _ {D : Type 0} (score : List ℕ → List ℕ) (disk : DiskOf D) (before 
           read = λ tells. (record { filter = bits; mark = it.0.mark }, it.2.found tells, mark);
         }
 
-    wrong_there : (bad : MountBad) (i : ℕ) (s : SectionState D) → slice_get sections i ≡ Some s → wrong_at part sections i s ≡ Some bad
-        → first_wrong (section_part pd i) c i s.head ≡ Some bad
-    wrong_there bad i s there is =
+    wrong_there : (told : Option MountBad) (i : ℕ) (s : SectionState D) → slice_get sections i ≡ Some s → wrong_at part sections i s ≡ told
+        → first_wrong (section_part pd i) c i s.head ≡ told
+    wrong_there told i s there is =
         let count : s.buckets ≡ buckets_of c i = sym (index_map (λ t. t.buckets) sections i s there) ∙ ap (λ (l : List ℕ). slice_index l i) same in
         ap (λ (p : ℕ). wrong_head (p + i) (first_bucket c.sections i) (buckets_of c i) (bucket_count c) s.head) (sym at_part)
         ∙ ap (λ (n : ℕ). wrong_head (part + i) (first_bucket c.sections i) n (bucket_count c) s.head) (sym count)
@@ -125,7 +126,7 @@ module _ {D : Type 0} (score : List ℕ → List ℕ) (disk : DiskOf D) (before 
           i = heads.0;
           head = heads.1.head;
           read = head_of heads.0 heads.1 heads.2;
-          wrong = wrong_there bad heads.0 heads.1 heads.2 heads.3;
+          wrong = wrong_there (Some bad) heads.0 heads.1 heads.2 heads.3;
         }))))))))
         (λ marks. inr (inr (inr (inr (inr (inr (inr (inl (record {
           part = marks.0;
@@ -138,6 +139,40 @@ module _ {D : Type 0} (score : List ℕ → List ℕ) (disk : DiskOf D) (before 
         })))))))))
         more)
         failed
+
+    -- what passes each of them
+    module _ (tests : TestsParts {U = ⊤} part sections bloom log.durable (Ok tt)) where
+      len_is : sum_by clumps_in given.read.fields ≡ log.durable
+      len_is = clumps_are disk log given.whole given.read.fields given.read.mounted.heads
+
+      some_buckets : All (λ n. 0 < n) (buckets_in_each sections)
+      some_buckets = all_from (λ n. 0 < n) (buckets_in_each sections) (λ i n at.
+          let s = beside sections (buckets_in_each sections) i n (length-map sections (λ s. s.buckets)) at in
+          let d = zip_beside (IsOpened disk) devices sections i s.0 opens s.1 in
+          let e : s.0.buckets ≡ n = same_Some s.0.buckets n (sym (at_map (λ s. s.buckets) sections i s.0 s.1) ∙ at) in
+          subst (λ (m : ℕ). 0 < m) e d.2.some)
+
+      mark_of : (f : Option D) → filter ≡ f → OpensFilter disk f bloom bits → (device : D) → f ≡ Some device
+          → (mark : ℕ) × IsMarkRead disk pd mark × (mark ≤ sum_by clumps_in given.read.fields)
+      mark_of None is it device at = absurd (cc)
+      mark_of (Some d) is it device at = (it.0.mark, mark_by it.0 it.1 filter refl filter_opens, omega (arith, tests.2.1 it.0 it.1, len_is))
+
+      pub passes : PassesTests disk log.tables pd c
+      passes = record {
+        limits = record {
+          arenas = given.arenas;
+          buckets = subst (λ (l : List ℕ). sum l ≤ 1048576) same tests.0;
+          sections = subst (All (λ n. 0 < n)) same some_buckets;
+          names = given.read.mounted.distinct;
+        };
+        fields = given.read.fields;
+        read = given.read.read;
+        log = given.read.mounted.passed;
+        heads = λ i device at.
+            let s = zip_other (IsOpened disk) devices sections i device opens at in
+            (s.0.head, head_of i s.0 s.1, wrong_there None i s.0 s.1 (tests.1 i s.0 s.1), omega (arith, tests.2.0 i s.0 s.1, len_is));
+        mark = λ i device at. mark_of filter refl filter_opens device (only_one filter i device at);
+      }
 
   -- a test of the sections and the filter is that of the store
   pub beside_cause : (part : ℕ) → part ≡ length before → (bad : MountBad) → RefusesBeside disk part log.durable devices filter bad

@@ -1,6 +1,6 @@
 -- What is handed back where sections, filter and shards stand already.
 use Rattle.std.proofs.Common.{◌≡◌, ◌⊎◌, ⊎_elim, inl, inr, ◌≤◌, ◌+◌, ℕ, List, [], ◌∷◌, ◌++◌, length, map, take, Option, Some, None, Ok, Err, refl, sym, ◌∙◌, ap, subst, arith, append_assoc}
-use Rattle.std.specs.Prelude.{slice_get, IsTrue}
+use Rattle.std.specs.Prelude.{slice_get, IsTrue, ⊤}
 use Rattle.std.specs.List.{AllZip}
 use Rattle.std.specs.Option.{option_to_list, option_map}
 use Rattle.std.proofs.lemmas.List.{length-map, map-append, take_all}
@@ -35,9 +35,9 @@ use Rattle.vt_core.specs.Core.{CoreState, devices_of}
 use Rattle.vt_core.specs.Files.{PerDevice, all_of}
 use Rattle.vt_core.specs.Mounting.{IsLogOf, IsReadAs, IsSetupOf, KeepsLimits, LacksMany, LeavesStanding, Mounts, devices_in, tables_in}
 use Rattle.vt_shard.specs.declared.mounting.Sizes.{Sizes}
-use Rattle.vt_core.specs.Opening.{AgreeWith, AreHeld, IsLogFound, IsMountOf, IsOpened, IsShardMade, OpensFilter, RefusesBeside, with_log}
+use Rattle.vt_core.specs.Opening.{AgreeWith, AreHeld, IsLogFound, IsMountOf, IsOpened, IsShardMade, OpensFilter, RefusesBeside, TestsParts, with_log}
 use Rattle.vt_core.specs.Recalling.{EndsEarly, IsCrowdedIn, IsDamagedAt, IsDamagedIn, ReadsBack, ReadsLogBack, KeepsBytes, Recalls as RecallsFrom, opened}
-use Rattle.vt_core.specs.Refusals.{CountsRefusal, IsDamageAt, IsDamagedEntry, IsEarly, IsRefused, BucketIsCrowded}
+use Rattle.vt_core.specs.Refusals.{CountsRefusal, IsDamageAt, IsDamagedEntry, IsEarly, IsRefused, BucketIsCrowded, PassesTests}
 use Rattle.vt_core.specs.Stands.{IsLive, SectionStandsFor}
 use Rattle.vt_core.proofs.Beside.{IsOfStore, all_at, of_store, sound_shard}
 use Rattle.vt_core.proofs.Chains.{IsChain, chain, chain_head, chain_buckets, made_faults, many_shards, shard_sizes}
@@ -46,7 +46,7 @@ use Rattle.vt_core.proofs.Fields.{clumps_at, short_regions, used_at}
 use Rattle.vt_core.proofs.Held.{IsHeld, held_reads, hold_still, hold_zip}
 use Rattle.vt_core.proofs.Lists.{at_map, beside}
 use Rattle.vt_core.proofs.Mounted.{LegalPrefix, ReadsPrefix, all_map, filter_same}
-use Rattle.vt_core.proofs.Refused.{beside_cause, counts_less, counts_more, refuses_back}
+use Rattle.vt_core.proofs.Refused.{beside_cause, counts_less, counts_more, passes, refuses_back}
 use Rattle.vt_core.proofs.Standing.{held_bytes, held_many, leaves_held, leaves_read}
 use Rattle.vt_core.proofs.Zips.{zip_beside, zip_implies, zip_map, zip_same}
 
@@ -257,23 +257,29 @@ module _ {D : Type 0} (score : List ℕ → List ℕ) (disk : DiskOf D) (before 
       damage_at (Clump place) want found it = entry_damaged place.arena want found it
       damage_at (Bucket n) want found it = it
 
-      ends_cause : (part : ℕ) → part ≡ length before → (bad : MountBad) → EndsEarly score disk part (opened log made bits) bad
+      ends_cause : (part : ℕ) → part ≡ length before → TestsParts {U = ⊤} part sections bloom log.durable (Ok tt) → (bad : MountBad) → EndsEarly score disk part (opened log made bits) bad
           → (c : Setup) → IsSetupOf disk log.tables pd c → IsRefused score disk log.tables pd c bad
-      ends_cause part at bad it c setup = ⊎_elim
+      ends_cause part at tests bad it c setup = ⊎_elim
           (λ fault. inl fault)
           (λ rest. ⊎_elim
-          (λ damage. inr (inr (inr (inr (inr (inr (inr (inr (inr (record {
-            site = damage.0;
-            want = damage.1;
-            found = damage.2;
-            bad_is = damage.3;
-            differ = damage.4;
-            read = damage_at damage.0 damage.1 damage.2 damage.5;
-          }))))))))))
-          (λ crowds. inr (inr (inr (inr (inr (inr (inr (inr (inl (crowded_at crowds.0 crowds.1 crowds.2 crowds.3))))))))))
+          (λ damage. inr (inr (inr (inr (inr (inr (inr (inr (
+            passed,
+            inr (record {
+              site = damage.0;
+              want = damage.1;
+              found = damage.2;
+              bad_is = damage.3;
+              differ = damage.4;
+              read = damage_at damage.0 damage.1 damage.2 damage.5;
+            }),
+          )))))))))
+          (λ crowds. inr (inr (inr (inr (inr (inr (inr (inr (passed, inl (crowded_at crowds.0 crowds.1 crowds.2 crowds.3))))))))))
           rest)
           it
         where
+          passed : PassesTests disk log.tables pd c
+          passed = passes score disk before log devices filter given c setup part at sections bloom bits opens filter_opens tests
+
           crowded_at : (i found : ℕ) → bad ≡ Disagree (part + i) Crowd found BUCKET_ROOM → IsCrowdedIn score disk (opened log made bits) i found
               → BucketIsCrowded score disk log.tables pd c bad
           crowded_at i found is crowd =
@@ -298,10 +304,10 @@ module _ {D : Type 0} (score : List ℕ → List ℕ) (disk : DiskOf D) (before 
           it
 
       pub read_mount : {U : Type 0} (prefix : ReadsPrefix disk) (legal_prefix : LegalPrefix) (agree : FilesAgree disk) (read : (d : D) → IsTrue disk.tells → disk.images d (disk.bytes d)) (least part : ℕ) → part ≡ length before
-          → (bad : MountBad) → ReadsLogBack {U = U} score disk least part (Err bad) (opened log made bits) (opened log1 shards bits1)
+          → TestsParts {U = ⊤} part sections bloom log.durable (Ok tt) → (bad : MountBad) → ReadsLogBack {U = U} score disk least part (Err bad) (opened log made bits) (opened log1 shards bits1)
           → (handed : Devices D) (sizes : Sizes) (sessions : ℕ) → devices_in handed ≡ new → tables_in handed ≡ log1.tables
           → IsMountOf score disk log.tables pd sizes sessions (Err (bad, handed))
-      read_mount prefix legal_prefix agree read least part at bad all handed sizes sessions is tables = record {
+      read_mount prefix legal_prefix agree read least part at tests bad all handed sizes sessions is tables = record {
         mounts = tt;
         found = λ c h g base tells of limits.
             inl (all.found c g tells (given.found g base tells of.read).0
@@ -314,7 +320,7 @@ module _ {D : Type 0} (score : List ℕ → List ℕ) (disk : DiskOf D) (before 
         standing = λ tells. subst (λ (p : PerDevice D). LeavesStanding score disk log.tables pd p) (sym is)
             (read_standing prefix agree (λ d. read d tells) tells (λ g sound. (length g, all.recalls g tells sound)) all.bytes);
         refused = refuses_back score disk log.tables pd new bad handed is (tables ∙ ap (λ (l : LogState D). l.tables) back.log)
-            (ends_cause part at bad all.ends_early) (counts_all bad all.counts) (λ soon. absurd (never_early part bad all.ends_early soon))
+            (ends_cause part at tests bad all.ends_early) (counts_all bad all.counts) (λ soon. absurd (never_early part bad all.ends_early soon))
             (length-map shards (λ s. s.section.disk) ∙ many_shards score disk devices sections made lumps clean opens makes log log1 bits bits1 shards back)
             (held_many disk (option_to_list filter) (option_to_list (option_map (λ b. b.disk) bloom)) (filter_held disk filter bloom bits filter_opens))
             sizes_all;

@@ -1,5 +1,5 @@
 -- Why a store isn't found. A part's own refusal is told as the store's, under the part's number.
-use Rattle.std.specs.Prelude.{◌≡◌, ◌⊎◌, ◌==◌, ⊤, ℕ, ◌+◌, ◌<◌, ◌≤◌, not, if◌then◌else◌, IsTrue, MatchOption, Option, None, Some, Result, Ok, Err, List, length, map, sum, sum_by, take, slice_get}
+use Rattle.std.specs.Prelude.{◌≡◌, ◌⊎◌, ◌==◌, ⊤, ℕ, Bool, ◌+◌, ◌<◌, ◌≤◌, not, if◌then◌else◌, IsTrue, MatchOption, Option, None, Some, Result, Ok, Err, List, length, map, sum, sum_by, take, slice_get}
 use Rattle.std.specs.Option.{option_to_list}
 use Rattle.vt_base.specs.Damage.{Differ}
 use Rattle.vt_base.specs.declared.place.Entry.{Entry}
@@ -32,7 +32,7 @@ use Rattle.vt_bloom.specs.declared.bad.BloomBad.{BloomBad}
 use Rattle.vt_bloom.specs.Faults.{RefusesMount as RefusesBloom, NamesItsCause as NamesBloomCause}
 use Rattle.vt_arena.specs.Heads.{clumps_in, used_in}
 use Rattle.vt_log.specs.Answers.{HoldTheSame}
-use Rattle.vt_log.specs.Faults.{AreFields, RefusesMount as RefusesLog, OneHasRisen}
+use Rattle.vt_log.specs.Faults.{AreFields, RefusesMount as RefusesLog, OneHasRisen, first_bad}
 use Rattle.vt_log.specs.Logs.{IsLog, arena_count}
 use Rattle.vt_log.specs.declared.bad.LogBad.{LogBad}
 use Rattle.vt_told.specs.Told.{of_filter, of_log, of_section}
@@ -40,7 +40,7 @@ use Rattle.vt_core.specs.declared.TheConstants.{MOST_ARENAS, MOST_BUCKETS}
 use Rattle.vt_core.specs.declared.devices.Devices.{Devices}
 use Rattle.vt_core.specs.declared.mounting.Tally.{Tally}
 use Rattle.vt_core.specs.Files.{PerDevice, all_of}
-use Rattle.vt_core.specs.Mounting.{IsSetupOf, IsHeadRead, IsMarkRead, devices_in, tables_in}
+use Rattle.vt_core.specs.Mounting.{IsSetupOf, IsHeadRead, IsMarkRead, KeepsLimits, devices_in, tables_in}
 use Rattle.vt_core.specs.Stands.{SectionStandsFor, buckets_of}
 
 -- ---- the tests, in order
@@ -158,6 +158,20 @@ pub record MarkIsWrong {D : Type 0} (disk : DiskOf D) (tables : List Table)
   pub above : sum_by clumps_in fields < mark
   pub bad_is : bad ≡ Disagree part Mark mark (sum_by clumps_in fields)
 
+-- Every test passes that comes before the log is read back: of the arenas' heads, of how many
+-- arenas and buckets there are, of each section's head, and of the marks.
+pub record PassesTests {D : Type 0} (disk : DiskOf D) (tables : List Table)
+    (devices : PerDevice D) (c : Setup) : Type 0 where
+  pub limits : KeepsLimits tables c
+  pub fields : List (List ℕ)
+  pub read : AreRead disk tables devices fields
+  pub log : first_bad Bool.false 0 (layout_of tables) fields ≡ None
+  pub heads : (i : ℕ) (device : D) → slice_get devices.sections i ≡ Some device → (head : Head)
+      × IsHeadRead disk devices i head × (first_wrong (section_part devices i) c i head ≡ None)
+      × (head.mark ≤ sum_by clumps_in fields)
+  pub mark : (i : ℕ) (device : D) → slice_get devices.filter i ≡ Some device → (mark : ℕ)
+      × IsMarkRead disk devices mark × (mark ≤ sum_by clumps_in fields)
+
 -- The log gives more blocks of a bucket of section i than a bucket has room for. Where the section
 -- agrees with the log, these are the log's own.
 pub record BucketIsCrowded {D : Type 0} (score : List ℕ → List ℕ) (disk : DiskOf D)
@@ -211,8 +225,8 @@ pub record IsFoundDamaged {D : Type 0} (disk : DiskOf D) (tables : List Table)
   pub differ : Differ want found
   pub read : IsDamageAt disk tables devices site want found
 
--- Whatever the devices hold, a refusal is that of one of these tests; a fault and want of memory
--- need none.
+-- Whatever the devices hold, a refusal is that of one of these tests, where those of what is read
+-- back come last; a fault and want of memory need none.
 abbrev pub IsRefused : {D : Type 0} → (List ℕ → List ℕ) → DiskOf D → (tables : List Table)
     → PerDevice D → Setup → MountBad → Type 0
 IsRefused score disk tables devices c bad =
@@ -223,8 +237,8 @@ IsRefused score disk tables devices c bad =
     ⊎ PassesLimits tables devices c bad
     ⊎ HeadIsWrong disk devices c bad
     ⊎ MarkIsWrong disk tables devices bad
-    ⊎ BucketIsCrowded score disk tables devices c bad
-    ⊎ IsFoundDamaged disk tables devices bad
+    ⊎ (PassesTests disk tables devices c
+    × (BucketIsCrowded score disk tables devices c bad ⊎ IsFoundDamaged disk tables devices bad))
 
 -- of all counts of faults one rose where a fault is told, and else none
 abbrev pub CountsRefusal : MountBad → (old new : List ℕ) → Type 0

@@ -122,7 +122,7 @@ returns-in-Err-read_back g c = λ before given.
     read_mount score disk before c.args.log c.args.sections.items c.args.filter given b.sections.items b.bloom b.bits opens.sections opens.filter_is
     o.items c.args.sizes.lumps c.args.sizes.clean made.0 c.read_back.new.log c.read_back.new.bits shards all.reads
     c.what_is_read_is_a_prefix.ensures c.first_blocks_are_legal.ensures.legal c.files_agree.ensures (λ d tells. g.met.D.Disk.read_is_image d tells)
-    c.least_mark-least.result c.args.part at c.in-Err-read_back.bad all
+    c.least_mark-least.result c.args.part at (subst (λ (n : ℕ). TestsParts {U = ⊤} c.args.part b.sections.items b.bloom n (Ok tt)) c.durable.ensures opens.tests) c.in-Err-read_back.bad all
     c.hand_back-in-Err-read_back.result c.args.sizes c.args.sessions is c.hand_back-in-Err-read_back.ensures.tables
 
 -- its shards, the sessions' rows and the count of synced blocks, as they are in the store that is found
