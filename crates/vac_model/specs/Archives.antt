@@ -3,7 +3,8 @@
 use Rattle.std.specs.Prelude.{ℕ, ◌+◌, ◌*◌, ◌/◌, true, false, List, [], ◌∷◌, ◌++◌, codes}
 use Rattle.std.specs.List.{flat_map}
 use Rattle.vt_fields.specs.Filled.{filled}
-use Rattle.vt_folder.specs.Items.{Items, none, file, folder, other, Facts}
+use Rattle.vt_folder.specs.declared.item.Facts.{Facts}
+use Rattle.vt_folder.specs.Items.{Items, none, file, folder, other}
 use Rattle.vt_model.specs.History.{Block}
 use Rattle.vt_tree.specs.declared.entry.Entry.{Entry}
 use Rattle.vt_tree.specs.declared.root.Root.{Root}

@@ -2,7 +2,8 @@
 use Rattle.std.specs.Prelude.{ℕ, ◌≡◌, ◌≤◌, ◌<◌, ◌^◌, ◌+◌, ◌==◌, ◌||◌, nat_le, nat_lt, is_some, Bool, if◌then◌else◌, Option, Some, None, List, [], ⊤, length, position}
 use Rattle.std.specs.Option.{option_or}
 use Rattle.std.specs.Str.{bytes_eq}
-use Rattle.vt_folder.specs.Items.{Items, none, file, folder, other, Facts}
+use Rattle.vt_folder.specs.declared.item.Facts.{Facts}
+use Rattle.vt_folder.specs.Items.{Items, none, file, folder, other}
 use Rattle.vac_meta.specs.declared.TheConstants.{MAX_NAME}
 use Rattle.vac_meta.specs.Records.{is_barred}
 use Rattle.vac_model.specs.declared.TheConstants.{MAX_FILE, MAX_METADATA, MAX_NESTING, MIN_BLOCK_SIZE, MAX_BLOCK_SIZE}

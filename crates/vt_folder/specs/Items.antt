@@ -1,7 +1,9 @@
 -- Folders of files, as a host shows them (stat(5)): finite trees of items.
-use Rattle.std.specs.Prelude.{ℕ, Option, Some, None, List, [], ◌∷◌, if◌then◌else◌}
+use Rattle.std.specs.Prelude.{ℕ, ⊤, Option, Some, None, List, [], ◌∷◌, if◌then◌else◌}
 use Rattle.std.specs.Option.{option_and_then}
 use Rattle.std.specs.Str.{bytes_eq}
+use Rattle.vt_base.specs.Bytes.{AreBytes}
+use Rattle.vt_folder.specs.declared.item.Facts.{Facts}
 use Rattle.vt_folder.specs.declared.item.Item.{Item}
 use Rattle.vt_folder.specs.declared.item.ItemKind.{ItemKind}
 use Rattle.vt_folder.specs.declared.item.ItemKind.TheVariants.{File, Folder, Other}
@@ -16,13 +18,12 @@ pub data Items (A : Type 0) : Type 0 where
   -- neither, as a link or a device
   other : (about : A) (others : Items A) → Items A
 
--- what a host says of an item; mtime is in seconds since 1970
-pub record Facts : Type 0 where
-  pub name : List ℕ
-  pub mode : ℕ
-  pub mtime : ℕ
-  pub uid : List ℕ
-  pub gid : List ℕ
+-- each file, at all depths, has bytes
+abbrev pub HaveBytes : Items Facts → Type 0
+HaveBytes none = ⊤
+HaveBytes (file about bytes others) = AreBytes bytes × HaveBytes others
+HaveBytes (folder about inside others) = HaveBytes inside × HaveBytes others
+HaveBytes (other about others) = HaveBytes others
 
 -- ---- how a folder is listed
 

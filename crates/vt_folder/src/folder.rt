@@ -3,7 +3,9 @@
 ghost use Rattle.std.specs.Prelude.{◌≡◌, ◌≤◌, ◌<◌, ◌^◌, ℕ, Bool, IsTrue, IfOk, Some, List};
 ghost use Rattle.std.specs.Prelude.{length, take, drop};
 ghost use Rattle.vt_base.specs.Faults.{CountsFault, HasCause};
-ghost use Rattle.vt_folder.specs.Items.{Items, Facts, listing_of, folder_at, file_at};
+ghost use Rattle.vt_folder.specs.declared.item.Facts.{Facts};
+ghost use Rattle.vt_folder.specs.Items.{Items, HaveBytes};
+ghost use Rattle.vt_folder.specs.Items.{listing_of, folder_at, file_at};
 ghost use Rattle.vt_out.specs.Files.{is_fault};
 
 use crate::Listing;
@@ -41,6 +43,8 @@ pub trait Folder {
             × (n ≡ 0 → 0 < length buf.old → length bytes ≤ at)) }
         ensures stays { IsTrue tells → holds self.new ≡ holds self.old }
         ensures cause { HasCause result (faults self.old) (faults self.new) };
+
+    ghost holds_bytes: { (folder : Self) → HaveBytes (holds folder) };
 
     ghost faults_fit: { (folder : Self) → faults folder < 2 ^ 64 };
 }

@@ -1,7 +1,8 @@
 //! What a folder lists.
 
+use std::alloc::Global;
 use std::marker::Model;
-use vt_base::Text;
+use vt_base::{NoMemory, Text};
 
 /// What an item of a folder is.
 #[derive(Clone, Copy, Debug, PartialEq, Eq)]
@@ -23,6 +24,37 @@ pub struct Item {
     pub mtime: u32,
     pub uid: Text,
     pub gid: Text,
+}
+
+/// What is known of an item, beside what it is.
+#[derive(Drop)]
+pub struct Facts {
+    pub name: Text,
+    /// Its permissions are the low nine bits.
+    pub mode: u32,
+    /// When it was changed last, in seconds since 1970.
+    pub mtime: u32,
+    pub uid: Text,
+    pub gid: Text,
+}
+
+impl Facts {
+    ghost use Rattle.std.specs.Prelude.{◌≡◌, IfOk};
+    ghost use Rattle.vt_folder.specs.Items.{item_of};
+
+    /// An item of this kind, as a folder lists it.
+    pub fn listed(&self, alloc: Global, kind: ItemKind) -> Result<Item, NoMemory>
+        ensures { IfOk result (λ item. item ≡ item_of self.now kind) }
+    {
+        Ok(Item {
+            name: Text::copy_of(alloc, self.name.as_slice())?,
+            kind,
+            mode: self.mode,
+            mtime: self.mtime,
+            uid: Text::copy_of(alloc, self.uid.as_slice())?,
+            gid: Text::copy_of(alloc, self.gid.as_slice())?,
+        })
+    }
 }
 
 /// The items of a folder, which contracts see as a list.

@@ -1,8 +1,14 @@
-//! Folders of files, as a trait: what a host lists of them, and reads of their files.
+//! Folders of files, as a trait, with one in memory: what is listed and read of them.
 #![tactic(auto)]
 
+mod finding;
 mod folder;
 mod item;
+mod mem_folder;
 
 pub use folder::Folder;
-pub use item::{Item, ItemKind, Listing};
+pub use item::{Facts, Item, ItemKind, Listing};
+pub use mem_folder::{MemContent, MemFolder, MemItem};
+
+#[cfg(test)]
+mod tests;
