@@ -1,0 +1,8 @@
+//! One session over a store on devices, whose use is then ended.
+#![tactic(auto)]
+
+mod laws;
+mod serving;
+
+pub use laws::{sessions_are_runs, sessions_end_well, sessions_leave_all, sessions_tell_causes};
+pub use serving::{StoreServed, serve_store};
