@@ -1,0 +1,13 @@
+//! Stores without blocks: what formatting leaves on the devices of a store, that it can be opened,
+//! and such stores in memory.
+#![tactic(auto)]
+
+mod devices;
+pub mod laws;
+mod sections;
+mod shape;
+mod store;
+
+pub use devices::fresh_devices;
+pub use shape::Shape;
+pub use store::fresh_store;
