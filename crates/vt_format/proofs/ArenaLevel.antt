@@ -1,7 +1,6 @@
 -- What is done of the partitions of arenas of a configuration, level by level.
-use Rattle.std.proofs.Common.{◌≡◌, ◌≢◌, ◌⊎◌, inl, inr, ⊎_elim, ℕ, ◌+◌, ◌<◌, ◌≤◌, List, [], ◌∷◌, ◌++◌, Option, Some, None, Ok, Err, Result, length, map, refl, sym, ◌∙◌, ap, subst, arith, length-append}
-use Rattle.std.specs.Prelude.{IfErr, IfOk, IsTrue, OnOk, slice_get}
-use Rattle.std.specs.List.{Contains}
+use Rattle.std.proofs.Common.{◌≡◌, ◌≢◌, ◌⊎◌, inl, inr, ⊎_elim, ℕ, ◌+◌, List, [], ◌∷◌, ◌++◌, Option, Some, Ok, Err, Result, length, map, refl, sym, ◌∙◌, ap, subst, arith, length-append}
+use Rattle.std.specs.Prelude.{IfErr, IfOk, IsTrue, OnOk}
 use Rattle.std.proofs.lemmas.List.{map-append, length-map}
 use Rattle.std.proofs.lemmas.Option.{same_Some}
 use Rattle.vt_base.specs.Faults.{HasRisen}
@@ -21,11 +20,11 @@ use Rattle.vt_format.specs.declared.index.Index.{Index}
 use Rattle.vt_format.specs.declared.index.IndexBad.{IndexBad}
 use Rattle.vt_format.specs.declared.index.IndexBad.TheVariants.{Fault, Refused, Stopped}
 use Rattle.vt_format.specs.Index.{AreLeft, ArePutToUse, Fails, FindsFault, IndexesArenas, IsLeft, IsQuiet, LeavesThere, files_behind}
-use Rattle.vt_format.specs.Opening.{FindsArenas, IsOpenedAs, NamesCause, RefusesArenas, RefusesDisk}
+use Rattle.vt_format.specs.Opening.{FindsArenas, IsOpenedAs, RefusesArenas, RefusesDisk}
 use Rattle.vt_format.proofs.ArenaLevels.{as_many, disks_more, finds_among, front_left, last_left, left_part, stays_part}
 use Rattle.vt_format.proofs.Failing.{failed_here, later}
 use Rattle.vt_format.proofs.Finding.{finds_arenas}
-use Rattle.vt_format.proofs.Levels.{answers, leaves_becomes, put_rest, stays_becomes, stays_read}
+use Rattle.vt_format.proofs.Levels.{answers, leaves_becomes, put_rest, stays_read}
 use Rattle.vt_format.proofs.Rounds.{Round, again, new_is, old_is, round}
 use Rattle.vt_format.proofs.SectionLevel.{all_stay, leaves_failed, read_leaves, read_stays, stays_same}
 

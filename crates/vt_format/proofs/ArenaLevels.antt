@@ -1,24 +1,21 @@
 -- A partition of arenas that is opened, while the others behind it are worked on, and taken back.
-use Rattle.std.proofs.Common.{◌≡◌, ◌≢◌, ◌⊎◌, inl, inr, ⊎_elim, ℕ, suc, ◌+◌, ◌<◌, ◌≤◌, List, [], ◌∷◌, ◌++◌, Option, Some, None, Ok, Err, Result, length, map, refl, sym, ◌∙◌, ap, subst, arith, length-append}
-use Rattle.std.specs.Prelude.{IsTrue, slice_get}
+use Rattle.std.proofs.Common.{◌≡◌, ◌⊎◌, inl, inr, ⊎_elim, ℕ, ◌<◌, ◌≤◌, List, [], ◌∷◌, ◌++◌, Some, None, Result, length, refl, sym, ◌∙◌, ap, subst, arith, length-append}
+use Rattle.std.specs.Prelude.{slice_get}
 use Rattle.std.proofs.lemmas.Bool.{cases_lt}
-use Rattle.std.proofs.lemmas.List.{map-append, length-map}
+use Rattle.std.proofs.lemmas.List.{map-append}
 use Rattle.std.proofs.lemmas.Option.{same_Some, slice_get_within}
 use Rattle.vt_base.specs.Faults.{HasRisen}
-use Rattle.vt_conf.specs.declared.conf.PartFile.{PartFile}
-use Rattle.vt_disk.specs.Calls.{OnlyReads}
 use Rattle.vt_disk.specs.Members.{DiskOf}
 use Rattle.vt_log.specs.Log.{disks_of}
 use Rattle.vt_log.proofs.Lists.{slice_get_left}
 use Rattle.vt_part.specs.declared.part.Part.{Part}
 use Rattle.vt_part.specs.Parts.{disk_of}
-use Rattle.vt_parts.specs.Parts.{Standing, there, StaysThere}
+use Rattle.vt_parts.specs.Parts.{there, StaysThere}
 use Rattle.vt_format.specs.declared.index.Index.{Index}
 use Rattle.vt_format.specs.declared.index.IndexBad.{IndexBad}
 use Rattle.vt_format.specs.declared.index.IndexBad.TheVariants.{Fault, Refused, Stopped}
-use Rattle.vt_format.specs.Index.{AreLeft, Fails, FailsAt, FindsFault, IsLeft, IsQuiet}
+use Rattle.vt_format.specs.Index.{AreLeft, FindsFault, IsLeft, IsQuiet}
 use Rattle.vt_format.specs.Opening.{IsOpenedAs}
-use Rattle.vt_format.proofs.Failing.{failed_here}
 use Rattle.vt_format.proofs.Levels.{stays_read}
 use Rattle.vt_format.proofs.Opened.{front_get, last_get, same_fronts}
 

@@ -1,5 +1,5 @@
 -- Which partition a call of failed, told behind one that was handed out meanwhile.
-use Rattle.std.proofs.Common.{◌≡◌, ◌≢◌, ◌⊎◌, inl, inr, ⊎_elim, ℕ, suc, ◌+◌, ◌<◌, ◌≤◌, List, [], ◌∷◌, Option, Some, None, length, refl, sym, ◌∙◌, subst, arith}
+use Rattle.std.proofs.Common.{◌≡◌, inl, inr, ⊎_elim, ℕ, suc, ◌+◌, List, ◌∷◌, Some, None, refl, sym, ◌∙◌, subst, arith}
 use Rattle.vt_base.specs.Faults.{HasRisen}
 use Rattle.vt_conf.specs.declared.conf.PartFile.{PartFile}
 use Rattle.vt_disk.specs.Members.{DiskOf}

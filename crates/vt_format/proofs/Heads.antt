@@ -1,14 +1,14 @@
 -- Changing the head of a section, one call after another.
-use Rattle.std.proofs.Common.{◌≡◌, ◌≢◌, ◌⊎◌, inl, inr, ⊎_elim, ℕ, ◌+◌, ◌-◌, ◌^◌, ◌<◌, ◌≤◌, min, Some, None, Ok, refl, sym, ◌∙◌, ap, subst, arith}
+use Rattle.std.proofs.Common.{◌≡◌, ◌⊎◌, inl, inr, ℕ, ◌+◌, ◌<◌, ◌≤◌, Some, None, Ok, sym, ◌∙◌, ap, subst, arith}
 use Rattle.std.specs.Prelude.{IsTrue, List}
 use Rattle.vt_base.specs.declared.place.Entry.{Entry}
 use Rattle.vt_disk.specs.Calls.{IsSynced, MadeCalls}
 use Rattle.vt_disk.specs.Members.{DiskOf}
 use Rattle.vt_isect.specs.declared.phase.Phase.{Phase}
 use Rattle.vt_isect.specs.declared.phase.Phase.TheVariants.{Rest, ChangeBucket, ChangeHead}
-use Rattle.vt_isect.specs.Section.{IsAtRest, SectionState}
+use Rattle.vt_isect.specs.Section.{SectionState}
 use Rattle.vt_isect.specs.Sound.{DiskHolds, Known, nothing_known}
-use Rattle.vt_isect.specs.Writeback.{Advances, Completes, Follows, Keeps, NextPhase, Syncs, calls_left}
+use Rattle.vt_isect.specs.Writeback.{Advances, Keeps, NextPhase, Syncs, calls_left}
 use Rattle.vt_twin.specs.declared.step.Step.{Step}
 use Rattle.vt_twin.specs.declared.step.Step.TheVariants.{More, Done}
 

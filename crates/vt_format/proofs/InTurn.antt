@@ -1,5 +1,5 @@
 -- Sections that are put to use in turn.
-use Rattle.std.proofs.Common.{◌≡◌, ◌≢◌, ◌⊎◌, ⊎_elim, ℕ, zero, suc, ◌+◌, ◌<◌, ◌≤◌, List, [], ◌∷◌, ◌++◌, Some, length, take, set, refl, sym, ◌∙◌, ap, subst, arith}
+use Rattle.std.proofs.Common.{◌≡◌, ⊎_elim, ℕ, ◌+◌, ◌<◌, ◌≤◌, List, Some, length, take, set, sym, ◌∙◌, ap, subst, arith}
 use Rattle.std.specs.Prelude.{slice_get, slice_index_or, sum_by, Err}
 use Rattle.std.proofs.lemmas.Bool.{cases_lt}
 use Rattle.std.proofs.lemmas.List.{length-set}
@@ -12,7 +12,7 @@ use Rattle.vt_isect.specs.declared.bad.ShardErr.TheVariants.{Fault as fault}
 use Rattle.vt_isect.specs.Faults.{is_fault}
 use Rattle.vt_isect.specs.Section.{SectionState}
 use Rattle.vt_log.proofs.Lists.{slice_get_set_other, slice_get_set_same}
-use Rattle.vt_format.specs.Usage.{AreUsed, IsStopped, IsUsed, StopsAt, buckets_of, first_of}
+use Rattle.vt_format.specs.Usage.{AreUsed, IsUsed, StopsAt, buckets_of, first_of}
 
 pub record AreUsedTo {D : Type 0} (disk : DiskOf D) (total number first : ℕ) (olds news : List (SectionState D)) : Type 0 where
   pub many : length news ≡ length olds

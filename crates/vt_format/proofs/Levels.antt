@@ -1,5 +1,5 @@
 -- One partition that is opened, while the others behind it are worked on, and taken back.
-use Rattle.std.proofs.Common.{◌≡◌, ◌≢◌, ◌⊎◌, inl, inr, ⊎_elim, ℕ, suc, ◌+◌, ◌*◌, ◌<◌, ◌≤◌, List, [], ◌∷◌, ◌++◌, Option, Some, None, Ok, Err, Result, length, refl, sym, ◌∙◌, ap, subst, arith}
+use Rattle.std.proofs.Common.{◌≡◌, ◌⊎◌, inl, inr, ⊎_elim, ℕ, ◌+◌, ◌<◌, ◌≤◌, List, [], ◌∷◌, Option, Some, None, Ok, Err, Result, length, refl, sym, ◌∙◌, ap, subst, arith}
 use Rattle.std.specs.Prelude.{IsTrue}
 use Rattle.std.proofs.lemmas.Bool.{cases_lt}
 use Rattle.vt_base.specs.Faults.{HasRisen}
@@ -7,15 +7,14 @@ use Rattle.vt_base.specs.declared.mount.MountBad.{MountBad}
 use Rattle.vt_conf.specs.declared.conf.PartFile.{PartFile}
 use Rattle.vt_disk.specs.Calls.{OnlyReads}
 use Rattle.vt_disk.specs.Members.{DiskOf}
-use Rattle.vt_isect.specs.Layout.{IsSection}
 use Rattle.vt_isect.specs.Section.{SectionState}
 use Rattle.vt_parts.specs.Parts.{Standing, nothing, lent, there, HandsOut, StaysThere}
 use Rattle.vt_format.specs.declared.index.Index.{Index}
 use Rattle.vt_format.specs.declared.index.IndexBad.{IndexBad}
 use Rattle.vt_format.specs.declared.index.IndexBad.TheVariants.{Fault, Refused, Stopped}
-use Rattle.vt_format.specs.Index.{AnswersFor, ArePutToUse, Fails, FailsAt, IsLeft, IsQuiet, IsStoppedAmong, IsUnwritten, LeavesThere, PutsToUse}
+use Rattle.vt_format.specs.Index.{AnswersFor, ArePutToUse, FailsAt, IsLeft, IsStoppedAmong, LeavesThere, PutsToUse}
 use Rattle.vt_format.specs.Opening.{IsOpenedSection}
-use Rattle.vt_format.specs.Usage.{buckets_of, head_in}
+use Rattle.vt_format.specs.Usage.{buckets_of}
 use Rattle.vt_format.proofs.Failing.{failed_here}
 use Rattle.vt_format.proofs.Opened.{LeavesOne}
 use Rattle.vt_format.proofs.Rounds.{Becomes}

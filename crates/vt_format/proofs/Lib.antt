@@ -9,11 +9,10 @@ pub mod Heads
 pub mod InTurn
 pub mod Levels
 pub mod LogLevel
-pub mod LogRefused
 pub mod Numbers
 pub mod OnePartition
 pub mod Opened
-pub mod PlaceOf
+pub mod ArenaCounts
 pub mod Refused
 pub mod Rounds
 pub mod SectionLevel

@@ -1,9 +1,8 @@
 -- What is done where the log of all partitions of arenas is found, or isn't.
-use Rattle.std.proofs.Common.{◌≡◌, ◌≢◌, ◌⊎◌, inl, inr, ⊎_elim, ℕ, ◌+◌, ◌<◌, ◌≤◌, List, [], ◌∷◌, ◌++◌, Option, Some, None, Ok, Err, Result, length, map, option_map, refl, sym, ◌∙◌, ap, subst, arith, false}
-use Rattle.std.specs.Prelude.{IfErr, IfOk, IsTrue, MatchBool, OnOk, slice_get, slice_index}
-use Rattle.std.specs.List.{Contains}
+use Rattle.std.proofs.Common.{◌≡◌, ◌⊎◌, inl, inr, ⊎_elim, ℕ, ◌+◌, ◌<◌, List, [], ◌∷◌, Option, Some, None, Ok, Err, Result, length, map, option_map, refl, sym, ◌∙◌, ap, subst, arith, false}
+use Rattle.std.specs.Prelude.{IfErr, IsTrue, MatchBool, slice_index}
 use Rattle.std.proofs.lemmas.List.{length-map}
-use Rattle.std.proofs.lemmas.Option.{get_or_from_slice_get, same_Some, slice_get-get_or, slice_get-map}
+use Rattle.std.proofs.lemmas.Option.{get_or_from_slice_get, slice_get-map}
 use Rattle.vt_base.specs.Faults.{HasRisen}
 use Rattle.vt_base.specs.declared.mount.MountBad.{MountBad}
 use Rattle.vt_conf.specs.declared.conf.Conf.{Conf}
@@ -13,26 +12,25 @@ use Rattle.vt_log.specs.declared.bad.LogBad.TheVariants as log_bad
 use Rattle.vt_log.specs.Answers.{HoldTheSame}
 use Rattle.vt_log.specs.Faults.{AreFields, OneHasRisen, RefusesMount, first_bad, is_fault}
 use Rattle.vt_log.specs.Log.{disks_of}
-use Rattle.vt_log.proofs.Lists.{map_long, map_there, slice_get_other}
+use Rattle.vt_log.proofs.Lists.{map_long, map_there}
 use Rattle.vt_log.proofs.Places.{slice_get_there}
 use Rattle.vt_arena.specs.declared.bad.ArenaBad.{ArenaBad}
 use Rattle.vt_arena.specs.declared.bad.ArenaBad.TheVariants as arena_bad
 use Rattle.vt_isect.specs.Section.{SectionState}
-use Rattle.vt_part.specs.declared.bad.PartBad.{PartBad}
 use Rattle.vt_part.specs.declared.bad.PartBad.TheVariants as part_bad
 use Rattle.vt_part.specs.declared.part.Part.{Part}
 use Rattle.vt_part.specs.Layout.{AreDistinct, layout_of}
 use Rattle.vt_part.specs.Parts.{names_of, table_of, tables_of}
 use Rattle.vt_part.specs.Table.{Table}
-use Rattle.vt_parts.specs.Parts.{Standing, there, StaysThere}
+use Rattle.vt_parts.specs.Parts.{Standing}
 use Rattle.vt_format.specs.declared.index.Index.{Index}
 use Rattle.vt_format.specs.declared.index.IndexBad.{IndexBad}
 use Rattle.vt_format.specs.declared.index.IndexBad.TheVariants.{Fault, Refused, Stopped}
-use Rattle.vt_format.specs.Index.{AnswersFor, AreLeft, Fails, FindsFault, IndexesArenas, IndexesSections, IsQuiet, IsStoppedAmong, files_behind}
-use Rattle.vt_format.specs.Opening.{FindsLog, FindsSections, NamesCause, NamesTwo, told}
-use Rattle.vt_format.specs.Refusals.{of_arena, of_log, part_of}
+use Rattle.vt_format.specs.Index.{AreLeft, Fails, FindsFault, IndexesArenas, IndexesSections, IsQuiet, IsStoppedAmong, files_behind}
+use Rattle.vt_format.specs.Opening.{FindsLog, FindsSections, NamesTwo, told}
+use Rattle.vt_told.specs.Told.{of_log}
 use Rattle.vt_format.proofs.Levels.{answers}
-use Rattle.vt_format.proofs.LogRefused.{NamesArena, NamesLog, log_differs}
+use Rattle.vt_told.proofs.LogRefused.{NamesArena, log_differs}
 use Rattle.vt_format.proofs.SectionLevel.{leaves_same, stays_same}
 
 names_are : {D : Type 0} (ps : List (Part D)) → names_of ps ≡ map (λ (t : Table). t.name) (tables_of ps)
@@ -132,7 +130,7 @@ module _ {D : Type 0} (disk : DiskOf D) (told_is : Type 0) (conf : Conf) (s0 : L
   -- it isn't
   module _ (fields : List (List ℕ)) (are : IsTrue disk.tells → AreFields (layout_of (tables_of ps)) (map disk.bytes (disks_of ps)) fields) where
     refused_with : (why : LogBad) (bad : MountBad) → RefusesMount (names_of ps) (layout_of (tables_of ps)) fields why
-        → bad ≡ of_log (tables_of ps) why → NamesTwo bad → map disk.faults (disks_of qs) ≡ map disk.faults (disks_of ps)
+        → bad ≡ of_log (layout_of (tables_of ps)) why → NamesTwo bad → map disk.faults (disks_of qs) ≡ map disk.faults (disks_of ps)
         → IndexesArenas disk told_is conf [] s0 s0 f0 f0 ps qs (Err (Refused bad))
     refused_with why bad refused is names quiet = record {
       used = tt;
@@ -152,7 +150,7 @@ module _ {D : Type 0} (disk : DiskOf D) (told_is : Type 0) (conf : Conf) (s0 : L
 
     arena_refused : (i : ℕ) (why : ArenaBad) → RefusesMount (names_of ps) (layout_of (tables_of ps)) fields (log_bad.Arena i why) → NamesArena why
         → map disk.faults (disks_of qs) ≡ map disk.faults (disks_of ps)
-        → IndexesArenas disk told_is conf [] s0 s0 f0 f0 ps qs (Err (told None (of_log (tables_of ps) (log_bad.Arena i why))))
+        → IndexesArenas disk told_is conf [] s0 s0 f0 f0 ps qs (Err (told None (of_log (layout_of (tables_of ps)) (log_bad.Arena i why))))
     arena_refused i arena_bad.Fault refused names quiet = absurd names
     arena_refused i arena_bad.NotFormatted refused names quiet = refused_with (log_bad.Arena i arena_bad.NotFormatted) _ refused refl tt quiet
     arena_refused i (arena_bad.Torn field found want) refused names quiet =
@@ -162,7 +160,7 @@ module _ {D : Type 0} (disk : DiskOf D) (told_is : Type 0) (conf : Conf) (s0 : L
     pub log_refused : (why : LogBad) → RefusesMount (names_of ps) (layout_of (tables_of ps)) fields why
         → MatchBool (is_fault why) (OneHasRisen (map disk.faults (disks_of ps)) (map disk.faults (disks_of qs)))
         (map disk.faults (disks_of qs) ≡ map disk.faults (disks_of ps))
-        → IndexesArenas disk told_is conf [] s0 s0 f0 f0 ps qs (Err (told None (of_log (tables_of ps) why)))
+        → IndexesArenas disk told_is conf [] s0 s0 f0 f0 ps qs (Err (told None (of_log (layout_of (tables_of ps)) why)))
     log_refused (log_bad.Part (part_bad.DuplicateName i j)) refused quiet =
         refused_with (log_bad.Part (part_bad.DuplicateName i j)) _ refused refl refused.namesakes.order quiet
     log_refused (log_bad.Part part_bad.Fault) refused quiet = absurd refused

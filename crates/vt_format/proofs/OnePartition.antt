@@ -1,5 +1,5 @@
 -- One partition as a list of them, and what formatting makes of it.
-use Rattle.std.proofs.Common.{◌≡◌, ◌≢◌, ◌⊎◌, inl, inr, ⊎_elim, ℕ, zero, suc, ◌+◌, ◌*◌, ◌<◌, ◌≤◌, List, [], ◌∷◌, ◌++◌, Some, None, Ok, Err, Result, length, map, take, drop, refl, sym, ◌∙◌, ap, subst, arith, length-append}
+use Rattle.std.proofs.Common.{◌≡◌, ◌≢◌, ◌⊎◌, inl, inr, ⊎_elim, ℕ, zero, suc, ◌+◌, ◌<◌, ◌≤◌, List, [], ◌∷◌, ◌++◌, Some, Ok, Err, Result, length, take, drop, refl, sym, ◌∙◌, ap, subst, arith, length-append}
 use Rattle.std.specs.Prelude.{All, IsTrue, IfOk, IfErr, OnOk, MatchBool, slice_get}
 use Rattle.std.proofs.Math.Seq.{take-append_seam}
 use Rattle.std.proofs.lemmas.List.{length-map}
@@ -24,8 +24,8 @@ use Rattle.vt_part.specs.Faults.{NamesItsCause, is_fault}
 use Rattle.vt_part.specs.Layout.{layout_of}
 use Rattle.vt_part.specs.Parts.{disk_of, table_of, tables_of}
 use Rattle.vt_part.specs.Table.{Table, IsArenaSize, IsPartition, count_for, table_for}
-use Rattle.vt_format.specs.Arenas.{BecomesArenas, IsEmptyLog, RefusesArenas, RefusesTable}
-use Rattle.vt_format.specs.Refusals.{of_part}
+use Rattle.vt_format.specs.Arenas.{BecomesArenas, RefusesArenas, RefusesTable}
+use Rattle.vt_told.specs.Told.{of_part}
 
 -- what is popped of one partition is all
 one_part : {D : Type 0} (ps rest : List (Part D)) (part popped : Part D) → tables_of ps ≡ tables_of (part ∷ [])

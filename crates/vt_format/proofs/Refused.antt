@@ -1,11 +1,9 @@
 -- Why a partition can't be opened, told with its number.
-use Rattle.std.proofs.Common.{◌≡◌, ◌≢◌, ◌⊎◌, inl, inr, ⊎_elim, ℕ, ◌+◌, ◌<◌, ◌≤◌, Option, Some, None, refl, sym, ◌∙◌, ap, subst, arith}
+use Rattle.std.proofs.Common.{◌≡◌, ◌≢◌, inl, inr, ⊎_elim, ℕ, Some, refl, ◌∙◌, arith}
 use Rattle.std.specs.Prelude.{IsTrue, MatchBool}
 use Rattle.vt_base.specs.Faults.{HasRisen}
 use Rattle.vt_bloom.specs.declared.bad.BloomBad.{BloomBad}
 use Rattle.vt_bloom.specs.declared.bad.BloomBad.TheVariants as bloom_bad
-use Rattle.vt_bloom.specs.declared.bad.Field.{Field as BloomField}
-use Rattle.vt_bloom.specs.declared.bad.Field.TheVariants as bloom_field
 use Rattle.vt_bloom.specs.Faults as bloom
 use Rattle.vt_disk.specs.Members.{DiskOf}
 use Rattle.vt_isect.specs.declared.bad.SectBad.{SectBad}
@@ -15,28 +13,12 @@ use Rattle.vt_isect.specs.Faults as isect
 use Rattle.vt_isect.specs.Layout.{head_place}
 use Rattle.vt_part.specs.declared.bad.PartBad.{PartBad}
 use Rattle.vt_part.specs.declared.bad.PartBad.TheVariants as part_bad
-use Rattle.vt_part.specs.declared.bad.Field.{Field as PartField}
-use Rattle.vt_part.specs.declared.bad.Field.TheVariants as part_field
 use Rattle.vt_part.specs.Faults as part
-use Rattle.vt_part.specs.Table.{IsArenaSize, head_of}
+use Rattle.vt_part.specs.Table.{head_of}
 use Rattle.vt_twin.specs.Frames.{current_frame}
 use Rattle.vt_format.specs.Opening.{RefusesArenas, RefusesDisk, RefusesFilter, RefusesSection, told}
-use Rattle.vt_format.specs.Refusals.{of_filter, of_part, of_section}
-
--- values that can't stand in a field aren't those that are wanted
-part_differs : (field : PartField) (found want : ℕ) → part.Differs field found want → found ≢ want
-part_differs part_field.Version found want it same = it.0 (same ∙ it.1)
-part_differs part_field.ArenaSize found want it same =
-    it.0 (subst IsArenaSize (sym (same ∙ it.1)) refl)
-part_differs part_field.Count found want it same = absurd (omega (arith, it.0, same, it.1))
-
-bloom_differs : (field : BloomField) (found want len : ℕ) → bloom.Differs field found want len → found ≢ want
-bloom_differs bloom_field.Version found want len it same = it.0 (same ∙ it.1)
-bloom_differs bloom_field.M found want len it same = it.0 same
-bloom_differs bloom_field.K found want len it same = ⊎_elim
-    (λ (none : found ≡ 0). absurd (omega (arith, none, same, it.1)))
-    (λ (many : 32 < found). absurd (omega (arith, many, same, it.1)))
-    it.0
+use Rattle.vt_told.specs.Told.{of_filter, of_part, of_section}
+use Rattle.vt_told.proofs.NamesTwo.{bloom_differs, part_differs}
 
 module _ {D : Type 0} (disk : DiskOf D) (number : ℕ) (d e : D) where
   part_why : (before : ℕ) (bad : PartBad) → bad ≢ part_bad.Fault → part.RefusesMount (disk.size d) (head_of (disk.bytes d)) bad

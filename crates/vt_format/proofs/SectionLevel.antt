@@ -1,7 +1,6 @@
 -- What is done of the sections and the filter of a configuration, level by level.
-use Rattle.std.proofs.Common.{◌≡◌, ◌≢◌, ◌⊎◌, inl, inr, ⊎_elim, ℕ, suc, ◌+◌, ◌*◌, ◌<◌, ◌≤◌, List, [], ◌∷◌, ◌++◌, Option, Some, None, Ok, Err, Result, length, map, refl, sym, ◌∙◌, ap, subst, arith, length-append}
-use Rattle.std.specs.Prelude.{IfErr, IfOk, IsTrue, OnOk, sum_by}
-use Rattle.std.specs.List.{Contains}
+use Rattle.std.proofs.Common.{◌≡◌, ◌≢◌, ◌⊎◌, inl, inr, ⊎_elim, ℕ, suc, ◌+◌, List, [], ◌∷◌, ◌++◌, Option, Some, Ok, Err, Result, length, refl, sym, ◌∙◌, ap, subst, arith, length-append}
+use Rattle.std.specs.Prelude.{IfErr, IfOk, IsTrue, OnOk}
 use Rattle.std.proofs.lemmas.List.Sums.{sum_by-append}
 use Rattle.vt_base.specs.Faults.{HasRisen}
 use Rattle.vt_base.specs.declared.mount.MountBad.{MountBad}
@@ -10,18 +9,17 @@ use Rattle.vt_conf.specs.declared.conf.Conf.{Conf}
 use Rattle.vt_conf.specs.declared.conf.PartFile.{PartFile}
 use Rattle.vt_disk.specs.Calls.{OnlyReads}
 use Rattle.vt_disk.specs.Members.{DiskOf}
-use Rattle.vt_isect.specs.Layout.{buckets_in}
 use Rattle.vt_isect.specs.Section.{SectionState}
 use Rattle.vt_parts.specs.Parts.{Standing, nothing, lent, there, StaysThere}
 use Rattle.vt_format.specs.declared.index.Index.{Index}
 use Rattle.vt_format.specs.declared.index.IndexBad.{IndexBad}
 use Rattle.vt_format.specs.declared.index.IndexBad.TheVariants.{Fault, Refused, Stopped}
-use Rattle.vt_format.specs.Index.{ArePutToUse, Fails, IndexesSections, IsLeft, IsQuiet, IsStoppedAmong, IsUnwritten, LeavesOpened, LeavesThere, PutsToUse, listed}
-use Rattle.vt_format.specs.Opening.{FindsSections, IsOpenedSection, NamesCause, RefusesDisk, RefusesSection}
+use Rattle.vt_format.specs.Index.{ArePutToUse, Fails, IndexesSections, IsLeft, IsQuiet, IsStoppedAmong, LeavesOpened, LeavesThere, PutsToUse, listed}
+use Rattle.vt_format.specs.Opening.{FindsSections, IsOpenedSection, RefusesDisk, RefusesSection}
 use Rattle.vt_format.specs.Usage.{buckets_of}
 use Rattle.vt_format.proofs.Failing.{failed_here, later}
 use Rattle.vt_format.proofs.Finding.{finds_sections}
-use Rattle.vt_format.proofs.Levels.{answers, leaves_becomes, left_one, put, put_rest, stays_becomes, stays_read, stopped_among, stopped_here}
+use Rattle.vt_format.proofs.Levels.{answers, leaves_becomes, left_one, put, put_rest, stays_read, stopped_among, stopped_here}
 use Rattle.vt_format.proofs.Opened.{LeavesOne, split}
 use Rattle.vt_format.proofs.Rounds.{Round, again, new_is, old_is, round, same_or_not}
 

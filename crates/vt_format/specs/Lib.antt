@@ -2,7 +2,6 @@ pub mod Arenas
 pub mod Filters
 pub mod Index
 pub mod Opening
-pub mod Refusals
 pub mod Sections
 pub mod Usage
 pub mod Words

@@ -1,6 +1,6 @@
 -- What opening the partitions that a configuration names finds: the first refusal, in their order,
 -- or none.
-use Rattle.std.specs.Prelude.{ℕ, ◌≡◌, ◌⊎◌, ⊤, ◌+◌, ◌<◌, ◌≤◌, ◌≢◌, Bool, false, IsTrue, Option, Some, None, Result, Ok, Err, List, [], ◌∷◌, ◌++◌, length, map}
+use Rattle.std.specs.Prelude.{ℕ, ◌≡◌, ◌⊎◌, ⊤, ◌+◌, ◌<◌, ◌≤◌, false, IsTrue, Option, Some, None, Result, Ok, Err, List, [], ◌∷◌, ◌++◌, length, map}
 use Rattle.vt_base.specs.Faults.{HasRisen}
 use Rattle.vt_base.specs.declared.mount.MountBad.{MountBad}
 use Rattle.vt_base.specs.declared.mount.MountBad.TheVariants as mount_bad
@@ -14,11 +14,10 @@ use Rattle.vt_conf.specs.declared.conf.Conf.{Conf}
 use Rattle.vt_conf.specs.declared.conf.PartFile.{PartFile}
 use Rattle.vt_disk.specs.Calls.{OnlyReads}
 use Rattle.vt_disk.specs.Members.{DiskOf}
-use Rattle.vt_format.specs.declared.index.Index.{Index}
 use Rattle.vt_format.specs.declared.index.IndexBad.{IndexBad}
 use Rattle.vt_format.specs.declared.index.IndexBad.TheVariants.{Fault, Refused, Stopped}
 use Rattle.vt_format.specs.declared.TheConstants.{MAX_ARENAS, MAX_BUCKETS}
-use Rattle.vt_format.specs.Refusals.{of_filter, of_log, of_part, of_section}
+use Rattle.vt_told.specs.Told.{NamesTwo as TellsTwo, of_filter, of_log, of_part, of_section}
 use Rattle.vt_format.specs.Usage.{IsOpened}
 use Rattle.vt_isect.specs.declared.bad.SectBad.{SectBad}
 use Rattle.vt_isect.specs.declared.TheConstants.{FRAME_LEN}
@@ -99,7 +98,7 @@ abbrev pub FindsLog : {D : Type 0} → DiskOf D → (standing : List ℕ → Sta
 FindsLog disk standing conf tables contents found =
     (fields : List (List ℕ)) × AreFields (layout_of tables) contents fields
     × (((why : LogBad) × RefusesMount (map (λ t. t.name) tables) (layout_of tables) fields why
-    × (found ≡ Some (of_log tables why)))
+    × (found ≡ Some (of_log (layout_of tables) why)))
     ⊎ (AreDistinct (map (λ t. t.name) tables)
     × (first_bad_log false 0 (layout_of tables) fields ≡ None)
     × FindsSections disk standing conf.filter (length tables) 0 conf.sections.items found))
@@ -120,15 +119,11 @@ FindsArenas {D} disk standing conf tables contents (file ∷ files) found =
 
 -- ---- what the calls answer
 
--- A refusal's two values differ, so that each of them names a cause.
+-- A refusal is neither a fault nor damage, and two values that it tells are two.
 abbrev pub NamesTwo : MountBad → Type 0
 NamesTwo mount_bad.Fault = ⊥
-NamesTwo (mount_bad.NotFormatted part) = ⊤
-NamesTwo (mount_bad.TooSmall part len need) = len < need
-NamesTwo (mount_bad.DuplicateName first second) = first < second
-NamesTwo (mount_bad.Disagree part field found want) = found ≢ want
 NamesTwo (mount_bad.Damaged site want found) = ⊥
-NamesTwo mount_bad.NoMemory = ⊤
+NamesTwo bad = TellsTwo bad
 
 abbrev pub NamesCause : IndexBad → Type 0
 NamesCause (Fault part) = ⊤

@@ -12,12 +12,12 @@ ghost use Rattle.vt_part.specs.Layout.{layout_of};
 ghost use Rattle.vt_part.specs.Parts.{disk_of, table_of};
 ghost use Rattle.vt_part.specs.Table.{IsArenaSize, IsName, end_of};
 
-use crate::refusals::of_part;
 use std::alloc::Global;
 use vt_base::{Failed, MountBad, Text};
 use vt_disk::Disk;
 use vt_part::{Part, partitions_stay_on_disks};
 use vt_parts::Parts;
+use vt_told::of_part;
 
 /// Makes the partition of this file one of arenas of one size, which have no blocks, with a name of
 /// its own, and gives their count. It is made where it isn't there, and grown to this length where

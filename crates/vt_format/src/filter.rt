@@ -6,11 +6,11 @@ ghost use Rattle.vt_format.specs.Filters.{FormatsFilter};
 ghost use Rattle.vt_format.specs.Worked.{WorksOn};
 
 use crate::MOST_POSITIONS;
-use crate::refusals::of_filter;
 use std::alloc::Global;
 use vt_base::{MountBad, Text};
 use vt_disk::{BLOCK_LEN, Disk};
 use vt_parts::Parts;
+use vt_told::of_filter;
 
 /// Makes the partition of this file a Bloom filter of this many bytes, of which each score has so
 /// many bits, none of them set. It is made where it isn't there, and grown to the length of such a

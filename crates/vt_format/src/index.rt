@@ -11,7 +11,6 @@ ghost use Rattle.vt_part.specs.Table.{end_of};
 ghost use Rattle.vt_parts.specs.Parts.{StaysThere};
 
 use crate::opening::{open_arenas, open_filter, open_section, told};
-use crate::refusals::of_log;
 use crate::usage::{buckets_in, put_all_to_use};
 use crate::{MAX_ARENAS, MAX_BUCKETS};
 use std::alloc::Global;
@@ -22,6 +21,7 @@ use vt_isect::Section;
 use vt_out::Progress;
 use vt_part::Part;
 use vt_parts::Parts;
+use vt_told::of_log;
 
 /// How many buckets an index has, over how many sections.
 #[derive(Clone, Copy, Debug, PartialEq, Eq)]

@@ -7,7 +7,6 @@ mod filter;
 mod index;
 pub mod laws;
 mod opening;
-mod refusals;
 mod section;
 mod usage;
 mod words;

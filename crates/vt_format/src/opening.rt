@@ -5,7 +5,6 @@ ghost use Rattle.vt_base.specs.declared.mount.MountBad.{MountBad};
 ghost use Rattle.vt_format.specs.Opening.{OpensArenas, OpensFilter, OpensSection, told};
 
 use crate::index::IndexBad;
-use crate::refusals::{of_filter, of_part, of_section};
 use crate::{MAX_ARENAS, MAX_BUCKETS};
 use std::alloc::Global;
 use vt_base::{MountBad, MountField};
@@ -13,6 +12,7 @@ use vt_bloom::Bloom;
 use vt_disk::Disk;
 use vt_isect::Section;
 use vt_part::Part;
+use vt_told::{of_filter, of_part, of_section};
 
 /// Mounts a partition of arenas, which has this number and stands behind so many arenas. More than
 /// 4,096 arenas are refused. A refusal hands the disk back.

@@ -5,11 +5,11 @@ ghost use Rattle.vt_format.specs.Sections.{FormatsSection};
 ghost use Rattle.vt_format.specs.Worked.{WorksOn};
 ghost use Rattle.vt_part.specs.Table.{IsName};
 
-use crate::refusals::of_section;
 use std::alloc::Global;
 use vt_base::{MountBad, Text};
 use vt_disk::Disk;
 use vt_parts::Parts;
+use vt_told::of_section;
 
 /// Makes the partition of this file an index section that isn't in use yet, with a name of its own,
 /// and gives the count of its buckets. It is made where it isn't there, and grown to this length

@@ -1,4 +1,4 @@
-use Rattle.std.proofs.Common.{◌≡◌, ◌∙◌, ℕ, ◌+◌, ◌-◌, ◌≤◌, List, [], ◌∷◌, ◌++◌, Err, Ok, Some, length, take, drop, sym, ap, subst, arith, rules}
+use Rattle.std.proofs.Common.{◌≡◌, ◌∙◌, ℕ, ◌+◌, ◌-◌, ◌≤◌, List, [], ◌∷◌, ◌++◌, Err, Some, length, take, drop, sym, ap, subst, arith, rules}
 use Rattle.std.specs.Prelude.{All, IsTrue}
 use Rattle.vt_base.specs.declared.mount.MountBad.TheVariants.{NoMemory}
 use Rattle.vt_conf.specs.declared.conf.PartFile.{PartFile}

@@ -1,10 +1,8 @@
-use Rattle.std.proofs.Common.{◌≡◌, ◌∙◌, ℕ, ◌+◌, ◌-◌, ◌≤◌, List, [], ◌∷◌, ◌++◌, Err, Ok, length, take, drop, sym, ap, subst, arith, rules}
+use Rattle.std.proofs.Common.{◌≡◌, ◌∙◌, ℕ, ◌+◌, ◌-◌, ◌≤◌, List, [], ◌∷◌, ◌++◌, Err, length, take, drop, sym, ap, subst, arith, rules}
 use Rattle.std.specs.Prelude.{All, IsTrue}
-use Rattle.std.proofs.lemmas.List.{append-nil}
 use Rattle.vt_base.specs.declared.mount.MountBad.TheVariants.{NoMemory}
 use Rattle.vt_conf.specs.declared.conf.PartFile.{PartFile}
 use Rattle.vt_isect.specs.Section.{SectionState}
-use Rattle.vt_parts.specs.Parts.{there}
 use Rattle.vt_format.specs.declared.index.IndexBad.TheVariants.{Fault, Refused}
 use Rattle.vt_format.specs.declared.TheConstants.{MAX_BUCKETS}
 use Rattle.std.proofs.Common.{Some}

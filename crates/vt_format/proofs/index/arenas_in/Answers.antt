@@ -1,6 +1,6 @@
-use Rattle.std.proofs.Common.{◌+◌, arith, ap, get_or, ◌≡◌, sym}
+use Rattle.std.proofs.Common.{arith, ap}
 use Rattle.vt_part.specs.Parts.{table_of}
-use Rattle.vt_format.proofs.PlaceOf.{count_within}
+use Rattle.vt_format.proofs.ArenaCounts.{count_within}
 use Rattle.vt_format.proofs.index.arenas_in.Goals as goal
 
 pub overflow_add-arenas : goal.overflow_add-arenas

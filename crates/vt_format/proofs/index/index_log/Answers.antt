@@ -1,17 +1,18 @@
-use Rattle.std.proofs.Common.{◌≡◌, ◌∙◌, List, [], Err, None, map, sym, ap, subst}
+use Rattle.std.proofs.Common.{◌∙◌, List, [], Err, None, map, sym, ap, subst}
 use Rattle.std.specs.Prelude.{IsTrue}
 use Rattle.vt_conf.specs.declared.conf.PartFile.{PartFile}
 use Rattle.vt_isect.specs.Section.{SectionState}
 use Rattle.vt_log.specs.Answers.{HoldTheSame}
 use Rattle.vt_log.specs.Log.{disks_of}
 use Rattle.vt_part.specs.declared.part.Part.{Part}
+use Rattle.vt_part.specs.Layout.{layout_of}
 use Rattle.vt_part.specs.Parts.{tables_of}
 use Rattle.vt_part.specs.Table.{Table}
 use Rattle.vt_base.specs.declared.mount.MountBad.{MountBad}
 use Rattle.vt_format.specs.declared.index.IndexBad.{IndexBad}
 use Rattle.vt_format.specs.Index.{IndexesArenas, IndexesSections}
 use Rattle.vt_format.specs.Opening.{told}
-use Rattle.vt_format.specs.Refusals.{of_log}
+use Rattle.vt_told.specs.Told.{of_log}
 use Rattle.vt_format.proofs.LogLevel.{log_found, log_refused}
 use Rattle.vt_format.proofs.index.index_log.Goals as goal
 
@@ -50,7 +51,7 @@ returns-in-Err g c =
     (g.P.Parts.standing c.args.parts.now) (g.P.Parts.faults c.args.parts.now)
     (g.P.Parts.faults c.args.parts.now) c.args.opened.items c.in-Err.opened.items (Err bad))
     (sym (c.told-bad.ensures ∙ ap (λ (bad : MountBad). told None bad) (c.of_log.ensures
-    ∙ ap (λ (tables : List Table). of_log tables c.in-Err.bad)
+    ∙ ap (λ (tables : List Table). of_log (layout_of tables) c.in-Err.bad)
     (ap (λ (parts : List (Part g.row.P-Disk.Denot)). tables_of parts) c.deref-in-Err.ensures.value
     ∙ c.in-Err.ensures.handed_back))))
     (log_refused g.P.Disk.Disk (IsTrue g.P.Parts.tells) c.args.conf.now

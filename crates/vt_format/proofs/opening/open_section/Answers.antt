@@ -1,4 +1,4 @@
-use Rattle.std.proofs.Common.{◌≡◌, Some, ◌∙◌, ap, subst, sym}
+use Rattle.std.proofs.Common.{Some, ◌∙◌, ap, subst, sym}
 use Rattle.vt_base.specs.declared.mount.MountBad.{MountBad}
 use Rattle.vt_format.specs.declared.index.IndexBad.{IndexBad}
 use Rattle.vt_format.specs.Opening.{RefusesDisk, RefusesSection, told}

@@ -1,4 +1,4 @@
-use Rattle.std.proofs.Common.{◌≡◌, take}
+use Rattle.std.proofs.Common.{◌≡◌}
 use Rattle.vt_format.specs.Usage.{first_of}
 use Rattle.vt_format.proofs.usage.buckets_in.Given as goal
 

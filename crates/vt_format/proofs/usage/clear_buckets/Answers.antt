@@ -1,4 +1,4 @@
-use Rattle.std.proofs.Common.{◌≡◌, ◌∙◌}
+use Rattle.std.proofs.Common.{◌∙◌}
 use Rattle.vt_format.proofs.Clearing.{one_more}
 use Rattle.vt_format.proofs.usage.clear_buckets.Goals as goal
 

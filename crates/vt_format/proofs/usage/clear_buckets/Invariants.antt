@@ -1,6 +1,3 @@
-use Rattle.std.proofs.Common.{◌≡◌, ◌+◌, ◌*◌, ◌/◌, ◌≤◌, IsTrue}
-use Rattle.vt_isect.specs.Sound.{DiskHolds, nothing_known}
-use Rattle.vt_format.specs.Usage.{cleared}
 use Rattle.vt_format.proofs.Clearing.{HasCleared}
 use Rattle.vt_format.proofs.usage.clear_buckets.Given as goal
 

@@ -1,6 +1,3 @@
-use Rattle.std.proofs.Common.{◌≡◌, ◌<◌, ◌≤◌, ℕ, Some, length}
-use Rattle.std.specs.Prelude.{slice_get}
-use Rattle.vt_format.specs.Usage.{first_of}
 use Rattle.vt_format.proofs.InTurn.{AreUsedTo}
 use Rattle.vt_format.proofs.usage.put_all_to_use.Given as goal
 
