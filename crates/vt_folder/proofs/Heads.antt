@@ -30,7 +30,8 @@ listed_first (Other about) others = refl
 pub first_listed : (x : MemItem) (xs : List MemItem)
     → listing_of (items_of (x ∷ xs)) ≡ listing_of (items_of (x ∷ [])) ++ listing_of (items_of xs)
 first_listed x xs =
-    of_layers (λ put. listing_of (put (items_of xs)) ≡ listing_of (put none) ++ listing_of (items_of xs))
+    of_layers
+    (λ put. listing_of (put (items_of xs)) ≡ listing_of (put none) ++ listing_of (items_of xs))
     (λ f. listed_first f (items_of xs)) x
 
 either : {A : Type 0} (b : Bool) (x : A) (o : Option A)

@@ -15,4 +15,5 @@ loop-item-preserved c =
     ∙ ap (λ (y : MemItem). take i xs ++ y ∷ []) (sym c.item-item.is) in
     c.in_ok-push.ensures.items
     ∙ (λ k. c.loop-item.invariant k ++ c.in_ok-listed.ensures k)
-    ∙ sym (last_listed (take i xs) x) ∙ ap (λ (ys : List MemItem). listing_of (items_of ys)) (sym grown)
+    ∙ sym (last_listed (take i xs) x)
+    ∙ ap (λ (ys : List MemItem). listing_of (items_of ys)) (sym grown)
