@@ -282,20 +282,22 @@ module _ {D : Type 0} (disk : DiskOf D) where
       let less : k < length es = omega (arith, within) in
       all_kept ds es (λ i y inside. unset (suc i) y (omega (arith, inside))) held.1 k d less
 
-  pub opened : {Log : Type 0} → IsUnambiguous → ((d : D) → disk.images d (disk.bytes d)) → (conf : Conf) (before after : List ℕ → Standing D) (old new : PerDevice D) (it : Index) (tables : List Table)
-      → AreUnder before conf old → AreUnder after conf new → HaveOwnNames conf → AreEmptyLogs disk tables old.partitions → All (IsUnset disk) old.filter
-      → PutsToUse disk conf before after it → (AreFormatted disk tables new → Log) → Log × KeepsLimits tables (setup_on disk tables new)
-  opened one own conf before after old new it tables these those apart empties unset puts holds =
-      let index = has_new_index conf before after old new it these those apart puts in (
-        holds (record {
-          partitions = empties_kept tables old.partitions new.partitions empties (zip_hold disk old.partitions new.partitions index.partitions);
-          total = index.total;
-          sections = index.sections;
-          filter = ⊎_elim
-              (λ (held : HoldTheSame disk old.filter new.filter). all_kept old.filter new.filter unset (zip_hold disk old.filter new.filter held))
-              (λ (none : All (IsUnset disk) new.filter). none)
-              index.filter;
-        }),
-        keeps_limits one conf before after old new it tables (setup_on disk tables new) these those puts (partitions_read own tables old.partitions empties)
-            (record { arenas = refl; sections = refl }),
-      )
+  pub formatted : (conf : Conf) (before after : List ℕ → Standing D) (old new : PerDevice D) (it : Index) (tables : List Table) → AreUnder before conf old → AreUnder after conf new
+      → HaveOwnNames conf → AreEmptyLogs disk tables old.partitions → All (IsUnset disk) old.filter → PutsToUse disk conf before after it → AreFormatted disk tables new
+  formatted conf before after old new it tables these those apart empties unset puts =
+      let index = has_new_index conf before after old new it these those apart puts in
+      record {
+        partitions = empties_kept tables old.partitions new.partitions empties (zip_hold disk old.partitions new.partitions index.partitions);
+        total = index.total;
+        sections = index.sections;
+        filter = ⊎_elim
+            (λ (held : HoldTheSame disk old.filter new.filter). all_kept old.filter new.filter unset (zip_hold disk old.filter new.filter held))
+            (λ (none : All (IsUnset disk) new.filter). none)
+            index.filter;
+      }
+
+  pub limits_kept : IsUnambiguous → ((d : D) → disk.images d (disk.bytes d)) → (conf : Conf) (before after : List ℕ → Standing D) (old new : PerDevice D) (it : Index) (tables : List Table)
+      → AreUnder before conf old → AreUnder after conf new → AreEmptyLogs disk tables old.partitions → PutsToUse disk conf before after it → KeepsLimits tables (setup_on disk tables new)
+  limits_kept one own conf before after old new it tables these those empties puts =
+      keeps_limits one conf before after old new it tables (setup_on disk tables new) these those puts (partitions_read own tables old.partitions empties)
+      (record { arenas = refl; sections = refl })

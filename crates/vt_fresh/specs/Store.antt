@@ -7,7 +7,7 @@ use Rattle.vt_bloom.specs.Frame.{HasSaved, empty_of}
 use Rattle.vt_bloom.specs.Size.{IsSize}
 use Rattle.vt_core.specs.declared.devices.Devices.{Devices}
 use Rattle.vt_core.specs.Core.{CoreState, setup_of, stops_of}
-use Rattle.vt_core.specs.Mounting.{IsLogOf, KeepsLimits, devices_in, tables_in}
+use Rattle.vt_core.specs.Mounting.{HasRoomOf, IsLogOf, KeepsLimits, devices_in, tables_in}
 use Rattle.vt_core.specs.Sound.{IsSound}
 use Rattle.vt_disk.specs.Members.{DiskOf}
 use Rattle.vt_fresh.specs.declared.shape.Shape.{Shape}
@@ -15,6 +15,7 @@ use Rattle.vt_fresh.specs.Shape.{setup_for}
 use Rattle.vt_log.specs.Logs.{arena_count}
 use Rattle.vt_part.specs.Parts.{disk_of, table_of}
 use Rattle.vt_part.specs.Table.{end_of}
+use Rattle.vt_shard.specs.declared.mounting.Sizes.{Sizes}
 
 -- whatever a crash leaves of it, a filter of this shape is saved, of which no bit is set
 pub record IsFilterFor {D : Type 0} (disk : DiskOf D) (shape : Shape) (device : D) : Type 0 where
@@ -40,10 +41,10 @@ pub record HasCountsOf (shape : Shape) (bits : Filter) : Type 0 where
   pub m : IsSize bits.m shape.filter
   pub k : bits.k ≡ shape.positions
 
--- A store of this shape without blocks, with so many sessions: nothing is queued, under way,
--- stopped or waited for.
+-- A store of this shape without blocks, with so much room in memory and so many sessions: nothing
+-- is queued, under way, stopped or waited for.
 pub record IsFreshStore {D : Type 0} (score : List ℕ → List ℕ) (disk : DiskOf D) (shape : Shape)
-    (sessions : ℕ) (k : CoreState D) : Type 0 where
+    (sizes : Sizes) (sessions : ℕ) (k : CoreState D) : Type 0 where
   pub sound : IsSound score disk k []
   pub setup : setup_of k ≡ setup_for shape
   pub durable : k.log.durable ≡ 0
@@ -53,3 +54,4 @@ pub record IsFreshStore {D : Type 0} (score : List ℕ → List ℕ) (disk : Dis
   pub writebacks : All (λ s. s.writeback ≡ None) k.shards
   pub saves : All (λ b. b.twin.change ≡ None) (option_to_list k.bloom)
   pub bits : HasCountsOf shape k.bits
+  pub rooms : All (HasRoomOf sizes) k.shards

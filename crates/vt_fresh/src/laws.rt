@@ -66,6 +66,11 @@ pub fn formatted_stores_can_be_opened<D: Disk>()
         → AreUnder before conf old → AreUnder after conf new → PutsToUse D.Disk conf before after it
         → ArePartitions tables (map D.bytes old.partitions) → IsSetupOf D.Disk tables new c
         → KeepsLimits tables c }
+    ensures formatted { (conf : Conf) (before after : List ℕ → Standing D)
+        (old new : PerDevice D) (it : Index) (tables : List Table)
+        → AreUnder before conf old → AreUnder after conf new → HaveOwnNames conf
+        → AreEmptyLogs D.Disk tables old.partitions → All (IsUnset D.Disk) old.filter
+        → PutsToUse D.Disk conf before after it → AreFormatted D.Disk tables new }
     ensures opened { (score : List ℕ → List ℕ) (conf : Conf)
         (before after : List ℕ → Standing D) (old new : PerDevice D) (it : Index)
         (tables : List Table) → IsTrue D.tells

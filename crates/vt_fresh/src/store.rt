@@ -29,7 +29,7 @@ pub fn fresh_store<S: Scorer + Drop>(
     requires lumps { 0 < sizes.lumps }
     requires clean { 0 < sizes.clean }
     ensures { IfOk result
-        (IsFreshStore S.score_of ⟦<MemDisk as Disk>⟧ shape.now sessions) }
+        (IsFreshStore S.score_of ⟦<MemDisk as Disk>⟧ shape.now sizes sessions) }
 {
     saved_filters_are_told_apart();
     crash_gives_old_or_new::<MemDisk>();

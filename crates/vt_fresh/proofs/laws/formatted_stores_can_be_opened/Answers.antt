@@ -1,4 +1,4 @@
-use Rattle.vt_fresh.proofs.Named.{has_new_index, keeps_limits, opened}
+use Rattle.vt_fresh.proofs.Named.{formatted, has_new_index, keeps_limits, limits_kept}
 use Rattle.vt_fresh.proofs.laws.formatted_stores_can_be_opened.Goals as goal
 
 pub returns-clause-index : goal.returns-clause-index
@@ -8,7 +8,13 @@ pub returns-clause-limits : goal.returns-clause-limits
 returns-clause-limits g c = λ conf before after old new it tables setup these those puts are is.
     keeps_limits g.D.Disk c.partitions_are_told_apart.ensures.one conf before after old new it tables setup these those puts are is
 
+pub returns-clause-formatted : goal.returns-clause-formatted
+returns-clause-formatted g c = λ conf before after old new it tables these those apart empties unset puts.
+    formatted g.D.Disk conf before after old new it tables these those apart empties unset puts
+
 pub returns-clause-opened : goal.returns-clause-opened
 returns-clause-opened g c = λ score conf before after old new it tables tells these those apart empties unset puts.
-    opened g.D.Disk c.partitions_are_told_apart.ensures.one (λ d. g.met.D.Disk.read_is_image d tells) conf before after old new it tables these those apart empties unset puts
-    (λ are. c.formatted_devices_hold_nothing.ensures.log score tables new tells are)
+    let disk = g.D.Disk in (
+      c.formatted_devices_hold_nothing.ensures.log score tables new tells (formatted disk conf before after old new it tables these those apart empties unset puts),
+      limits_kept disk c.partitions_are_told_apart.ensures.one (λ d. g.met.D.Disk.read_is_image d tells) conf before after old new it tables these those empties puts,
+    )

@@ -45,6 +45,7 @@ returns-in-Ok g c =
       saves = fresh.saves;
       bits = bits_kept _ c.saved_filters_are_told_apart.ensures.one_saved c.crash_gives_old_or_new.ensures.rest (λ disk. c.what_is_read_is_an_image.ensures disk refl) score shape devices c.in-Ok.core it.sound are.filter fresh.filter fresh.saves
           (c.in-Ok.ensures.standing refl).filter;
+      rooms = fresh.rooms;
     }
 
 pub unreachable-requires : goal.unreachable-requires
