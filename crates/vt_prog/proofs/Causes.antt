@@ -1,5 +1,6 @@
 -- Why a command that formats a file ends with a status other than 0.
-use Rattle.std.proofs.Common.{◌≡◌, ◌≢◌, ⊎_elim, inl, inr, ◌<◌, ℕ, Bool, List, refl, sym, ◌∙◌, ap, subst, Some, Ok, Err, Result}
+use Rattle.std.proofs.Common.{◌≡◌, ◌≢◌, ⊎_elim, inl, inr, ◌<◌, ◌≤◌, ◌-◌, ◌^◌, ℕ, Bool, List, refl, sym, ◌∙◌, ap, subst, Some, Ok, Err, Result, arith}
+use Rattle.std.proofs.Math.Nat.{eq-or-lt_of_le}
 use Rattle.std.specs.Prelude.{⊤}
 use Rattle.vt_base.specs.Faults.{HasRisen}
 use Rattle.vt_base.specs.declared.mount.MountBad.{MountBad}
@@ -11,8 +12,13 @@ use Rattle.vt_parts.specs.Parts.{Standing}
 use Rattle.vt_prog.specs.declared.failure.Failure.{Failure}
 use Rattle.vt_prog.specs.declared.failure.Failure.TheVariants.{DiskFault, WriteFault}
 use Rattle.vt_prog.specs.Change.{Change, Work}
-use Rattle.vt_prog.specs.Failure.{Outcome, HasCauseIn, status_of}
+use Rattle.vt_prog.specs.Failure.{Outcome, HasCauseIn, HaveFailed, status_of}
 use Rattle.vt_prog.specs.Formatting.{FormatsFile, IsOfOneFile, IsRefusalOf, Prints, Tells}
+
+pub have_failed : (old new : ℕ) → HasRisen old new → HaveFailed old new
+have_failed old new rose =
+    let most : new ≤ 2 ^ 64 - 1 = omega (arith, rose) in
+    ⊎_elim (λ is. inr is) (λ (below : new < 2 ^ 64 - 1). inl (omega (arith, rose, below))) (eq-or-lt_of_le most)
 
 -- what a refusal tells of the partition that was worked on
 abbrev pub Shows : {D : Type 0} → DiskOf D → MountBad → (old new : D) → Type 0
@@ -84,7 +90,7 @@ module _ {R K I P D T : Type 0} (disk : DiskOf D) (file : List ℕ) (len : ℕ) 
         grow_to = Some len;
         handed = w.0.handed;
         back = w.0.back;
-        rose = shows mount_bad.Fault w.0.before w.0.after w.0.work;
+        rose = have_failed _ _ (shows mount_bad.Fault w.0.before w.0.after w.0.work);
       }))
       (λ not_had. inl not_had.1)
       worked

@@ -1,40 +1,52 @@
 -- What words tell of a run, and what its status does.
-use Rattle.std.proofs.Common.{◌≡◌, ◌≢◌, ◌⊎◌, ⊎_elim, inl, inr, ℕ, true, false, cond, List, sym, ◌∙◌, ap, subst, Option, Some, None, Ok, Err}
-use Rattle.std.specs.Prelude.{MatchOption}
+use Rattle.std.proofs.Common.{◌≡◌, ◌≢◌, ◌⊎◌, ⊎_elim, inl, inr, ℕ, true, false, cond, List, [], ◌∷◌, codes, refl, sym, ◌∙◌, ap, subst, Option, Some, None, Ok, Err}
 use Rattle.vt_base.specs.Faults.{HasRisen}
 use Rattle.vt_disk.specs.Members.{DiskOf}
 use Rattle.vt_session.specs.declared.Ended.{Ended}
 use Rattle.vt_session.specs.declared.Ended.TheVariants as ends
-use Rattle.vt_prog.specs.declared.command.Command.{Command}
-use Rattle.vt_prog.specs.declared.command.Command.TheVariants.{Session, FormatArenas, FormatSection, FormatFilter, FormatIndex}
+use Rattle.vt_words.specs.declared.asked.Asked.{Asked}
+use Rattle.vt_words.specs.declared.asked.Asked.TheVariants.{Do, Help, Version, Faulty}
+use Rattle.vt_words.specs.declared.command.Command.{Command}
+use Rattle.vt_words.specs.declared.command.Command.TheVariants.{Session, FormatArenas, FormatSection, FormatFilter, FormatIndex}
+use Rattle.vt_words.specs.Words.{Asks, AreFaulty, IsFaulty}
+use Rattle.vt_words.proofs.Asking.{alone}
 use Rattle.vt_prog.specs.declared.failure.Failure.{Failure}
-use Rattle.vt_prog.specs.declared.failure.Failure.TheVariants.{BadWords, BadConf, NotFormatted, TooSmall, Disagree, SameName, DiskFault, BadNumber, BadName, Cut, Malformed, Spent, ReadFault, FileFault, WriteFault, NoMemory}
+use Rattle.vt_prog.specs.declared.failure.Failure.TheVariants.{BadWords, BadConf, NotFormatted, TooSmall, Disagree, SameName, DiskFault, BadNumber, BadName, Cut, Malformed, Spent, ReadFault, FileFault, WriteFault, NoMemory, Damaged}
 use Rattle.vt_prog.specs.Change.{Work}
-use Rattle.vt_prog.specs.Command.{command_of}
 use Rattle.vt_prog.specs.Commands.Fmtarenas.{AsksForNoArenas}
 use Rattle.vt_prog.specs.Commands.Fmtbloom.{AsksForNoFilter}
 use Rattle.vt_prog.specs.Commands.Fmtisect.{AsksForNoSection}
 use Rattle.vt_prog.specs.Commands.Session.{DoesSession, outcome_of_end}
-use Rattle.vt_prog.specs.Failure.{Outcome, HasFailed, status_of, HasCauseIn}
+use Rattle.vt_prog.specs.Failure.{Outcome, HasFailed, status_of, line_of, line, HasCauseIn}
 use Rattle.vt_prog.specs.Formatting.{RefusesWord}
-use Rattle.vt_prog.specs.Run.{Does, DoesWords, EndsIdle}
+use Rattle.vt_prog.specs.Run.{Does, DoesAsked, DoesWords, EndsIdle, in_memory}
 use Rattle.vt_prog.proofs.Causes.{formats_never}
 use Rattle.vt_prog.proofs.IndexCauses.{index_never}
 
+-- ---- by what the words ask for
+
+faulty_idle : {R K I P D : Type 0} (disk : DiskOf D) (score : List ℕ → List ℕ) (asked : Asked) (outcome : Outcome) (work : Work R K I P D)
+    → IsFaulty asked → DoesAsked disk score asked outcome work → EndsIdle (Err BadWords) outcome work
+faulty_idle disk score (Do command) outcome work faulty does = absurd faulty
+faulty_idle disk score (Help text) outcome work faulty does = absurd faulty
+faulty_idle disk score (Version text) outcome work faulty does = absurd faulty
+faulty_idle disk score (Faulty text) outcome work faulty does = does
+
 module _ {R K I P D : Type 0} (disk : DiskOf D) (score : List ℕ → List ℕ) (words : List (List ℕ))
-    (outcome : Outcome) (work : Work R K I P D) where
-  abbrev ByCommand : Option Command → Type 0
-  ByCommand command = MatchOption command (EndsIdle (Err BadWords) outcome work)
-      (λ command. Does disk score command outcome work ⊎ EndsIdle (Err NoMemory) outcome work)
-
-  pub refused : command_of words ≡ None → DoesWords disk score words outcome work
-      → EndsIdle (Err BadWords) outcome work
-  refused none does = subst ByCommand none does
-
-  pub done : (command : Command) → command_of words ≡ Some command
-      → DoesWords disk score words outcome work
+    (preface : List ℕ) (outcome : Outcome) (work : Work R K I P D) where
+  pub done : (command : Command) → Asks words (Do command) → DoesWords disk score words preface outcome work
       → Does disk score command outcome work ⊎ EndsIdle (Err NoMemory) outcome work
-  done command is does = subst ByCommand is does
+  done command asks does = ⊎_elim
+      (λ it. inl (subst (λ asked. DoesAsked disk score asked outcome work) (alone words command it.0 asks it.1) it.3))
+      (λ short. inr short.1)
+      does
+
+  pub refused : AreFaulty words → DoesWords disk score words preface outcome work
+      → EndsIdle (Err BadWords) outcome work ⊎ EndsIdle (Err NoMemory) outcome work
+  refused faulty does = ⊎_elim
+      (λ it. inl (faulty_idle disk score it.0 outcome work (faulty it.0 it.1) it.3))
+      (λ short. inr short.1)
+      does
 
 -- ---- a command never ends as other words do
 
@@ -84,24 +96,51 @@ filter_words : (size positions : List ℕ) (failure : Failure) → AsksForNoFilt
 filter_words size positions failure why = ⊎_elim
     (λ of_size. number_other _ failure of_size.1) (λ of_positions. number_other _ failure of_positions.2) why
 
+-- a session over a store that isn't known
+abbrev IsOtherSession : Command → Type 0
+IsOtherSession command = (store : List ℕ) × (command ≡ Session store) × (store ≢ in_memory)
+
 does_never : {R K I P D : Type 0} (disk : DiskOf D) (score : List ℕ → List ℕ) (command : Command) (outcome : Outcome) (work : Work R K I P D)
-    → Does disk score command outcome work → status_of outcome ≢ 1
-does_never disk score Session outcome work does = session_never score outcome work does
-does_never disk score (FormatArenas file name length arena_size) outcome work does = ⊎_elim
+    → Does disk score command outcome work → status_of outcome ≡ 1 → IsOtherSession command
+does_never disk score (Session store) outcome work does one = ⊎_elim
+    (λ known. absurd (session_never score outcome work known.1 one)) (λ other. (store, refl, other.0)) does
+does_never disk score (FormatArenas file name length arena_size) outcome work does one = absurd (⊎_elim
     (word_never (AsksForNoArenas name length arena_size) outcome work (arenas_words name length arena_size))
-    (λ x. formats_never disk file _ _ _ outcome work x.3) does
-does_never disk score (FormatSection file name length) outcome work does = ⊎_elim
+    (λ x. formats_never disk file _ _ _ outcome work x.3) does one)
+does_never disk score (FormatSection file name length) outcome work does one = absurd (⊎_elim
     (word_never (AsksForNoSection name length) outcome work (section_words name length))
-    (λ x. formats_never disk file _ _ _ outcome work x.2) does
-does_never disk score (FormatFilter file size positions) outcome work does = ⊎_elim
+    (λ x. formats_never disk file _ _ _ outcome work x.2) does one)
+does_never disk score (FormatFilter file size positions) outcome work does one = absurd (⊎_elim
     (word_never (AsksForNoFilter size positions) outcome work (filter_words size positions))
-    (λ x. formats_never disk file _ _ _ outcome work x.4) does
-does_never disk score (FormatIndex file) outcome work does = index_never disk file outcome work does
+    (λ x. formats_never disk file _ _ _ outcome work x.4) does one)
+does_never disk score (FormatIndex file) outcome work does one = absurd (index_never disk file outcome work does one)
 
 pub never_bad : {R K I P D : Type 0} (disk : DiskOf D) (score : List ℕ → List ℕ) (command : Command) (outcome : Outcome) (work : Work R K I P D)
-    → Does disk score command outcome work ⊎ EndsIdle (Err NoMemory) outcome work → status_of outcome ≢ 1
-never_bad disk score command outcome work done = ⊎_elim
-    (does_never disk score command outcome work) (λ idle one. let wrong = ap status_of (sym idle.is) ∙ one in cc) done
+    → Does disk score command outcome work ⊎ EndsIdle (Err NoMemory) outcome work → status_of outcome ≡ 1 → IsOtherSession command
+never_bad disk score command outcome work done one = ⊎_elim
+    (λ does. does_never disk score command outcome work does one)
+    (λ idle. let wrong = ap status_of (sym idle.is) ∙ one in absurd (cc)) done
+
+-- the line of status 1
+pub line_of_one : (outcome : Outcome) → status_of outcome ≡ 1 → line_of outcome ≡ line (codes "bad command line" ∷ [])
+line_of_one (Err BadWords) one = refl
+line_of_one (Ok done) one = absurd (cc)
+line_of_one (Err (BadConf bad)) one = absurd (cc)
+line_of_one (Err (NotFormatted file)) one = absurd (cc)
+line_of_one (Err (TooSmall file len need)) one = absurd (cc)
+line_of_one (Err (Disagree file field found want)) one = absurd (cc)
+line_of_one (Err (SameName file other)) one = absurd (cc)
+line_of_one (Err DiskFault) one = absurd (cc)
+line_of_one (Err (BadNumber at)) one = absurd (cc)
+line_of_one (Err (BadName at)) one = absurd (cc)
+line_of_one (Err (Cut taken)) one = absurd (cc)
+line_of_one (Err (Malformed place)) one = absurd (cc)
+line_of_one (Err (Spent taken)) one = absurd (cc)
+line_of_one (Err ReadFault) one = absurd (cc)
+line_of_one (Err FileFault) one = absurd (cc)
+line_of_one (Err WriteFault) one = absurd (cc)
+line_of_one (Err NoMemory) one = absurd (cc)
+line_of_one (Err (Damaged want found)) one = absurd (cc)
 
 -- ---- by the status
 
@@ -125,6 +164,7 @@ module _ {R K I P D : Type 0} (disk : DiskOf D) (work : Work R K I P D) where
   disk_risen (Err FileFault) is cause = absurd (cc)
   disk_risen (Err WriteFault) is cause = absurd (cc)
   disk_risen (Err NoMemory) is cause = absurd (cc)
+  disk_risen (Err (Damaged want found)) is cause = absurd (cc)
 
   pub read_risen : (outcome : Outcome) → status_of outcome ≡ 6 → HasCauseIn disk work outcome
       → HasRisen work.source.faults work.source.faults' ⊎ HasRisen work.files.faults work.files.faults'
@@ -145,6 +185,7 @@ module _ {R K I P D : Type 0} (disk : DiskOf D) (work : Work R K I P D) where
   read_risen (Err FileFault) is cause = inr cause
   read_risen (Err WriteFault) is cause = absurd (cc)
   read_risen (Err NoMemory) is cause = absurd (cc)
+  read_risen (Err (Damaged want found)) is cause = absurd (cc)
 
   pub write_risen : (outcome : Outcome) → status_of outcome ≡ 7 → HasCauseIn disk work outcome
       → HasRisen work.sink.faults work.sink.faults'
@@ -165,6 +206,7 @@ module _ {R K I P D : Type 0} (disk : DiskOf D) (work : Work R K I P D) where
   write_risen (Err FileFault) is cause = absurd (cc)
   write_risen (Err WriteFault) is cause = cause
   write_risen (Err NoMemory) is cause = absurd (cc)
+  write_risen (Err (Damaged want found)) is cause = absurd (cc)
 
 pub well_status : (outcome : Outcome) (status : ℕ) → status ≡ status_of outcome
     → (outcome ≡ Ok tt) ⊎ (outcome ≡ Err NoMemory) → (status ≡ 0) ⊎ (status ≡ 8)
@@ -172,7 +214,8 @@ well_status outcome status is well = ⊎_elim
     (λ good. inl (is ∙ ap status_of good)) (λ short. inr (is ∙ ap status_of short)) well
 
 -- a session on input that ends well
-pub session_well : {R K I P D : Type 0} (score : List ℕ → List ℕ) (outcome : Outcome) (work : Work R K I P D)
+pub session_well : {R K I P D : Type 0} (disk : DiskOf D) (score : List ℕ → List ℕ) (outcome : Outcome) (work : Work R K I P D)
     → (DoesSession score outcome work → (outcome ≡ Ok tt) ⊎ (outcome ≡ Err NoMemory))
-    → DoesSession score outcome work ⊎ EndsIdle (Err NoMemory) outcome work → (outcome ≡ Ok tt) ⊎ (outcome ≡ Err NoMemory)
-session_well score outcome work well done = ⊎_elim well (λ idle. inr idle.is) done
+    → Does disk score (Session in_memory) outcome work ⊎ EndsIdle (Err NoMemory) outcome work → (outcome ≡ Ok tt) ⊎ (outcome ≡ Err NoMemory)
+session_well disk score outcome work well done = ⊎_elim
+    (λ does. ⊎_elim (λ known. well known.1) (λ other. absurd (other.0 refl)) does) (λ idle. inr idle.is) done

@@ -16,11 +16,11 @@ use Rattle.vt_parts.specs.Parts.{HandsOut, Standing, there}
 use Rattle.vt_prog.specs.declared.failure.Failure.{Failure}
 use Rattle.vt_prog.specs.declared.failure.Failure.TheVariants.{BadConf, DiskFault, FileFault, WriteFault, NoMemory}
 use Rattle.vt_prog.specs.Change.{Change, FilesChange, Work}
-use Rattle.vt_prog.specs.Commands.Fmtindex.{DoesFmtindex, FormatsIndex, IndexesConf, IsIndexRefusal, IsRefusalAmong, TellsIndex, index_line}
-use Rattle.vt_prog.specs.Configurations.{ReadsNone}
+use Rattle.vt_prog.specs.Commands.Fmtindex.{DoesFmtindex, FormatsIndex, IndexesConf, IsIndexRefusal, TellsIndex, index_line}
+use Rattle.vt_prog.specs.Configurations.{ReadsNone, IsRefusalAmong}
 use Rattle.vt_prog.specs.Failure.{Outcome, HasCauseIn, HasFailed, status_of}
 use Rattle.vt_prog.specs.Formatting.{Prints}
-use Rattle.vt_prog.proofs.Causes.{printed_never}
+use Rattle.vt_prog.proofs.Causes.{have_failed, printed_never}
 
 -- ---- what a fault comes of
 
@@ -34,7 +34,7 @@ module _ {R K I P D : Type 0} (disk : DiskOf D) (files : List PartFile) (work : 
     handed = λ tells. subst (λ (x : Standing D). HandsOut disk x None it.before) (sym (it.was tells))
         (inl (omega arith, refl));
     back = it.is;
-    rose = it.rose;
+    rose = have_failed _ _ it.rose;
   })
 
   abbrev Failed : IndexBad → Type 0
@@ -45,12 +45,12 @@ module _ {R K I P D : Type 0} (disk : DiskOf D) (files : List PartFile) (work : 
 
   among : (file : List ℕ) (bad : MountBad) (failure : Failure) → NamesCause (index_bad.Refused bad) → IsRefusalAmong file files bad failure
       → HasCauseIn disk work (Err failure)
-  among file mount_bad.Fault failure names is = absurd is
+  among file mount_bad.Fault failure names is = absurd names
   among file (mount_bad.NotFormatted part) failure names is = as_told failure _ is tt
   among file (mount_bad.TooSmall part len need) failure names is = as_told failure _ is names
   among file (mount_bad.DuplicateName first second) failure names is = as_told failure _ is tt
   among file (mount_bad.Disagree part field found want) failure names is = as_told failure _ is names
-  among file (mount_bad.Damaged site want found) failure names is = absurd is
+  among file (mount_bad.Damaged site want found) failure names is = absurd names
   among file mount_bad.NoMemory failure names is = as_told failure _ is tt
 
 -- what is told of an index that isn't formatted has its cause
@@ -108,12 +108,12 @@ none_never file NoMemory files none is = cc
 none_never file failure files none is = absurd none
 
 among_never : (file : List ℕ) (files : List PartFile) (bad : MountBad) (failure : Failure) → IsRefusalAmong file files bad failure → IsOther failure
-among_never file files mount_bad.Fault failure is = absurd is
+among_never file files mount_bad.Fault failure is = other_as failure _ is (λ one. cc)
 among_never file files (mount_bad.NotFormatted part) failure is = other_as failure _ is (λ one. cc)
 among_never file files (mount_bad.TooSmall part len need) failure is = other_as failure _ is (λ one. cc)
 among_never file files (mount_bad.DuplicateName first second) failure is = other_as failure _ is (λ one. cc)
 among_never file files (mount_bad.Disagree part field found want) failure is = other_as failure _ is (λ one. cc)
-among_never file files (mount_bad.Damaged site want found) failure is = absurd is
+among_never file files (mount_bad.Damaged site want found) failure is = other_as failure _ is (λ one. cc)
 among_never file files mount_bad.NoMemory failure is = other_as failure _ is (λ one. cc)
 
 refusal_never : (file : List ℕ) (conf : Conf) (bad : IndexBad) (failure : Failure) → IsIndexRefusal file conf bad failure → IsOther failure

@@ -7,7 +7,7 @@ use Rattle.vt_conf.specs.declared.conf.Conf.{Conf}
 use Rattle.vt_conf.specs.declared.conf.PartFile.{PartFile}
 use Rattle.vt_format.specs.Index.{files_behind, files_of, listed}
 use Rattle.vt_log.proofs.Lists.{slice_get_left, slice_get_right}
-use Rattle.vt_prog.specs.Commands.Fmtindex.{name_at}
+use Rattle.vt_prog.specs.Configurations.{name_at}
 
 none_there : (filter : Option PartFile) (k : ℕ) → (filter ≡ None) ⊎ (0 < k) → slice_get (listed filter) k ≡ None
 none_there None k why = refl

@@ -1,15 +1,16 @@
 -- Why a command ends with a status other than 0: the status, the line that tells it, and the cause,
 -- one row for each.
-use Rattle.std.specs.Prelude.{ℕ, ◌≡◌, ◌≢◌, ◌⊎◌, ◌<◌, ⊤, IsTrue, List, [], ◌∷◌, ◌++◌, Option, Result, Ok, Err, codes, decimal}
+use Rattle.std.specs.Prelude.{ℕ, ◌≡◌, ◌≢◌, ◌⊎◌, ◌<◌, ◌-◌, ◌^◌, ⊤, IsTrue, List, [], ◌∷◌, ◌++◌, Option, Result, Ok, Err, codes, decimal}
 use Rattle.std.specs.List.{concat}
+use Rattle.vt_base.specs.Damage.{Differ}
 use Rattle.vt_base.specs.Faults.{HasRisen}
 use Rattle.vt_conf.specs.Causes.{text_of}
 use Rattle.vt_disk.specs.Members.{DiskOf}
 use Rattle.vt_parts.specs.Parts.{there, HandsOut}
 use Rattle.vt_prog.specs.declared.failure.Failure.{Failure}
-use Rattle.vt_prog.specs.declared.failure.Failure.TheVariants.{BadWords, BadConf, NotFormatted, TooSmall, Disagree, SameName, DiskFault, BadNumber, BadName, Cut, Malformed, Spent, ReadFault, FileFault, WriteFault, NoMemory}
+use Rattle.vt_prog.specs.declared.failure.Failure.TheVariants.{BadWords, BadConf, NotFormatted, TooSmall, Disagree, SameName, DiskFault, BadNumber, BadName, Cut, Malformed, Spent, ReadFault, FileFault, WriteFault, NoMemory, Damaged}
 use Rattle.vt_prog.specs.Change.{PartsChange, Work}
-use Rattle.vt_prog.specs.Fields.{field_name}
+use Rattle.vt_prog.specs.Fields.{field_name, value_text}
 
 abbrev pub Outcome : Type 0
 Outcome = Result (Unit {0}) Failure
@@ -32,6 +33,7 @@ status_of (Err ReadFault) = 6
 status_of (Err FileFault) = 6
 status_of (Err WriteFault) = 7
 status_of (Err NoMemory) = 8
+status_of (Err (Damaged want found)) = 9
 
 -- a line on the fault sink
 abbrev pub line : (pieces : List (List ℕ)) → List ℕ
@@ -59,8 +61,14 @@ line_of (Err ReadFault) = line (codes "read fault" ∷ [])
 line_of (Err FileFault) = line (codes "read fault" ∷ [])
 line_of (Err WriteFault) = line (codes "write fault" ∷ [])
 line_of (Err NoMemory) = line (codes "no memory" ∷ [])
+line_of (Err (Damaged want found)) =
+    line (codes "damaged: want " ∷ value_text want ∷ codes ", found " ∷ value_text found ∷ [])
 
--- a partition was handed out, a call of it failed, and it stands there again
+-- calls failed meanwhile: the count is higher, or stands at the end of its type
+abbrev pub HaveFailed : (old new : ℕ) → Type 0
+HaveFailed old new = (old < new) ⊎ (new ≡ 2 ^ 64 - 1)
+
+-- a partition was handed out, calls of it failed, and it stands there again
 pub record HasFailed {P D : Type 0} (disk : DiskOf D) (parts : PartsChange P D) : Type 0 where
   pub name : List ℕ
   pub before : D
@@ -68,10 +76,10 @@ pub record HasFailed {P D : Type 0} (disk : DiskOf D) (parts : PartsChange P D) 
   pub grow_to : Option ℕ
   pub handed : IsTrue parts.tells → HandsOut disk (parts.old name) grow_to before
   pub back : IsTrue parts.tells → parts.new name ≡ there after
-  pub rose : HasRisen (disk.faults before) (disk.faults after)
+  pub rose : HaveFailed (disk.faults before) (disk.faults after)
 
 -- A fault is told only where the count of that stream rose, or that of the files, of a disk or of
--- the partitions; and of a partition that is refused, two values are told that differ.
+-- the partitions; and of a partition that is refused, or damaged, two values are told that differ.
 abbrev pub HasCauseIn : {R K I P D : Type 0} → DiskOf D → Work R K I P D → Outcome → Type 0
 HasCauseIn disk work (Err (TooSmall file len need)) = len < need
 HasCauseIn disk work (Err (Disagree file field found want)) = found ≢ want
@@ -80,4 +88,5 @@ HasCauseIn disk work (Err DiskFault) =
 HasCauseIn disk work (Err ReadFault) = HasRisen work.source.faults work.source.faults'
 HasCauseIn disk work (Err FileFault) = HasRisen work.files.faults work.files.faults'
 HasCauseIn disk work (Err WriteFault) = HasRisen work.sink.faults work.sink.faults'
+HasCauseIn disk work (Err (Damaged want found)) = Differ want found
 HasCauseIn disk work outcome = ⊤

@@ -1,7 +1,10 @@
--- What a field of a partition is called in a line.
-use Rattle.std.specs.Prelude.{ℕ, List, codes}
+-- What a field of a partition is called in a line, and how a value is written there.
+use Rattle.std.specs.Prelude.{ℕ, List, codes, decimal}
+use Rattle.hex.specs.Hex.{encode_lower}
 use Rattle.vt_base.specs.declared.mount.MountField.{MountField}
 use Rattle.vt_base.specs.declared.mount.MountField.TheVariants.{Version, Number, Sealed, Used, Clumps, ArenaSize, Count, State, First, Total, Mark, M, K, Crowd, Arenas, Buckets}
+use Rattle.vt_base.specs.declared.why.FieldValue.{FieldValue}
+use Rattle.vt_base.specs.declared.why.FieldValue.TheVariants as value
 
 abbrev pub field_name : MountField → List ℕ
 field_name Version = codes "version"
@@ -20,3 +23,9 @@ field_name K = codes "k"
 field_name Crowd = codes "crowd"
 field_name Arenas = codes "arenas"
 field_name Buckets = codes "buckets"
+
+-- a number in decimal digits, and a score or a magic number in hexadecimal ones
+abbrev pub value_text : FieldValue → List ℕ
+value_text (value.Number n) = decimal n
+value_text (value.Score score) = encode_lower score.0
+value_text (value.Magic bytes) = encode_lower bytes

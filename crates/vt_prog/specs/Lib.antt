@@ -1,6 +1,5 @@
 pub mod Asked
 pub mod Change
-pub mod Command
 pub mod Commands
 pub mod Configurations
 pub mod Failure

@@ -1,11 +1,14 @@
 -- What the program did: one line for each command.
-use Rattle.std.specs.Prelude.{ℕ, ◌≡◌, ◌⊎◌, List, Err, MatchOption}
+use Rattle.std.specs.Prelude.{ℕ, ◌≡◌, ◌≢◌, ◌⊎◌, ◌++◌, List, [], Err, codes, string_bytes}
 use Rattle.vt_disk.specs.Members.{DiskOf}
+use Rattle.vt_words.specs.declared.asked.Asked.{Asked}
+use Rattle.vt_words.specs.declared.asked.Asked.TheVariants.{Do, Help, Version, Faulty}
+use Rattle.vt_words.specs.declared.command.Command.{Command}
+use Rattle.vt_words.specs.declared.command.Command.TheVariants.{Session, FormatArenas, FormatSection, FormatFilter, FormatIndex}
+use Rattle.vt_words.specs.Words.{Asks}
 use Rattle.vt_prog.specs.Change.{Change, Work, IsIdle, Attempts}
-use Rattle.vt_prog.specs.Command.{command_of}
 use Rattle.vt_prog.specs.Failure.{Outcome, status_of, line_of, HasCauseIn}
-use Rattle.vt_prog.specs.declared.command.Command.{Command}
-use Rattle.vt_prog.specs.declared.command.Command.TheVariants.{Session, FormatArenas, FormatSection, FormatFilter, FormatIndex}
+use Rattle.vt_prog.specs.Formatting.{Prints}
 use Rattle.vt_prog.specs.declared.failure.Failure.TheVariants.{BadWords, NoMemory}
 use Rattle.vt_prog.specs.Commands.Fmtarenas.{DoesFmtarenas}
 use Rattle.vt_prog.specs.Commands.Fmtbloom.{DoesFmtbloom}
@@ -13,9 +16,21 @@ use Rattle.vt_prog.specs.Commands.Fmtindex.{DoesFmtindex}
 use Rattle.vt_prog.specs.Commands.Fmtisect.{DoesFmtisect}
 use Rattle.vt_prog.specs.Commands.Session.{DoesSession}
 
+-- it ends so, and nothing is done
+pub record EndsIdle {R K I P D : Type 0} (end outcome : Outcome) (work : Work R K I P D)
+    : Type 0 where
+  pub is : outcome ≡ end
+  pub idle : IsIdle work
+
+-- the only store that a session is held over
+abbrev pub in_memory : List ℕ
+in_memory = codes ":memory:"
+
 abbrev pub Does : {R K I P D : Type 0} → DiskOf D → (score : List ℕ → List ℕ) → Command → Outcome
     → Work R K I P D → Type 0
-Does disk score Session outcome work = DoesSession score outcome work
+Does disk score (Session store) outcome work =
+    ((store ≡ in_memory) × DoesSession score outcome work)
+    ⊎ ((store ≢ in_memory) × EndsIdle (Err BadWords) outcome work)
 Does disk score (FormatArenas file name length arena_size) outcome work =
     DoesFmtarenas disk file name length arena_size outcome work
 Does disk score (FormatSection file name length) outcome work =
@@ -24,27 +39,44 @@ Does disk score (FormatFilter file size positions) outcome work =
     DoesFmtbloom disk file size positions outcome work
 Does disk score (FormatIndex file) outcome work = DoesFmtindex disk file outcome work
 
--- it ends so, and nothing is done
-pub record EndsIdle {R K I P D : Type 0} (end outcome : Outcome) (work : Work R K I P D)
+-- a text is printed, and nothing else is done
+pub record Shows {R K I P D : Type 0} (text : List ℕ) (outcome : Outcome) (work : Work R K I P D)
     : Type 0 where
-  pub is : outcome ≡ end
-  pub idle : IsIdle work
+  pub printed : Prints text outcome work.sink
+  pub unread : work.source.after ≡ work.source.before
+  pub unopened : work.files.after ≡ work.files.before
+  pub unused : work.parts.after ≡ work.parts.before
 
--- What was done before the line on the fault sink. Words that are no command do nothing, and nor
--- does a command for whose words memory runs out.
+-- what words ask for is done
+abbrev pub DoesAsked : {R K I P D : Type 0} → DiskOf D → (score : List ℕ → List ℕ) → Asked
+    → Outcome → Work R K I P D → Type 0
+DoesAsked disk score (Do command) outcome work = Does disk score command outcome work
+DoesAsked disk score (Help text) outcome work = Shows (string_bytes text) outcome work
+DoesAsked disk score (Version text) outcome work = Shows (string_bytes text) outcome work
+DoesAsked disk score (Faulty text) outcome work = EndsIdle (Err BadWords) outcome work
+
+-- what stands before the line on the fault sink: the short help, where there is no command
+abbrev pub preface_of : Asked → List ℕ
+preface_of (Faulty text) = string_bytes text
+preface_of asked = []
+
+-- What was done before the fault sink was written: what the words ask for; or memory ran out before
+-- it was known what that is.
 abbrev pub DoesWords : {R K I P D : Type 0} → DiskOf D → (score : List ℕ → List ℕ)
-    → (words : List (List ℕ)) → Outcome → Work R K I P D → Type 0
-DoesWords disk score words outcome work = MatchOption (command_of words)
-    (EndsIdle (Err BadWords) outcome work)
-    (λ command. Does disk score command outcome work ⊎ EndsIdle (Err NoMemory) outcome work)
+    → (words : List (List ℕ)) → (preface : List ℕ) → Outcome → Work R K I P D → Type 0
+DoesWords disk score words preface outcome work =
+    ((asked : Asked) × Asks words asked × (preface ≡ preface_of asked)
+    × DoesAsked disk score asked outcome work)
+    ⊎ ((preface ≡ []) × EndsIdle (Err NoMemory) outcome work)
 
--- The words' command was done, with an outcome, which the status tells, and the line on the fault
--- sink; a fault sink that fails changes no status.
+-- What the words ask for was done, with an outcome, which the status tells, and the line on the
+-- fault sink; a fault sink that fails changes no status.
 pub record Did {R K F I P D : Type 0} (disk : DiskOf D) (score : List ℕ → List ℕ)
     (words : List (List ℕ)) (status : ℕ) (work : Work R K I P D) (complaint : Change F)
     : Type 0 where
   pub outcome : Outcome
   pub status_is : status ≡ status_of outcome
   pub cause : HasCauseIn disk work outcome
-  pub does : DoesWords disk score words outcome work
-  pub complained : Attempts complaint (line_of outcome)
+  pub preface : List ℕ
+  pub does : DoesWords disk score words preface outcome work
+  pub complained : Attempts complaint (preface ++ line_of outcome)

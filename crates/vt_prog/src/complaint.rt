@@ -1,17 +1,18 @@
 //! Lines that say what went wrong.
 
-ghost use Rattle.std.specs.Prelude.{◌≡◌, ◌++◌, [], ◌∷◌, codes, decimal, map, IsTrue, OnOk, OnErr};
+ghost use Rattle.std.specs.Prelude.{◌≡◌, ◌*◌, ◌++◌, [], ◌∷◌, codes, decimal, length, map, IsTrue, OnOk, OnErr};
+ghost use Rattle.hex.specs.Hex.{encode_lower};
 ghost use Rattle.vt_base.specs.Faults.{HasCause};
 ghost use Rattle.vt_conf.specs.Causes.{text_of};
 ghost use Rattle.vt_out.specs.Streams.{AppendsPrefix};
 ghost use Rattle.vt_prog.specs.Change.{sink_change, Attempts};
 ghost use Rattle.vt_prog.specs.Failure.{line, line_of};
-ghost use Rattle.vt_prog.specs.Fields.{field_name};
+ghost use Rattle.vt_prog.specs.Fields.{field_name, value_text};
 
 use crate::failure::Failure;
 use crate::printing::put_pieces;
 use itoa::Buffer;
-use vt_base::{Failed, MountField};
+use vt_base::{Failed, FieldValue, MountField};
 use vt_conf::{ConfWhy, conf_text};
 use vt_out::Sink;
 
@@ -52,6 +53,7 @@ pub fn complain_of<F: Sink>(sink: &mut F, outcome: &Result<(), Failure>)
         Failure::FileFault => complain(sink, &[b"read fault"]),
         Failure::WriteFault => complain(sink, &[b"write fault"]),
         Failure::NoMemory => complain(sink, &[b"no memory"]),
+        Failure::Damaged { want, found } => complain_of_damage(sink, want, found),
     }
 }
 
@@ -110,6 +112,60 @@ fn complain_of_field<F: Sink>(sink: &mut F, file: &[u8], field: MountField, foun
             want_digits.format(want).as_bytes(),
         ],
     );
+}
+
+/// Writes a line on damage.
+fn complain_of_damage<F: Sink>(sink: &mut F, want: &FieldValue, found: &FieldValue)
+    ensures { Attempts (sink_change F.Sink sink.old sink.new) (line (codes "damaged: want "
+        ∷ value_text want.now ∷ codes ", found " ∷ value_text found.now ∷ [])) }
+{
+    let mut want_digits = Digits::new();
+    let mut found_digits = Digits::new();
+    complain(
+        sink,
+        &[
+            b"damaged: want ",
+            want_digits.of(want),
+            b", found ",
+            found_digits.of(found),
+        ],
+    );
+}
+
+/// Room for the digits of a value.
+#[derive(Drop)]
+struct Digits {
+    decimal: Buffer,
+    hexadecimal: [u8; 40],
+}
+
+impl Digits {
+    fn new() -> Self {
+        Digits {
+            decimal: Buffer::new(),
+            hexadecimal: [0; 40],
+        }
+    }
+
+    /// The digits of this value.
+    fn of(&mut self, value: &FieldValue) -> &[u8]
+        ensures { result.now ≡ value_text value.now }
+    {
+        match value {
+            FieldValue::Number(n) => self.decimal.format(*n).as_bytes(),
+            FieldValue::Score(score) => hexadecimal(&mut self.hexadecimal, &score.0),
+            FieldValue::Magic(bytes) => hexadecimal(&mut self.hexadecimal[..8], bytes),
+        }
+    }
+}
+
+/// Fills the room with the digits of these bytes.
+fn hexadecimal<'a>(room: &'a mut [u8], bytes: &[u8]) -> &'a [u8]
+    requires { length room.now ≡ 2 * length bytes.now }
+    ensures { result.now ≡ encode_lower bytes.now }
+{
+    let _ = hex::encode_to_slice(bytes, room);
+    room
 }
 
 /// What a field is called.

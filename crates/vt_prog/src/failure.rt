@@ -3,7 +3,7 @@
 ghost use Rattle.std.specs.Prelude.{◌≡◌};
 ghost use Rattle.vt_prog.specs.Failure.{status_of};
 
-use vt_base::{MountField, Text};
+use vt_base::{FieldValue, MountField, Text};
 use vt_conf::ConfBad;
 
 /// Why a command ends with a status other than 0. A file is told by the name that it has on the
@@ -52,6 +52,11 @@ pub enum Failure {
     FileFault,
     WriteFault,
     NoMemory,
+    /// What stands on a disk is damaged: another value was found than was wanted.
+    Damaged {
+        want: FieldValue,
+        found: FieldValue,
+    },
 }
 
 /// The exit status of an outcome.
@@ -77,5 +82,6 @@ pub fn status(outcome: &Result<(), Failure>) -> u8
         Failure::ReadFault | Failure::FileFault => 6,
         Failure::WriteFault => 7,
         Failure::NoMemory => 8,
+        Failure::Damaged { .. } => 9,
     }
 }

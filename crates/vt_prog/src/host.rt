@@ -21,6 +21,9 @@ pub trait Host {
 
     type Parts: Parts;
 
+    /// What a long call tells meanwhile goes there.
+    type Terminal: Sink + Drop;
+
     /// What it lends.
     ghost lent: { Self → Lent Self.Source Self.Sink Self.FaultSink Self.Files Self.Parts };
 
@@ -62,6 +65,10 @@ pub trait Host {
             (λ parts. lending self.old (record (lent self.old) { parts = parts }))) }
         ensures parts { result.now ≡ (lent self.old).parts };
 
+    /// The terminal, where there is one that nobody took yet. No clause speaks of what goes there.
+    fn terminal(&mut self) -> Option<Self::Terminal>
+        ensures { lent self.new ≡ lent self.old };
+
     /// The time, in seconds since the beginning of 1970.
     fn now(&mut self) -> u32
         ensures { lent self.new ≡ lent self.old };
@@ -71,17 +78,27 @@ pub trait Host {
         lent (lending host lent') ≡ lent' };
 }
 
-/// A host that is what it lends, and a clock.
+/// A host that is what it lends, and a clock and a terminal, if there is one.
 #[derive(Drop)]
-pub struct Outside<S, K, F, I, P, C> {
+pub struct Outside<S, K, F, I, P, C, T> {
     pub streams: StreamsClient<S, K>,
     pub fault_sink: F,
     pub files: I,
     pub parts: P,
     pub clock: C,
+    pub terminal: Option<T>,
 }
 
-impl<S: Source, K: Sink, F: Sink, I: Files, P: Parts, C: Clock> Host for Outside<S, K, F, I, P, C> {
+impl<S, K, F, I, P, C, T> Host for Outside<S, K, F, I, P, C, T>
+where
+    S: Source,
+    K: Sink,
+    F: Sink,
+    I: Files,
+    P: Parts,
+    C: Clock,
+    T: Sink + Drop,
+{
     ghost use Rattle.std.proofs.Common.{refl};
 
     type Source = S;
@@ -93,6 +110,8 @@ impl<S: Source, K: Sink, F: Sink, I: Files, P: Parts, C: Clock> Host for Outside
     type Files = I;
 
     type Parts = P;
+
+    type Terminal = T;
 
     ghost lent = { λ host. record {
       source = host.streams.source;
@@ -108,6 +127,7 @@ impl<S: Source, K: Sink, F: Sink, I: Files, P: Parts, C: Clock> Host for Outside
       files = lent.files;
       parts = lent.parts;
       clock = host.clock;
+      terminal = host.terminal;
     } };
 
     ghost lent_again = { λ host lent. refl };
@@ -131,6 +151,10 @@ impl<S: Source, K: Sink, F: Sink, I: Files, P: Parts, C: Clock> Host for Outside
 
     fn parts(&mut self) -> &mut P {
         &mut self.parts
+    }
+
+    fn terminal(&mut self) -> Option<T> {
+        self.terminal.take()
     }
 
     fn now(&mut self) -> u32 {

@@ -1,9 +1,8 @@
 //! The program: a Venti server and its tools (venti(8)).
 #![tactic(auto)]
 
-ghost use Rattle.std.specs.Prelude.{◌≡◌, IfOk, map, drop, string_bytes};
+ghost use Rattle.std.specs.Prelude.{◌≡◌, drop};
 
-mod command;
 mod commands;
 mod complaint;
 mod configuration;
@@ -15,10 +14,10 @@ mod memory;
 mod printing;
 mod refusal;
 mod run;
+mod shown;
 mod store;
 
 use crate::run::end;
-pub use command::{Command, command_of};
 pub use commands::fmtarenas::fmtarenas;
 pub use commands::fmtbloom::fmtbloom;
 pub use commands::fmtindex::fmtindex;
@@ -29,11 +28,10 @@ pub use host::{Host, Outside};
 pub use run::{run, run_with};
 use std::alloc::Global;
 use std::env;
-use std::io::ErrorKind;
+use std::io::{ErrorKind, IsTerminal, Stderr};
 use std::process::ExitCode;
 use std::rt::Env;
 use vt_answer::StreamsClient;
-use vt_base::{NoMemory, Text};
 use vt_host::{FileParts, StdClock, StdFiles, StdSink, StdSource};
 
 fn main(rt: HostRuntime) -> ExitCode {
@@ -46,32 +44,39 @@ fn main(rt: HostRuntime) -> ExitCode {
         files: StdFiles::new(rt),
         parts: FileParts::new(rt),
         clock: StdClock(rt),
+        terminal: terminal(rt),
     };
     ExitCode::from(match arguments(&rt) {
-        Ok(words) => run(&rt, rt.alloc(), &words, &mut host),
-        Err(NoMemory) => end(&mut host.fault_sink, &Err(Failure::NoMemory)),
+        Ok(args) => run(&rt, rt.alloc(), words_of(&args), &mut host),
+        Err(failure) => end(&mut host.fault_sink, &[], &Err(failure)),
     })
 }
 
-/// The words of the command line. There are none where one isn't UTF-8: no command has that form.
-fn arguments(rt: &(impl Env + AllocGlobal)) -> Result<Vec<Text>, NoMemory> {
+/// Standard error, if it is a terminal.
+fn terminal(rt: HostRuntime) -> Option<StdSink<Stderr>> {
+    let output = rt.stderr();
+    if output.is_terminal() {
+        Some(StdSink::new(output))
+    } else {
+        None
+    }
+}
+
+/// The command line. One with a word that isn't UTF-8 is faulty.
+fn arguments(rt: &(impl Env + AllocGlobal)) -> Result<Vec<String>, Failure> {
     match env::args(rt) {
-        Ok(args) => words_of(rt.alloc(), &args.collect::<Vec<String>>(rt.alloc())?),
-        Err(error) if error.kind() == ErrorKind::OutOfMemory => Err(NoMemory),
-        Err(_) => Ok(Vec::new(rt.alloc())),
+        Ok(args) => args.collect(rt.alloc()).map_err(|_| Failure::NoMemory),
+        Err(error) if error.kind() == ErrorKind::OutOfMemory => Err(Failure::NoMemory),
+        Err(_) => Err(Failure::BadWords),
     }
 }
 
 /// The words behind the program's name.
-fn words_of(alloc: Global, args: &[String]) -> Result<Vec<Text>, NoMemory>
-    ensures { IfOk result (λ words. words.items ≡ map string_bytes (drop 1 args.now)) }
+fn words_of(args: &[String]) -> &[String]
+    ensures { result.now ≡ drop 1 args.now }
 {
-    let mut words = Vec::new(alloc);
-    let [_, behind @ ..] = args else {
-        return Ok(words);
-    };
-    for word in behind {
-        words.push(Text::copy_of(alloc, word.as_bytes())?)?;
+    match args {
+        [_, behind @ ..] => behind,
+        [] => args,
     }
-    Ok(words)
 }

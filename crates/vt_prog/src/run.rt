@@ -1,12 +1,12 @@
 //! The top call.
 
 ghost use Rattle.sha1.specs.Sha1.{sha1};
-ghost use Rattle.std.specs.Prelude.{◌≡◌};
+ghost use Rattle.std.specs.Prelude.{◌≡◌, ◌++◌, map, string_bytes};
+ghost use Rattle.std.specs.Str.{bytes_eq};
 ghost use Rattle.vt_prog.specs.Change.{work_of, sink_change, Attempts};
 ghost use Rattle.vt_prog.specs.Failure.{HasCauseIn, status_of, line_of};
-ghost use Rattle.vt_prog.specs.Run.{Did, Does, DoesWords};
+ghost use Rattle.vt_prog.specs.Run.{Did, Does, DoesWords, in_memory};
 
-use crate::command::{Command, command_of};
 use crate::commands::fmtarenas::fmtarenas;
 use crate::commands::fmtbloom::fmtbloom;
 use crate::commands::fmtindex::fmtindex;
@@ -15,9 +15,12 @@ use crate::commands::session::session;
 use crate::complaint::complain_of;
 use crate::failure::{Failure, status};
 use crate::host::Host;
+use crate::printing::print;
 use std::alloc::Global;
+use std::convert::AsStr;
 use vt_base::{NoMemory, Scorer, Sha1Scorer, Text};
 use vt_out::Sink;
+use vt_words::{Asked, Command, ask};
 
 /// Does what the words of the command line say, and answers the exit status (venti(8)). A status
 /// other than 0 has its line on the fault sink, if that takes it.
@@ -26,9 +29,10 @@ use vt_out::Sink;
 /// over a store in memory, and writes the replies to the sink. `fmtarenas`, `fmtisect` and
 /// `fmtbloom` make the file that they name a partition of arenas, an index section or a Bloom
 /// filter, and print a line on the sink. `fmtindex` puts the sections that a configuration names to
-/// use as an index.
-pub fn run<R, H: Host>(rt: &R, alloc: Global, words: &[Text], host: &mut H) -> u8
-    ensures did { Did H.Parts.Disk.Disk sha1 words.now result
+/// use as an index. Help and the version are printed on the sink; where there is no command, short
+/// help goes to the fault sink, in front of the line.
+pub fn run<R, H: Host, W: AsStr>(rt: &R, alloc: Global, words: &[W], host: &mut H) -> u8
+    ensures did { Did H.Parts.Disk.Disk sha1 (map W.text words.now) result
         (work_of H.Source.Source H.Sink.Sink H.Files.Files H.Parts.Parts (H.lent host.old)
         (H.lent host.new))
         (sink_change H.FaultSink.Sink
@@ -38,50 +42,68 @@ pub fn run<R, H: Host>(rt: &R, alloc: Global, words: &[Text], host: &mut H) -> u
 }
 
 /// The same, with scores by any scorer.
-pub fn run_with<R, H: Host, S: Scorer>(
+pub fn run_with<R, H: Host, S: Scorer, W: AsStr>(
     _rt: &R,
     alloc: Global,
-    words: &[Text],
+    words: &[W],
     host: &mut H,
     scorer: &S,
 ) -> u8
-    ensures did { Did H.Parts.Disk.Disk S.score_of words.now result
+    ensures did { Did H.Parts.Disk.Disk S.score_of (map W.text words.now) result
         (work_of H.Source.Source H.Sink.Sink H.Files.Files H.Parts.Parts (H.lent host.old)
         (H.lent host.new))
         (sink_change H.FaultSink.Sink
         (H.lent host.old).fault_sink (H.lent host.new).fault_sink) }
 {
-    let outcome = do_words(alloc, words, host, scorer);
-    end(host.fault_sink(), &outcome)
+    let (preface, outcome) = do_words(alloc, words, host, scorer);
+    end(host.fault_sink(), preface.as_bytes(), &outcome)
 }
 
-/// Says why a command did not end well, if it didn't, and gives the exit status.
-pub fn end<F: Sink>(fault_sink: &mut F, outcome: &Result<(), Failure>) -> u8
+/// Says why a command did not end well, if it didn't, behind a text that goes before it, and gives
+/// the exit status.
+pub fn end<F: Sink>(fault_sink: &mut F, preface: &[u8], outcome: &Result<(), Failure>) -> u8
     ensures complained { Attempts (sink_change F.Sink fault_sink.old fault_sink.new)
-        (line_of outcome.now) }
+        (preface.now ++ line_of outcome.now) }
     ensures status { result ≡ status_of outcome.now }
 {
-    complain_of(fault_sink, outcome);
+    complain_behind(fault_sink, preface, outcome);
     status(outcome)
 }
 
-/// Does the command of these words.
-fn do_words<H: Host, S: Scorer>(
+fn complain_behind<F: Sink>(sink: &mut F, preface: &[u8], outcome: &Result<(), Failure>)
+    ensures { Attempts (sink_change F.Sink sink.old sink.new) (preface.now ++ line_of outcome.now) }
+{
+    if preface.is_empty() {
+        return complain_of(sink, outcome);
+    }
+    match sink.put(preface) {
+        Ok(()) => complain_of(sink, outcome),
+        Err(_) => (),
+    }
+}
+
+/// Does what these words ask for, and gives what goes before the line on the fault sink.
+fn do_words<H: Host, S: Scorer, W: AsStr>(
     alloc: Global,
-    words: &[Text],
+    words: &[W],
     host: &mut H,
     scorer: &S,
-) -> Result<(), Failure>
+) -> (String, Result<(), Failure>)
     ensures cause { HasCauseIn H.Parts.Disk.Disk (work_of H.Source.Source H.Sink.Sink H.Files.Files
-        H.Parts.Parts (H.lent host.old) (H.lent host.new)) result }
-    ensures does { DoesWords H.Parts.Disk.Disk S.score_of words.now result (work_of H.Source.Source
-        H.Sink.Sink H.Files.Files H.Parts.Parts (H.lent host.old) (H.lent host.new)) }
+        H.Parts.Parts (H.lent host.old) (H.lent host.new)) result.1 }
+    ensures does { DoesWords H.Parts.Disk.Disk S.score_of (map W.text words.now)
+        (string_bytes result.0) result.1 (work_of H.Source.Source H.Sink.Sink H.Files.Files
+        H.Parts.Parts (H.lent host.old) (H.lent host.new)) }
     ensures quiet { (H.lent host.new).fault_sink ≡ (H.lent host.old).fault_sink }
 {
-    match command_of(alloc, words) {
-        Ok(Some(command)) => do_command(alloc, command, host, scorer),
-        Ok(None) => Err(Failure::BadWords),
-        Err(NoMemory) => Err(Failure::NoMemory),
+    let nothing = String::new(alloc);
+    match ask(alloc, words) {
+        Ok(Asked::Do(command)) => (nothing, do_command(alloc, command, host, scorer)),
+        Ok(Asked::Help(text) | Asked::Version(text)) => {
+            (nothing, print(host.sink(), &[text.as_bytes()]))
+        }
+        Ok(Asked::Faulty(text)) => (text, Err(Failure::BadWords)),
+        Err(NoMemory) => (nothing, Err(Failure::NoMemory)),
     }
 }
 
@@ -99,7 +121,8 @@ fn do_command<H: Host, S: Scorer>(
     ensures quiet { (H.lent host.new).fault_sink ≡ (H.lent host.old).fault_sink }
 {
     match command {
-        Command::Session => session(alloc, host, scorer),
+        Command::Session { store } if is_in_memory(&store) => session(alloc, host, scorer),
+        Command::Session { .. } => Err(Failure::BadWords),
         Command::FormatArenas {
             file,
             name,
@@ -116,4 +139,11 @@ fn do_command<H: Host, S: Scorer>(
         } => fmtbloom(alloc, host, file, &size, &positions),
         Command::FormatIndex { file } => fmtindex(alloc, host, &file, scorer),
     }
+}
+
+/// It is the name of a store in memory.
+fn is_in_memory(store: &Text) -> bool
+    ensures { result ≡ bytes_eq store.now in_memory }
+{
+    store.as_slice() == b":memory:".as_slice()
 }

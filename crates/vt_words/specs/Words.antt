@@ -128,6 +128,10 @@ abbrev pub IsFaulty : Asked → Type 0
 IsFaulty (Faulty text) = ⊤
 IsFaulty asked = ⊥
 
+-- nothing that the program knows can be asked for by them
+abbrev pub AreFaulty : (words : List Text) → Type 0
+AreFaulty words = (asked : Asked) → Asks words asked → IsFaulty asked
+
 -- the words of a session in memory
 abbrev pub session_words : List Text
 session_words = codes "session" ∷ codes ":memory:" ∷ []

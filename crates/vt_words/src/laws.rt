@@ -6,7 +6,7 @@ ghost use Rattle.vt_words.specs.declared.asked.Asked.{Asked};
 ghost use Rattle.vt_words.specs.declared.asked.Asked.TheVariants.{Do};
 ghost use Rattle.vt_words.specs.declared.command.Command.{Command};
 ghost use Rattle.vt_words.specs.declared.command.Command.TheVariants.{Session};
-ghost use Rattle.vt_words.specs.Words.{Asks, IsFaulty, session_words};
+ghost use Rattle.vt_words.specs.Words.{Asks, AreFaulty, session_words};
 
 /// Words that ask for a command ask for nothing else.
 pub fn commands_are_alone()
@@ -16,7 +16,7 @@ pub fn commands_are_alone()
 
 /// No words at all ask for nothing.
 pub fn no_words_ask_for_nothing()
-    ensures { (asked : Asked) → Asks [] asked → IsFaulty asked }
+    ensures { AreFaulty [] }
 {}
 
 /// The words of a session in memory ask for it.

@@ -16,7 +16,7 @@ use Rattle.vt_parts.specs.Parts.{StaysThere}
 use Rattle.vt_prog.specs.declared.failure.Failure.{Failure}
 use Rattle.vt_prog.specs.declared.failure.Failure.TheVariants.{NotFormatted, TooSmall, Disagree, SameName, DiskFault, NoMemory}
 use Rattle.vt_prog.specs.Change.{Change, PartsChange, Work, ReadsFiles}
-use Rattle.vt_prog.specs.Configurations.{ReadsConf, ReadsNone}
+use Rattle.vt_prog.specs.Configurations.{ReadsConf, ReadsNone, IsRefusalAmong}
 use Rattle.vt_prog.specs.Failure.{Outcome}
 use Rattle.vt_prog.specs.Formatting.{Prints}
 
@@ -25,23 +25,6 @@ abbrev pub index_line : (name : List ℕ) → Index → List ℕ
 index_line name index =
     concat (codes "fmtindex " ∷ name ∷ codes ": " ∷ decimal index.buckets ∷ codes " buckets in "
     ∷ decimal index.sections ∷ codes " sections\n" ∷ [])
-
--- the file of the partition with this number, or the configuration's own where it names none
-abbrev pub name_at : (file : List ℕ) → List PartFile → (part : ℕ) → List ℕ
-name_at file files part = option_map_or (λ named. named.name) (slice_get files part) file
-
--- what is told where one of these partitions is refused, unless memory runs out
-abbrev pub IsRefusalAmong : (file : List ℕ) → List PartFile → MountBad → Failure → Type 0
-IsRefusalAmong file files (mount_bad.NotFormatted part) failure =
-    failure ≡ NotFormatted (name_at file files part)
-IsRefusalAmong file files (mount_bad.TooSmall part len need) failure =
-    failure ≡ TooSmall (name_at file files part) len need
-IsRefusalAmong file files (mount_bad.DuplicateName first second) failure =
-    failure ≡ SameName (name_at file files second) (name_at file files first)
-IsRefusalAmong file files (mount_bad.Disagree part field found want) failure =
-    failure ≡ Disagree (name_at file files part) field found want
-IsRefusalAmong file files mount_bad.NoMemory failure = failure ≡ NoMemory
-IsRefusalAmong file files bad failure = ⊥
 
 abbrev pub IsIndexRefusal : (file : List ℕ) → Conf → IndexBad → Failure → Type 0
 IsIndexRefusal file conf (index_bad.Fault part) failure = failure ≡ DiskFault

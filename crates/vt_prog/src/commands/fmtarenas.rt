@@ -10,7 +10,7 @@ ghost use Rattle.vt_prog.specs.Formatting.{Prints};
 use crate::failure::Failure;
 use crate::host::Host;
 use crate::printing::print;
-use crate::refusal::refusal_of;
+use crate::refusal::refused;
 use itoa::Buffer;
 use std::alloc::Global;
 use vt_base::Text;
@@ -37,7 +37,7 @@ pub fn fmtarenas<H: Host>(
     let (len, size) = read_words(name, length, arena_size)?;
     match format_arenas(alloc, host.parts(), &file, name, len, size) {
         Ok(count) => print_arenas(host.sink(), name, size, count),
-        Err(bad) => Err(refusal_of(file, bad)),
+        Err(bad) => Err(refused(host, file, bad)),
     }
 }
 

@@ -10,7 +10,7 @@ ghost use Rattle.vt_prog.specs.Formatting.{Prints};
 use crate::failure::Failure;
 use crate::host::Host;
 use crate::printing::print;
-use crate::refusal::refusal_of;
+use crate::refusal::refused;
 use itoa::Buffer;
 use std::alloc::Global;
 use vt_base::Text;
@@ -35,7 +35,7 @@ pub fn fmtbloom<H: Host>(
     let (bytes, bits) = read_words(size, positions)?;
     match format_filter(alloc, host.parts(), &file, bytes, bits) {
         Ok(()) => print_filter(host.sink(), bytes, bits),
-        Err(bad) => Err(refusal_of(file, bad)),
+        Err(bad) => Err(refused(host, file, bad)),
     }
 }
 

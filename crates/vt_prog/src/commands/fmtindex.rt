@@ -2,10 +2,9 @@
 
 ghost use Rattle.std.specs.Prelude.{◌≡◌, ◌<◌, ◌^◌, IfOk, length};
 ghost use Rattle.vt_format.specs.Index.{files_of};
-ghost use Rattle.vt_format.specs.Opening.{NamesCause, NamesTwo};
 ghost use Rattle.vt_prog.specs.Change.{parts_change, sink_change, work_of};
-ghost use Rattle.vt_prog.specs.Commands.Fmtindex.{DoesFmtindex, IndexesConf, IsIndexRefusal, IsRefusalAmong};
-ghost use Rattle.vt_prog.specs.Commands.Fmtindex.{index_line, name_at};
+ghost use Rattle.vt_prog.specs.Commands.Fmtindex.{DoesFmtindex, IndexesConf, IsIndexRefusal, index_line};
+ghost use Rattle.vt_prog.specs.Configurations.{IsRefusalAmong, name_at};
 ghost use Rattle.vt_prog.specs.Failure.{HasCauseIn};
 ghost use Rattle.vt_prog.specs.Formatting.{Prints};
 
@@ -13,13 +12,14 @@ use crate::configuration::read_conf;
 use crate::failure::Failure;
 use crate::host::Host;
 use crate::printing::print;
+use crate::shown::Shown;
 use itoa::Buffer;
 use std::alloc::Global;
 use vt_base::{MountBad, NoMemory, Scorer, Text};
 use vt_conf::Conf;
 use vt_format::laws::configurations_number_their_files;
 use vt_format::{Index, IndexBad, format_index};
-use vt_out::{Silent, Sink};
+use vt_out::Sink;
 
 /// Reads the configuration, puts all its sections to use, and prints how many buckets they have.
 pub fn fmtindex<H: Host, S: Scorer>(
@@ -36,16 +36,18 @@ pub fn fmtindex<H: Host, S: Scorer>(
 {
     configurations_number_their_files();
     let conf = read_conf(alloc, host.files(), file)?;
-    index_conf(alloc, host, file, scorer, &conf)
+    let mut shown = Shown::new(host.terminal());
+    index_conf(alloc, host, file, scorer, &conf, &mut shown)
 }
 
 /// Puts the sections of a configuration to use, and prints how many buckets they have.
-fn index_conf<H: Host, S: Scorer>(
+fn index_conf<H: Host, S: Scorer, T: Sink>(
     alloc: Global,
     host: &mut H,
     file: &Text,
     scorer: &S,
     conf: &Conf,
+    shown: &mut Shown<T>,
 ) -> Result<(), Failure>
     requires { length (files_of conf.now) < 2 ^ 32 }
     ensures indexes { IndexesConf H.Parts.Disk.Disk file.now conf.now result
@@ -55,9 +57,9 @@ fn index_conf<H: Host, S: Scorer>(
     ensures files { (H.lent host.new).files ≡ (H.lent host.old).files }
     ensures fault_sink { (H.lent host.new).fault_sink ≡ (H.lent host.old).fault_sink }
 {
-    match format_index(alloc, host.parts(), scorer, &mut Silent, conf) {
+    match format_index(alloc, host.parts(), scorer, shown, conf) {
         Ok(index) => print_index(host.sink(), &conf.index, index),
-        Err(bad) => Err(told(alloc, file, conf, bad)),
+        Err(bad) => Err(told(alloc, shown, file, conf, bad)),
     }
 }
 
@@ -81,13 +83,23 @@ fn print_index<K: Sink>(sink: &mut K, name: &Text, index: Index) -> Result<(), F
     )
 }
 
-/// What is told where the index of a configuration in this file can't be formatted.
-fn told(alloc: Global, file: &Text, conf: &Conf, bad: IndexBad) -> Failure
-    requires { NamesCause bad }
+/// What is told where the index of a configuration in this file can't be formatted. A file of which
+/// a call failed is named on the terminal.
+fn told<T: Sink>(
+    alloc: Global,
+    shown: &mut Shown<T>,
+    file: &Text,
+    conf: &Conf,
+    bad: IndexBad,
+) -> Failure
     ensures { IsIndexRefusal file.now conf.now bad result }
 {
     match bad {
-        IndexBad::Fault { .. } | IndexBad::Stopped { .. } => Failure::DiskFault,
+        IndexBad::Fault { part: Some(part) } | IndexBad::Stopped { part } => {
+            shown.name(name_at(file, conf, part).as_slice());
+            Failure::DiskFault
+        }
+        IndexBad::Fault { part: None } => Failure::DiskFault,
         IndexBad::Refused(bad) => match refusal_among(alloc, file, conf, bad) {
             Ok(failure) => failure,
             Err(NoMemory) => Failure::NoMemory,
@@ -102,7 +114,6 @@ fn refusal_among(
     conf: &Conf,
     bad: MountBad,
 ) -> Result<Failure, NoMemory>
-    requires { NamesTwo bad }
     ensures { IfOk result (IsRefusalAmong file.now (files_of conf.now) bad) }
 {
     Ok(match bad {
@@ -129,8 +140,13 @@ fn refusal_among(
             found,
             want,
         },
+        MountBad::Damaged {
+            site: _,
+            want,
+            found,
+        } => Failure::Damaged { want, found },
+        MountBad::Fault => Failure::DiskFault,
         MountBad::NoMemory => Failure::NoMemory,
-        MountBad::Fault | MountBad::Damaged { .. } => unreachable!(),
     })
 }
 

@@ -10,7 +10,7 @@ ghost use Rattle.vt_prog.specs.Formatting.{Prints};
 use crate::failure::Failure;
 use crate::host::Host;
 use crate::printing::print;
-use crate::refusal::refusal_of;
+use crate::refusal::refused;
 use itoa::Buffer;
 use std::alloc::Global;
 use vt_base::Text;
@@ -36,7 +36,7 @@ pub fn fmtisect<H: Host>(
     let len = read_words(name, length)?;
     match format_section(alloc, host.parts(), &file, name, len) {
         Ok(count) => print_section(host.sink(), name, count),
-        Err(bad) => Err(refusal_of(file, bad)),
+        Err(bad) => Err(refused(host, file, bad)),
     }
 }
 

@@ -4,7 +4,7 @@ use crate::{Outside, run_with};
 use std::alloc::Global;
 use std::test::Fail;
 use vt_answer::StreamsClient;
-use vt_base::{Scorer, Text};
+use vt_base::Scorer;
 use vt_out::{MemClock, MemFiles, MemSink, MemSource};
 use vt_parts::Parts;
 
@@ -32,15 +32,6 @@ pub fn see_ran(ran: &Ran, output: &[u8], status: u8, complaint: &str) -> Result<
         ran.complaint.as_slice() == complaint.as_bytes(),
         "another complaint",
     )
-}
-
-/// The words of a command line.
-pub fn words_of(alloc: Global, words: &[&str]) -> Result<Vec<Text>, Fail> {
-    let mut all = Vec::new(alloc);
-    for word in words {
-        all.push(Text::copy_of(alloc, word.as_bytes())?)?;
-    }
-    Ok(all)
 }
 
 /// Runs the program with these words over these streams and partitions, which it gives back. There
@@ -80,9 +71,9 @@ pub fn run_over<S: Scorer, P: Parts + Drop>(
         files,
         parts,
         clock: MemClock::new(0),
+        terminal: None::<MemSink>,
     };
-    let words = words_of(alloc, words)?;
-    let status = run_with(&(), alloc, &words, &mut host, scorer);
+    let status = run_with(&(), alloc, words, &mut host, scorer);
     let ran = Ran {
         status,
         output: Vec::from_slice(alloc, host.streams.sink.written())?,

@@ -46,3 +46,6 @@ returns-in-WriteFault g c tells = rw (c.in-Err.is, c.in-WriteFault.is) (c.compla
 
 pub returns-in-NoMemory : goal.returns-in-NoMemory
 returns-in-NoMemory g c tells = rw (c.in-Err.is, c.in-NoMemory.is) (c.complain-in-NoMemory.ensures tells)
+
+pub returns-in-Damaged : goal.returns-in-Damaged
+returns-in-Damaged g c tells = rw (c.in-Err.is, c.in-Damaged.is) (c.complain_of_damage.ensures tells)

@@ -1,33 +1,41 @@
--- by the words, and by the status
-use Rattle.std.proofs.Common.{ap, sym, ◌∙◌, subst}
-use Rattle.vt_prog.specs.declared.command.Command.TheVariants.{Session}
-use Rattle.vt_prog.specs.Failure.{status_of, line_of}
+-- by what the words ask for, and by the status
+use Rattle.std.proofs.Common.{◌≡◌, ◌++◌, ⊎_elim, inl, inr, ap, refl, sym, ◌∙◌, subst}
+use Rattle.vt_words.proofs.Asking.{session_taken, session_spoken}
+use Rattle.vt_words.specs.declared.command.Command.TheVariants.{Session}
+use Rattle.vt_words.specs.declared.asked.Asked.TheVariants.{Do}
+use Rattle.vt_words.specs.Words.{Asks}
 use Rattle.vt_prog.specs.Change.{Attempts}
-use Rattle.vt_prog.specs.Command.{command_of}
-use Rattle.vt_prog.proofs.DidTells.{refused, done, never_bad, disk_risen, read_risen, write_risen, well_status, session_well}
+use Rattle.vt_prog.specs.Failure.{status_of}
+use Rattle.vt_prog.specs.Run.{in_memory}
+use Rattle.vt_prog.proofs.DidTells.{refused, done, never_bad, line_of_one, disk_risen, read_risen, write_risen, well_status, session_well}
 use Rattle.vt_prog.proofs.laws.did_tells.Goals as goal
 
 pub returns-clause-bad_words : goal.returns-clause-bad_words
-returns-clause-bad_words g c score words status work complaint did none =
-    did.status_is ∙ ap status_of (refused g.P.Disk.Disk score words did.outcome work none did.does).is
-
-pub returns-clause-good_words : goal.returns-clause-good_words
-returns-clause-good_words g c score words status work complaint did command is one =
-    never_bad g.P.Disk.Disk score command did.outcome work (done g.P.Disk.Disk score words did.outcome work command is did.does)
-    (sym did.status_is ∙ one)
+returns-clause-bad_words g c score words status work complaint did faulty = ⊎_elim
+    (λ bad. inl (did.status_is ∙ ap status_of bad.is))
+    (λ short. inr (did.status_is ∙ ap status_of short.is))
+    (refused g.P.Disk.Disk score words did.preface did.outcome work faulty did.does)
 
 pub returns-clause-idle : goal.returns-clause-idle
-returns-clause-idle g c score words status work complaint did none =
-    (refused g.P.Disk.Disk score words did.outcome work none did.does).idle
+returns-clause-idle g c score words status work complaint did faulty = ⊎_elim
+    (λ bad. bad.idle) (λ short. short.idle)
+    (refused g.P.Disk.Disk score words did.preface did.outcome work faulty did.does)
 
 pub returns-clause-complained : goal.returns-clause-complained
-returns-clause-complained g c score words status work complaint did none =
-    subst (Attempts complaint)
-    (ap line_of (refused g.P.Disk.Disk score words did.outcome work none did.does).is) did.complained
+returns-clause-complained g c score words status work complaint did one = (
+  did.preface,
+  subst (λ line. Attempts complaint (did.preface ++ line))
+      (line_of_one did.outcome (sym did.status_is ∙ one)) did.complained,
+)
 
 pub returns-clause-command : goal.returns-clause-command
-returns-clause-command g c score words status work complaint did command is =
-    (did.outcome, did.status_is, done g.P.Disk.Disk score words did.outcome work command is did.does)
+returns-clause-command g c score words status work complaint did command asks =
+    (did.outcome, did.status_is, done g.P.Disk.Disk score words did.preface did.outcome work command asks did.does)
+
+pub returns-clause-good_words : goal.returns-clause-good_words
+returns-clause-good_words g c score words status work complaint did command asks one =
+    never_bad g.P.Disk.Disk score command did.outcome work
+    (done g.P.Disk.Disk score words did.preface did.outcome work command asks did.does) (sym did.status_is ∙ one)
 
 pub returns-clause-disk_fault : goal.returns-clause-disk_fault
 returns-clause-disk_fault g c score words status work complaint did is =
@@ -44,5 +52,6 @@ returns-clause-write_fault g c score words status work complaint did is =
 pub returns-clause-complete : goal.returns-clause-complete
 returns-clause-complete g c score words status work complaint did is tells tells' well no_read no_write =
     well_status did.outcome status did.status_is
-    (session_well score did.outcome work (λ x. x.complete tells tells' well no_read no_write)
-    (done g.P.Disk.Disk score words did.outcome work Session (ap command_of is) did.does))
+    (session_well g.P.Disk.Disk score did.outcome work (λ x. x.complete tells tells' well no_read no_write)
+    (done g.P.Disk.Disk score words did.preface did.outcome work (Session in_memory)
+    (subst (λ said. Asks said (Do (Session in_memory))) (sym is) (session_taken, session_spoken)) did.does))

@@ -2,7 +2,7 @@
 
 ghost use Rattle.std.specs.Prelude.{◌<◌, ◌^◌};
 
-use crate::commands::runs::{see, words_of};
+use crate::commands::runs::see;
 use crate::{Outside, run_with};
 use std::alloc::Global;
 use std::cell::Cell;
@@ -119,8 +119,9 @@ pub fn see_patient(alloc: Global, parts: &[Part], cut: usize, output: &[u8]) -> 
         files: MemFiles::new(alloc),
         parts: MemParts::new(alloc, Failing::new(Vec::new(alloc))),
         clock: MemClock::new(0),
+        terminal: None::<MemSink>,
     };
-    let words = words_of(alloc, &["session", ":memory:"])?;
+    let words = ["session", ":memory:"];
     let status = run_with(&(), alloc, &words, &mut host, &Sha1Scorer);
     see(status == 0, "another status")?;
     let written = host.streams.sink.written.as_slice();

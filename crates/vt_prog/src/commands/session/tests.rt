@@ -297,7 +297,11 @@ fn see_full_sink(alloc: Global) -> Result<(), Fail> {
 
 /// Words that are no command.
 fn see_bad_words(alloc: Global) -> Result<(), Fail> {
-    let cases: [&[&str]; 3] = [&[], &["session"], &["serve", ":memory:"]];
+    let cases: [&[&str]; 3] = [
+        &["session"],
+        &["serve", ":memory:"],
+        &["session", ":Memory:"],
+    ];
     for words in cases {
         let source = MemSource::new(alloc, sample(alloc)?);
         let ran = run_alone(

@@ -1,13 +1,13 @@
 -- why the file's partition was refused
-use Rattle.std.proofs.Common.{Err, sym, subst}
+use Rattle.std.proofs.Common.{Err, sym, ◌∙◌, subst}
 use Rattle.vt_format.specs.Arenas.{FormatsArenas}
 use Rattle.vt_prog.specs.Change.{work_of}
 use Rattle.vt_prog.specs.Failure.{HasCauseIn}
 use Rattle.vt_prog.proofs.Causes.{arenas, of_one_file, refused}
 use Rattle.vt_prog.proofs.commands.fmtarenas.fmtarenas.Goals as goal
 
-pub refusal_of-requires : goal.refusal_of-requires
-refusal_of-requires g c =
+pub refused-requires : goal.refused-requires
+refused-requires g c =
     let disk = g.H.Parts.Disk.Disk in
     of_one_file disk g.H.Parts.Parts.tells c.in_ok-len.len (FormatsArenas disk c.args.name.now c.in_ok-len.size) _ _ _ _ c.in-Err.bad
     (arenas disk c.args.name.now c.in_ok-len.size) c.in-Err.ensures.worked
@@ -18,8 +18,8 @@ returns-in-Err-clause-cause g c =
     let before = g.H.Host.lent c.args.host.now in
     let after = record before { parts = c.format_arenas.new.parts } in
     let worked = rw c.parts.ensures.parts at c.in-Err.ensures.worked in
-    subst (λ lent. HasCauseIn disk (work_of g.H.Source.Source g.H.Sink.Sink g.H.Files.Files g.H.Parts.Parts before lent) (Err c.refusal_of.result))
-    (sym (g.met.H.Host.lent_again c.args.host.now after))
+    subst (λ lent. HasCauseIn disk (work_of g.H.Source.Source g.H.Sink.Sink g.H.Files.Files g.H.Parts.Parts before lent) (Err c.refused.result))
+    (sym (c.refused.ensures.same ∙ g.met.H.Host.lent_again c.args.host.now after))
     (refused disk c.args.file c.in_ok-len.len (FormatsArenas disk c.args.name.now c.in_ok-len.size)
     (work_of g.H.Source.Source g.H.Sink.Sink g.H.Files.Files g.H.Parts.Parts before after)
-    (arenas disk c.args.name.now c.in_ok-len.size) c.in-Err.bad c.refusal_of.result c.refusal_of.ensures worked)
+    (arenas disk c.args.name.now c.in_ok-len.size) c.in-Err.bad c.refused.result c.refused.ensures.told worked)

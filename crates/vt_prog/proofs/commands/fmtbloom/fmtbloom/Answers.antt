@@ -26,7 +26,7 @@ pub returns-in-Err-clause-does : goal.returns-in-Err-clause-does
 returns-in-Err-clause-does g c =
     let again = g.met.H.Host.lent_again in
     let asked = c.in_ok-bytes.ensures.good in
-    simp again (inr (
+    rw c.refused.ensures.same (simp again (inr (
       asked.0,
       c.in_ok-bytes.bytes,
       c.in_ok-bytes.bits,
@@ -35,8 +35,8 @@ returns-in-Err-clause-does g c =
         result = Err c.in-Err.bad;
         worked = rw c.parts.ensures.parts at (c.in-Err.ensures.worked asked.0 asked.1.size_is.fits);
         others = rw c.parts.ensures.parts at c.in-Err.ensures.others;
-        told = ((c.refusal_of.result, refl, c.refusal_of.ensures), refl);
+        told = ((c.refused.result, refl, c.refused.ensures.told), refl);
         unread = refl;
         unopened = refl;
       },
-    ))
+    )))

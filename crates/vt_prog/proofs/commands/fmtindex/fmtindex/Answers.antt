@@ -11,15 +11,15 @@ returns-clause-does g c =
     let again = g.met.H.Host.lent_again in
     let files = g.H.Files.Files in
     let conf = c.in_ok-conf.conf in
-    let files_are = simp again at c.index_conf.ensures.files in
+    let files_are = simp again at (rw c.terminal.ensures at c.index_conf.ensures.files) in
     let read = subst (λ before. ReadsConf c.args.file.now conf (files_change files before c.read_conf.new.files))
     c.files.ensures.files c.in_ok-conf.ensures.said in
     inr (
       conf,
       subst (λ after. ReadsConf c.args.file.now conf (files_change files (g.H.Host.lent c.args.host.now).files after))
           (sym files_are) read,
-      simp again at c.index_conf.ensures.indexes,
-      simp again at c.index_conf.ensures.source,
+      simp again at (rw c.terminal.ensures at c.index_conf.ensures.indexes),
+      simp again at (rw c.terminal.ensures at c.index_conf.ensures.source),
     )
 
 pub returns-clause-cause : goal.returns-clause-cause
@@ -27,7 +27,7 @@ returns-clause-cause g c =
     let again = g.met.H.Host.lent_again in
     indexed_has_cause g.H.Parts.Disk.Disk c.args.file.now c.in_ok-conf.conf
     (work_of g.H.Source.Source g.H.Sink.Sink g.H.Files.Files g.H.Parts.Parts (g.H.Host.lent c.args.host.now)
-    (g.H.Host.lent c.index_conf.new.host)) c.index_conf.result (simp again at c.index_conf.ensures.indexes)
+    (g.H.Host.lent c.index_conf.new.host)) c.index_conf.result (simp again at (rw c.terminal.ensures at c.index_conf.ensures.indexes))
 
 pub returns-in_err-conf-clause-does : goal.returns-in_err-conf-clause-does
 returns-in_err-conf-clause-does g c =
