@@ -175,7 +175,7 @@ const ROWS: [Row; 32] = [
         &["fmtindex", "other.conf"],
         3,
         "",
-        "venti: b.part: too small: 16384, need 41472\n",
+        "venti: b.part: not formatted\n",
     ),
     (
         &["fmtarenas", "c.part", "a.-_1", "40960", "32768"],
