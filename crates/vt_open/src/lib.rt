@@ -16,3 +16,6 @@ pub use laws::{
     shapes_are_kept,
 };
 pub use opening::open_store;
+
+#[cfg(test)]
+mod tests;
