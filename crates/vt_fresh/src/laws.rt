@@ -23,7 +23,7 @@ use vt_disk::Disk;
 use vt_memdisk::{MemDisk, Never};
 use vt_part::{layouts_are_in_order, partitions_are_told_apart};
 
-/// What formatting leaves is a store without blocks, in whatever combination of what a crash leaves.
+/// What formatting leaves is a store without blocks, in each combination of what a crash leaves.
 pub fn formatted_devices_hold_nothing<D: Disk>()
     ensures all { (score : List ℕ → List ℕ) (tables : List Table) (devices : PerDevice D)
         → AreFormatted D.Disk tables devices

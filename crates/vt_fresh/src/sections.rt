@@ -16,8 +16,8 @@ use vt_isect::{BUCKET_PLACE_LEN, HEAD_PLACE_LEN, SectBad, Section};
 use vt_memdisk::MemDisk;
 use vt_out::Silent;
 
-/// The disks of so many sections of so many buckets each. They are in use, one behind the other, and
-/// have no entries.
+/// The disks of so many sections of so many buckets each. They are in use, one behind the other,
+/// and have no entries.
 pub fn fresh_sections(alloc: Global, count: u32, buckets: u32) -> Result<Vec<MemDisk>, NoMemory>
     requires some { 0 < buckets }
     requires most { count * buckets ≤ MAX_BUCKETS }
@@ -35,7 +35,8 @@ pub fn fresh_sections(alloc: Global, count: u32, buckets: u32) -> Result<Vec<Mem
 /// So many disks of this length.
 fn make_disks(alloc: Global, count: u32, len: u64) -> Result<Vec<MemDisk>, NoMemory>
     ensures many { IfOk result (λ disks. length disks.items ≡ count) }
-    ensures len { IfOk result (λ disks. All (λ disk. length (memory_bytes disk) ≡ len) disks.items) }
+    ensures len { IfOk result
+        (λ disks. All (λ disk. length (memory_bytes disk) ≡ len) disks.items) }
 {
     let mut disks = Vec::with_capacity(alloc, count as usize)?;
     for _ in 0..count {
