@@ -17,7 +17,7 @@ proved with rattle-kit-13f logic dac8208d650f15bf";
 const EXAMPLE: &str = "\
 A store of one partition of arenas and one index section, made in a new folder:
 
-  mkdir store && printf 'arenas store/arenas\nisect store/isect\n' > store/venti.conf
+  mkdir store && printf 'arenas store/arenas\\nisect store/isect\\n' > store/venti.conf
   venti fmtarenas store/arenas a0 1073750016 67108864
   venti fmtisect store/isect i0 134217728
   venti fmtindex store/venti.conf
@@ -30,7 +30,8 @@ A session in memory, which is spoken on the standard streams:
 pub(crate) fn venti<'a>(alloc: Global) -> Result<Command<'a>, AllocError>
     ensures { IfOk result (λ it. app_of it ≡ venti) }
 {
-    let program = with_command(program(alloc), session(alloc)?)?;
+    let program = program(alloc).bin_name("venti")?;
+    let program = with_command(program, session(alloc)?)?;
     let program = with_command(program, fmtarenas(alloc)?)?;
     let program = with_command(program, fmtisect(alloc)?)?;
     let program = with_command(program, fmtbloom(alloc)?)?;

@@ -1,6 +1,7 @@
 -- one command after another
 use Rattle.std.proofs.Common.{ap, ap₂, ◌∙◌}
 use Rattle.std.proofs.lemmas.Result.{IfOk-weaker}
+use Rattle.clap.specs.Simple.{app_of_fields}
 use Rattle.clap.specs.Words.{App, Shape, with_subcommand}
 use Rattle.vt_words.proofs.venti.venti.Goals as goal
 
@@ -9,13 +10,14 @@ top a = a.top
 
 pub returns : goal.returns
 returns c =
-    let one = c.in_ok-program.ensures
-    ∙ ap₂ with_subcommand c.program.ensures (ap top c.in_ok-session.ensures.app) in
-    let two = c.in_ok-program-2.ensures
+    let named = ap app_of_fields c.in_ok-program.ensures.0 ∙ c.program.ensures in
+    let one = c.in_ok-program-2.ensures
+    ∙ ap₂ with_subcommand named (ap top c.in_ok-session.ensures.app) in
+    let two = c.in_ok-program-3.ensures
     ∙ ap₂ with_subcommand one (ap top c.in_ok-fmtarenas.ensures.app) in
-    let three = c.in_ok-program-3.ensures
+    let three = c.in_ok-program-4.ensures
     ∙ ap₂ with_subcommand two (ap top c.in_ok-fmtisect.ensures.app) in
-    let four = c.in_ok-program-4.ensures
+    let four = c.in_ok-program-5.ensures
     ∙ ap₂ with_subcommand three (ap top c.in_ok-fmtbloom.ensures.app) in
     IfOk-weaker c.with_command-5.result _ _
     (λ it adds. adds ∙ ap₂ with_subcommand four (ap top c.in_ok-fmtindex.ensures.app))
