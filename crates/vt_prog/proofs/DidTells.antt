@@ -22,6 +22,7 @@ use Rattle.vt_prog.specs.Formatting.{RefusesWord}
 use Rattle.vt_prog.specs.Run.{Does, DoesAsked, DoesWords, EndsIdle, in_memory}
 use Rattle.vt_prog.proofs.Causes.{formats_never}
 use Rattle.vt_prog.proofs.IndexCauses.{index_never}
+use Rattle.vt_prog.proofs.SessionCauses.{end_never_bad, session_conf_never}
 
 -- ---- by what the words ask for
 
@@ -49,16 +50,6 @@ module _ {R K I P D : Type 0} (disk : DiskOf D) (score : List ℕ → List ℕ) 
       does
 
 -- ---- a command never ends as other words do
-
-end_never_bad : (ended : Ended) (taken : ℕ) → status_of (outcome_of_end ended taken) ≡ 1 → ⊥
-end_never_bad ends.Goodbye taken is = cc
-end_never_bad ends.Closed taken is = cc
-end_never_bad ends.Cut taken is = cc
-end_never_bad (ends.Malformed place) taken is = cc
-end_never_bad ends.Spent taken is = cc
-end_never_bad ends.ReadFault taken is = cc
-end_never_bad ends.WriteFault taken is = cc
-end_never_bad ends.NoMemory taken is = cc
 
 session_never : {R K I P D : Type 0} (score : List ℕ → List ℕ) (outcome : Outcome) (work : Work R K I P D)
     → DoesSession score outcome work → status_of outcome ≢ 1
@@ -96,30 +87,26 @@ filter_words : (size positions : List ℕ) (failure : Failure) → AsksForNoFilt
 filter_words size positions failure why = ⊎_elim
     (λ of_size. number_other _ failure of_size.1) (λ of_positions. number_other _ failure of_positions.2) why
 
--- a session over a store that isn't known
-abbrev IsOtherSession : Command → Type 0
-IsOtherSession command = (store : List ℕ) × (command ≡ Session store) × (store ≢ in_memory)
-
 does_never : {R K I P D : Type 0} (disk : DiskOf D) (score : List ℕ → List ℕ) (command : Command) (outcome : Outcome) (work : Work R K I P D)
-    → Does disk score command outcome work → status_of outcome ≡ 1 → IsOtherSession command
-does_never disk score (Session store) outcome work does one = ⊎_elim
-    (λ known. absurd (session_never score outcome work known.1 one)) (λ other. (store, refl, other.0)) does
-does_never disk score (FormatArenas file name length arena_size) outcome work does one = absurd (⊎_elim
+    → Does disk score command outcome work → status_of outcome ≢ 1
+does_never disk score (Session store) outcome work does = ⊎_elim
+    (λ memory. session_never score outcome work memory.1)
+    (λ conf. session_conf_never score disk store outcome work conf.1) does
+does_never disk score (FormatArenas file name length arena_size) outcome work does = ⊎_elim
     (word_never (AsksForNoArenas name length arena_size) outcome work (arenas_words name length arena_size))
-    (λ x. formats_never disk file _ _ _ outcome work x.3) does one)
-does_never disk score (FormatSection file name length) outcome work does one = absurd (⊎_elim
+    (λ x. formats_never disk file _ _ _ outcome work x.3) does
+does_never disk score (FormatSection file name length) outcome work does = ⊎_elim
     (word_never (AsksForNoSection name length) outcome work (section_words name length))
-    (λ x. formats_never disk file _ _ _ outcome work x.2) does one)
-does_never disk score (FormatFilter file size positions) outcome work does one = absurd (⊎_elim
+    (λ x. formats_never disk file _ _ _ outcome work x.2) does
+does_never disk score (FormatFilter file size positions) outcome work does = ⊎_elim
     (word_never (AsksForNoFilter size positions) outcome work (filter_words size positions))
-    (λ x. formats_never disk file _ _ _ outcome work x.4) does one)
-does_never disk score (FormatIndex file) outcome work does one = absurd (index_never disk file outcome work does one)
+    (λ x. formats_never disk file _ _ _ outcome work x.4) does
+does_never disk score (FormatIndex file) outcome work does = index_never disk file outcome work does
 
 pub never_bad : {R K I P D : Type 0} (disk : DiskOf D) (score : List ℕ → List ℕ) (command : Command) (outcome : Outcome) (work : Work R K I P D)
-    → Does disk score command outcome work ⊎ EndsIdle (Err NoMemory) outcome work → status_of outcome ≡ 1 → IsOtherSession command
-never_bad disk score command outcome work done one = ⊎_elim
-    (λ does. does_never disk score command outcome work does one)
-    (λ idle. let wrong = ap status_of (sym idle.is) ∙ one in absurd (cc)) done
+    → Does disk score command outcome work ⊎ EndsIdle (Err NoMemory) outcome work → status_of outcome ≢ 1
+never_bad disk score command outcome work done = ⊎_elim
+    (does_never disk score command outcome work) (λ idle one. let wrong = ap status_of (sym idle.is) ∙ one in cc) done
 
 -- the line of status 1
 pub line_of_one : (outcome : Outcome) → status_of outcome ≡ 1 → line_of outcome ≡ line (codes "bad command line" ∷ [])

@@ -95,19 +95,19 @@ none_has_cause disk file work failure none = absurd none
 
 -- ---- it never ends as other words do
 
-abbrev IsOther : Failure → Type 0
+abbrev pub IsOther : Failure → Type 0
 IsOther failure = status_of (Err failure) ≢ 1
 
-other_as : (failure told : Failure) → failure ≡ told → IsOther told → IsOther failure
+pub other_as : (failure told : Failure) → failure ≡ told → IsOther told → IsOther failure
 other_as failure told is other = subst IsOther (sym is) other
 
-none_never : {I : Type 0} (file : List ℕ) (failure : Failure) (files : FilesChange I) → ReadsNone file failure files → IsOther failure
+pub none_never : {I : Type 0} (file : List ℕ) (failure : Failure) (files : FilesChange I) → ReadsNone file failure files → IsOther failure
 none_never file (BadConf bad) files none is = cc
 none_never file FileFault files none is = cc
 none_never file NoMemory files none is = cc
 none_never file failure files none is = absurd none
 
-among_never : (file : List ℕ) (files : List PartFile) (bad : MountBad) (failure : Failure) → IsRefusalAmong file files bad failure → IsOther failure
+pub among_never : (file : List ℕ) (files : List PartFile) (bad : MountBad) (failure : Failure) → IsRefusalAmong file files bad failure → IsOther failure
 among_never file files mount_bad.Fault failure is = other_as failure _ is (λ one. cc)
 among_never file files (mount_bad.NotFormatted part) failure is = other_as failure _ is (λ one. cc)
 among_never file files (mount_bad.TooSmall part len need) failure is = other_as failure _ is (λ one. cc)

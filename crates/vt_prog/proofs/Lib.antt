@@ -1,6 +1,7 @@
 pub mod Whole
 pub mod Complete
 pub mod IndexCauses
+pub mod SessionCauses
 pub mod InMemory
 pub mod Outcomes
 pub mod Puts

@@ -3,3 +3,4 @@ pub mod Fmtbloom
 pub mod Fmtindex
 pub mod Fmtisect
 pub mod Session
+pub mod SessionConf

@@ -15,6 +15,7 @@ use Rattle.vt_prog.specs.Commands.Fmtbloom.{DoesFmtbloom}
 use Rattle.vt_prog.specs.Commands.Fmtindex.{DoesFmtindex}
 use Rattle.vt_prog.specs.Commands.Fmtisect.{DoesFmtisect}
 use Rattle.vt_prog.specs.Commands.Session.{DoesSession}
+use Rattle.vt_prog.specs.Commands.SessionConf.{DoesSessionConf}
 
 -- it ends so, and nothing is done
 pub record EndsIdle {R K I P D : Type 0} (end outcome : Outcome) (work : Work R K I P D)
@@ -22,7 +23,7 @@ pub record EndsIdle {R K I P D : Type 0} (end outcome : Outcome) (work : Work R 
   pub is : outcome ≡ end
   pub idle : IsIdle work
 
--- the only store that a session is held over
+-- the name of a store in memory; another one is that of a configuration
 abbrev pub in_memory : List ℕ
 in_memory = codes ":memory:"
 
@@ -30,7 +31,7 @@ abbrev pub Does : {R K I P D : Type 0} → DiskOf D → (score : List ℕ → Li
     → Work R K I P D → Type 0
 Does disk score (Session store) outcome work =
     ((store ≡ in_memory) × DoesSession score outcome work)
-    ⊎ ((store ≢ in_memory) × EndsIdle (Err BadWords) outcome work)
+    ⊎ ((store ≢ in_memory) × DoesSessionConf score disk store outcome work)
 Does disk score (FormatArenas file name length arena_size) outcome work =
     DoesFmtarenas disk file name length arena_size outcome work
 Does disk score (FormatSection file name length) outcome work =

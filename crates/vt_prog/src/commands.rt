@@ -7,5 +7,6 @@ pub mod fmtisect;
 #[cfg(test)]
 mod runs;
 pub mod session;
+pub mod session_conf;
 #[cfg(test)]
 mod tests;

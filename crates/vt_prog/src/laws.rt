@@ -33,7 +33,7 @@ pub fn did_tells<R: Source, K: Sink, F: Sink, I: Files, P: Parts>()
         × Attempts complaint (preface ++ line (codes "bad command line" ∷ [])) }
 
     // Words that ask for a command do it, and its outcome gives the status, unless memory runs out
-    // before anything is done. Status 1 is told of a session alone, over a store that isn't known.
+    // before anything is done. Status 1 is told of none.
     ensures command { (score : List ℕ → List ℕ) (words : List (List ℕ)) (status : ℕ)
         (work : Work R K I P P.Disk) (complaint : Change F)
         → Did P.Disk.Disk score words status work complaint → (command : Command)
@@ -42,8 +42,7 @@ pub fn did_tells<R: Source, K: Sink, F: Sink, I: Files, P: Parts>()
     ensures good_words { (score : List ℕ → List ℕ) (words : List (List ℕ)) (status : ℕ)
         (work : Work R K I P P.Disk) (complaint : Change F)
         → Did P.Disk.Disk score words status work complaint → (command : Command)
-        → Asks words (Do command) → status ≡ 1
-        → (store : List ℕ) × (command ≡ Session store) × (store ≢ in_memory) }
+        → Asks words (Do command) → status ≢ 1 }
 
     // A fault is told only where the count of that stream rose, or that of the files, of a disk or
     // of the partitions.

@@ -23,7 +23,7 @@ pub fn refused<H: Host>(host: &mut H, file: Text, bad: MountBad) -> Failure
 }
 
 /// Names the file of which a call failed on the terminal, if there is one.
-fn name_failed<H: Host>(host: &mut H, file: &Text)
+pub fn name_failed<H: Host>(host: &mut H, file: &Text)
     ensures { H.lent host.new ≡ H.lent host.old }
 {
     Shown::new(host.terminal()).name(file.as_slice());

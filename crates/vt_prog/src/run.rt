@@ -12,6 +12,7 @@ use crate::commands::fmtbloom::fmtbloom;
 use crate::commands::fmtindex::fmtindex;
 use crate::commands::fmtisect::fmtisect;
 use crate::commands::session::session;
+use crate::commands::session_conf::session_conf;
 use crate::complaint::complain_of;
 use crate::failure::{Failure, status};
 use crate::host::Host;
@@ -25,9 +26,9 @@ use vt_words::{Asked, Command, ask};
 /// Does what the words of the command line say, and answers the exit status (venti(8)). A status
 /// other than 0 has its line on the fault sink, if that takes it.
 ///
-/// `session :memory:` answers what comes from the source, as it comes, as one session of venti(6)
-/// over a store in memory, and writes the replies to the sink. `fmtarenas`, `fmtisect` and
-/// `fmtbloom` make the file that they name a partition of arenas, an index section or a Bloom
+/// `session` answers what comes from the source, as it comes, as one session of venti(6), and writes
+/// the replies to the sink: over the store of a configuration, or `:memory:`, one in memory.
+/// `fmtarenas`, `fmtisect` and `fmtbloom` make the file that they name a partition of arenas, an index section or a Bloom
 /// filter, and print a line on the sink. `fmtindex` puts the sections that a configuration names to
 /// use as an index. Help and the version are printed on the sink; where there is no command, short
 /// help goes to the fault sink, in front of the line.
@@ -122,7 +123,7 @@ fn do_command<H: Host, S: Scorer>(
 {
     match command {
         Command::Session { store } if is_in_memory(&store) => session(alloc, host, scorer),
-        Command::Session { .. } => Err(Failure::BadWords),
+        Command::Session { store } => session_conf(alloc, host, &store, scorer),
         Command::FormatArenas {
             file,
             name,

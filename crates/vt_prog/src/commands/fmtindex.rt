@@ -108,7 +108,7 @@ fn told<T: Sink>(
 }
 
 /// What is told where a partition that a configuration names is refused.
-fn refusal_among(
+pub fn refusal_among(
     alloc: Global,
     file: &Text,
     conf: &Conf,
@@ -158,7 +158,7 @@ fn name_of(alloc: Global, file: &Text, conf: &Conf, part: u32) -> Result<Text, N
 }
 
 /// The file of the partition with this number, or the configuration's own where it names none.
-fn name_at<'a>(file: &'a Text, conf: &'a Conf, part: u32) -> &'a Text
+pub fn name_at<'a>(file: &'a Text, conf: &'a Conf, part: u32) -> &'a Text
     ensures { result.now ≡ name_at file.now (files_of conf.now) part }
 {
     let at = part as usize;

@@ -3,7 +3,7 @@
 ghost use Rattle.std.specs.Prelude.{◌≡◌, ◌<◌, [], None, IsTrue, IfOk};
 ghost use Rattle.vt_session.specs.Turns.{server_line};
 ghost use Rattle.vt_prog.specs.Change.{work_of, IsIdle};
-ghost use Rattle.vt_prog.specs.Commands.Session.{DoesSession, IsSession, HasCauses, outcome_of};
+ghost use Rattle.vt_prog.specs.Commands.Session.{DoesSession, IsSession, HasCauses, outcome_of, outcome_of_end};
 ghost use Rattle.vt_prog.specs.Failure.{HasCauseIn};
 ghost use Rattle.vt_prog.specs.Store.{HoldsInMemory};
 
@@ -54,13 +54,21 @@ fn outcome_of(end: SessionEnd) -> Result<(), Failure>
     ensures { result ≡ outcome_of end }
 {
     if end.ran_out {
-        return Err(Failure::NoMemory);
+        Err(Failure::NoMemory)
+    } else {
+        end_of(end.ended, end.taken)
     }
-    match end.ended {
+}
+
+/// The outcome of a session by its end alone, of an input of which so many bytes were taken.
+pub fn end_of(ended: Ended, taken: u64) -> Result<(), Failure>
+    ensures { result ≡ outcome_of_end ended taken }
+{
+    match ended {
         Ended::Goodbye | Ended::Closed => Ok(()),
-        Ended::Cut => Err(Failure::Cut(end.taken)),
+        Ended::Cut => Err(Failure::Cut(taken)),
         Ended::Malformed(place) => Err(Failure::Malformed(place)),
-        Ended::Spent => Err(Failure::Spent(end.taken)),
+        Ended::Spent => Err(Failure::Spent(taken)),
         Ended::ReadFault => Err(Failure::ReadFault),
         Ended::WriteFault => Err(Failure::WriteFault),
         Ended::NoMemory => Err(Failure::NoMemory),
