@@ -1,17 +1,27 @@
 //! What a run tells, word by word and status by status.
 
-ghost use Rattle.std.specs.Prelude.{◌≡◌, ◌≢◌, ◌⊎◌, ◌++◌, ℕ, List, [], ◌∷◌, IsTrue, Err, codes};
+ghost use Rattle.std.specs.Prelude.{◌≡◌, ◌≢◌, ◌⊎◌, ◌++◌, ◌&&◌, ℕ, List, [], ◌∷◌, IsTrue, Err, codes};
 ghost use Rattle.vt_base.specs.Faults.{HasRisen};
 ghost use Rattle.vt_words.specs.declared.command.Command.{Command};
 ghost use Rattle.vt_words.specs.declared.command.Command.TheVariants.{Session};
 ghost use Rattle.vt_words.specs.declared.asked.Asked.TheVariants.{Do};
 ghost use Rattle.vt_words.specs.Words.{Asks, AreFaulty, session_words};
 ghost use Rattle.vt_prog.specs.declared.failure.Failure.TheVariants.{NoMemory};
-ghost use Rattle.vt_prog.specs.Change.{Change, Work, IsIdle, Attempts};
+ghost use Rattle.vt_prog.specs.Change.{Change, PartsChange, Work, IsIdle, Attempts};
 ghost use Rattle.vt_prog.specs.Commands.Session.{EndsWell};
+ghost use Rattle.vt_prog.specs.Commands.SessionConf.{KeepsStore, ServesConf};
+ghost use Rattle.vt_conf.specs.declared.conf.Conf.{Conf};
+ghost use Rattle.vt_core.specs.Files.{PerDevice};
+ghost use Rattle.vt_core.specs.Mounting.{IsLogOf};
+ghost use Rattle.vt_model.specs.History.{History};
+ghost use Rattle.vt_model.specs.Places.{Setup};
+ghost use Rattle.vt_open.specs.Names.{AreUnder};
+ghost use Rattle.vt_part.specs.Table.{Table};
 ghost use Rattle.vt_prog.specs.Failure.{Outcome, HasFailed, status_of, line};
 ghost use Rattle.vt_prog.specs.Run.{Did, Does, EndsIdle, in_memory};
 
+use vt_alone::{sessions_end_well, sessions_leave_all};
+use vt_open::{devices_have_names, opened_stores_recall, shapes_are_kept};
 use vt_out::{Files, Sink, Source};
 use vt_parts::Parts;
 
@@ -70,3 +80,23 @@ pub fn did_tells<R: Source, K: Sink, F: Sink, I: Files, P: Parts>()
         → ¬ HasRisen work.sink.faults work.sink.faults'
         → (status ≡ 0) ⊎ (status ≡ 8) }
 {}
+
+/// What a session over the store of a configuration promises, where all that is handed in tells what
+/// it holds, and every combination of the partitions' images stands for a prefix of one legal
+/// history.
+pub fn sessions_keep_the_store<R: Source, K: Sink, P: Parts>()
+    ensures { (score : List ℕ → List ℕ) (conf : Conf) (outcome : Outcome) (source : Change R)
+        (sink : Change K) (parts : PartsChange P P.Disk) (tables : List Table)
+        (devices : PerDevice P.Disk) (c : Setup) (h g : History) (base : ℕ)
+        (x : ServesConf score P.Disk.Disk conf outcome source sink parts) → IsTrue parts.tells
+        → IsTrue P.Disk.tells → IsTrue (source.tells && sink.tells)
+        → AreUnder parts.old conf devices → IsLogOf score P.Disk.Disk tables devices c h g base
+        → KeepsStore score P.Disk.Disk conf x.serves.end x.serves.input x.serves.output parts.new
+        tables devices (record c { base = base }) g }
+{
+    opened_stores_recall::<P::Disk>();
+    devices_have_names::<P::Disk>();
+    shapes_are_kept::<P::Disk>();
+    sessions_leave_all::<P::Disk>();
+    sessions_end_well::<P::Disk>();
+}
