@@ -300,7 +300,7 @@ fn see_bad_words(alloc: Global) -> Result<(), Fail> {
     let cases: [&[&str]; 3] = [
         &["session"],
         &["serve", ":memory:"],
-        &["session", ":Memory:"],
+        &["session", ":memory:", "more"],
     ];
     for words in cases {
         let source = MemSource::new(alloc, sample(alloc)?);
