@@ -4,6 +4,7 @@ use crate::commands::runs::{run_over, run_words, see, see_ran};
 use std::alloc::Global;
 use std::test::Fail;
 use vt_base::{Bytes, Sha1Scorer, Text};
+use vt_memdisk::{Listed, MemDisk};
 use vt_memparts::{Failing, MemParts};
 use vt_out::{MemFiles, MemSink, MemSource};
 use vt_parts::Parts;
@@ -292,6 +293,85 @@ fn see_stops(alloc: Global, row: Row, calls: u64) -> Result<(), Fail> {
         )?;
     }
     Ok(())
+}
+
+/// What the command of the words says: its line, or why it isn't done.
+fn says<P: Parts + Drop>(alloc: Global, words: &[&str], parts: P) -> Result<(Vec<u8>, P), Fail> {
+    let source = MemSource::new(alloc, Vec::new(alloc));
+    let sink = MemSink::new(alloc, 100)?;
+    let files = files(alloc)?;
+    let (ran, parts) = run_over(alloc, words, source, sink, files, parts, &Sha1Scorer)?;
+    let said = if ran.status == 0 {
+        ran.output
+    } else {
+        ran.complaint
+    };
+    Ok((said, parts))
+}
+
+/// Partitions in memory, of which calls fail.
+type Failed = MemParts<MemDisk<Listed>, Failing<Global>>;
+
+/// The partitions of the first three rows.
+fn store(alloc: Global) -> Result<Failed, Fail> {
+    let parts = MemParts::new(alloc, Failing::new(Vec::new(alloc)));
+    let parts = see_row(alloc, parts, ROWS[0])?;
+    let parts = see_row(alloc, parts, ROWS[1])?;
+    see_row(alloc, parts, ROWS[2])
+}
+
+/// These partitions, and that of this name, which the store has.
+fn with_part(alloc: Global, store: &mut Failed, name: &str, parts: Failed) -> Result<Failed, Fail> {
+    let name = Text::copy_of(alloc, name.as_bytes())?;
+    let disk = store.part(alloc, &name, None)?;
+    Ok(parts.with(name, disk)?)
+}
+
+/// Of the store the partitions of these two files; the others are made of disks of which this call
+/// fails.
+fn part_of_store(alloc: Global, files: (&str, &str), call: u64) -> Result<Failed, Fail> {
+    let mut store = store(alloc)?;
+    let parts = MemParts::new(alloc, Failing::new(vec![in alloc; call; 1]?));
+    let parts = with_part(alloc, &mut store, files.0, parts)?;
+    with_part(alloc, &mut store, files.1, parts)
+}
+
+/// What `fmtindex` says of the store where a command was stopped at this call: `n` that the file isn't
+/// formatted, or `f` that the index is.
+fn letter(alloc: Global, row: Row, others: (&str, &str), call: u64) -> Result<char, Fail> {
+    let parts = part_of_store(alloc, others, call)?;
+    let (said, parts) = says(alloc, row.0, parts)?;
+    see(
+        said.as_slice() == b"venti: disk fault\n".as_slice(),
+        "not stopped",
+    )?;
+    let (said, _) = says(alloc, &["fmtindex", "v.conf"], parts)?;
+    Ok(if said.ends_with(b": not formatted\n") {
+        'n'
+    } else if said.as_slice() == b"fmtindex main: 4 buckets in 1 sections\n".as_slice() {
+        'f'
+    } else {
+        '?'
+    })
+}
+
+/// Where each call of the command that formats a file beside these others fails, in turn, this is
+/// said behind it.
+fn see_letters(alloc: Global, row: Row, others: (&str, &str), letters: &str) -> Result<(), Fail> {
+    let mut found = String::new(alloc);
+    for call in 0..letters.len() {
+        found.push(letter(alloc, row, others, call as u64)?)?;
+    }
+    see(found.as_str() == letters, "something else is said")
+}
+
+/// Behind its last write a file is formatted, also where the sync fails that follows, or a read.
+#[test]
+fn a_file_is_formatted_by_its_last_write(rt: HostRuntime) -> Result<(), Fail> {
+    let alloc = rt.alloc();
+    see_letters(alloc, ROWS[0], ("i.part", "b.part"), "nnnnff")?;
+    see_letters(alloc, ROWS[1], ("a.part", "b.part"), "nff")?;
+    see_letters(alloc, ROWS[2], ("a.part", "i.part"), "nff")
 }
 
 #[test]
