@@ -1,0 +1,134 @@
+//! What stores answer, also to a sync that waits, with a full queue, and with a log that has
+//! stopped.
+
+use crate::disks::{Mem, NEVER};
+use crate::stores::{Act, DATA, Given, TestStore, again, do_all, does, fresh, see};
+use std::alloc::Global;
+use std::test::Fail;
+use vt_base::{Sha1Scorer, Why};
+use vt_core::{Core, Event};
+use vt_memdisk::CrashMode;
+use vt_wire::Request;
+
+/// Reads of a store that holds `abc` as data, and not as a directory.
+const READS: [Act<'static>; 6] = [
+    Act::Read(DATA, b"abc", 3, Ok(b"abc")),
+    Act::Read(DATA, b"abc", 2, Err(Why::TooSmall)),
+    Act::Read(2, b"abc", 3, Err(Why::Absent)),
+    Act::Read(DATA, b"abd", 3, Err(Why::Absent)),
+    Act::Read(10, b"abc", 3, Err(Why::BadType)),
+    Act::Read(DATA, b"", 0, Ok(b"")),
+];
+
+/// A block is written twice, under no type and under another one, and so is one of no bytes.
+const WRITES: [Act<'static>; 7] = [
+    Act::Write(DATA, b"abc", Ok(())),
+    Act::Count([1, 0, 0]),
+    Act::Write(DATA, b"abc", Ok(())),
+    Act::Write(0, b"abc", Err(Why::BadType)),
+    Act::Write(DATA, b"", Ok(())),
+    Act::Write(3, b"abc", Ok(())),
+    Act::Count([2, 0, 0]),
+];
+
+/// A sync waits until its blocks are durable.
+const SYNCS: [Act<'static>; 8] = [
+    Act::Ask(1, Request::Sync, Given::Waits),
+    Act::Ask(1, Request::Sync, Given::Nothing),
+    Act::Step(Event::Answer(1), Given::NotYet),
+    Act::Step(Event::Answer(0), Given::Nothing),
+    Act::Work(Event::LogAdvance),
+    Act::Count([2, 2, 0]),
+    Act::Step(Event::Answer(1), Given::Synced(2)),
+    Act::Count([2, 2, 2]),
+];
+
+/// What the second shard, which has `abc`, keeps of it in memory is dropped once, and read again.
+const DROPS: [Act<'static>; 10] = [
+    Act::Work(Event::FileBegin(1)),
+    Act::Work(Event::FileAdvance(1)),
+    Act::Work(Event::BloomAdvance),
+    Act::Work(Event::EvictLump(1)),
+    Act::Read(DATA, b"abc", 3, Ok(b"abc")),
+    Act::Step(Event::EvictLump(1), Given::Moved),
+    Act::Step(Event::EvictLump(1), Given::Nothing),
+    Act::Step(Event::EvictIndex(1), Given::Moved),
+    Act::Work(Event::EvictIndex(1)),
+    Act::Step(Event::EvictIndex(1), Given::Nothing),
+];
+
+/// Requests of a session, their refusals, syncs, what is dropped, and the next mount.
+fn answers<T: TestStore>(alloc: Global) -> Result<(), &'static str> {
+    let mut store: T = fresh(alloc, 1, 0, NEVER)?;
+    for acts in [&WRITES[..], &READS, &SYNCS, &DROPS, &READS] {
+        do_all(alloc, &mut store, acts)?;
+    }
+    let mut store = again(alloc, store, CrashMode::Synced)?;
+    see(
+        does(alloc, &mut store, &Act::Count([2, 2, 2])),
+        "another length",
+    )?;
+    do_all(alloc, &mut store, &READS)
+}
+
+// ---- a full queue
+
+/// What is done behind 64 writes.
+const FULL: [Act<'static>; 5] = [
+    Act::Ask(
+        0,
+        Request::Write {
+            kind: DATA,
+            bytes: &[64],
+        },
+        Given::NotYet,
+    ),
+    Act::Count([64, 0, 0]),
+    Act::Work(Event::LogAdvance),
+    Act::Write(DATA, &[64], Ok(())),
+    Act::Count([65, 64, 0]),
+];
+
+/// Of 65 writes without a sync the last one meets a full queue, which is committed.
+fn fills_queue<T: TestStore>(alloc: Global) -> Result<(), &'static str> {
+    let mut store: T = fresh(alloc, 1, 0, NEVER)?;
+    for number in 0..64u8 {
+        let write = Act::Write(DATA, &[number], Ok(()));
+        see(does(alloc, &mut store, &write), "another reply to a write")?;
+    }
+    do_all(alloc, &mut store, &FULL)
+}
+
+// ---- a stopped log
+
+/// How many calls of the partition mounting makes: the read of its table, a sync, and two reads of
+/// the arena's head.
+const MOUNTING: u64 = 4;
+
+/// The third call of a commit fails. Every reply says from then on that the log has stopped there,
+/// but that a queued block is still read.
+const STOPPED: [Act<'static>; 9] = [
+    Act::Write(DATA, b"abc", Ok(())),
+    Act::Ask(0, Request::Sync, Given::Waits),
+    Act::Step(Event::LogAdvance, Given::Moved),
+    Act::Step(Event::LogAdvance, Given::Moved),
+    Act::Step(Event::LogAdvance, Given::Failed),
+    Act::Step(Event::Answer(0), Given::Refused(Why::Stopped(2))),
+    Act::Write(DATA, b"abd", Err(Why::Stopped(2))),
+    Act::Ask(0, Request::Sync, Given::Refused(Why::Stopped(2))),
+    Act::Read(DATA, b"abc", 3, Ok(b"abc")),
+];
+
+/// The first sync of the partition behind mounting fails.
+fn stops<T: TestStore>(alloc: Global) -> Result<(), &'static str> {
+    let mut store: T = fresh(alloc, 1, 0, MOUNTING + 2)?;
+    do_all(alloc, &mut store, &STOPPED)
+}
+
+#[test]
+fn requests_are_answered(rt: HostRuntime) -> Result<(), Fail> {
+    answers::<Core<Mem, Sha1Scorer>>(rt.alloc())?;
+    fills_queue::<Core<Mem, Sha1Scorer>>(rt.alloc())?;
+    stops::<Core<Mem, Sha1Scorer>>(rt.alloc())?;
+    Ok(())
+}

@@ -1,0 +1,220 @@
+//! The disks of small stores, made byte by byte as docs/FORMATS.md has them.
+
+ghost use Rattle.std.specs.Prelude.{◌≡◌, ◌≤◌, ◌<◌, [], ◌∷◌, IfSome};
+ghost use Rattle.vt_part.specs.Parts.{disk_of, table_of};
+ghost use Rattle.vt_part.specs.Table.{end_of};
+
+use std::alloc::Global;
+use vt_core::Devices;
+use vt_disk::Disk;
+use vt_memdisk::{CrashMode, Listed, MemDisk, Plan};
+use vt_part::Part;
+
+/// A disk that a test makes and crashes. What is done to stores is proved for any such disk, which
+/// is much less work than for one in memory, and runs on that.
+pub trait TestDisk: Disk + Drop {
+    /// One of so many zero bytes, of which this call fails. Reads, writes and syncs are counted
+    /// together, from 0.
+    fn failing(alloc: Global, len: u64, call: u64) -> Option<Self>;
+
+    /// What a crash in a mode leaves.
+    fn crashed(self, mode: CrashMode) -> Self;
+
+    /// What a crash leaves if the first byte that isn't synced takes this choice, and each other
+    /// one is what it was.
+    fn torn(self, choice: u16) -> Self;
+}
+
+/// A plan by which a test's disk fails.
+pub trait TestPlan: Plan {
+    /// A disk of so many zero bytes, of which this call fails.
+    fn disk(alloc: Global, len: u64, call: u64) -> Option<MemDisk<Self>>;
+}
+
+impl TestPlan for Listed {
+    fn disk(alloc: Global, len: u64, call: u64) -> Option<MemDisk<Self>> {
+        MemDisk::failing(alloc, len, vec![in alloc; call].ok()?).ok()
+    }
+}
+
+impl<P: TestPlan> TestDisk for MemDisk<P> {
+    fn failing(alloc: Global, len: u64, call: u64) -> Option<Self> {
+        P::disk(alloc, len, call)
+    }
+
+    fn crashed(self, mode: CrashMode) -> Self {
+        self.crash_in(mode)
+    }
+
+    fn torn(self, choice: u16) -> Self {
+        self.crash(&[choice])
+    }
+}
+
+pub type Mem = MemDisk<Listed>;
+
+/// No call fails.
+pub const NEVER: u64 = u64::MAX;
+
+/// The bytes of a small arena.
+pub const ARENA_LEN: u32 = 32_768;
+
+const FILTER_LEN: u64 = 40_960;
+
+/// Writes bytes at a place. None says that the call failed, or that the disk ends before.
+pub fn put<D: Disk>(disk: &mut D, at: u64, bytes: &[u8]) -> Option<()> {
+    if disk.len() < at || disk.len() - at < bytes.len() as u64 {
+        return None;
+    }
+    disk.write_at(at, bytes).ok()
+}
+
+/// A partition of so many arenas without blocks. This call of it fails, counted from here on.
+pub fn partition<D: TestDisk>(alloc: Global, arenas: u32, arena_len: u32, call: u64) -> Option<D> {
+    let made = u64::from(arenas) + 4;
+    let len = u64::from(arenas).checked_mul(u64::from(arena_len))?;
+    let mut disk = D::failing(alloc, len.checked_add(8_192)?, call.saturating_add(made))?;
+    put(&mut disk, 0, b"VPRT\0\x01arenas0")?;
+    put(&mut disk, 70, &u64::from(arena_len).to_be_bytes())?;
+    put(&mut disk, 78, &arenas.to_be_bytes())?;
+    let mut start = 8_192u64;
+    for number in 0..arenas {
+        let mut head = *b"VARN\0\x01\0\0\0\0";
+        head[6..].copy_from_slice(&number.to_be_bytes());
+        put(&mut disk, start, &head)?;
+        start = start.checked_add(u64::from(arena_len))?;
+    }
+    disk.sync().ok()?;
+    Some(disk)
+}
+
+/// A section in use, of so many empty buckets from this one on, of so many over all. This call of
+/// it fails, counted from here on.
+pub fn section<D: TestDisk>(
+    alloc: Global,
+    first: u32,
+    count: u32,
+    total: u32,
+    call: u64,
+) -> Option<D> {
+    let made = u64::from(count) + 5;
+    let len = 24_576 + 16_896 * u64::from(count);
+    let mut disk = D::failing(alloc, len, call.saturating_add(made))?;
+    put(&mut disk, 0, b"VSEC\0\x01\x01isect")?;
+    put(&mut disk, 71, &first.to_be_bytes())?;
+    put(&mut disk, 75, &count.to_be_bytes())?;
+    put(&mut disk, 79, &total.to_be_bytes())?;
+    for i in 0..count {
+        let mut frame = *b"VBKT\0\0\0\0";
+        frame[4..].copy_from_slice(&first.checked_add(i)?.to_be_bytes());
+        put(&mut disk, 24_576 + 16_896 * u64::from(i), &frame)?;
+    }
+    disk.sync().ok()?;
+    Some(disk)
+}
+
+/// A filter without bits, of which a score has four.
+pub fn filter<D: TestDisk>(alloc: Global, call: u64) -> Option<D> {
+    let mut disk = D::failing(alloc, FILTER_LEN, call.saturating_add(2))?;
+    put(&mut disk, 0, b"VBLM\0\x01\x10\x04")?;
+    disk.sync().ok()?;
+    Some(disk)
+}
+
+/// The disks of a store.
+#[derive(Drop)]
+pub struct Disks<D> {
+    pub arenas: D,
+    pub sections: Vec<D>,
+    pub filter: Option<D>,
+}
+
+/// One of them: disk 0 is the partition, disks 1 and 2 are the sections, and disk 3 is the filter's.
+pub fn nth<D>(disks: &mut Disks<D>, number: u32) -> Option<&mut D> {
+    match number {
+        0 => Some(&mut disks.arenas),
+        3 => disks.filter.as_mut(),
+        _ => disks.sections.get_mut(number.checked_sub(1)? as usize),
+    }
+}
+
+/// A list of one thing.
+pub fn only<T: Drop>(alloc: Global, item: T) -> Option<Vec<T>>
+    ensures { IfSome result (λ list. list.items ≡ item ∷ []) }
+{
+    let mut list = Vec::new(alloc);
+    list.push(item).ok()?;
+    Some(list)
+}
+
+/// Those of a store without blocks, with so many small arenas, two sections of one bucket, and a
+/// filter of 8 KiB. This call of this disk fails: of the partition, a section or the filter,
+/// counted from 0.
+pub fn small<D: TestDisk>(
+    alloc: Global,
+    arenas: u32,
+    device: usize,
+    call: u64,
+) -> Option<Disks<D>> {
+    let mut calls = [NEVER; 4];
+    if device < 4 {
+        calls[device] = call;
+    }
+    let mut sections = only(alloc, section(alloc, 0, 1, 2, calls[1])?)?;
+    sections.push(section(alloc, 1, 1, 2, calls[2])?).ok()?;
+    Some(Disks {
+        arenas: partition(alloc, arenas, ARENA_LEN, calls[0])?,
+        sections,
+        filter: Some(filter(alloc, calls[3])?),
+    })
+}
+
+/// What a crash in a mode leaves of them.
+pub fn crashed<D: TestDisk>(alloc: Global, disks: Disks<D>, mode: CrashMode) -> Option<Disks<D>> {
+    let Disks {
+        arenas,
+        sections,
+        filter,
+    } = disks;
+    let mut left = Vec::new(alloc);
+    for section in sections {
+        left.push(section.crashed(mode)).ok()?;
+    }
+    let filter = match filter {
+        Some(filter) => Some(filter.crashed(mode)),
+        None => None,
+    };
+    Some(Disks {
+        arenas: arenas.crashed(mode),
+        sections: left,
+        filter,
+    })
+}
+
+/// A partition with arenas.
+pub fn mounted_part<D: Disk + Drop>(disk: D) -> Option<Part<D>>
+    ensures { IfSome result (λ part. (end_of (table_of part) ≤ D.size (disk_of part))
+        × (0 < (table_of part).count) × ((table_of part).count ≤ 100)) }
+{
+    let Ok(part) = vt_part::mount(disk) else {
+        return None;
+    };
+    if part.count() == 0 || part.count() > 100 {
+        return None;
+    }
+    Some(part)
+}
+
+/// They are handed back.
+pub fn closed<D: Disk + Drop>(devices: Devices<D>) -> Option<Disks<D>> {
+    let Devices {
+        mut parts,
+        sections,
+        filter,
+    } = devices;
+    Some(Disks {
+        arenas: parts.pop()?.into_devices(),
+        sections,
+        filter,
+    })
+}
