@@ -2,6 +2,7 @@
 import hashlib
 import os
 import re
+import signal
 import subprocess
 import threading
 
@@ -51,8 +52,9 @@ def traced(program, folder, groups):
     log = os.path.join(folder, "log")
     calls = "trace=write,pwrite64,fsync,fdatasync"
     command = ["strace", "-f", "-y", "-xx", "-s", "200000", "-o", log, "-e", calls, program, "session", "v.conf"]
-    with subprocess.Popen(command, cwd=folder, stdin=subprocess.PIPE, stdout=subprocess.PIPE, bufsize=0) as session:
-        asleep = threading.Timer(60, session.kill)
+    streams = {"stdin": subprocess.PIPE, "stdout": subprocess.PIPE, "bufsize": 0}
+    with subprocess.Popen(command, cwd=folder, start_new_session=True, **streams) as session:
+        asleep = threading.Timer(60, os.killpg, [session.pid, signal.SIGKILL])
         asleep.start()
         for given, told in groups:
             session.stdin.write(given)
