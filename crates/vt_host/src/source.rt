@@ -70,6 +70,10 @@ impl<R: ReadCalls> Source for StdSource<R> {
 
     ghost faults = { λ source. source.faults.count };
 
+    ghost Kept = { Unit {0} };
+
+    ghost kept = { λ _. tt };
+
     ghost left_bytes = { λ _. AreBytes-none };
 
     ghost faults_fit = { λ source. source.faults.fits };

@@ -115,6 +115,10 @@ impl Source for MemSource {
 
     ghost faults = { source_faults };
 
+    ghost Kept = { Unit {0} };
+
+    ghost kept = { λ _. tt };
+
     ghost left_bytes = { λ s i. Prim.omega
         (arith, get_or-drop s.given s.content.items i 0, s.content_fits (s.given + i)) };
 

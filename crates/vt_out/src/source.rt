@@ -21,6 +21,11 @@ pub trait Source {
     /// How many calls have failed.
     ghost faults: { Self → ℕ };
 
+    /// What each call leaves as it was.
+    ghost Kept: { Type 0 };
+
+    ghost kept: { Self → Kept };
+
     /// Moves bytes to the front of the buffer, and says how many. 0 is the end of input, where the
     /// buffer has room.
     fn take(&mut self, buf: &mut [u8]) -> Result<usize, Failed>
@@ -37,7 +42,8 @@ pub trait Source {
         ensures kept { OnErr result (IsTrue tells → left self.new ≡ left self.old) }
         ensures none { OnErr result (IsTrue tells → given self.new ≡ given self.old) }
         ensures untouched { OnErr result (IsTrue tells → buf.new ≡ buf.old) }
-        ensures cause { HasCause result (faults self.old) (faults self.new) };
+        ensures cause { HasCause result (faults self.old) (faults self.new) }
+        ensures keeps { kept self.new ≡ kept self.old };
 
     ghost left_bytes: { (source : Self) → AreBytes (left source) };
 

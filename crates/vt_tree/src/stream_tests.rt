@@ -181,6 +181,10 @@ impl Source for Zeros {
 
     ghost faults = { λ _. 0 };
 
+    ghost Kept = { Unit {0} };
+
+    ghost kept = { λ _. tt };
+
     ghost left_bytes = { λ _. AreBytes-none };
 
     ghost faults_fit = { λ _. Prim.omega arith };

@@ -51,6 +51,7 @@ pub fn write_stream<B: Blocks, R: Source>(
         (IsTaken R.tells (R.left source.old) (R.left source.new))) }
     ensures cause { CountsFault is_source_fault result
         (R.faults source.old) (R.faults source.new) }
+    ensures keeps { R.kept source.new ≡ R.kept source.old }
 {
     let zero = blocks.score(&[]);
     let cut = Cut {
@@ -119,6 +120,7 @@ impl Ahead {
         ensures filled { self.new.filled ≤ length self.new.leaf.items }
         ensures cause { CountsFault is_source_fault result
             (R.faults source.old) (R.faults source.new) }
+        ensures keeps { R.kept source.new ≡ R.kept source.old }
     {
         if self.ended {
             self.filled = 0;
@@ -144,6 +146,7 @@ fn fill<R: Source>(source: &mut R, buf: &mut [u8]) -> Result<usize, TreeErr>
         × ((bytes : List ℕ) × IsTaken R.tells (R.left source.old) (R.left source.new) bytes)) }
     ensures cause { CountsFault is_source_fault result
         (R.faults source.old) (R.faults source.new) }
+    ensures keeps { R.kept source.new ≡ R.kept source.old }
 {
     let mut n = 0;
     while n < buf.len() {
@@ -188,6 +191,7 @@ impl Cut {
             (IsTaken R.tells (R.left source.old) (R.left source.new))) }
         ensures cause { CountsFault is_source_fault result
             (R.faults source.old) (R.faults source.new) }
+        ensures keeps { R.kept source.new ≡ R.kept source.old }
     {
         if ahead.filled == 0 {
             return Ok((0, self.zero));
@@ -220,6 +224,7 @@ impl Cut {
             (IsTaken R.tells (R.left source.old) (R.left source.new)) [] []) }
         ensures cause { CountsFault is_source_fault result
             (R.faults source.old) (R.faults source.new) }
+        ensures keeps { R.kept source.new ≡ R.kept source.old }
     {
         let score = self.put_leaf(blocks, &ahead.leaf[..ahead.filled])?;
         ahead.advance(source)?;
@@ -248,6 +253,7 @@ impl Cut {
             (IsTaken R.tells (R.left source.old) (R.left source.new)) [] []) }
         ensures cause { CountsFault is_source_fault result
             (R.faults source.old) (R.faults source.new) }
+        ensures keeps { R.kept source.new ≡ R.kept source.old }
     {
         if depth == 0 {
             return self.leaf(blocks, source, ahead);
@@ -287,6 +293,7 @@ impl Cut {
             (tree_of B.score_of (shape_of self.now) (depth - 1) leaves).blocks) }
         ensures cause { CountsFault is_source_fault result
             (R.faults source.old) (R.faults source.new) }
+        ensures keeps { R.kept source.new ≡ R.kept source.old }
     {
         let most = self.psize as usize / SCORE_LEN;
         let mut scores = Vec::with_capacity(self.alloc, most)?;

@@ -42,6 +42,10 @@ impl Source for PatientSource<'_> {
 
     ghost faults = { λ source. source.failed };
 
+    ghost Kept = { Unit {0} };
+
+    ghost kept = { λ _. tt };
+
     ghost left_bytes = { λ _. AreBytes-none };
 
     ghost faults_fit = { λ source. source.fits };

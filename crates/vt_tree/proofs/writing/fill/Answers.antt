@@ -25,4 +25,5 @@ loop-n-preserved g c =
           part behind so.within few so.taken (λ i. omega (arith, c.type_inv.buf i))
           c.in-Ok.ensures.moved;
       faults = c.in-Ok.ensures.cause ∙ so.faults;
+      kept = c.in-Ok.ensures.keeps ∙ so.kept;
     }

@@ -9,6 +9,7 @@ invariant-loop-n g l = record {
   taken : IsTaken g.R.Source.tells (g.R.Source.left l.fn.source) (g.R.Source.left l.source)
       (take l.n l.buf);
   faults : g.R.Source.faults l.source ≡ g.R.Source.faults l.fn.source;
+  kept : g.R.Source.kept l.source ≡ g.R.Source.kept l.fn.source;
 }
 
 abbrev pub decreases-loop-n : goal.decreases-loop-n

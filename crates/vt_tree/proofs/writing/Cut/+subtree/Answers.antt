@@ -1,4 +1,4 @@
-use Rattle.std.proofs.Common.{◌≡◌, ◌⊎◌, ℕ, suc, ◌-◌, ◌<◌, inl, inr, List, [], ◌∷◌, ◌++◌, length, map, sym, ◌∙◌, ap, subst, arith}
+use Rattle.std.proofs.Common.{◌≡◌, ◌⊎◌, ℕ, suc, ◌-◌, ◌<◌, inl, inr, List, [], ◌∷◌, ◌++◌, length, map, refl, sym, ◌∙◌, ap, subst, arith}
 use Rattle.std.proofs.lemmas.Result.{err_from_is_err_and}
 use Rattle.vt_base.specs.declared.score.Score.{Score}
 use Rattle.vt_tree.specs.Content.{scores_in}
@@ -38,11 +38,14 @@ above-loop-ahead-init g t c =
     let one : c.push.new.self.items ≡ c.args.first.now ∷ [] =
     c.in_ok-push.ensures.items
     ∙ ap (λ (l : List Score). l ++ c.args.first.now ∷ []) c.in_ok-scores.ensures.items in
-    subst (λ (l : List Score). Row g.B.Blocks.does g.B.Scorer.score_of cut g.R.Source.tells
+    record {
+      row = subst (λ (l : List Score). Row g.B.Blocks.does g.B.Scorer.score_of cut g.R.Source.tells
     (c.args.depth - 1) c.args.blocks.now c.args.blocks.now ahead ahead left left c.args.first.now l
     faults faults) (sym one)
     (row_begun g.B.Blocks.does g.B.Scorer.score_of cut g.R.Source.tells (c.args.depth - 1)
-    c.args.blocks.now ahead left c.args.first.now faults c.requires.ready)
+    c.args.blocks.now ahead left c.args.first.now faults c.requires.ready);
+      kept = refl;
+    }
 
 pub above-returns-in_err-subtree-clause-stopped : goal.above-returns-in_err-subtree-clause-stopped
 above-returns-in_err-subtree-clause-stopped g t c leaves has =
@@ -55,7 +58,7 @@ above-returns-in_err-subtree-clause-stopped g t c leaves has =
     c.loop-ahead.scores.items (g.R.Source.faults c.args.source.now)
     (g.R.Source.faults c.loop-ahead.source) (g.R.Source.faults c.subtree.new.source)
     c.loop-ahead-test.true (omega (arith, c.len.ensures, c.if-len-most.true))
-    c.loop-ahead.invariant c.args.depth c.in_err-subtree.field-0.0
+    c.loop-ahead.invariant.row c.args.depth c.in_err-subtree.field-0.0
     (one_more c.args.depth c.requires.depth.0) c.in_err-subtree.ensures.stopped leaves has)
 
 pub above-loop-ahead-preserved : goal.above-loop-ahead-preserved
@@ -65,7 +68,8 @@ above-loop-ahead-preserved g t c =
     let score = c.in_ok-subtree.field-0 in
     let longer : c.push-in-loop-ahead.new.self.items ≡ scores ++ score ∷ [] =
     c.in_ok-push-2.ensures.items in
-    subst (λ (l : List Score). Row g.B.Blocks.does g.B.Scorer.score_of cut g.R.Source.tells
+    record {
+      row = subst (λ (l : List Score). Row g.B.Blocks.does g.B.Scorer.score_of cut g.R.Source.tells
     (c.args.depth - 1) c.args.blocks.now c.subtree.new.blocks c.args.ahead.now c.subtree.new.ahead
     (g.R.Source.left c.args.source.now) (g.R.Source.left c.subtree.new.source) c.args.first.now l
     (g.R.Source.faults c.args.source.now) (g.R.Source.faults c.subtree.new.source)) (sym longer)
@@ -75,8 +79,10 @@ above-loop-ahead-preserved g t c =
     (g.R.Source.left c.subtree.new.source) c.args.first.now scores
     (g.R.Source.faults c.args.source.now) (g.R.Source.faults c.loop-ahead.source)
     (g.R.Source.faults c.subtree.new.source) c.loop-ahead-test.true
-    (omega (arith, c.len.ensures, c.if-len-most.true)) c.loop-ahead.invariant score
-    c.in_ok-subtree.ensures.grown c.in_ok-subtree.ensures.ready c.in_ok-subtree.ensures.cause)
+    (omega (arith, c.len.ensures, c.if-len-most.true)) c.loop-ahead.invariant.row score
+    c.in_ok-subtree.ensures.grown c.in_ok-subtree.ensures.ready c.in_ok-subtree.ensures.cause);
+      kept = c.in_ok-subtree.ensures.keeps ∙ c.loop-ahead.invariant.kept;
+    }
 
 pub above-returns-in_err-push-2-clause-stopped : goal.above-returns-in_err-push-2-clause-stopped
 above-returns-in_err-push-2-clause-stopped g t c leaves has =
@@ -96,13 +102,13 @@ above-returns-in_err-push-2-clause-stopped g t c leaves has =
     (g.R.Source.left c.subtree.new.source) c.args.first.now scores
     (g.R.Source.faults c.args.source.now) (g.R.Source.faults c.loop-ahead.source)
     (g.R.Source.faults c.subtree.new.source) c.loop-ahead-test.true
-    (omega (arith, c.len.ensures, c.if-len-most.true)) c.loop-ahead.invariant score
+    (omega (arith, c.len.ensures, c.if-len-most.true)) c.loop-ahead.invariant.row score
     c.in_ok-subtree.ensures.grown c.in_ok-subtree.ensures.ready c.in_ok-subtree.ensures.cause)
     c.args.depth (one_more c.args.depth c.requires.depth.0) leaves has)
 
 pub above-returns-clause-grown : goal.above-returns-clause-grown
 above-returns-clause-grown g t c leaves has =
-    let row = c.loop-ahead.invariant in
+    let row = c.loop-ahead.invariant.row in
     let few = row.few in
     let over : (c.loop-ahead.ahead.filled ≡ 0)
     ⊎ (length c.loop-ahead.scores.items ≡ scores_in c.args.self.now.psize) =
@@ -124,7 +130,7 @@ above-returns-clause-grown g t c leaves has =
 
 pub above-returns-clause-stopped : goal.above-returns-clause-stopped
 above-returns-clause-stopped g t c leaves has =
-    let row = c.loop-ahead.invariant in
+    let row = c.loop-ahead.invariant.row in
     let few = row.few in
     let over : (c.loop-ahead.ahead.filled ≡ 0)
     ⊎ (length c.loop-ahead.scores.items ≡ scores_in c.args.self.now.psize) =

@@ -89,6 +89,7 @@ loop-ahead-preserved g c =
           c.in_ok-score-2.ensures.grown;
       ready = c.in_ok-score-2.ensures.ready;
       faults = c.in_ok-score-2.ensures.cause ∙ so.faults;
+      kept = c.in_ok-score-2.ensures.keeps ∙ so.kept;
     }
 
 pub returns-clause-grown : goal.returns-clause-grown

@@ -11,6 +11,7 @@ invariant-loop-ahead g l = record {
       (g.R.Source.left l.source) l.depth l.score;
   ready : IsReady g.B.Scorer.score_of l.self l.ahead g.R.Source.tells (g.R.Source.left l.source);
   faults : g.R.Source.faults l.source ≡ g.R.Source.faults l.fn.source;
+  kept : g.R.Source.kept l.source ≡ g.R.Source.kept l.fn.source;
 }
 
 abbrev pub decreases-loop-ahead : goal.decreases-loop-ahead
