@@ -1,5 +1,5 @@
--- What a parser keeps of an input, and what it reads of a frame.
-use Rattle.std.specs.Prelude.{ℕ, ◌≡◌, ◌+◌, ◌||◌, Bool, true, false, Some, None, List, [], ◌∷◌, ◌++◌, length}
+-- What is left of an input, and what is read of a frame.
+use Rattle.std.specs.Prelude.{ℕ, ◌≡◌, ◌+◌, ◌||◌, Bool, true, false, Some, None, Result, Ok, Err, List, [], ◌∷◌, ◌++◌, length}
 use Rattle.vt_base.specs.Protocol.{TMessage, t_hello}
 use Rattle.vt_wire.specs.Frames.{framed, IsBody}
 use Rattle.vt_wire.specs.Views.{message_of}
@@ -8,8 +8,6 @@ use Rattle.vt_session.specs.declared.Ended.TheVariants.{Goodbye}
 use Rattle.vt_session.specs.declared.parsed.Next.{Next}
 use Rattle.vt_session.specs.declared.parsed.Next.TheVariants.{Message, Refused, End}
 use Rattle.vt_session.specs.declared.parsed.Left.{Left}
-use Rattle.vt_session.specs.declared.parsed.State.{State}
-use Rattle.vt_session.specs.declared.parsed.State.TheVariants.{GoingOn, Over}
 use Rattle.vt_session.specs.Heard.{Item, item_of, greets, Unheard, Hears}
 use Rattle.vt_session.specs.Hearing.{Hearing, going_on, over, MatchNext}
 
@@ -21,9 +19,10 @@ unheard left = record {
   bytes = left.bytes.now;
 }
 
-abbrev pub hearing_of : State → Hearing
-hearing_of (GoingOn left) = going_on (unheard left)
-hearing_of (Over ended) = over ended
+-- what is left, or how it ended
+abbrev pub hearing_of : Result Left Ended → Hearing
+hearing_of (Ok left) = going_on (unheard left)
+hearing_of (Err ended) = over ended
 
 -- a hello that is accepted
 abbrev pub is_hello_message : TMessage → Bool

@@ -14,7 +14,7 @@ pub use laws::{
     one_count_rises, talk_of_longer, talks_go_on, turns_tell_in_order, write_fault_in_a_reply,
     written_blocks_are_held,
 };
-pub use parsed::{Next, Parsed, parse_all};
+pub use parsed::Next;
 pub use talker::{MAX_TAKEN, Talker};
 
 /// How a session ended.

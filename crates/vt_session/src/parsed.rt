@@ -1,16 +1,13 @@
-//! Hearing a whole input, item by item.
+//! What the next message of an input comes to.
 
 ghost use Rattle.std.specs.Prelude.{◌≡◌, ◌+◌, ◌<◌, ◌^◌, ◌↔◌, List, drop, length, IsNone, IfSome};
 ghost use Rattle.vt_base.specs.Bytes.{AreBytes};
 ghost use Rattle.vt_wire.specs.Frames.{size_width, IsFrame, IsPartial};
 ghost use Rattle.vt_wire.specs.Views.{message_of};
-ghost use Rattle.vt_session.specs.Heard.{Item, Heard, end_of};
-ghost use Rattle.vt_session.specs.Hearing.{Hearing, going_on, HearsOn, IsHeard, Gives, TakesBytes};
-ghost use Rattle.vt_session.specs.declared.Ended.{Ended};
+ghost use Rattle.vt_session.specs.Heard.{end_of};
 
 use crate::Ended;
-use std::marker::Model;
-use vt_wire::{Line, Request, Rule, WireBad, decode, decode_line, frame_len};
+use vt_wire::{Request, Rule, WireBad, decode, frame_len};
 
 /// The version that a session is held in.
 const VERSION: &[u8] = b"02";
@@ -41,19 +38,6 @@ impl Next<'_> {
     }
 }
 
-/// An input of which a part was heard.
-#[derive(Drop)]
-pub struct Parsed<'a> {
-    state: State<'a>,
-}
-
-/// How far an input was heard.
-#[derive(Clone, Copy)]
-enum State<'a> {
-    GoingOn(Left<'a>),
-    Over(Ended),
-}
-
 /// What is left of an input, behind its line and whole frames.
 #[derive(Clone, Copy)]
 pub(crate) struct Left<'a> {
@@ -68,76 +52,8 @@ pub(crate) struct Left<'a> {
     ghost fits: { place + length bytes.now < 2 ^ 64 },
 }
 
-impl<'a> Model for Parsed<'a> {
-    ghost use Rattle.vt_session.specs.Hearing.{Hearing};
-    ghost use Rattle.vt_session.specs.Parsed.{hearing_of};
-
-    ghost Value = { Hearing };
-
-    ghost view = { λ p. hearing_of p.state };
-}
-
-/// Begins to hear a whole input: its line is read.
-pub fn parse_all(input: &[u8]) -> Parsed<'_>
-    ensures heard { (items : List Item) (ended : Ended) →
-        HearsOn result items ended → Heard input.now items ended }
-    ensures goes_on { IsHeard result }
-{
-    let state = match decode_line(input) {
-        Line::Whole { len, has_02 } => State::GoingOn(Left {
-            offered: has_02,
-            greeted: false,
-            place: len as u64,
-            bytes: &input[len..],
-        }),
-        Line::More => State::Over(end_of(input)),
-        Line::Bad(place) => State::Over(Ended::Malformed(place as u64)),
-    };
-    Parsed { state }
-}
-
-impl<'a> Parsed<'a> {
-    /// Hears the next item. Behind the last one it is the end, again and again.
-    pub fn next(&mut self) -> Next<'a>
-        ensures gives { Gives result self.old self.new }
-        ensures shorter { TakesBytes result self.old self.new }
-        ensures goes_on { IsHeard self.new }
-    {
-        match self.state {
-            State::GoingOn(left) => {
-                let (next, state) = left.next();
-                self.state = state;
-                next
-            }
-            State::Over(ended) => Next::End(ended),
-        }
-    }
-}
-
 impl<'a> Left<'a> {
-    ghost use Rattle.vt_session.specs.Parsed.{unheard, hearing_of, RulesGive, FrameGives, IsFront};
-
-    /// What comes next, and the state behind it.
-    fn next(self) -> (Next<'a>, State<'a>)
-        ensures gives { Gives result.0 (going_on (unheard self.entry)) (hearing_of result.1) }
-        ensures shorter { TakesBytes result.0 (going_on (unheard self.entry)) (hearing_of result.1) }
-        ensures goes_on { IsHeard (hearing_of result.1) }
-    {
-        let Some((next, len)) = self.front() else {
-            let ended = end_of(self.bytes);
-            return (Next::End(ended), State::Over(ended));
-        };
-        if let Next::End(ended) = next {
-            return (next, State::Over(ended));
-        }
-        let left = Left {
-            offered: self.offered,
-            greeted: self.greeted || next.is_hello(),
-            place: self.place + len as u64,
-            bytes: &self.bytes[len..],
-        };
-        (next, State::GoingOn(left))
-    }
+    ghost use Rattle.vt_session.specs.Parsed.{unheard, RulesGive, FrameGives, IsFront};
 
     /// What the first frame left comes to, and how many bytes it has; None exactly where none is
     /// whole.

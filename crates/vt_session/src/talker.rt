@@ -20,7 +20,7 @@ use vt_wire::{Line, decode_line, frame_len};
 /// The most bytes that one link takes.
 pub const MAX_TAKEN: u64 = 1 << 62;
 
-/// Hears an input as it comes in, to the same effect as `parse_all` whatever the pieces.
+/// Hears an input as it comes in, to the same effect whatever the pieces.
 ///
 /// It is fed while it needs more, and else tells what comes `next`, which stands until it is told
 /// to `pass` it. Its buffer is made at the start, and no call takes memory.

@@ -1,10 +1,13 @@
 //! Inputs, byte for byte, and what is heard of them.
 
+mod whole;
+
 use super::*;
 use std::alloc::{AllocError, Global};
 use std::test::Fail;
 use vt_base::{NoMemory, Score};
 use vt_wire::{Request, Rule};
+use whole::parse_all;
 
 const LINE: &[u8] = b"venti-02-test\n";
 
