@@ -6,5 +6,6 @@ pub mod Keywords
 pub mod Lines
 pub mod Numbers
 pub mod Parsing
+pub mod Room
 pub mod Settings
 pub mod Sizes

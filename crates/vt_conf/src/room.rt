@@ -1,6 +1,7 @@
 //! How much memory each shard of the index gets.
 
-ghost use Rattle.std.specs.Prelude.{◌≡◌, ◌<◌, ◌/◌, min, max};
+ghost use Rattle.std.specs.Prelude.{◌≡◌, ◌<◌};
+ghost use Rattle.vt_conf.specs.Room.{block_room, entry_room};
 
 use vt_base::MAX_BLOCK;
 
@@ -11,7 +12,7 @@ const ENTRY_LEN: u64 = 64;
 /// index sections, but from 4 to 65,536.
 pub fn block_room(mem: u64, sections: u32) -> u32
     requires { 0 < sections }
-    ensures { result ≡ min 65536 (max 4 (mem / MAX_BLOCK / sections)) }
+    ensures { result ≡ block_room mem sections }
 {
     (mem / MAX_BLOCK as u64 / u64::from(sections))
         .max(4)
@@ -22,7 +23,7 @@ pub fn block_room(mem: u64, sections: u32) -> u32
 /// for, over the count of index sections, but from 64 to 1,048,576.
 pub fn entry_room(icmem: u64, sections: u32) -> u32
     requires { 0 < sections }
-    ensures { result ≡ min 1048576 (max 64 (icmem / 64 / sections)) }
+    ensures { result ≡ entry_room icmem sections }
 {
     (icmem / ENTRY_LEN / u64::from(sections))
         .max(64)
