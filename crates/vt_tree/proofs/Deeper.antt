@@ -11,7 +11,7 @@ use Rattle.vt_tree.specs.Content.{scores_in}
 use Rattle.vt_tree.specs.Growing.{Next, TakesLeaves, HasFirst, GrowsTree, StopsTree}
 use Rattle.vt_tree.specs.Reading.{refusal_in}
 use Rattle.vt_tree.specs.Streams.{Shape, pieces, tree_of}
-use Rattle.vt_tree.specs.Writing.{IsTaken, IsGivenUpFor}
+use Rattle.vt_tree.specs.Writing.{IsTaken, IsAll, IsGivenUpFor}
 use Rattle.vt_tree.proofs.Appending.{accepted_join, ends_more}
 use Rattle.vt_tree.proofs.Growth.{cut_all, cut_more, no_pieces, some_pieces, taken_more}
 use Rattle.vt_tree.proofs.Making.{makes_more}
@@ -95,14 +95,14 @@ module _ {S : Type 0} (does : S → Call → S → Type 0) (score_of : List ℕ 
 
     -- and what was taken for it is no less than before
     pub stopped_later : (err : TreeErr)
-        → (a : StopsTree does score_of mid s' shape (suc d) half (IsTaken tells between to) f.leaves
+        → (a : StopsTree does score_of mid s' shape (suc d) half (IsAll tells between) f.leaves
         (tree_of score_of shape d f.leaves).blocks err)
-        → (t : StopsTree does score_of s s' shape (suc d) old (IsTaken tells from to) [] [] err)
+        → (t : StopsTree does score_of s s' shape (suc d) old (IsAll tells from) [] [] err)
         × (half.size + length a.bytes ≡ old.size + length t.bytes)
     stopped_later err a = (
       record {
         bytes = f.bytes ++ a.bytes;
-        is_taken = taken_more tells from between to f.bytes a.bytes f.is_taken a.is_taken;
+        is_coming = taken_more tells from between [] f.bytes a.bytes f.is_taken a.is_coming;
         still = λ none. absurd (omega arith);
         cause = subst (λ (n : ℕ). IsGivenUpFor err n) sizes a.cause;
         calls = f.calls ++ a.calls;
@@ -142,18 +142,18 @@ module _ {S : Type 0} (does : S → Call → S → Type 0) (score_of : List ℕ 
               ∙ ap (λ (l : List ℕ). f.bytes ++ l) (sym no_bytes))
         ]
 
-  pub stopped_first : (s s' : S) (old : Next) (taken : List ℕ → Type 0) (err : TreeErr)
+  pub stopped_first : (s s' : S) (old : Next) (coming : List ℕ → Type 0) (err : TreeErr)
       → 0 < length old.leaf
-      → StopsTree does score_of s s' shape d old taken [] [] err
-      → StopsTree does score_of s s' shape (suc d) old taken [] [] err
-  stopped_first s s' old taken err came f =
+      → StopsTree does score_of s s' shape d old coming [] [] err
+      → StopsTree does score_of s s' shape (suc d) old coming [] [] err
+  stopped_first s s' old coming err came f =
       let more = begins score_of shape (suc d) d (omega arith)
       (pieces shape.dsize (old.leaf ++ f.bytes))
       (some_pieces does score_of shape tells d some d_some (old.leaf ++ f.bytes)
       (omega (arith, length-append old.leaf f.bytes, came))) some in
       record {
         bytes = f.bytes;
-        is_taken = f.is_taken;
+        is_coming = f.is_coming;
         still = f.still;
         cause = f.cause;
         calls = f.calls;
@@ -192,14 +192,13 @@ module _ {S : Type 0} (does : S → Call → S → Type 0) (score_of : List ℕ 
 
     pub stopped_by : (result : Result Score TreeErr)
         → IfErr result (StopsTree does score_of mid s' shape depth half
-        (IsTaken tells between to) f.leaves (tree_of score_of shape d f.leaves).blocks)
-        → IfErr result (StopsTree does score_of s s' shape depth old (IsTaken tells from to) []
-        [])
+        (IsAll tells between) f.leaves (tree_of score_of shape d f.leaves).blocks)
+        → IfErr result (StopsTree does score_of s s' shape depth old (IsAll tells from) [] [])
     stopped_by (Ok above) a = tt
     stopped_by (Err err) a =
-        subst (λ (k : ℕ). StopsTree does score_of s s' shape k old (IsTaken tells from to) [] []
+        subst (λ (k : ℕ). StopsTree does score_of s s' shape k old (IsAll tells from) [] []
         err) same
         (stopped_later s mid s' old half new from between to score came f err
         (subst (λ (k : ℕ). StopsTree does score_of mid s' shape k half
-        (IsTaken tells between to) f.leaves (tree_of score_of shape d f.leaves).blocks err)
+        (IsAll tells between) f.leaves (tree_of score_of shape d f.leaves).blocks err)
         (sym same) a)).0

@@ -1,13 +1,13 @@
 -- The trees below a pointer block, written one after another.
-use Rattle.std.proofs.Common.{◌≡◌, ◌⊎◌, ℕ, zero, suc, ◌+◌, ◌*◌, ◌<◌, ◌≤◌, ◌^◌, inl, inr, cond, Bool, Ok, Err, List, [], ◌∷◌, ◌++◌, length, map, take, drop, refl, sym, ◌∙◌, ap, subst, arith, append-nil, append_assoc, length-append}
+use Rattle.std.proofs.Common.{◌≡◌, ◌⊎◌, ℕ, zero, suc, ◌+◌, ◌*◌, ◌<◌, ◌≤◌, ◌^◌, inl, inr, cond, Bool, true, false, IsTrue, Ok, Err, List, [], ◌∷◌, ◌++◌, length, map, take, drop, refl, sym, ◌∙◌, ap, subst, arith, append-nil, append_assoc, length-append}
 use Rattle.std.specs.Prelude.{◌==◌}
 use Rattle.std.specs.List.{flat_map, range_with_len}
 use Rattle.std.proofs.Math.Nat.{mul-zero, mul-le-mul_left, pow-suc}
-use Rattle.std.proofs.lemmas.Bool.{cases_lt}
+use Rattle.std.proofs.lemmas.Bool.{cases_Bool, cases_lt, false≢true}
 use Rattle.std.proofs.lemmas.List.{map-append, take_at, nil_from_length}
 use Rattle.std.proofs.lemmas.List.Concat.{flat_map-append}
 use Rattle.vt_base.specs.Protocol.{Operation}
-use Rattle.vt_base.specs.Bytes.{AreBytes-append}
+use Rattle.vt_base.specs.Bytes.{AreBytes, AreBytes-append}
 use Rattle.vt_base.specs.declared.score.Score.{Score}
 use Rattle.vt_model.specs.History.{Block}
 use Rattle.vt_tree.specs.declared.err.TreeErr.{TreeErr}
@@ -17,7 +17,7 @@ use Rattle.vt_tree.specs.Content.{scores_in}
 use Rattle.vt_tree.specs.Growing.{Next, IsNext, TakesLeaves, GrowsTree, StopsTree, PutsBlock, IsOfBlock}
 use Rattle.vt_tree.specs.Making.{Makes}
 use Rattle.vt_tree.specs.Streams.{Shape, Tree, pieces, pointer_block, tree_of}
-use Rattle.vt_tree.specs.Writing.{IsTaken, IsGivenUpFor}
+use Rattle.vt_tree.specs.Writing.{IsTaken, IsAll, IsGivenUpFor}
 use Rattle.vt_tree.proofs.Appending.{accepted_join, ends_more}
 use Rattle.vt_tree.proofs.Beginnings.{begins_more, begins_all, blocks_below, own}
 use Rattle.vt_tree.proofs.Making.{makes_more}
@@ -34,6 +34,51 @@ taken_more tells a b c xs ys first then = record {
       first.front told ∙ ap (λ (l : List ℕ). xs ++ l) (then.front told)
       ∙ sym (append_assoc xs ys c);
 }
+
+-- all that comes behind a leaf; behind the end nothing does
+pub record Comes (tells ended : Bool) (left : List ℕ) : Type 0 where
+  pub more : List ℕ
+  pub is : IsTaken tells left [] more
+  pub end : ended ≡ true → more ≡ []
+
+pub what_comes : (tells ended : Bool) (left : List ℕ) → AreBytes left
+    → (ended ≡ true → IsTrue tells → left ≡ []) → Comes tells ended left
+what_comes false ended left bytes end = record {
+  more = [];
+  is = record {
+    bytes = λ i. omega arith;
+    front = λ told. absurd (false≢true told);
+  };
+  end = λ over. refl;
+}
+what_comes true ended left bytes end = record {
+  more = left;
+  is = record {
+    bytes = bytes;
+    front = λ told. sym (append-nil left);
+  };
+  end = λ over. end over refl;
+}
+
+-- what was taken, and what is left behind it
+pub with_rest : (tells : Bool) (a b xs : List ℕ) → AreBytes b → IsTaken tells a b xs
+    → (all : List ℕ) × IsAll tells a all × (length xs ≤ length all)
+with_rest false a b xs are taken = (
+  xs,
+  record {
+    bytes = taken.bytes;
+    front = λ told. absurd (false≢true told);
+  },
+  omega arith,
+)
+with_rest true a b xs are taken = (
+  xs ++ b,
+  taken_more true a b [] xs b taken (record {
+    bytes = are;
+    front = λ told. sym (append-nil b);
+  }),
+  omega (arith, length-append xs b),
+)
 
 pub no_pieces : (len : ℕ) → 0 < len → pieces {A = ℕ} len [] ≡ []
 no_pieces len some =
@@ -307,16 +352,16 @@ module _ {S : Type 0} (does : S → Call → S → Type 0) (score_of : List ℕ 
             absurd (omega (arith, pieces_reach shape.dsize xs d_some))
         of (suc n) is = omega (arith, length-pieces shape.dsize xs, is)
 
-    pub stop_below : (s mid s' : S) (old half : Next) (from between to : List ℕ)
+    pub stop_below : (s mid s' : S) (old half : Next) (from between : List ℕ)
         (first : List (List ℕ)) (scores : List (List ℕ)) (err : TreeErr) → 0 < length half.leaf
         → length scores < scores_in shape.psize
         → SoFar s mid old half from between first scores
-        → StopsTree does score_of mid s' shape d half (IsTaken tells between to) [] [] err
-        → StopsTree does score_of s s' shape (suc d) old (IsTaken tells from to) first
+        → StopsTree does score_of mid s' shape d half (IsAll tells between) [] [] err
+        → StopsTree does score_of s s' shape (suc d) old (IsAll tells from) first
         (tree_of score_of shape d first).blocks err
-    stop_below s mid s' old half from between to first scores err goes_on few a b = record {
+    stop_below s mid s' old half from between first scores err goes_on few a b = record {
       bytes = a.bytes ++ b.bytes;
-      is_taken = taken_more tells from between to a.bytes b.bytes a.is_taken b.is_taken;
+      is_coming = taken_more tells from between [] a.bytes b.bytes a.is_taken b.is_coming;
       still = λ none. absurd (omega (
         arith,
         ap length a.takes.parts,
@@ -383,29 +428,30 @@ module _ {S : Type 0} (does : S → Call → S → Type 0) (score_of : List ℕ 
     -- where the loop is over, what was put with the pointer block above is the tree
     all_below : (s mid : S) (old new : Next) (from to : List ℕ) (first : List (List ℕ))
         (scores : List (List ℕ)) → IsOver new scores
-        → (so : SoFar s mid old new from to first scores)
+        → (so : SoFar s mid old new from to first scores) (more : List ℕ)
+        → (length new.leaf ≡ 0 → more ≡ [])
         → blocks_below score_of shape d (first ++ so.leaves)
         ++ own score_of shape d (first ++ so.leaves)
         ≡ (tree_of score_of shape (suc d) (take (scores_in shape.psize ^ suc d)
-        (first ++ pieces shape.dsize (old.leaf ++ so.bytes)))).blocks
-    all_below s mid old new from to first scores over so = elim (cases_lt 0 (length new.leaf)) [
-      | inr none ↦ ended (omega arith)
-      | inl more ↦ elim over [
-        | inl none ↦ ended none
-        | inr whole ↦
-            let behind = pieces shape.dsize (new.leaf ++ []) in
-            let cut : pieces shape.dsize (old.leaf ++ so.bytes) ≡ so.leaves ++ behind =
-            ap (λ (l : List ℕ). pieces shape.dsize (old.leaf ++ l)) (sym (append-nil so.bytes))
-            ∙ cut_more old new so.bytes [] so.leaves more so.takes in
-            let count : length (first ++ so.leaves) ≡ scores_in shape.psize ^ suc d =
-            so.full more ∙ ap (λ (n : ℕ). scores_in shape.psize ^ d * n) whole ∙ sym wide in
-            ap (λ (ls : List (List ℕ)). (tree_of score_of shape (suc d) ls).blocks)
-            (sym (take_at (first ++ so.leaves) behind (scores_in shape.psize ^ suc d) count)
-            ∙ ap (λ (ls : List (List ℕ)). take (scores_in shape.psize ^ suc d) ls)
-            (append_assoc first so.leaves behind
-            ∙ ap (λ (ls : List (List ℕ)). first ++ ls) (sym cut)))
-      ]
-    ]
+        (first ++ pieces shape.dsize (old.leaf ++ (so.bytes ++ more))))).blocks
+    all_below s mid old new from to first scores over so more end =
+        elim (cases_lt 0 (length new.leaf)) [
+          | inr none ↦ ended (omega arith)
+          | inl goes_on ↦ elim over [
+            | inl none ↦ ended none
+            | inr whole ↦
+                let behind = pieces shape.dsize (new.leaf ++ more) in
+                let cut : pieces shape.dsize (old.leaf ++ (so.bytes ++ more)) ≡ so.leaves ++ behind =
+                cut_more old new so.bytes more so.leaves goes_on so.takes in
+                let count : length (first ++ so.leaves) ≡ scores_in shape.psize ^ suc d =
+                so.full goes_on ∙ ap (λ (n : ℕ). scores_in shape.psize ^ d * n) whole ∙ sym wide in
+                ap (λ (ls : List (List ℕ)). (tree_of score_of shape (suc d) ls).blocks)
+                (sym (take_at (first ++ so.leaves) behind (scores_in shape.psize ^ suc d) count)
+                ∙ ap (λ (ls : List (List ℕ)). take (scores_in shape.psize ^ suc d) ls)
+                (append_assoc first so.leaves behind
+                ∙ ap (λ (ls : List (List ℕ)). first ++ ls) (sym cut)))
+          ]
+        ]
       where
         wide : scores_in shape.psize ^ suc d ≡ scores_in shape.psize ^ d * scores_in shape.psize
         wide = pow-suc (scores_in shape.psize) d
@@ -417,60 +463,92 @@ module _ {S : Type 0} (does : S → Call → S → Type 0) (score_of : List ℕ 
             → blocks_below score_of shape d (first ++ so.leaves)
             ++ own score_of shape d (first ++ so.leaves)
             ≡ (tree_of score_of shape (suc d) (take (scores_in shape.psize ^ suc d)
-            (first ++ pieces shape.dsize (old.leaf ++ so.bytes)))).blocks
+            (first ++ pieces shape.dsize (old.leaf ++ (so.bytes ++ more))))).blocks
         ended none =
             begins_all score_of shape some d (first ++ so.leaves) fits
             ∙ ap (λ (ls : List (List ℕ)). (tree_of score_of shape (suc d)
             (take (scores_in shape.psize ^ suc d) (first ++ ls))).blocks)
-            (sym (cut_all old new so.bytes so.leaves none so.takes))
+            (sym (cut_all old new so.bytes so.leaves none so.takes)
+            ∙ ap (λ (l : List ℕ). pieces shape.dsize (old.leaf ++ l))
+            (sym (append-nil so.bytes) ∙ ap (λ (l : List ℕ). so.bytes ++ l) (sym (end none))))
 
     -- and in any case it begins the tree
     rest_here : (s mid : S) (old new : Next) (from to : List ℕ) (first : List (List ℕ))
-        (scores : List (List ℕ)) (so : SoFar s mid old new from to first scores)
+        (scores : List (List ℕ)) (so : SoFar s mid old new from to first scores) (more : List ℕ)
+        → (length new.leaf ≡ 0 → more ≡ [])
         → (rest : List Block) × (blocks_below score_of shape d (first ++ so.leaves) ++ rest
         ≡ (tree_of score_of shape (suc d) (take (scores_in shape.psize ^ suc d)
-        (first ++ pieces shape.dsize (old.leaf ++ so.bytes)))).blocks)
-    rest_here s mid old new from to first scores so = elim (cases_lt 0 (length new.leaf)) [
-      | inr none ↦ (
-        own score_of shape d (first ++ so.leaves),
-        all_below s mid old new from to first scores (inl (omega arith)) so,
-      )
-      | inl more ↦ elim (cases_lt (length scores) (scores_in shape.psize)) [
-        | inr whole ↦ (
-          own score_of shape d (first ++ so.leaves),
-          all_below s mid old new from to first scores (inr (omega (arith, so.few))) so,
-        )
-        | inl few ↦
-            let behind = pieces shape.dsize (new.leaf ++ []) in
-            let cut : pieces shape.dsize (old.leaf ++ so.bytes) ≡ so.leaves ++ behind =
-            ap (λ (l : List ℕ). pieces shape.dsize (old.leaf ++ l)) (sym (append-nil so.bytes))
-            ∙ cut_more old new so.bytes [] so.leaves more so.takes in
-            let next : List Block = (tree_of score_of shape d
-            (take (scores_in shape.psize ^ d) behind)).blocks in
-            let begun = begins_more score_of shape some d (length scores) (first ++ so.leaves)
-            behind (so.full more) few
-            (some_pieces (new.leaf ++ []) (omega (arith, length-append new.leaf [], more))) in (
-              next ++ begun.0,
-              sym (append_assoc (blocks_below score_of shape d (first ++ so.leaves)) next begun.0)
-                  ∙ begun.1
-                  ∙ ap (λ (ls : List (List ℕ)). (tree_of score_of shape (suc d)
-                  (take (scores_in shape.psize ^ suc d) ls)).blocks)
-                  (append_assoc first so.leaves behind
-                  ∙ ap (λ (ls : List (List ℕ)). first ++ ls) (sym cut)),
+        (first ++ pieces shape.dsize (old.leaf ++ (so.bytes ++ more))))).blocks)
+    rest_here s mid old new from to first scores so more end =
+        elim (cases_lt 0 (length new.leaf)) [
+          | inr none ↦ (
+            own score_of shape d (first ++ so.leaves),
+            all_below s mid old new from to first scores (inl (omega arith)) so more end,
+          )
+          | inl goes_on ↦ elim (cases_lt (length scores) (scores_in shape.psize)) [
+            | inr whole ↦ (
+              own score_of shape d (first ++ so.leaves),
+              all_below s mid old new from to first scores (inr (omega (arith, so.few))) so more end,
             )
-      ]
+            | inl few ↦
+                let behind = pieces shape.dsize (new.leaf ++ more) in
+                let cut : pieces shape.dsize (old.leaf ++ (so.bytes ++ more)) ≡ so.leaves ++ behind =
+                cut_more old new so.bytes more so.leaves goes_on so.takes in
+                let next : List Block = (tree_of score_of shape d
+                (take (scores_in shape.psize ^ d) behind)).blocks in
+                let begun = begins_more score_of shape some d (length scores) (first ++ so.leaves)
+                behind (so.full goes_on) few
+                (some_pieces (new.leaf ++ more)
+                (omega (arith, length-append new.leaf more, goes_on))) in (
+                  next ++ begun.0,
+                  sym (append_assoc (blocks_below score_of shape d (first ++ so.leaves)) next begun.0)
+                      ∙ begun.1
+                      ∙ ap (λ (ls : List (List ℕ)). (tree_of score_of shape (suc d)
+                      (take (scores_in shape.psize ^ suc d) ls)).blocks)
+                      (append_assoc first so.leaves behind
+                      ∙ ap (λ (ls : List (List ℕ)). first ++ ls) (sym cut)),
+                )
+          ]
+        ]
+
+    -- behind a leaf without bytes nothing comes
+    none_comes : (new : Next) (left : List ℕ) (c : Comes tells new.ended left)
+        → IsNext shape.dsize new → length new.leaf ≡ 0 → c.more ≡ []
+    none_comes new left c is none = elim (cases_Bool new.ended) [
+      | inl over ↦ c.end over
+      | inr going ↦ absurd (omega (arith, is.last going))
     ]
+
+    still_more : (s mid : S) (old new : Next) (from to : List ℕ) (first : List (List ℕ))
+        (scores : List (List ℕ)) (a : SoFar s mid old new from to first scores) (more : List ℕ)
+        → (length new.leaf ≡ 0 → more ≡ []) → length old.leaf ≡ 0 → a.bytes ++ more ≡ []
+    still_more s mid old new from to first scores a more end none =
+        let still = a.still none in
+        let leaf : old.leaf ++ a.bytes ≡ flat_map (λ (l : List ℕ). l) a.leaves ++ new.leaf =
+        a.takes.parts in
+        let same : length new.leaf ≡ 0 =
+        omega (
+          arith,
+          ap length leaf,
+          length-append old.leaf a.bytes,
+          length-append (flat_map (λ (l : List ℕ). l) a.leaves) new.leaf,
+          ap length still.0,
+          none,
+        ) in
+        λ i. still.0 i ++ end same i
 
     -- memory is short
     pub stop_here : (s mid : S) (old new : Next) (from to : List ℕ) (first : List (List ℕ))
         (scores : List (List ℕ)) → SoFar s mid old new from to first scores
-        → StopsTree does score_of s mid shape (suc d) old (IsTaken tells from to) first
+        → Comes tells new.ended to
+        → StopsTree does score_of s mid shape (suc d) old (IsAll tells from) first
         (tree_of score_of shape d first).blocks errs.NoMemory
-    stop_here s mid old new from to first scores a =
-        let rest = rest_here s mid old new from to first scores a in record {
-          bytes = a.bytes;
-          is_taken = a.is_taken;
-          still = λ none. (a.still none).0;
+    stop_here s mid old new from to first scores a comes =
+        let end = none_comes new to comes a.takes.next in
+        let rest = rest_here s mid old new from to first scores a comes.more end in record {
+          bytes = a.bytes ++ comes.more;
+          is_coming = taken_more tells from to [] a.bytes comes.more a.is_taken comes.is;
+          still = still_more s mid old new from to first scores a comes.more end;
           cause = tt;
           calls = a.calls;
           made = a.made;
@@ -486,10 +564,12 @@ module _ {S : Type 0} (does : S → Call → S → Type 0) (score_of : List ℕ 
     pub stop_at_put : (s mid s' : S) (old new : Next) (from to : List ℕ)
         (first : List (List ℕ)) (scores : List (List ℕ)) (err : TreeErr) → IsOver new scores
         → SoFar s mid old new from to first scores
+        → Comes tells new.ended to
         → PutsBlock does score_of mid s' (pointer_block score_of (suc d) scores) (Err err)
-        → StopsTree does score_of s s' shape (suc d) old (IsTaken tells from to) first
+        → StopsTree does score_of s s' shape (suc d) old (IsAll tells from) first
         (tree_of score_of shape d first).blocks err
-    stop_at_put s mid s' old new from to first scores err over a b =
+    stop_at_put s mid s' old new from to first scores err over a comes b =
+        let end = none_comes new to comes a.takes.next in
         let same : map write_of (cond (length (pointer_block score_of (suc d) scores).bytes == 0)
         [] (pointer_block score_of (suc d) scores ∷ []))
         ≡ map write_of (own score_of shape d (first ++ a.leaves)) =
@@ -499,10 +579,10 @@ module _ {S : Type 0} (does : S → Call → S → Type 0) (score_of : List ℕ 
         let behind = rest_of (map asked_of b.calls) b.asked.0
         (own score_of shape d (first ++ a.leaves)) (b.asked.1 ∙ same) in
         record {
-          bytes = a.bytes;
-          is_taken = a.is_taken;
-          still = λ none. (a.still none).0;
-          cause = given_up err (old.size + length a.bytes) b.plain;
+          bytes = a.bytes ++ comes.more;
+          is_coming = taken_more tells from to [] a.bytes comes.more a.is_taken comes.is;
+          still = still_more s mid old new from to first scores a comes.more end;
+          cause = given_up err (old.size + length (a.bytes ++ comes.more)) b.plain;
           calls = a.calls ++ b.calls;
           made = makes_more does s mid s' a.calls b.calls a.made b.made;
           refused = ends_more (refusal_in err) a.calls b.calls a.accepted
@@ -514,7 +594,8 @@ module _ {S : Type 0} (does : S → Call → S → Type 0) (score_of : List ℕ 
               ∙ (λ i. a.puts i ++ behind.1 i)
               ∙ sym (map-append write_of (blocks_below score_of shape d (first ++ a.leaves))
               (own score_of shape d (first ++ a.leaves)))
-              ∙ ap (map write_of) (all_below s mid old new from to first scores over a);
+              ∙ ap (map write_of)
+              (all_below s mid old new from to first scores over a comes.more end);
         }
       where
         regroup : (w : List Operation) (xs ys : List Call) (rest : List Block)

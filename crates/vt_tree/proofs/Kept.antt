@@ -1,7 +1,8 @@
 -- What a stream that was written, or given up, leaves in a store.
-use Rattle.std.proofs.Common.{◌≡◌, ℕ, ◌+◌, ◌<◌, ◌≤◌, ◌^◌, Bool, true, false, cond, IsTrue, Some, None, List, [], ◌++◌, length, map, refl, sym, ◌∙◌, ap, subst, arith, length-append}
+use Rattle.std.proofs.Common.{◌≡◌, ℕ, ◌+◌, ◌<◌, ◌≤◌, ◌^◌, Bool, true, false, cond, IsTrue, Some, None, List, [], ◌++◌, length, map, refl, sym, ◌∙◌, ap, subst, arith, append-nil, length-append}
 use Rattle.std.specs.Prelude.{nat_lt, not}
 use Rattle.std.proofs.lemmas.Bool.{le-ltb}
+use Rattle.vt_base.specs.Bytes.{AreBytes}
 use Rattle.vt_base.specs.declared.score.Score.{Score}
 use Rattle.vt_model.specs.History.{Block}
 use Rattle.vt_tree.specs.declared.entry.Entry.{Entry}
@@ -14,7 +15,7 @@ use Rattle.vt_tree.specs.Growing.{Next, Advances, StopsAhead, StopsStream, Write
 use Rattle.vt_tree.specs.Making.{Makes, EndsBy}
 use Rattle.vt_tree.specs.Maps.{Maps, with_blocks, IsWriteOnce}
 use Rattle.vt_tree.specs.Streams.{Shape, FitsShape, entry_of, stream_of}
-use Rattle.vt_tree.specs.Writing.{IsTaken, IsTakenWhole, IsGivenUpFor, KeepsStream, WritesStream, GivesUpStream}
+use Rattle.vt_tree.specs.Writing.{IsTaken, IsTakenWhole, IsAll, IsGivenUpFor, KeepsStream, WritesStream, GivesUpStream}
 use Rattle.vt_tree.proofs.Growth.{taken_more}
 use Rattle.vt_tree.proofs.Making.{told, puts_leave, puts_are_there}
 use Rattle.vt_tree.proofs.ReadBack.{depth_below_8, stream_reads_back}
@@ -102,12 +103,12 @@ module _ {S : Type 0} (does : S → Call → S → Type 0) (holds : S → Maps �
   -- ---- where it is given up
 
   -- before anything was put
-  pub stream_not_begun : (s : S) (next : Next) (a b : List ℕ) (err : TreeErr) → next.size ≡ 0
-      → StopsAhead next (IsTaken tells a b) err
-      → GivesUpStream does holds score_of s s shape (IsTaken tells a b) err
-  stream_not_begun s next a b err size t = record {
+  pub stream_not_begun : (s : S) (next : Next) (a : List ℕ) (err : TreeErr) → next.size ≡ 0
+      → StopsAhead next (IsAll tells a) err
+      → GivesUpStream does holds score_of s s shape (IsAll tells a) err
+  stream_not_begun s next a err size t = record {
     bytes = t.bytes;
-    is_taken = t.is_taken;
+    is = t.is_coming;
     cause = subst (λ (n : ℕ). IsGivenUpFor err n) (ap (λ (n : ℕ). n + length t.bytes) size
         ∙ from_zero (length t.bytes)) t.cause;
     calls = [];
@@ -122,30 +123,30 @@ module _ {S : Type 0} (does : S → Call → S → Type 0) (holds : S → Maps �
       from_zero n = omega arith
 
   -- memory is short before anything was taken
-  pub stream_no_memory : (s : S) (a : List ℕ)
-      → GivesUpStream does holds score_of s s shape (IsTaken tells a a) errs.NoMemory
-  stream_no_memory s a = record {
-    bytes = [];
-    is_taken = record {
-      bytes = λ i. omega arith;
-      front = λ told. refl;
+  pub stream_no_memory : (s : S) (a : List ℕ) → AreBytes a
+      → GivesUpStream does holds score_of s s shape (IsAll tells a) errs.NoMemory
+  stream_no_memory s a are = record {
+    bytes = a;
+    is = record {
+      bytes = are;
+      front = λ told. sym (append-nil a);
     };
     cause = tt;
     calls = [];
     made = refl;
     refused = refl;
-    rest = (stream_of score_of shape []).blocks;
+    rest = (stream_of score_of shape a).blocks;
     puts = refl;
     keeps = λ m held. held;
   }
 
-  pub stream_given_up : (s s' : S) (next : Next) (a b c : List ℕ) (err : TreeErr)
+  pub stream_given_up : (s s' : S) (next : Next) (a b : List ℕ) (err : TreeErr)
       → next.size ≡ length next.leaf → IsTaken tells a b next.leaf
-      → StopsStream does score_of s s' shape next (IsTaken tells b c) err
-      → GivesUpStream does holds score_of s s' shape (IsTaken tells a c) err
-  stream_given_up s s' next a b c err size first t = record {
+      → StopsStream does score_of s s' shape next (IsAll tells b) err
+      → GivesUpStream does holds score_of s s' shape (IsAll tells a) err
+  stream_given_up s s' next a b err size first t = record {
     bytes = next.leaf ++ t.bytes;
-    is_taken = taken_more tells a b c next.leaf t.bytes first t.is_taken;
+    is = taken_more tells a b [] next.leaf t.bytes first t.is_coming;
     cause = subst (λ (n : ℕ). IsGivenUpFor err n)
         (ap (λ (n : ℕ). n + length t.bytes) size ∙ sym (length-append next.leaf t.bytes)) t.cause;
     calls = t.calls;

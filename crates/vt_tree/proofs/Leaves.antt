@@ -13,8 +13,8 @@ use Rattle.vt_tree.specs.Content.{scores_in}
 use Rattle.vt_tree.specs.Growing.{Next, IsNext, Advances, StopsAhead, GrowsTree, StopsTree, PutsBlock}
 use Rattle.vt_tree.specs.Making.{EndsBy}
 use Rattle.vt_tree.specs.Streams.{Shape, pieces, leaf_block, tree_of}
-use Rattle.vt_tree.specs.Writing.{IsTaken}
-use Rattle.vt_tree.proofs.Growth.{given_up, rest_of}
+use Rattle.vt_tree.specs.Writing.{IsTaken, IsAll}
+use Rattle.vt_tree.proofs.Growth.{Comes, given_up, rest_of}
 use Rattle.vt_tree.proofs.Pieces.{one_piece}
 use Rattle.vt_tree.proofs.Trees.{first_piece}
 
@@ -84,36 +84,39 @@ module _ {S : Type 0} (does : S → Call → S → Type 0) (score_of : List ℕ 
       (take n (pieces shape.dsize (old.leaf ++ more)))).blocks)
       (sym (pow-zero (scores_in shape.psize)))
 
-  pub leaf_not_put : (left : List ℕ) (err : TreeErr)
+  pub leaf_not_put : (left : List ℕ) (err : TreeErr) → Comes tells old.ended left
       → PutsBlock does score_of s s' (leaf_block shape old.leaf) (Err err)
-      → StopsTree does score_of s s' shape 0 old (IsTaken tells left left) [] [] err
-  leaf_not_put left err b =
+      → StopsTree does score_of s s' shape 0 old (IsAll tells left) [] [] err
+  leaf_not_put left err comes b =
       let behind = rest_of (map asked_of b.calls) b.asked.0 (kept shape old.leaf) b.asked.1 in
       record {
-        bytes = [];
-        is_taken = record {
-          bytes = λ i. omega arith;
-          front = λ told. refl;
-        };
-        still = λ none. refl;
-        cause = given_up err (old.size + 0) b.plain;
+        bytes = comes.more;
+        is_coming = comes.is;
+        still = λ none. absurd (omega arith);
+        cause = given_up err (old.size + length comes.more) b.plain;
         calls = b.calls;
         made = b.made;
         refused = b.refused;
         rest = behind.0;
-        puts =
-            behind.1 ∙ first_alone []
-            (ap (λ (l : List ℕ). take shape.dsize l) (append-nil old.leaf)
-            ∙ take_all shape.dsize old.leaf is.most);
+        puts = behind.1 ∙ first_alone comes.more front;
       }
+    where
+      front : take shape.dsize (old.leaf ++ comes.more) ≡ old.leaf
+      front = elim (cases_Bool old.ended) [
+        | inl ended ↦
+            ap (λ (l : List ℕ). take shape.dsize (old.leaf ++ l)) (comes.end ended)
+            ∙ ap (λ (l : List ℕ). take shape.dsize l) (append-nil old.leaf)
+            ∙ take_all shape.dsize old.leaf is.most
+        | inr going ↦ take_at old.leaf comes.more shape.dsize (is.last going)
+      ]
 
-  pub leaf_not_followed : (from to : List ℕ) (score : Score) (err : TreeErr)
+  pub leaf_not_followed : (from : List ℕ) (score : Score) (err : TreeErr)
       → PutsBlock does score_of s s' (leaf_block shape old.leaf) (Ok score)
-      → StopsAhead old (IsTaken tells from to) err
-      → StopsTree does score_of s s' shape 0 old (IsTaken tells from to) [] [] err
-  leaf_not_followed from to score err b a = record {
+      → StopsAhead old (IsAll tells from) err
+      → StopsTree does score_of s s' shape 0 old (IsAll tells from) [] [] err
+  leaf_not_followed from score err b a = record {
     bytes = a.bytes;
-    is_taken = a.is_taken;
+    is_coming = a.is_coming;
     still = λ none. absurd (omega arith);
     cause = a.cause;
     calls = b.calls;

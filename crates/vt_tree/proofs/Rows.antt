@@ -2,6 +2,7 @@
 use Rattle.std.proofs.Common.{◌≡◌, ◌⊎◌, ℕ, suc, ◌<◌, ◌≤◌, inl, inr, Bool, true, false, IsTrue, IfOk, IfErr, Result, Ok, Err, List, [], ◌∷◌, ◌++◌, length, map, refl, sym, ◌∙◌, subst, arith, length-append}
 use Rattle.std.proofs.lemmas.Bool.{cases_Bool}
 use Rattle.std.proofs.lemmas.List.{length-map, length-take-le, map_push}
+use Rattle.vt_base.specs.Bytes.{AreBytes}
 use Rattle.vt_base.specs.declared.score.Score.{Score}
 use Rattle.vt_tree.specs.declared.err.TreeErr.{TreeErr}
 use Rattle.vt_tree.specs.declared.err.TreeErr.TheVariants as errs
@@ -11,8 +12,8 @@ use Rattle.vt_tree.specs.Calls.{Call}
 use Rattle.vt_tree.specs.Content.{scores_in}
 use Rattle.vt_tree.specs.Growing.{Advances, GrowsTree, HasFirst, IsReady, PutsBlock, StopsTree, next_of, shape_of}
 use Rattle.vt_tree.specs.Streams.{FitsShape, pointer_block, tree_of}
-use Rattle.vt_tree.specs.Writing.{IsTaken}
-use Rattle.vt_tree.proofs.Growth.{SoFar, begin, finish, step, stop_at_put, stop_below, stop_here}
+use Rattle.vt_tree.specs.Writing.{IsTaken, IsAll}
+use Rattle.vt_tree.proofs.Growth.{Comes, what_comes, SoFar, begin, finish, step, stop_at_put, stop_below, stop_here}
 
 -- ---- what was taken ahead
 
@@ -122,34 +123,37 @@ module _ {S : Type 0} (does : S → Call → S → Type 0) (score_of : List ℕ 
 
     pub row_stopped : (depth : ℕ) (err : TreeErr) → suc d ≡ depth
         → StopsTree does score_of mid s' (shape_of cut) d (next_of half)
-        (IsTaken tells between to) [] [] err
+        (IsAll tells between) [] [] err
         → (leaves : List (List ℕ))
         → HasFirst score_of (shape_of cut) d (next_of old) leaves first
         → StopsTree does score_of s s' (shape_of cut) depth (next_of old)
-        (IsTaken tells from to) leaves (tree_of score_of (shape_of cut) d leaves).blocks err
+        (IsAll tells from) leaves (tree_of score_of (shape_of cut) d leaves).blocks err
     row_stopped depth err same stopped leaves has =
         subst (λ (k : ℕ). StopsTree does score_of s s' (shape_of cut) k (next_of old)
-        (IsTaken tells from to) leaves (tree_of score_of (shape_of cut) d leaves).blocks err) same
+        (IsAll tells from) leaves (tree_of score_of (shape_of cut) d leaves).blocks err) same
         (stop_below does score_of (shape_of cut) tells d (scores_some cut row.ready.fits)
-        (size_some cut row.ready.fits) s mid s' (next_of old) (next_of half) from between to leaves
+        (size_some cut row.ready.fits) s mid s' (next_of old) (next_of half) from between leaves
         (map (λ (t : Score). t.0) scores) err more_came few_kept (row.grown leaves has) stopped)
 
   module _ (s mid : S) (old new : Ahead) (from to : List ℕ) (first : Score)
       (scores : List Score) (before now : ℕ)
-      (row : Row s mid old new from to first scores before now) (depth : ℕ)
+      (row : Row s mid old new from to first scores before now) (are : AreBytes to) (depth : ℕ)
       (same : suc d ≡ depth) where
+    comes : Comes tells new.ended to
+    comes = what_comes tells new.ended to are row.ready.end
+
     -- memory is short
     pub row_no_memory : (leaves : List (List ℕ))
         → HasFirst score_of (shape_of cut) d (next_of old) leaves first
-        → StopsTree does score_of s mid (shape_of cut) depth (next_of old) (IsTaken tells from to)
+        → StopsTree does score_of s mid (shape_of cut) depth (next_of old) (IsAll tells from)
         leaves (tree_of score_of (shape_of cut) d leaves).blocks errs.NoMemory
     row_no_memory leaves has =
         subst (λ (k : ℕ). StopsTree does score_of s mid (shape_of cut) k (next_of old)
-        (IsTaken tells from to) leaves (tree_of score_of (shape_of cut) d leaves).blocks
+        (IsAll tells from) leaves (tree_of score_of (shape_of cut) d leaves).blocks
         errs.NoMemory) same
         (stop_here does score_of (shape_of cut) tells d (scores_some cut row.ready.fits)
         (size_some cut row.ready.fits) s mid (next_of old) (next_of new) from to leaves
-        (map (λ (t : Score). t.0) scores) (row.grown leaves has))
+        (map (λ (t : Score). t.0) scores) (row.grown leaves has) comes)
 
     module _ (s' : S) (result : Result Score TreeErr)
         (over : (new.filled ≡ 0) ⊎ (length scores ≡ scores_in cut.psize))
@@ -188,7 +192,7 @@ module _ {S : Type 0} (does : S → Call → S → Type 0) (score_of : List ℕ 
       pub row_not_put : (leaves : List (List ℕ))
           → HasFirst score_of (shape_of cut) d (next_of old) leaves first
           → IfErr result (StopsTree does score_of s s' (shape_of cut) depth (next_of old)
-          (IsTaken tells from to) leaves (tree_of score_of (shape_of cut) d leaves).blocks)
+          (IsAll tells from) leaves (tree_of score_of (shape_of cut) d leaves).blocks)
       row_not_put leaves has = of result (subst (λ (k : ℕ). PutsBlock does score_of mid s'
           (pointer_block score_of k (map (λ (t : Score). t.0) scores)) result) (sym same) put)
         where
@@ -196,12 +200,12 @@ module _ {S : Type 0} (does : S → Call → S → Type 0) (score_of : List ℕ 
               → PutsBlock does score_of mid s' (pointer_block score_of (suc d)
               (map (λ (t : Score). t.0) scores)) r
               → IfErr r (StopsTree does score_of s s' (shape_of cut) depth (next_of old)
-              (IsTaken tells from to) leaves (tree_of score_of (shape_of cut) d leaves).blocks)
+              (IsAll tells from) leaves (tree_of score_of (shape_of cut) d leaves).blocks)
           of (Ok score) b = tt
           of (Err err) b =
               subst (λ (k : ℕ). StopsTree does score_of s s' (shape_of cut) k (next_of old)
-              (IsTaken tells from to) leaves (tree_of score_of (shape_of cut) d leaves).blocks err)
+              (IsAll tells from) leaves (tree_of score_of (shape_of cut) d leaves).blocks err)
               same
               (stop_at_put does score_of (shape_of cut) tells d (scores_some cut row.ready.fits)
               (size_some cut row.ready.fits) s mid s' (next_of old) (next_of new) from to leaves
-              (map (λ (t : Score). t.0) scores) err is_over (row.grown leaves has) b)
+              (map (λ (t : Score). t.0) scores) err is_over (row.grown leaves has) comes b)

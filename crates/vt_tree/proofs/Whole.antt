@@ -13,7 +13,7 @@ use Rattle.vt_tree.specs.Calls.{Call, asked_of, write_of}
 use Rattle.vt_tree.specs.Content.{scores_in}
 use Rattle.vt_tree.specs.Growing.{Next, HasFirst, GrowsTree, StopsTree, WritesTree, StopsStream}
 use Rattle.vt_tree.specs.Streams.{Shape, Tree, FitsShape, reach, depth_of, pieces, leaf_block, tree_of, stream_of, without_end}
-use Rattle.vt_tree.specs.Writing.{IsTaken}
+use Rattle.vt_tree.specs.Writing.{IsTaken, IsAll}
 use Rattle.vt_tree.proofs.Deeper.{grown_deeper, is_first, stopped_later}
 use Rattle.vt_tree.proofs.Growth.{cut_all, no_pieces, some_pieces}
 use Rattle.vt_tree.proofs.Pieces.{length-pieces, pieces_fit, pieces_reach}
@@ -271,13 +271,13 @@ module _ {S : Type 0} (does : S → Call → S → Type 0) (score_of : List ℕ 
 
     -- ---- where it is given up
 
-    pub stream_stopped : (s' : S) (from to : List ℕ) (depth : ℕ) (err : TreeErr) → depth < 8
-        → (t : StopsTree does score_of s s' shape depth old (IsTaken tells from to) [] [] err)
+    pub stream_stopped : (s' : S) (from : List ℕ) (depth : ℕ) (err : TreeErr) → depth < 8
+        → (t : StopsTree does score_of s s' shape depth old (IsAll tells from) [] [] err)
         → ((k : ℕ) → k < depth → reach shape k < old.size + length t.bytes)
-        → StopsStream does score_of s s' shape old (IsTaken tells from to) err
-    stream_stopped s' from to depth err shallow t least = record {
+        → StopsStream does score_of s s' shape old (IsAll tells from) err
+    stream_stopped s' from depth err shallow t least = record {
       bytes = t.bytes;
-      is_taken = t.is_taken;
+      is_coming = t.is_coming;
       cause = t.cause;
       calls = t.calls;
       made = t.made;
@@ -305,22 +305,22 @@ module _ {S : Type 0} (does : S → Call → S → Type 0) (score_of : List ℕ 
             (omega (arith, total, came, length-append old.leaf t.bytes))
             (λ k below. omega (arith, least k below, total))
 
-    pub stopped_first_leaf : (s' : S) (from to : List ℕ) (err : TreeErr)
-        → StopsTree does score_of s s' shape 0 old (IsTaken tells from to) [] [] err
-        → StopsStream does score_of s s' shape old (IsTaken tells from to) err
-    stopped_first_leaf s' from to err t =
-        stream_stopped s' from to 0 err (omega arith) t (λ k below. absurd (omega arith))
+    pub stopped_first_leaf : (s' : S) (from : List ℕ) (err : TreeErr)
+        → StopsTree does score_of s s' shape 0 old (IsAll tells from) [] [] err
+        → StopsStream does score_of s s' shape old (IsAll tells from) err
+    stopped_first_leaf s' from err t =
+        stream_stopped s' from 0 err (omega arith) t (λ k below. absurd (omega arith))
 
-    pub stopped_above : FitsShape shape → (mid s' : S) (half : Next) (from between to : List ℕ)
+    pub stopped_above : FitsShape shape → (mid s' : S) (half : Next) (from between : List ℕ)
         (depth : ℕ) (score : Score) (err : TreeErr) → 0 < length half.leaf
         → (g : Grown does score_of shape tells s old mid half from between depth score)
-        → StopsTree does score_of mid s' shape (suc depth) half (IsTaken tells between to)
+        → StopsTree does score_of mid s' shape (suc depth) half (IsAll tells between)
         g.tree.leaves (tree_of score_of shape depth g.tree.leaves).blocks err
-        → StopsStream does score_of s s' shape old (IsTaken tells from to) err
-    stopped_above fits mid s' half from between to depth score err more g a =
+        → StopsStream does score_of s s' shape old (IsAll tells from) err
+    stopped_above fits mid s' half from between depth score err more g a =
         let t = stopped_later does score_of shape tells depth some d_some s mid s' old half half
-        from between to score came g.tree err a in
-        stream_stopped s' from to (suc depth) err
+        from between between score came g.tree err a in
+        stream_stopped s' from (suc depth) err
         (omega (arith, goes_deeper fits mid half from between depth score more g)) t.0
         (λ k below. omega (
           arith,
@@ -357,18 +357,18 @@ module _ {S : Type 0} (does : S → Call → S → Type 0) (score_of : List ℕ 
         above) (back depth)
         (a g.tree.leaves (there mid half from between depth score g)))))
 
-    pub stopped_by : FitsShape shape → (mid s' : S) (half : Next) (from between to : List ℕ)
+    pub stopped_by : FitsShape shape → (mid s' : S) (half : Next) (from between : List ℕ)
         (depth : ℕ) (score : Score) → 0 < length half.leaf
         → Grown does score_of shape tells s old mid half from between depth score
         → (err : TreeErr)
         → ((leaves : List (List ℕ)) → HasFirst score_of shape (depth + 1 - 1) half leaves score
-        → StopsTree does score_of mid s' shape (depth + 1) half (IsTaken tells between to) leaves
+        → StopsTree does score_of mid s' shape (depth + 1) half (IsAll tells between) leaves
         (tree_of score_of shape (depth + 1 - 1) leaves).blocks err)
-        → StopsStream does score_of s s' shape old (IsTaken tells from to) err
-    stopped_by fits mid s' half from between to depth score more g err a =
-        stopped_above fits mid s' half from between to depth score err more g
-        (subst (λ (k : ℕ). StopsTree does score_of mid s' shape k half (IsTaken tells between to)
+        → StopsStream does score_of s s' shape old (IsAll tells from) err
+    stopped_by fits mid s' half from between depth score more g err a =
+        stopped_above fits mid s' half from between depth score err more g
+        (subst (λ (k : ℕ). StopsTree does score_of mid s' shape k half (IsAll tells between)
         g.tree.leaves (tree_of score_of shape depth g.tree.leaves).blocks err) (add-one depth)
         (subst (λ (k : ℕ). StopsTree does score_of mid s' shape (depth + 1) half
-        (IsTaken tells between to) g.tree.leaves (tree_of score_of shape k g.tree.leaves).blocks
+        (IsAll tells between) g.tree.leaves (tree_of score_of shape k g.tree.leaves).blocks
         err) (back depth) (a g.tree.leaves (there mid half from between depth score g))))

@@ -53,12 +53,12 @@ pub record Advances (dsize : ℕ) (old new : Next) (taken : List ℕ → Type 0)
   pub size : new.size ≡ old.size + length bytes
   pub next : IsNext dsize new
 
--- or the source failed, or has too many bytes; behind its end it isn't asked
-pub record StopsAhead (old : Next) (taken : List ℕ → Type 0) (err : TreeErr) : Type 0 where
+-- or the source, from which these come, failed, or has too many bytes; behind its end it isn't asked
+pub record StopsAhead (old : Next) (coming : List ℕ → Type 0) (err : TreeErr) : Type 0 where
   pub going : old.ended ≡ false
   pub own : refusal_in err ≡ None
   pub bytes : List ℕ
-  pub is_taken : taken bytes
+  pub is_coming : coming bytes
   pub cause : IsGivenUpFor err (old.size + length bytes)
 
 -- leaves were taken, of which all but the last have dsize bytes, and so does the last where another
@@ -108,12 +108,13 @@ pub record WritesTree {S : Type 0} (does : S → Call → S → Type 0) (score_o
   pub puts : map asked_of calls
       ≡ map write_of (stream_of score_of shape (old.leaf ++ bytes)).blocks
 
--- It was given up: of the tree of all that was taken, the first blocks were put.
+-- It was given up: of the tree of the leaf that was taken and of all that comes, the first blocks
+-- were put.
 pub record StopsStream {S : Type 0} (does : S → Call → S → Type 0) (score_of : List ℕ → List ℕ)
-    (s s' : S) (shape : Shape) (old : Next) (taken : List ℕ → Type 0) (err : TreeErr)
+    (s s' : S) (shape : Shape) (old : Next) (coming : List ℕ → Type 0) (err : TreeErr)
     : Type 0 where
   pub bytes : List ℕ
-  pub is_taken : taken bytes
+  pub is_coming : coming bytes
   pub cause : IsGivenUpFor err (old.size + length bytes)
   pub calls : List Call
   pub made : Makes does s calls s'
@@ -122,12 +123,12 @@ pub record StopsStream {S : Type 0} (does : S → Call → S → Type 0) (score_
   pub puts : map asked_of calls ++ map write_of rest
       ≡ map write_of (stream_of score_of shape (old.leaf ++ bytes)).blocks
 
--- It was given up: of the tree of what was taken, as far as it reaches, the first blocks were put.
+-- It was given up: of the tree of these, as far as it reaches, the first blocks were put.
 pub record StopsTree {S : Type 0} (does : S → Call → S → Type 0) (score_of : List ℕ → List ℕ)
-    (s s' : S) (shape : Shape) (depth : ℕ) (old : Next) (taken : List ℕ → Type 0)
+    (s s' : S) (shape : Shape) (depth : ℕ) (old : Next) (coming : List ℕ → Type 0)
     (first : List (List ℕ)) (written : List Block) (err : TreeErr) : Type 0 where
   pub bytes : List ℕ
-  pub is_taken : taken bytes
+  pub is_coming : coming bytes
   pub still : length old.leaf ≡ 0 → bytes ≡ []
   pub cause : IsGivenUpFor err (old.size + length bytes)
   pub calls : List Call

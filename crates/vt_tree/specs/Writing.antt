@@ -17,6 +17,10 @@ pub record IsTaken (tells : Bool) (old new taken : List ℕ) : Type 0 where
   pub bytes : AreBytes taken
   pub front : IsTrue tells → old ≡ taken ++ new
 
+-- all that a source has left, which are the bytes that it tells, if it does
+abbrev pub IsAll : (tells : Bool) → (left bytes : List ℕ) → Type 0
+IsAll tells left bytes = IsTaken tells left [] bytes
+
 -- all was taken
 pub record IsTakenWhole (tells : Bool) (old new taken : List ℕ) : Type 0 where
   pub front : IsTaken tells old new taken
@@ -45,14 +49,14 @@ pub record WritesStream {S : Type 0} (does : S → Call → S → Type 0) (holds
   pub keeps : (m : Maps) → holds s m
       → KeepsStream holds score_of s' m (stream_of score_of shape bytes).blocks e bytes
 
--- when a stream is given up, of which so many bytes were taken; a failed source has its count
-abbrev pub IsGivenUpFor : TreeErr → (taken : ℕ) → Type 0
-IsGivenUpFor (BlockRefused err) taken = ⊤
-IsGivenUpFor SourceFault taken = ⊤
-IsGivenUpFor (BadEntry bad) taken = ⊥
-IsGivenUpFor (BadBlock depth len) taken = ⊥
-IsGivenUpFor TooLong taken = 2 ^ 40 < taken
-IsGivenUpFor NoMemory taken = ⊤
+-- when a stream of so many bytes is given up; a failed source has its count
+abbrev pub IsGivenUpFor : TreeErr → (len : ℕ) → Type 0
+IsGivenUpFor (BlockRefused err) len = ⊤
+IsGivenUpFor SourceFault len = ⊤
+IsGivenUpFor (BadEntry bad) len = ⊥
+IsGivenUpFor (BadBlock depth bytes) len = ⊥
+IsGivenUpFor TooLong len = 2 ^ 40 < len
+IsGivenUpFor NoMemory len = ⊤
 
 abbrev pub is_source_fault : TreeErr → Bool
 is_source_fault (BlockRefused err) = false
@@ -62,13 +66,13 @@ is_source_fault (BadBlock depth len) = false
 is_source_fault TooLong = false
 is_source_fault NoMemory = false
 
--- A stream was given up: of the tree of what was taken of it, the first blocks were put, and
--- nothing else was asked for. No call was refused but the last, where that is told.
+-- A stream was given up: of its tree the first blocks were put, and nothing else was asked for. No
+-- call was refused but the last, where that is told.
 pub record GivesUpStream {S : Type 0} (does : S → Call → S → Type 0) (holds : S → Maps → Type 0)
-    (score_of : List ℕ → List ℕ) (s s' : S) (shape : Shape) (taken : List ℕ → Type 0)
+    (score_of : List ℕ → List ℕ) (s s' : S) (shape : Shape) (stream : List ℕ → Type 0)
     (err : TreeErr) : Type 0 where
   pub bytes : List ℕ
-  pub is_taken : taken bytes
+  pub is : stream bytes
   pub cause : IsGivenUpFor err (length bytes)
   pub calls : List Call
   pub made : Makes does s calls s'

@@ -11,7 +11,7 @@ ghost use Rattle.vt_tree.specs.Growing.{next_of, shape_of, IsReady, Advances, St
 ghost use Rattle.vt_tree.specs.Growing.{HasFirst, GrowsTree, WritesTree, StopsTree};
 ghost use Rattle.vt_tree.specs.Growing.{StopsStream, PutsBlock};
 ghost use Rattle.vt_tree.specs.Streams.{Shape, leaf_block, pointer_block, tree_of, without_end};
-ghost use Rattle.vt_tree.specs.Writing.{IsTaken, IsTakenWhole, WritesStream, GivesUpStream};
+ghost use Rattle.vt_tree.specs.Writing.{IsTaken, IsTakenWhole, IsAll, WritesStream, GivesUpStream};
 ghost use Rattle.vt_tree.specs.Writing.{is_source_fault};
 
 use crate::plain::{SCORE_LEN, leaf_kind, pointer_kind};
@@ -48,7 +48,7 @@ pub fn write_stream<B: Blocks, R: Source>(
     ensures refused { let shape : Shape
         = record { psize = psize; dsize = dsize; is_dir = is_dir } in
         IfErr result (GivesUpStream B.does B.holds B.score_of blocks.old blocks.new shape
-        (IsTaken R.tells (R.left source.old) (R.left source.new))) }
+        (IsAll R.tells (R.left source.old))) }
     ensures cause { CountsFault is_source_fault result
         (R.faults source.old) (R.faults source.new) }
     ensures keeps { R.kept source.new ≡ R.kept source.old }
@@ -115,7 +115,7 @@ impl Ahead {
         ensures stays { self.old.ended ≡ true
             → (self.new.ended ≡ true) × (R.left source.new ≡ R.left source.old) }
         ensures err { IfErr result (StopsAhead (next_of self.old)
-            (IsTaken R.tells (R.left source.old) (R.left source.new))) }
+            (IsAll R.tells (R.left source.old))) }
         ensures room { length self.new.leaf.items ≡ length self.old.leaf.items }
         ensures filled { self.new.filled ≤ length self.new.leaf.items }
         ensures cause { CountsFault is_source_fault result
@@ -188,7 +188,7 @@ impl Cut {
         ensures end { OnOk result (IsTrue R.tells → R.left source.new ≡ []) }
         ensures stopped { IfErr result (StopsStream B.does B.score_of blocks.old blocks.new
             (shape_of self.now) (next_of ahead.old)
-            (IsTaken R.tells (R.left source.old) (R.left source.new))) }
+            (IsAll R.tells (R.left source.old))) }
         ensures cause { CountsFault is_source_fault result
             (R.faults source.old) (R.faults source.new) }
         ensures keeps { R.kept source.new ≡ R.kept source.old }
@@ -221,7 +221,7 @@ impl Cut {
             (IsReady B.score_of self.now ahead.new R.tells (R.left source.new)) }
         ensures stopped { IfErr result (StopsTree B.does B.score_of blocks.old blocks.new
             (shape_of self.now) 0 (next_of ahead.old)
-            (IsTaken R.tells (R.left source.old) (R.left source.new)) [] []) }
+            (IsAll R.tells (R.left source.old)) [] []) }
         ensures cause { CountsFault is_source_fault result
             (R.faults source.old) (R.faults source.new) }
         ensures keeps { R.kept source.new ≡ R.kept source.old }
@@ -250,7 +250,7 @@ impl Cut {
             (IsReady B.score_of self.now ahead.new R.tells (R.left source.new)) }
         ensures stopped { IfErr result (StopsTree B.does B.score_of blocks.old blocks.new
             (shape_of self.now) depth (next_of ahead.old)
-            (IsTaken R.tells (R.left source.old) (R.left source.new)) [] []) }
+            (IsAll R.tells (R.left source.old)) [] []) }
         ensures cause { CountsFault is_source_fault result
             (R.faults source.old) (R.faults source.new) }
         ensures keeps { R.kept source.new ≡ R.kept source.old }
@@ -289,7 +289,7 @@ impl Cut {
             first.now
             → IfErr result (StopsTree B.does B.score_of blocks.old blocks.new
             (shape_of self.now) depth (next_of ahead.old)
-            (IsTaken R.tells (R.left source.old) (R.left source.new)) leaves
+            (IsAll R.tells (R.left source.old)) leaves
             (tree_of B.score_of (shape_of self.now) (depth - 1) leaves).blocks) }
         ensures cause { CountsFault is_source_fault result
             (R.faults source.old) (R.faults source.new) }

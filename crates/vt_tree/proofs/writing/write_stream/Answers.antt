@@ -11,7 +11,8 @@ returns-in_err-ahead-clause-refused g c =
     record { psize = c.args.psize; dsize = c.args.dsize; is_dir = c.args.is_dir } in
     let p = err_from_is_err_and c.from_residual.result c.from_residual.ensures.1 in
     rw (p.1, p.2) (stream_no_memory g.B.Blocks.does g.B.Blocks.holds g.B.Scorer.score_of shape
-    g.R.Source.tells g.met.B.Blocks.tells c.args.blocks.now (g.R.Source.left c.args.source.now))
+    g.R.Source.tells g.met.B.Blocks.tells c.args.blocks.now (g.R.Source.left c.args.source.now)
+    (g.met.R.Source.left_bytes c.args.source.now))
 
 pub returns-in_err-advance-clause-refused : goal.returns-in_err-advance-clause-refused
 returns-in_err-advance-clause-refused g c =
@@ -21,8 +22,7 @@ returns-in_err-advance-clause-refused g c =
     c.from_residual-in_err-advance.ensures.1 in
     rw (p.1, p.2) (stream_not_begun g.B.Blocks.does g.B.Blocks.holds g.B.Scorer.score_of shape
     g.R.Source.tells g.met.B.Blocks.tells c.args.blocks.now (next_of c.in_ok-ahead.ahead)
-    (g.R.Source.left c.args.source.now) (g.R.Source.left c.advance.new.source)
-    c.in_err-advance.field-0.0 (ap (λ (n : Next). n.size) c.in_ok-ahead.ensures.1)
+    (g.R.Source.left c.args.source.now) c.in_err-advance.field-0.0 (ap (λ (n : Next). n.size) c.in_ok-ahead.ensures.1)
     c.in_err-advance.ensures.err)
 
 pub returns-in_err-depth-clause-refused : goal.returns-in_err-depth-clause-refused
@@ -38,8 +38,7 @@ returns-in_err-depth-clause-refused g c =
     rw (p.1, p.2) (stream_given_up g.B.Blocks.does g.B.Blocks.holds g.B.Scorer.score_of shape
     g.R.Source.tells g.met.B.Blocks.tells c.args.blocks.now c.tree.new.blocks
     (next_of c.advance.new.self) (g.R.Source.left c.args.source.now)
-    (g.R.Source.left c.advance.new.source) (g.R.Source.left c.tree.new.source)
-    c.in_err-depth.field-0.0 first.0 first.1 c.in_err-depth.ensures.stopped)
+    (g.R.Source.left c.advance.new.source) c.in_err-depth.field-0.0 first.0 first.1 c.in_err-depth.ensures.stopped)
 
 pub returns-clause-written : goal.returns-clause-written
 returns-clause-written g c =

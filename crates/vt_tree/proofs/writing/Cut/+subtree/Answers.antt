@@ -4,7 +4,7 @@ use Rattle.vt_base.specs.declared.score.Score.{Score}
 use Rattle.vt_tree.specs.Content.{scores_in}
 use Rattle.vt_tree.specs.Growing.{PutsBlock, StopsTree, next_of, shape_of}
 use Rattle.vt_tree.specs.Streams.{pointer_block}
-use Rattle.vt_tree.specs.Writing.{IsTaken}
+use Rattle.vt_tree.specs.Writing.{IsTaken, IsAll}
 use Rattle.vt_tree.proofs.Deeper.{grown_by, is_first, stopped_by, stopped_first}
 use Rattle.vt_tree.proofs.Rows.{Row, leaf_len, row_begun, row_more, row_no_memory, row_not_put, row_put, row_stopped, scores_some, size_some}
 use Rattle.vt_tree.proofs.writing.Cut.+subtree.Goals as goal
@@ -26,7 +26,8 @@ above-returns-in_err-scores-clause-stopped g t c leaves has =
     (c.args.depth - 1) c.args.blocks.now c.args.blocks.now ahead ahead left left c.args.first.now
     (c.args.first.now ∷ []) faults faults
     (row_begun g.B.Blocks.does g.B.Scorer.score_of cut g.R.Source.tells (c.args.depth - 1)
-    c.args.blocks.now ahead left c.args.first.now faults c.requires.ready) c.args.depth
+    c.args.blocks.now ahead left c.args.first.now faults c.requires.ready)
+    (g.met.R.Source.left_bytes c.args.source.now) c.args.depth
     (one_more c.args.depth c.requires.depth.0) leaves has)
 
 pub above-loop-ahead-init : goal.above-loop-ahead-init
@@ -40,10 +41,10 @@ above-loop-ahead-init g t c =
     ∙ ap (λ (l : List Score). l ++ c.args.first.now ∷ []) c.in_ok-scores.ensures.items in
     record {
       row = subst (λ (l : List Score). Row g.B.Blocks.does g.B.Scorer.score_of cut g.R.Source.tells
-    (c.args.depth - 1) c.args.blocks.now c.args.blocks.now ahead ahead left left c.args.first.now l
-    faults faults) (sym one)
-    (row_begun g.B.Blocks.does g.B.Scorer.score_of cut g.R.Source.tells (c.args.depth - 1)
-    c.args.blocks.now ahead left c.args.first.now faults c.requires.ready);
+          (c.args.depth - 1) c.args.blocks.now c.args.blocks.now ahead ahead left left c.args.first.now l
+          faults faults) (sym one)
+          (row_begun g.B.Blocks.does g.B.Scorer.score_of cut g.R.Source.tells (c.args.depth - 1)
+          c.args.blocks.now ahead left c.args.first.now faults c.requires.ready);
       kept = refl;
     }
 
@@ -70,17 +71,17 @@ above-loop-ahead-preserved g t c =
     c.in_ok-push-2.ensures.items in
     record {
       row = subst (λ (l : List Score). Row g.B.Blocks.does g.B.Scorer.score_of cut g.R.Source.tells
-    (c.args.depth - 1) c.args.blocks.now c.subtree.new.blocks c.args.ahead.now c.subtree.new.ahead
-    (g.R.Source.left c.args.source.now) (g.R.Source.left c.subtree.new.source) c.args.first.now l
-    (g.R.Source.faults c.args.source.now) (g.R.Source.faults c.subtree.new.source)) (sym longer)
-    (row_more g.B.Blocks.does g.B.Scorer.score_of cut g.R.Source.tells (c.args.depth - 1)
-    c.args.blocks.now c.loop-ahead.blocks c.subtree.new.blocks c.args.ahead.now c.loop-ahead.ahead
-    c.subtree.new.ahead (g.R.Source.left c.args.source.now) (g.R.Source.left c.loop-ahead.source)
-    (g.R.Source.left c.subtree.new.source) c.args.first.now scores
-    (g.R.Source.faults c.args.source.now) (g.R.Source.faults c.loop-ahead.source)
-    (g.R.Source.faults c.subtree.new.source) c.loop-ahead-test.true
-    (omega (arith, c.len.ensures, c.if-len-most.true)) c.loop-ahead.invariant.row score
-    c.in_ok-subtree.ensures.grown c.in_ok-subtree.ensures.ready c.in_ok-subtree.ensures.cause);
+          (c.args.depth - 1) c.args.blocks.now c.subtree.new.blocks c.args.ahead.now c.subtree.new.ahead
+          (g.R.Source.left c.args.source.now) (g.R.Source.left c.subtree.new.source) c.args.first.now l
+          (g.R.Source.faults c.args.source.now) (g.R.Source.faults c.subtree.new.source)) (sym longer)
+          (row_more g.B.Blocks.does g.B.Scorer.score_of cut g.R.Source.tells (c.args.depth - 1)
+          c.args.blocks.now c.loop-ahead.blocks c.subtree.new.blocks c.args.ahead.now c.loop-ahead.ahead
+          c.subtree.new.ahead (g.R.Source.left c.args.source.now) (g.R.Source.left c.loop-ahead.source)
+          (g.R.Source.left c.subtree.new.source) c.args.first.now scores
+          (g.R.Source.faults c.args.source.now) (g.R.Source.faults c.loop-ahead.source)
+          (g.R.Source.faults c.subtree.new.source) c.loop-ahead-test.true
+          (omega (arith, c.len.ensures, c.if-len-most.true)) c.loop-ahead.invariant.row score
+          c.in_ok-subtree.ensures.grown c.in_ok-subtree.ensures.ready c.in_ok-subtree.ensures.cause);
       kept = c.in_ok-subtree.ensures.keeps ∙ c.loop-ahead.invariant.kept;
     }
 
@@ -104,7 +105,7 @@ above-returns-in_err-push-2-clause-stopped g t c leaves has =
     (g.R.Source.faults c.subtree.new.source) c.loop-ahead-test.true
     (omega (arith, c.len.ensures, c.if-len-most.true)) c.loop-ahead.invariant.row score
     c.in_ok-subtree.ensures.grown c.in_ok-subtree.ensures.ready c.in_ok-subtree.ensures.cause)
-    c.args.depth (one_more c.args.depth c.requires.depth.0) leaves has)
+    (g.met.R.Source.left_bytes c.subtree.new.source) c.args.depth (one_more c.args.depth c.requires.depth.0) leaves has)
 
 pub above-returns-clause-grown : goal.above-returns-clause-grown
 above-returns-clause-grown g t c leaves has =
@@ -121,7 +122,8 @@ above-returns-clause-grown g t c leaves has =
     (c.args.depth - 1) c.args.blocks.now c.loop-ahead.blocks c.args.ahead.now c.loop-ahead.ahead
     (g.R.Source.left c.args.source.now) (g.R.Source.left c.loop-ahead.source) c.args.first.now
     c.loop-ahead.scores.items (g.R.Source.faults c.args.source.now)
-    (g.R.Source.faults c.loop-ahead.source) row c.args.depth
+    (g.R.Source.faults c.loop-ahead.source) row
+    (g.met.R.Source.left_bytes c.loop-ahead.source) c.args.depth
     (one_more c.args.depth c.requires.depth.0) c.put_pointers.new.blocks c.put_pointers.result over
     (subst (λ (l : List Score). PutsBlock g.B.Blocks.does g.B.Scorer.score_of c.loop-ahead.blocks
     c.put_pointers.new.blocks (pointer_block g.B.Scorer.score_of c.args.depth
@@ -143,7 +145,8 @@ above-returns-clause-stopped g t c leaves has =
     (c.args.depth - 1) c.args.blocks.now c.loop-ahead.blocks c.args.ahead.now c.loop-ahead.ahead
     (g.R.Source.left c.args.source.now) (g.R.Source.left c.loop-ahead.source) c.args.first.now
     c.loop-ahead.scores.items (g.R.Source.faults c.args.source.now)
-    (g.R.Source.faults c.loop-ahead.source) row c.args.depth
+    (g.R.Source.faults c.loop-ahead.source) row
+    (g.met.R.Source.left_bytes c.loop-ahead.source) c.args.depth
     (one_more c.args.depth c.requires.depth.0) c.put_pointers.new.blocks c.put_pointers.result over
     (subst (λ (l : List Score). PutsBlock g.B.Blocks.does g.B.Scorer.score_of c.loop-ahead.blocks
     c.put_pointers.new.blocks (pointer_block g.B.Scorer.score_of c.args.depth
@@ -168,12 +171,10 @@ subtree-returns-in_err-first-clause-stopped g t c =
     let p = err_from_is_err_and c.from_residual.result c.from_residual.ensures.1 in
     rw (p.1, p.2) (subst (λ (k : ℕ). StopsTree g.B.Blocks.does g.B.Scorer.score_of
     c.args.blocks.now c.subtree.new.blocks (shape_of cut) k (next_of old)
-    (IsTaken g.R.Source.tells left (g.R.Source.left c.subtree.new.source)) [] []
-    c.in_err-first.field-0.0) (one_more c.args.depth deep)
+    (IsAll g.R.Source.tells left) [] [] c.in_err-first.field-0.0) (one_more c.args.depth deep)
     (stopped_first g.B.Blocks.does g.B.Scorer.score_of (shape_of cut) g.R.Source.tells
     (c.args.depth - 1) (scores_some cut ready.fits) (size_some cut ready.fits) c.args.blocks.now
-    c.subtree.new.blocks (next_of old)
-    (IsTaken g.R.Source.tells left (g.R.Source.left c.subtree.new.source))
+    c.subtree.new.blocks (next_of old) (IsAll g.R.Source.tells left)
     c.in_err-first.field-0.0 came c.in_err-first.ensures.stopped))
 
 pub subtree-returns-clause-grown : goal.subtree-returns-clause-grown

@@ -3,6 +3,7 @@ use Rattle.std.proofs.lemmas.Result.{err_from_is_err_and}
 use Rattle.vt_tree.specs.Growing.{Advances, PutsBlock, next_of, shape_of}
 use Rattle.vt_tree.specs.Streams.{leaf_block}
 use Rattle.vt_tree.specs.Writing.{IsTaken}
+use Rattle.vt_tree.proofs.Growth.{what_comes}
 use Rattle.vt_tree.proofs.Leaves.{leaf_written, leaf_not_put, leaf_not_followed}
 use Rattle.vt_tree.proofs.Rows.{leaf_len, size_some}
 use Rattle.vt_tree.proofs.writing.Cut.leaf.Goals as goal
@@ -23,6 +24,8 @@ returns-in_err-score-clause-stopped g c =
     rw (p.1, p.2) (leaf_not_put g.B.Blocks.does g.B.Scorer.score_of (shape_of cut)
     g.R.Source.tells (size_some cut ready.fits) c.args.blocks.now c.put_leaf.new.blocks
     (next_of old) came ready.next left c.in_err-score.field-0.0
+    (what_comes g.R.Source.tells old.ended left (g.met.R.Source.left_bytes c.args.source.now)
+    ready.end)
     (subst (λ (l : List ℕ). PutsBlock g.B.Blocks.does g.B.Scorer.score_of c.args.blocks.now
     c.put_leaf.new.blocks (leaf_block (shape_of cut) (take old.filled l))
     (Err c.in_err-score.field-0.0)) c.deref.ensures.value c.in_err-score.ensures))
@@ -43,8 +46,7 @@ returns-in_err-advance-clause-stopped g c =
     c.from_residual-in_err-advance.ensures.1 in
     rw (p.1, p.2) (leaf_not_followed g.B.Blocks.does g.B.Scorer.score_of (shape_of cut)
     g.R.Source.tells (size_some cut ready.fits) c.args.blocks.now c.put_leaf.new.blocks
-    (next_of old) came ready.next left (g.R.Source.left c.advance.new.source)
-    c.in_ok-score.score c.in_err-advance.field-0.0
+    (next_of old) came ready.next left c.in_ok-score.score c.in_err-advance.field-0.0
     (subst (λ (l : List ℕ). PutsBlock g.B.Blocks.does g.B.Scorer.score_of c.args.blocks.now
     c.put_leaf.new.blocks (leaf_block (shape_of cut) (take old.filled l))
     (Ok c.in_ok-score.score)) c.deref.ensures.value c.in_ok-score.ensures)

@@ -27,7 +27,7 @@ returns-in_err-score-clause-stopped g c =
     rw (p.1, p.2) (stopped_first_leaf g.B.Blocks.does g.B.Scorer.score_of (shape_of cut)
     g.R.Source.tells (size_some cut ready.fits) (scores_some cut ready.fits) c.args.blocks.now
     (next_of ahead) (omega (arith, len, c.if-ahead-eq0.false)) (c.requires.size ∙ sym len)
-    c.leaf.new.blocks left (g.R.Source.left c.leaf.new.source) c.in_err-score.field-0.0
+    c.leaf.new.blocks left c.in_err-score.field-0.0
     c.in_err-score.ensures.stopped)
 
 pub above-requires-clause-depth : goal.above-requires-clause-depth
@@ -64,7 +64,7 @@ returns-in_err-score-2-clause-stopped g c =
     g.R.Source.tells (size_some cut ready.fits) (scores_some cut ready.fits) c.args.blocks.now
     (next_of ahead) (omega (arith, len, c.if-ahead-eq0.false)) (c.requires.size ∙ sym len)
     ready.fits c.loop-ahead.blocks c.above.new.blocks (next_of c.loop-ahead.ahead) left
-    (g.R.Source.left c.loop-ahead.source) (g.R.Source.left c.above.new.source) c.loop-ahead.depth
+    (g.R.Source.left c.loop-ahead.source) c.loop-ahead.depth
     c.loop-ahead.score (omega (arith, more, c.loop-ahead-test.true)) so.grown
     c.in_err-score-2.field-0.0 c.in_err-score-2.ensures.stopped)
 
