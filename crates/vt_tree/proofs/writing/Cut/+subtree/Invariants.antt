@@ -13,8 +13,8 @@ decreases-above g l = 2 * l.depth
 abbrev pub invariant-above-loop-ahead : goal.invariant-above-loop-ahead
 invariant-above-loop-ahead g l = record {
   row : Row g.B.Blocks.does g.B.Scorer.score_of l.self g.R.Source.tells (l.depth - 1) l.fn.blocks
-    l.blocks l.fn.ahead l.ahead (g.R.Source.left l.fn.source) (g.R.Source.left l.source) l.first
-    l.scores.items (g.R.Source.faults l.fn.source) (g.R.Source.faults l.source);
+      l.blocks l.fn.ahead l.ahead (g.R.Source.left l.fn.source) (g.R.Source.left l.source) l.first
+      l.scores.items (g.R.Source.faults l.fn.source) (g.R.Source.faults l.source);
   kept : g.R.Source.kept l.source ≡ g.R.Source.kept l.fn.source;
 }
 
