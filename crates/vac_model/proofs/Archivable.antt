@@ -57,7 +57,7 @@ plain : (o : Option ℕ) → is_some o ≡ false → o ≡ None
 plain None e = refl
 plain (Some x) e = true_false e
 
-a_name : (name : List ℕ) → is_bad_name name ≡ false → IsName name
+pub a_name : (name : List ℕ) → is_bad_name name ≡ false → IsName name
 a_name name e =
     let two = neither (length name == 0 || nat_lt MAX_NAME (length name))
     (is_some (position is_barred name)) e in
@@ -251,19 +251,19 @@ timed : (name : List ℕ) (put : Items Facts → Items Facts) (items : Items Fac
     → HaveTimes (placed name put items)
 timed name put none puts times = puts none tt
 timed name put (file about bytes others) puts times =
-    elim (cases_Bool (is_lt (slice_cmp nat_cmp name about.name))) [
-      | inl less ↦ rw less (puts (file about bytes others) times)
-      | inr not ↦ rw not (times.0, timed name put others puts times.1)
+    elim (cases_Bool (is_lt (slice_cmp nat_cmp about.name name))) [
+      | inl less ↦ rw less (times.0, timed name put others puts times.1)
+      | inr not ↦ rw not (puts (file about bytes others) times)
     ]
 timed name put (folder about inside others) puts times =
-    elim (cases_Bool (is_lt (slice_cmp nat_cmp name about.name))) [
-      | inl less ↦ rw less (puts (folder about inside others) times)
-      | inr not ↦ rw not (times.0, times.1, timed name put others puts times.2)
+    elim (cases_Bool (is_lt (slice_cmp nat_cmp about.name name))) [
+      | inl less ↦ rw less (times.0, times.1, timed name put others puts times.2)
+      | inr not ↦ rw not (puts (folder about inside others) times)
     ]
 timed name put (other about others) puts times =
-    elim (cases_Bool (is_lt (slice_cmp nat_cmp name about.name))) [
-      | inl less ↦ rw less (puts (other about others) times)
-      | inr not ↦ rw not (timed name put others puts times)
+    elim (cases_Bool (is_lt (slice_cmp nat_cmp about.name name))) [
+      | inl less ↦ rw less (timed name put others puts times)
+      | inr not ↦ rw not (puts (other about others) times)
     ]
 
 times_in_order : (items : Items Facts) → HaveTimes items → HaveTimes (in_order items)

@@ -34,38 +34,36 @@ placed_ordered : (name : List ℕ) (put : Items Facts → Items Facts) (last : O
     → AreOrdered last (placed name put items)
 placed_ordered name put last none puts first ordered = puts last none first tt
 placed_ordered name put last (file about bytes others) puts first ordered =
-    elim (cases_Bool (is_lt (slice_cmp nat_cmp name about.name))) [
+    elim (cases_Bool (is_lt (slice_cmp nat_cmp about.name name))) [
       | inl less ↦
-          rw less (puts last (file about bytes others) first
-          (not_both name about.name less, ordered.1))
-      | inr not ↦
-          rw not (
+          rw less (
             ordered.0,
-            placed_ordered name put (Some about.name) others puts not ordered.1,
+            placed_ordered name put (Some about.name) others puts (not_both about.name name less)
+                ordered.1,
           )
+      | inr not ↦ rw not (puts last (file about bytes others) first (not, ordered.1))
     ]
 placed_ordered name put last (folder about inside others) puts first ordered =
-    elim (cases_Bool (is_lt (slice_cmp nat_cmp name about.name))) [
+    elim (cases_Bool (is_lt (slice_cmp nat_cmp about.name name))) [
       | inl less ↦
-          rw less (puts last (folder about inside others) first
-          (not_both name about.name less, ordered.1, ordered.2))
-      | inr not ↦
-          rw not (
+          rw less (
             ordered.0,
             ordered.1,
-            placed_ordered name put (Some about.name) others puts not ordered.2,
+            placed_ordered name put (Some about.name) others puts (not_both about.name name less)
+                ordered.2,
           )
+      | inr not ↦
+          rw not (puts last (folder about inside others) first (not, ordered.1, ordered.2))
     ]
 placed_ordered name put last (other about others) puts first ordered =
-    elim (cases_Bool (is_lt (slice_cmp nat_cmp name about.name))) [
+    elim (cases_Bool (is_lt (slice_cmp nat_cmp about.name name))) [
       | inl less ↦
-          rw less (puts last (other about others) first
-          (not_both name about.name less, ordered.1))
-      | inr not ↦
-          rw not (
+          rw less (
             ordered.0,
-            placed_ordered name put (Some about.name) others puts not ordered.1,
+            placed_ordered name put (Some about.name) others puts (not_both about.name name less)
+                ordered.1,
           )
+      | inr not ↦ rw not (puts last (other about others) first (not, ordered.1))
     ]
 
 pub are_ordered : (items : Items Facts) → AreOrdered None (in_order items)

@@ -8,21 +8,22 @@ use Rattle.vt_folder.specs.Items.{Items, none, file, folder, other}
 
 -- ---- in the order of names
 
--- these items with one of this name put among them, before the first whose name is above it
+-- these items with one of this name put among them, before the first whose name isn't below it
 abbrev pub placed : (name : List ℕ) → (put : Items Facts → Items Facts) → Items Facts
     → Items Facts
 placed name put none = put none
 placed name put (file about bytes others) =
-    if is_lt (slice_cmp nat_cmp name about.name) then put (file about bytes others)
-    else file about bytes (placed name put others)
+    if is_lt (slice_cmp nat_cmp about.name name) then file about bytes (placed name put others)
+    else put (file about bytes others)
 placed name put (folder about inside others) =
-    if is_lt (slice_cmp nat_cmp name about.name) then put (folder about inside others)
-    else folder about inside (placed name put others)
+    if is_lt (slice_cmp nat_cmp about.name name) then folder about inside (placed name put others)
+    else put (folder about inside others)
 placed name put (other about others) =
-    if is_lt (slice_cmp nat_cmp name about.name) then put (other about others)
-    else other about (placed name put others)
+    if is_lt (slice_cmp nat_cmp about.name name) then other about (placed name put others)
+    else put (other about others)
 
--- the items of a folder, and those of all folders in it, in the order of their names' bytes
+-- the items of a folder, and those of all folders in it, in the order of their names' bytes; those
+-- of one name as they were
 abbrev pub in_order : Items Facts → Items Facts
 in_order none = none
 in_order (file about bytes others) = placed about.name (file about bytes) (in_order others)
