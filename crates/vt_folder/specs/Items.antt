@@ -1,5 +1,5 @@
 -- Folders of files, as a host shows them (stat(5)): finite trees of items.
-use Rattle.std.specs.Prelude.{ℕ, ⊤, Option, Some, None, List, [], ◌∷◌, if◌then◌else◌}
+use Rattle.std.specs.Prelude.{ℕ, ◌<◌, ◌^◌, ⊤, Option, Some, None, List, [], ◌∷◌, length, if◌then◌else◌}
 use Rattle.std.specs.Option.{option_and_then}
 use Rattle.std.specs.Str.{bytes_eq}
 use Rattle.vt_base.specs.Bytes.{AreBytes}
@@ -18,10 +18,15 @@ pub data Items (A : Type 0) : Type 0 where
   -- neither, as a link or a device
   other : (about : A) (others : Items A) → Items A
 
+-- what a file may hold: fewer bytes than a place of eight bytes reaches
+pub record IsFile (bytes : List ℕ) : Type 0 where
+  pub are : AreBytes bytes
+  pub few : length bytes < 2 ^ 64
+
 -- each file, at all depths, has bytes
 abbrev pub HaveBytes : Items Facts → Type 0
 HaveBytes none = ⊤
-HaveBytes (file about bytes others) = AreBytes bytes × HaveBytes others
+HaveBytes (file about bytes others) = IsFile bytes × HaveBytes others
 HaveBytes (folder about inside others) = HaveBytes inside × HaveBytes others
 HaveBytes (other about others) = HaveBytes others
 

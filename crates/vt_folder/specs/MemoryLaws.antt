@@ -29,7 +29,13 @@ all_have_bytes (k ∷ kept) = k.1 _ (all_have_bytes kept)
 layer_has_bytes : (y : MemItem-F Kept) (others : Items Facts) → HaveBytes others
     → HaveBytes (put_item (map-MemItem MemItem Put put (map-MemItem Kept MemItem (λ k. k.0) y))
     others)
-layer_has_bytes (File about content) others have = (content.are_bytes, have)
+layer_has_bytes (File about content) others have = (
+  record {
+    are = content.are_bytes;
+    few = content.few;
+  },
+  have,
+)
 layer_has_bytes (Folder about inside) others have = (all_have_bytes inside.items, have)
 layer_has_bytes (Other about) others have = have
 

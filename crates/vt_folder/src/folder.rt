@@ -1,7 +1,7 @@
 //! Folders that can be read.
 
-ghost use Rattle.std.specs.Prelude.{◌≡◌, ◌≤◌, ◌<◌, ◌^◌, ℕ, Bool, IsTrue, IfOk, Some, List};
-ghost use Rattle.std.specs.Prelude.{length, take, drop};
+ghost use Rattle.std.specs.Prelude.{◌≡◌, ◌≤◌, ◌<◌, ◌^◌, ℕ, Bool, IsTrue, IfOk, OnErr, Some};
+ghost use Rattle.std.specs.Prelude.{List, length, take, drop};
 ghost use Rattle.vt_base.specs.Faults.{CountsFault, HasCause};
 ghost use Rattle.vt_folder.specs.declared.item.Facts.{Facts};
 ghost use Rattle.vt_folder.specs.Items.{Items, HaveBytes};
@@ -41,6 +41,8 @@ pub trait Folder {
             × (file_at path.now (holds self.old) ≡ Some bytes)
             × (take n buf.new ≡ take n (drop at bytes))
             × (n ≡ 0 → 0 < length buf.old → length bytes ≤ at)) }
+        ensures rest { IfOk result (λ n. IsTrue tells → drop n buf.new ≡ drop n buf.old) }
+        ensures untouched { OnErr result (IsTrue tells → buf.new ≡ buf.old) }
         ensures stays { IsTrue tells → holds self.new ≡ holds self.old }
         ensures cause { HasCause result (faults self.old) (faults self.new) };
 

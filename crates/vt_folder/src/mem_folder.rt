@@ -1,6 +1,6 @@
 //! A folder in memory.
 
-ghost use Rattle.std.specs.Prelude.{◌<◌, ◌^◌, ◌↔◌, IsTrue, Contains};
+ghost use Rattle.std.specs.Prelude.{◌<◌, ◌^◌, ◌↔◌, IsTrue, Contains, length};
 ghost use Rattle.vt_base.specs.Bytes.{AreBytes};
 
 use crate::finding::{behind, file_at, folder_at, listing};
@@ -14,6 +14,7 @@ use vt_out::OutErr;
 pub struct MemContent {
     bytes: Vec<u8>,
     ghost are_bytes: { AreBytes bytes.items },
+    ghost few: { length bytes.items < 2 ^ 64 },
 }
 
 impl MemContent {
@@ -144,8 +145,8 @@ impl MemFolder {
 }
 
 impl Folder for MemFolder {
-    ghost use Rattle.std.specs.Prelude.{◌≡◌, ◌↔◌, ◌-◌, ◌++◌, true, ℕ, List, Some, IfOk, IsErr};
-    ghost use Rattle.std.specs.Prelude.{length, take, drop};
+    ghost use Rattle.std.specs.Prelude.{◌≡◌, ◌↔◌, ◌-◌, ◌++◌, true, ℕ, List, Some, IfOk, OnErr};
+    ghost use Rattle.std.specs.Prelude.{IsErr, take, drop};
     ghost use Rattle.vt_base.specs.Faults.{CountsFault, HasCause};
     ghost use Rattle.vt_folder.specs.declared.item.Facts.{Facts};
     ghost use Rattle.vt_folder.specs.Items.{Items, listing_of, folder_at, file_at};
@@ -194,6 +195,7 @@ impl Folder for MemFolder {
             × (file_at path.now (state_of self.old).items ≡ Some bytes)
             × (n ≡ piece (state_of self.old) (length bytes - at) (length buf.old))
             × (buf.new ≡ take n (drop at bytes) ++ drop n buf.old)) }
+        ensures untouched { OnErr result (buf.new ≡ buf.old) }
         ensures left { Leaves (state_of self.old) (state_of self.new) }
         ensures cause { HasCause result (state_of self.old).faults (state_of self.new).faults }
     {
