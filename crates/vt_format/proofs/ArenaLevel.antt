@@ -19,12 +19,12 @@ use Rattle.vt_parts.specs.Parts.{Standing, there, StaysThere}
 use Rattle.vt_format.specs.declared.index.Index.{Index}
 use Rattle.vt_format.specs.declared.index.IndexBad.{IndexBad}
 use Rattle.vt_format.specs.declared.index.IndexBad.TheVariants.{Fault, Refused, Stopped}
-use Rattle.vt_format.specs.Index.{AreLeft, ArePutToUse, Fails, FindsFault, IndexesArenas, IsLeft, IsQuiet, LeavesThere, files_behind}
+use Rattle.vt_format.specs.Index.{AreLeft, ArePutToUse, Fails, FindsFault, IndexesArenas, IsLeft, IsQuiet, StopsIndex, LeavesThere, files_behind}
 use Rattle.vt_format.specs.Opening.{FindsArenas, IsOpenedAs, RefusesArenas, RefusesDisk}
 use Rattle.vt_format.proofs.ArenaLevels.{as_many, disks_more, finds_among, front_left, last_left, left_part, stays_part}
 use Rattle.vt_format.proofs.Failing.{failed_here, later}
 use Rattle.vt_format.proofs.Finding.{finds_arenas}
-use Rattle.vt_format.proofs.Levels.{answers, leaves_becomes, put_rest, stays_read}
+use Rattle.vt_format.proofs.Levels.{answers, leaves_becomes, put_rest, stays_read, stopped_still}
 use Rattle.vt_format.proofs.Rounds.{Round, again, new_is, old_is, round}
 use Rattle.vt_format.proofs.SectionLevel.{all_stay, leaves_failed, read_leaves, read_stays, stays_same}
 
@@ -47,6 +47,8 @@ module _ {D : Type 0} (disk : DiskOf D) (told : Type 0) (conf : Conf) (file : Pa
       → IndexesArenas disk told conf (file ∷ rest) s0 s1 f0 f1 ps ps (Err (Fault (Some number)))
   arenas_missing s1 f1 here others rose = record {
     used = tt;
+    total = 0;
+    stopped = λ yes tells. tt;
     sections = tt;
     found = λ yes tells. tt;
     differs = tt;
@@ -64,6 +66,8 @@ module _ {D : Type 0} (disk : DiskOf D) (told : Type 0) (conf : Conf) (file : Pa
         → IndexesArenas disk told conf (file ∷ rest) s0 s3 f0 f3 ps ps (Err bad)
     arenas_refused_here (Fault part) reads refused = record {
       used = tt;
+      total = 0;
+      stopped = λ yes tells. tt;
       sections = tt;
       found = λ yes tells. tt;
       differs = tt;
@@ -81,6 +85,8 @@ module _ {D : Type 0} (disk : DiskOf D) (told : Type 0) (conf : Conf) (file : Pa
     }
     arenas_refused_here (Refused bad) reads refused = record {
       used = tt;
+      total = 0;
+      stopped = λ yes tells. tt;
       sections = tt;
       found = λ yes tells. ⊎_elim (λ memory. inl memory) (λ why. inr (
         d,
@@ -104,6 +110,8 @@ module _ {D : Type 0} (disk : DiskOf D) (told : Type 0) (conf : Conf) (file : Pa
         → IndexesArenas disk told conf (file ∷ rest) s0 s3 f0 f3 ps ps (Err (Refused NoMemory))
     arenas_left_out p opened same = record {
       used = tt;
+      total = 0;
+      stopped = λ yes tells. tt;
       sections = tt;
       found = λ yes tells. inl refl;
       differs = tt;
@@ -154,6 +162,8 @@ module _ {D : Type 0} (disk : DiskOf D) (told : Type 0) (conf : Conf) (file : Pa
     pub arenas_behind : IndexesArenas disk told conf (file ∷ rest) s0 s3 f0 f3 ps qs r
     arenas_behind = record {
       used = used r inner.used;
+      total = inner.total;
+      stopped = stopped r inner.stopped;
       sections = inner.sections;
       found = λ yes tells. answers (FindsArenas disk s1 conf (tables_of (ps ++ p ∷ [])) (map disk.bytes (disks_of (ps ++ p ∷ []))) rest)
           (FindsArenas disk s0 conf (tables_of ps) (map disk.bytes (disks_of ps)) (file ∷ rest)) (finds yes tells) r (inner.found yes tells);
@@ -170,6 +180,13 @@ module _ {D : Type 0} (disk : DiskOf D) (told : Type 0) (conf : Conf) (file : Pa
         used (Err bad) behind = tt
         used (Ok index) behind = λ yes tells.
             put_rest disk s0 s1 s2 s3 (was_there yes) (becomes_there yes) 0 index.buckets conf.sections.items (behind yes tells)
+
+        stopped : (r : Result Index IndexBad) → IfErr r (λ bad. told → IsTrue disk.tells
+            → StopsIndex disk s1 s2 0 inner.total (length conf.arenas.items) conf.sections.items bad)
+            → IfErr r (λ bad. told → IsTrue disk.tells → StopsIndex disk s0 s3 0 inner.total (length conf.arenas.items) conf.sections.items bad)
+        stopped (Ok index) behind = tt
+        stopped (Err bad) behind = λ yes tells. stopped_still disk s0 s1 s2 s3 (was_there yes) (becomes_there yes) 0 inner.total (length conf.arenas.items)
+            conf.sections.items bad (behind yes tells)
 
         tables : tables_of (ps ++ p ∷ []) ≡ tables_of ps ++ table_of p ∷ []
         tables = map-append (λ (part : Part D). table_of part) ps (p ∷ [])

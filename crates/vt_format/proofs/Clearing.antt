@@ -1,5 +1,5 @@
 -- Clearing the buckets of a section piece by piece.
-use Rattle.std.proofs.Common.{◌≡◌, ℕ, ◌+◌, ◌-◌, ◌*◌, ◌/◌, ◌≤◌, List, [], Some, ◌∙◌, ap, arith}
+use Rattle.std.proofs.Common.{◌≡◌, ℕ, ◌+◌, ◌-◌, ◌*◌, ◌/◌, ◌≤◌, List, [], Some, None, ◌∙◌, ap, arith}
 use Rattle.std.proofs.Math.Nat.{mul-le-mul_left}
 use Rattle.std.specs.Prelude.{IsTrue}
 use Rattle.std.proofs.lemmas.Bool.Decides.{nat_tests}
@@ -34,6 +34,15 @@ more piece all =
     let next : piece ≤ piece + 1 = omega arith in
     let mul : all * piece ≤ all * (piece + 1) = mul-le-mul_left all next in
     omega arith
+
+-- What was known of the disk still is, whatever is known of the buckets that are being cleared.
+pub still_sound : {D : Type 0} (disk : DiskOf D) (forget : Forgets disk) (piece first count : ℕ) (old u v : SectionState D)
+    → HasCleared disk piece old u
+    → ((known : Known) → IsTrue disk.tells → DiskHolds disk u known → DiskHolds disk v (with_buckets first count None known))
+    → IsTrue disk.tells → DiskHolds disk old nothing_known → DiskHolds disk v nothing_known
+still_sound disk forget piece first count old u v it others told sound =
+    let known : Known = cleared old.head.first (up_to piece old.buckets) in
+    forget v (with_buckets first count None known) nothing_known (λ n entries is. absurd (cc)) (others known told (it.holds told sound))
 
 pub one_more : {D : Type 0} (disk : DiskOf D) (forget : Forgets disk) (piece : ℕ) (old u v : SectionState D)
     → HasCleared disk piece old u → v ≡ record u { disk = v.disk }

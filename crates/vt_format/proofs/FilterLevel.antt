@@ -13,7 +13,7 @@ use Rattle.vt_parts.specs.Parts.{Standing, StaysThere}
 use Rattle.vt_format.specs.declared.index.Index.{Index}
 use Rattle.vt_format.specs.declared.index.IndexBad.{IndexBad}
 use Rattle.vt_format.specs.declared.index.IndexBad.TheVariants.{Fault, Refused, Stopped}
-use Rattle.vt_format.specs.Index.{AnswersFor, Fails, IndexesSections, IsStoppedAmong, LeavesOpened, listed}
+use Rattle.vt_format.specs.Index.{AnswersFor, Fails, IndexesSections, IsStoppedAmong, LeavesOpened, StopsIndex, listed}
 use Rattle.vt_format.specs.Opening.{FindsFilter, NamesCause, RefusesDisk, RefusesFilter}
 use Rattle.vt_format.specs.Usage.{buckets_of}
 use Rattle.vt_format.proofs.Failing.{failed_here}
@@ -41,7 +41,7 @@ module _ {D : Type 0} (disk : DiskOf D) (told : Type 0) (conf : Conf) (number : 
   module _ (ns : List (SectionState D)) (r : Result Index IndexBad) (all : length os ≡ length conf.sections.items)
       (total : IfOk r (λ it. it.buckets ≡ buckets_of os)) (count : IfOk r (λ it. it.sections ≡ length os))
       (stopped : IfErr r (IsStoppedAmong (length conf.arenas.items) (length os)))
-      (left : LeavesOpened disk (length conf.arenas.items) r os ns) where
+      (left : LeavesOpened disk (length conf.arenas.items) (buckets_of os) r os ns) where
     sections : (x : Result Index IndexBad) → IfOk x (λ it. it.sections ≡ length os) → IfOk x (λ it. it.sections ≡ length conf.sections.items)
     sections (Ok it) same = same ∙ all
     sections (Err bad) same = tt
@@ -57,6 +57,13 @@ module _ {D : Type 0} (disk : DiskOf D) (told : Type 0) (conf : Conf) (number : 
     causes (Ok it) f3 s3 same why = tt
     causes (Err bad) f3 s3 same why = inl (same, why)
 
+    stops : (x : Result Index IndexBad) (old new : List ℕ → Standing D) → IfErr x (λ bad. told → IsTrue disk.tells
+        → StopsIndex disk old new (buckets_of os) (buckets_of os) (length conf.arenas.items + length os) [] bad)
+    stops (Ok it) old new = tt
+    stops (Err (Fault part)) old new = λ yes tells. tt
+    stops (Err (Refused bad)) old new = λ yes tells. tt
+    stops (Err (Stopped part)) old new = λ yes tells. refl
+
     nones : (x : Result Index IndexBad) (f3 : ℕ) → f3 ≡ f0 → OnOk x (f3 ≡ f0)
     nones (Ok it) f3 same = same
     nones (Err bad) f3 same = tt
@@ -64,6 +71,8 @@ module _ {D : Type 0} (disk : DiskOf D) (told : Type 0) (conf : Conf) (number : 
     pub filter_none : conf.filter ≡ None → IndexesSections disk told conf [] s0 s0 f0 f0 os ns r
     filter_none none_is = record {
       used = totals r total;
+      total = buckets_of os;
+      stopped = stops r s0 s0;
       sections = sections r count;
       found = λ yes tells. none_found (λ found. FindsFilter disk s0 conf.filter (length conf.arenas.items + length os) found)
           (subst (λ (o : Option PartFile). FindsFilter disk s0 o (length conf.arenas.items + length os) None) (sym none_is) refl)
@@ -83,6 +92,8 @@ module _ {D : Type 0} (disk : DiskOf D) (told : Type 0) (conf : Conf) (number : 
         → IndexesSections disk told conf [] s0 s3 f0 f3 os ns r
     filter_behind file s1 s3 f1 f3 d e is first last it reads faults saved = record {
       used = totals r total;
+      total = buckets_of os;
+      stopped = stops r s0 s3;
       sections = sections r count;
       found = λ yes tells. none_found (λ found. FindsFilter disk s0 conf.filter (length conf.arenas.items + length os) found)
           (subst (λ (o : Option PartFile). FindsFilter disk s0 o (length conf.arenas.items + length os) None) (sym is)
@@ -102,6 +113,8 @@ module _ {D : Type 0} (disk : DiskOf D) (told : Type 0) (conf : Conf) (number : 
       → IndexesSections disk told conf [] s0 s1 f0 f1 os os (Err (Fault (Some number)))
   filter_missing file s1 f1 is here others rose = record {
     used = tt;
+    total = 0;
+    stopped = λ yes tells. tt;
     sections = tt;
     found = λ yes tells. tt;
     differs = tt;
@@ -119,6 +132,8 @@ module _ {D : Type 0} (disk : DiskOf D) (told : Type 0) (conf : Conf) (number : 
         → IndexesSections disk told conf [] s0 s3 f0 f3 os os (Err bad)
     filter_refused_here (Fault part) reads refused = record {
       used = tt;
+      total = 0;
+      stopped = λ yes tells. tt;
       sections = tt;
       found = λ yes tells. tt;
       differs = tt;
@@ -136,6 +151,8 @@ module _ {D : Type 0} (disk : DiskOf D) (told : Type 0) (conf : Conf) (number : 
     }
     filter_refused_here (Refused bad) reads refused = record {
       used = tt;
+      total = 0;
+      stopped = λ yes tells. tt;
       sections = tt;
       found = λ yes tells. ⊎_elim (λ memory. inl memory) (λ why. inr
           (subst (λ (o : Option PartFile). FindsFilter disk s0 o (length conf.arenas.items + length os) (Some bad)) (sym is)

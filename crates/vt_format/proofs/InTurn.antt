@@ -1,6 +1,6 @@
 -- Sections that are put to use in turn.
 use Rattle.std.proofs.Common.{◌≡◌, ⊎_elim, ℕ, ◌+◌, ◌<◌, ◌≤◌, List, Some, length, take, set, sym, ◌∙◌, ap, subst, arith}
-use Rattle.std.specs.Prelude.{slice_get, slice_index_or, sum_by, Err}
+use Rattle.std.specs.Prelude.{IsTrue, slice_get, slice_index_or, sum_by, Err}
 use Rattle.std.proofs.lemmas.Bool.{cases_lt}
 use Rattle.std.proofs.lemmas.List.{length-set}
 use Rattle.std.proofs.lemmas.List.Sums.{sum_by-take-le, sum_by_more}
@@ -12,7 +12,7 @@ use Rattle.vt_isect.specs.declared.bad.ShardErr.TheVariants.{Fault as fault}
 use Rattle.vt_isect.specs.Faults.{is_fault}
 use Rattle.vt_isect.specs.Section.{SectionState}
 use Rattle.vt_log.proofs.Lists.{slice_get_set_other, slice_get_set_same}
-use Rattle.vt_format.specs.Usage.{AreUsed, IsUsed, StopsAt, buckets_of, first_of}
+use Rattle.vt_format.specs.Usage.{AreUsed, IsMidway, IsUsed, StopsAt, buckets_of, first_of}
 
 pub record AreUsedTo {D : Type 0} (disk : DiskOf D) (total number first : ℕ) (olds news : List (SectionState D)) : Type 0 where
   pub many : length news ≡ length olds
@@ -71,8 +71,8 @@ module _ {D : Type 0} (disk : DiskOf D) (total number first : ℕ) (olds mids : 
   }
 
   pub stops : HasRisen (disk.faults old.disk) (disk.faults new.disk) → disk.size new.disk ≡ disk.size old.disk
-      → StopsAt disk number olds (set mids number new)
-  stops rose size = record {
+      → (IsTrue disk.tells → IsMidway disk first total old new) → StopsAt disk number total olds (set mids number new)
+  stops rose size midway = record {
     many = length-set {A = SectionState D} mids number new ∙ it.many;
     each = λ k a b at_a at_b. ⊎_elim
         (λ (before : k < number).
@@ -81,6 +81,8 @@ module _ {D : Type 0} (disk : DiskOf D) (total number first : ℕ) (olds mids : 
           size = used.size;
           rose = λ same. absurd (omega (arith, before, same));
           others = λ other. used.faults;
+          before = λ is. used;
+          midway = λ is. absurd (omega (arith, before, is));
           behind = λ is. absurd (omega (arith, before, is));
         })
         (λ (least : number ≤ k). ⊎_elim
@@ -91,6 +93,8 @@ module _ {D : Type 0} (disk : DiskOf D) (total number first : ℕ) (olds mids : 
           size = ap (λ (x : SectionState D). disk.size x.disk) same;
           rose = λ is. absurd (omega (arith, behind, is));
           others = λ other. ap (λ (x : SectionState D). disk.faults x.disk) same;
+          before = λ is. absurd (omega (arith, behind, is));
+          midway = λ is. absurd (omega (arith, behind, is));
           behind = λ is. same;
         })
         (λ (most : k ≤ number).
@@ -101,6 +105,10 @@ module _ {D : Type 0} (disk : DiskOf D) (total number first : ℕ) (olds mids : 
           rose = λ is. subst (λ (x : SectionState D). HasRisen (disk.faults x.disk) (disk.faults b.disk)) (sym are.0)
               (subst (λ (x : SectionState D). HasRisen (disk.faults old.disk) (disk.faults x.disk)) (sym are.1) rose);
           others = λ other. absurd (other (sym same));
+          before = λ is. absurd (omega (arith, least, is));
+          midway = λ is told. subst (λ (n : ℕ). IsMidway disk n total a b) (it.first_is ∙ ap (first_of olds) same)
+              (subst (λ (x : SectionState D). IsMidway disk first total x b) (sym are.0)
+              (subst (λ (y : SectionState D). IsMidway disk first total old y) (sym are.1) (midway told)));
           behind = λ is. absurd (omega (arith, most, is));
         })
         (cases_lt number k))

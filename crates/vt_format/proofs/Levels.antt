@@ -12,9 +12,9 @@ use Rattle.vt_parts.specs.Parts.{Standing, nothing, lent, there, HandsOut, Stays
 use Rattle.vt_format.specs.declared.index.Index.{Index}
 use Rattle.vt_format.specs.declared.index.IndexBad.{IndexBad}
 use Rattle.vt_format.specs.declared.index.IndexBad.TheVariants.{Fault, Refused, Stopped}
-use Rattle.vt_format.specs.Index.{AnswersFor, ArePutToUse, FailsAt, IsLeft, IsStoppedAmong, LeavesThere, PutsToUse}
+use Rattle.vt_format.specs.Index.{AnswersFor, ArePutToUse, FailsAt, IsLeft, IsStoppedAmong, StopsSection, StopsSections, StopsIndex, LeavesThere, PutsToUse}
 use Rattle.vt_format.specs.Opening.{IsOpenedSection}
-use Rattle.vt_format.specs.Usage.{buckets_of}
+use Rattle.vt_format.specs.Usage.{IsUsed, buckets_of}
 use Rattle.vt_format.proofs.Failing.{failed_here}
 use Rattle.vt_format.proofs.Opened.{LeavesOne}
 use Rattle.vt_format.proofs.Rounds.{Becomes}
@@ -48,9 +48,9 @@ answers P Q more (Err (Stopped part)) found = more None found
 
 -- ---- sections
 
-module _ {D : Type 0} (disk : DiskOf D) (behind : ℕ) (os : List (SectionState D)) (d : D) (o n : SectionState D)
+module _ {D : Type 0} (disk : DiskOf D) (behind total : ℕ) (os : List (SectionState D)) (d : D) (o n : SectionState D)
     (opened : IsOpenedSection disk (buckets_of os) d o) where
-  pub left_one : (r : Result Index IndexBad) → LeavesOne disk behind r (length os) (buckets_of os) o n → IsLeft disk r d n.disk
+  pub left_one : (r : Result Index IndexBad) → LeavesOne disk behind total r (length os) (buckets_of os) o n → IsLeft disk r d n.disk
   left_one (Ok it) one = record {
     size = one.size ∙ opened.reads.size;
     unwritten = λ no. absurd no;
@@ -73,9 +73,9 @@ module _ {D : Type 0} (disk : DiskOf D) (behind : ℕ) (os : List (SectionState 
   }
 
   -- the section is in use
-  pub put : (it : Index) → IsTrue disk.tells → LeavesOne disk behind (Ok it) (length os) (buckets_of os) o n
-      → PutsToUse disk (buckets_of os) o.buckets it.buckets (there d) (there n.disk)
-  put it told one = record {
+  pub put : (all : ℕ) → IsTrue disk.tells → IsUsed disk (buckets_of os) all o n
+      → PutsToUse disk (buckets_of os) o.buckets all (there d) (there n.disk)
+  put all told one = record {
     before = d;
     after = n.disk;
     was = refl;
@@ -89,9 +89,30 @@ module _ {D : Type 0} (disk : DiskOf D) (behind : ℕ) (os : List (SectionState 
     calls = omega (arith, one.calls told, opened.reads.calls told);
   }
 
+  -- a call of a section failed
+  pub leaves_section : (part : ℕ) → IsTrue disk.tells → LeavesOne disk behind total (Err (Stopped part)) (length os) (buckets_of os) o n
+      → StopsSection disk (buckets_of os) o.buckets total (behind + length os) part (there d) (there n.disk)
+  leaves_section part told one = record {
+    before = d;
+    after = n.disk;
+    was = refl;
+    is = refl;
+    buckets = opened.buckets;
+    name = o.name;
+    head = o.head;
+    named = opened.head told;
+    used = λ is. put total told (one.2.before (omega (arith, is, one.1)));
+    midway = λ is file left. ⊎_elim
+        (λ old. inl (old.0, old.1, opened.reads.images old.1 old.2, old.3))
+        (λ new. inr new)
+        (one.2.midway (omega (arith, is, one.1)) told file left);
+    stays = λ is. subst (λ (t : SectionState D). StaysThere disk (there d) (there t.disk))
+        (sym (one.2.behind (omega (arith, is, one.1)))) (stays_read disk 3 d o.disk opened.reads);
+  }
+
   -- a call of it failed
   pub stopped_here : (part : ℕ) (told : Type 0) (file : PartFile) (files : List PartFile) (s0 s3 : List ℕ → Standing D)
-      → LeavesOne disk behind (Err (Stopped part)) (length os) (buckets_of os) o n → part ≡ behind + length os
+      → LeavesOne disk behind total (Err (Stopped part)) (length os) (buckets_of os) o n → part ≡ behind + length os
       → (told → s0 file.name ≡ there d) → (told → s3 file.name ≡ there n.disk)
       → FailsAt disk told (behind + length os) (file ∷ files) s0 s3 part
   stopped_here part told file files s0 s3 one same was is =
@@ -122,6 +143,32 @@ put_rest disk s0 s1 s2 s3 old_is new_is first total (file ∷ files) it = (
   },
   put_rest disk s0 s1 s2 s3 old_is new_is (first + it.0) total files it.2,
 )
+
+-- so it is with what stands under each name, of which one was handed out meanwhile
+pub stopped_rest : {D : Type 0} (disk : DiskOf D) (s0 s1 s2 s3 : List ℕ → Standing D)
+    → ((n : List ℕ) (a : D) → s1 n ≡ there a → s0 n ≡ there a)
+    → ((n : List ℕ) (a b : D) → s1 n ≡ there a → s2 n ≡ there b → s3 n ≡ there b)
+    → (first total number part : ℕ) (files : List PartFile) → StopsSections disk s1 s2 first total number part files
+    → StopsSections disk s0 s3 first total number part files
+stopped_rest disk s0 s1 s2 s3 old_is new_is first total number part [] it = it
+stopped_rest {D = D} disk s0 s1 s2 s3 old_is new_is first total number part (file ∷ files) it =
+    let was : s0 file.name ≡ s1 file.name = old_is file.name it.1.before it.1.was ∙ sym it.1.was in
+    let is : s3 file.name ≡ s2 file.name = new_is file.name it.1.before it.1.after it.1.was it.1.is ∙ sym it.1.is in (
+      it.0,
+      subst (λ (x : Standing D). StopsSection disk first it.0 total number part x (s3 file.name)) (sym was)
+          (subst (λ (y : Standing D). StopsSection disk first it.0 total number part (s1 file.name) y) (sym is) it.1),
+      stopped_rest disk s0 s1 s2 s3 old_is new_is (first + it.0) total (number + 1) part files it.2,
+    )
+
+pub stopped_still : {D : Type 0} (disk : DiskOf D) (s0 s1 s2 s3 : List ℕ → Standing D)
+    → ((n : List ℕ) (a : D) → s1 n ≡ there a → s0 n ≡ there a)
+    → ((n : List ℕ) (a b : D) → s1 n ≡ there a → s2 n ≡ there b → s3 n ≡ there b)
+    → (first total number : ℕ) (files : List PartFile) (bad : IndexBad) → StopsIndex disk s1 s2 first total number files bad
+    → StopsIndex disk s0 s3 first total number files bad
+stopped_still disk s0 s1 s2 s3 old_is new_is first total number files (Fault part) it = tt
+stopped_still disk s0 s1 s2 s3 old_is new_is first total number files (Refused bad) it = tt
+stopped_still disk s0 s1 s2 s3 old_is new_is first total number files (Stopped part) it =
+    stopped_rest disk s0 s1 s2 s3 old_is new_is first total number part files it
 
 -- which partition is stopped: one that was opened before, this one, or one behind it
 pub stopped_among : (behind count : ℕ) (bad : IndexBad) → IsStoppedAmong behind (count + 1) bad

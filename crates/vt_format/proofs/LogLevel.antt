@@ -26,7 +26,7 @@ use Rattle.vt_parts.specs.Parts.{Standing}
 use Rattle.vt_format.specs.declared.index.Index.{Index}
 use Rattle.vt_format.specs.declared.index.IndexBad.{IndexBad}
 use Rattle.vt_format.specs.declared.index.IndexBad.TheVariants.{Fault, Refused, Stopped}
-use Rattle.vt_format.specs.Index.{AreLeft, Fails, FindsFault, IndexesArenas, IndexesSections, IsQuiet, IsStoppedAmong, files_behind}
+use Rattle.vt_format.specs.Index.{AreLeft, Fails, FindsFault, IndexesArenas, IndexesSections, IsQuiet, IsStoppedAmong, StopsIndex, files_behind}
 use Rattle.vt_format.specs.Opening.{FindsLog, FindsSections, NamesTwo, told}
 use Rattle.vt_told.specs.Told.{of_log}
 use Rattle.vt_format.proofs.Levels.{answers}
@@ -113,9 +113,19 @@ module _ {D : Type 0} (disk : DiskOf D) (told_is : Type 0) (conf : Conf) (s0 : L
         nobody (Refused b) it = it
         nobody (Stopped part) it = absurd (omega (arith, it.0, it.1))
 
+    stopped : (x : Result Index IndexBad) → IfErr x (λ bad. told_is → IsTrue disk.tells
+        → StopsIndex disk s0 s1 0 inner.total (length conf.arenas.items + 0) conf.sections.items bad)
+        → IfErr x (λ bad. told_is → IsTrue disk.tells → StopsIndex disk s0 s1 0 inner.total (length conf.arenas.items) conf.sections.items bad)
+    stopped (Ok index) behind = tt
+    stopped (Err bad) behind = λ yes tells.
+        let same : length conf.arenas.items + 0 ≡ length conf.arenas.items = omega arith in
+        subst (λ (k : ℕ). StopsIndex disk s0 s1 0 inner.total k conf.sections.items bad) same (behind yes tells)
+
     pub log_found : IndexesArenas disk told_is conf [] s0 s1 f0 f1 ps qs r
     log_found = record {
       used = inner.used;
+      total = inner.total;
+      stopped = stopped r inner.stopped;
       sections = inner.sections;
       found = λ yes tells. answers (FindsSections disk s0 conf.filter (length conf.arenas.items + 0) 0 conf.sections.items)
           (FindsLog disk s0 conf (tables_of ps) (map disk.bytes (disks_of ps))) (finds tells) r (inner.found yes tells);
@@ -134,6 +144,8 @@ module _ {D : Type 0} (disk : DiskOf D) (told_is : Type 0) (conf : Conf) (s0 : L
         → IndexesArenas disk told_is conf [] s0 s0 f0 f0 ps qs (Err (Refused bad))
     refused_with why bad refused is names quiet = record {
       used = tt;
+      total = 0;
+      stopped = λ yes tells. tt;
       sections = tt;
       found = λ yes tells. inr (
         fields,
@@ -175,6 +187,8 @@ module _ {D : Type 0} (disk : DiskOf D) (told_is : Type 0) (conf : Conf) (s0 : L
         (log_differs false 0 (layout_of (tables_of ps)) fields (log_bad.Order i clumps) refused.1) quiet
     log_refused log_bad.Fault refused rose = record {
       used = tt;
+      total = 0;
+      stopped = λ yes tells. tt;
       sections = tt;
       found = λ yes tells. tt;
       differs = tt;

@@ -37,11 +37,11 @@ last_of {X = X} xs ys x y same =
     ∙ ap (λ (l : List X). slice_get (xs ++ x ∷ []) (length l)) fronts ∙ last_get xs x)
 
 -- how one of the open sections is left
-abbrev pub LeavesOne : {D : Type 0} → DiskOf D → (number : ℕ) → Result Index IndexBad → (i first : ℕ) → (old new : SectionState D) → Type 0
-LeavesOne disk number (Ok it) i first old new = IsUsed disk first it.buckets old new
-LeavesOne disk number (Err (Fault part)) i first old new = new ≡ old
-LeavesOne disk number (Err (Refused bad)) i first old new = new ≡ old
-LeavesOne disk number (Err (Stopped part)) i first old new = (k : ℕ) × (part ≡ number + k) × IsStopped disk k i old new
+abbrev pub LeavesOne : {D : Type 0} → DiskOf D → (number total : ℕ) → Result Index IndexBad → (i first : ℕ) → (old new : SectionState D) → Type 0
+LeavesOne disk number total (Ok it) i first old new = IsUsed disk first it.buckets old new
+LeavesOne disk number total (Err (Fault part)) i first old new = new ≡ old
+LeavesOne disk number total (Err (Refused bad)) i first old new = new ≡ old
+LeavesOne disk number total (Err (Stopped part)) i first old new = (k : ℕ) × (part ≡ number + k) × IsStopped disk k i first total old new
 
 module _ {D : Type 0} (disk : DiskOf D) (olds news : List (SectionState D)) (old new : SectionState D) where
   first_in_front : (i : ℕ) (x : SectionState D) → slice_get olds i ≡ Some x → first_of (olds ++ old ∷ []) i ≡ first_of olds i
@@ -66,20 +66,23 @@ module _ {D : Type 0} (disk : DiskOf D) (olds news : List (SectionState D)) (old
         subst (λ (n : ℕ). IsUsed disk n total old new) first_of_last (it.each (length olds) old new (last_get olds old) (last_new many)),
       )
 
-  stopped : (k : ℕ) → StopsAt disk k (olds ++ old ∷ []) (news ++ new ∷ []) → StopsAt disk k olds news × IsStopped disk k (length olds) old new
-  stopped k it =
+  stopped : (k total : ℕ) → StopsAt disk k total (olds ++ old ∷ []) (news ++ new ∷ [])
+      → StopsAt disk k total olds news × IsStopped disk k (length olds) (buckets_of olds) total old new
+  stopped k total it =
       let many : length news ≡ length olds = same_fronts olds news old new it.many in (
         record {
           many = many;
-          each = λ i a b at_a at_b. it.each i a b (front_get olds old i a at_a) (front_get news new i b at_b);
+          each = λ i a b at_a at_b. subst (λ (n : ℕ). IsStopped disk k i n total a b) (first_in_front i a at_a)
+              (it.each i a b (front_get olds old i a at_a) (front_get news new i b at_b));
         },
-        it.each (length olds) old new (last_get olds old) (last_new many),
+        subst (λ (n : ℕ). IsStopped disk k (length olds) n total old new) first_of_last
+            (it.each (length olds) old new (last_get olds old) (last_new many)),
       )
 
-  pub split : (number : ℕ) (r : Result Index IndexBad) → LeavesOpened disk number r (olds ++ old ∷ []) (news ++ new ∷ [])
-      → LeavesOpened disk number r olds news × LeavesOne disk number r (length olds) (buckets_of olds) old new
-  split number (Ok it) left = used it.buckets left
-  split number (Err (Fault part)) left = (front_of olds news old new left, last_of olds news old new left)
-  split number (Err (Refused bad)) left = (front_of olds news old new left, last_of olds news old new left)
-  split number (Err (Stopped part)) left =
-      let parts = stopped left.0 left.2 in ((left.0, left.1, parts.0), (left.0, left.1, parts.1))
+  pub split : (number total : ℕ) (r : Result Index IndexBad) → LeavesOpened disk number total r (olds ++ old ∷ []) (news ++ new ∷ [])
+      → LeavesOpened disk number total r olds news × LeavesOne disk number total r (length olds) (buckets_of olds) old new
+  split number total (Ok it) left = used it.buckets left
+  split number total (Err (Fault part)) left = (front_of olds news old new left, last_of olds news old new left)
+  split number total (Err (Refused bad)) left = (front_of olds news old new left, last_of olds news old new left)
+  split number total (Err (Stopped part)) left =
+      let parts = stopped left.0 total left.2 in ((left.0, left.1, parts.0), (left.0, left.1, parts.1))

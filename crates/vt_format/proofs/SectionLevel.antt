@@ -14,12 +14,12 @@ use Rattle.vt_parts.specs.Parts.{Standing, nothing, lent, there, StaysThere}
 use Rattle.vt_format.specs.declared.index.Index.{Index}
 use Rattle.vt_format.specs.declared.index.IndexBad.{IndexBad}
 use Rattle.vt_format.specs.declared.index.IndexBad.TheVariants.{Fault, Refused, Stopped}
-use Rattle.vt_format.specs.Index.{ArePutToUse, Fails, IndexesSections, IsLeft, IsQuiet, IsStoppedAmong, LeavesOpened, LeavesThere, PutsToUse, listed}
+use Rattle.vt_format.specs.Index.{ArePutToUse, Fails, IndexesSections, IsLeft, IsQuiet, IsStoppedAmong, LeavesOpened, StopsSection, StopsSections, StopsIndex, LeavesThere, PutsToUse, listed}
 use Rattle.vt_format.specs.Opening.{FindsSections, IsOpenedSection, RefusesDisk, RefusesSection}
 use Rattle.vt_format.specs.Usage.{buckets_of}
 use Rattle.vt_format.proofs.Failing.{failed_here, later}
 use Rattle.vt_format.proofs.Finding.{finds_sections}
-use Rattle.vt_format.proofs.Levels.{answers, leaves_becomes, left_one, put, put_rest, stays_read, stopped_among, stopped_here}
+use Rattle.vt_format.proofs.Levels.{answers, leaves_becomes, leaves_section, left_one, put, put_rest, stays_read, stopped_among, stopped_here, stopped_rest}
 use Rattle.vt_format.proofs.Opened.{LeavesOne, split}
 use Rattle.vt_format.proofs.Rounds.{Round, again, new_is, old_is, round, same_or_not}
 
@@ -84,6 +84,8 @@ module _ {D : Type 0} (disk : DiskOf D) (told : Type 0) (conf : Conf) (file : Pa
       → IndexesSections disk told conf (file ∷ rest) s0 s1 f0 f1 os os (Err (Fault (Some number)))
   section_missing s1 f1 here others rose = record {
     used = tt;
+    total = 0;
+    stopped = λ yes tells. tt;
     sections = tt;
     found = λ yes tells. tt;
     differs = tt;
@@ -101,6 +103,8 @@ module _ {D : Type 0} (disk : DiskOf D) (told : Type 0) (conf : Conf) (file : Pa
         → IndexesSections disk told conf (file ∷ rest) s0 s3 f0 f3 os os (Err bad)
     section_refused_here (Fault part) reads refused = record {
       used = tt;
+      total = 0;
+      stopped = λ yes tells. tt;
       sections = tt;
       found = λ yes tells. tt;
       differs = tt;
@@ -118,6 +122,8 @@ module _ {D : Type 0} (disk : DiskOf D) (told : Type 0) (conf : Conf) (file : Pa
     }
     section_refused_here (Refused bad) reads refused = record {
       used = tt;
+      total = 0;
+      stopped = λ yes tells. tt;
       sections = tt;
       found = λ yes tells. ⊎_elim (λ memory. inl memory) (λ why. inr (
         d,
@@ -138,6 +144,8 @@ module _ {D : Type 0} (disk : DiskOf D) (told : Type 0) (conf : Conf) (file : Pa
         → IndexesSections disk told conf (file ∷ rest) s0 s3 f0 f3 os os (Err (Refused NoMemory))
     section_left_out o opened same = record {
       used = tt;
+      total = 0;
+      stopped = λ yes tells. tt;
       sections = tt;
       found = λ yes tells. inl refl;
       differs = tt;
@@ -163,11 +171,12 @@ module _ {D : Type 0} (disk : DiskOf D) (told : Type 0) (conf : Conf) (file : Pa
     buckets : buckets_of (os ++ o ∷ []) ≡ buckets_of os + o.buckets
     buckets = omega (arith, sum_by-append (λ (section : SectionState D). section.buckets) os (o ∷ []))
 
-    parts : LeavesOpened disk (length conf.arenas.items) r os ns × LeavesOne disk (length conf.arenas.items) r (length os) (buckets_of os) o n
-    parts = split disk os ns o n (length conf.arenas.items) r inner.left
+    parts : LeavesOpened disk (length conf.arenas.items) inner.total r os ns
+        × LeavesOne disk (length conf.arenas.items) inner.total r (length os) (buckets_of os) o n
+    parts = split disk os ns o n (length conf.arenas.items) inner.total r inner.left
 
     left_e : IsLeft disk r d e
-    left_e = subst (λ (x : D). IsLeft disk r d x) (sym e_is) (left_one disk (length conf.arenas.items) os d o n opened r parts.1)
+    left_e = subst (λ (x : D). IsLeft disk r d x) (sym e_is) (left_one disk (length conf.arenas.items) inner.total os d o n opened r parts.1)
 
     is_there : told → s3 file.name ≡ there e
     is_there tells = again file.name s0 s1 s2 s3 d e (it tells) (LeavesThere disk r) (leaves_becomes disk r) (inner.back tells file.name)
@@ -181,6 +190,8 @@ module _ {D : Type 0} (disk : DiskOf D) (told : Type 0) (conf : Conf) (file : Pa
     pub section_behind : IndexesSections disk told conf (file ∷ rest) s0 s3 f0 f3 os ns r
     section_behind = record {
       used = used r inner.used parts.1;
+      total = inner.total;
+      stopped = stopped r inner.stopped parts.1;
       sections = inner.sections;
       found = λ yes tells. answers (FindsSections disk s1 conf.filter (length conf.arenas.items + length (os ++ o ∷ [])) (buckets_of (os ++ o ∷ [])) rest)
           (FindsSections disk s0 conf.filter (length conf.arenas.items + length os) (buckets_of os) (file ∷ rest)) (finds yes tells) r (inner.found yes tells);
@@ -197,16 +208,38 @@ module _ {D : Type 0} (disk : DiskOf D) (told : Type 0) (conf : Conf) (file : Pa
       where
         used : (r : Result Index IndexBad)
             → IfOk r (λ (it : Index). told → IsTrue disk.tells → ArePutToUse disk s1 s2 (buckets_of (os ++ o ∷ [])) it.buckets rest)
-            → LeavesOne disk (length conf.arenas.items) r (length os) (buckets_of os) o n
+            → LeavesOne disk (length conf.arenas.items) inner.total r (length os) (buckets_of os) o n
             → IfOk r (λ (it : Index). told → IsTrue disk.tells → ArePutToUse disk s0 s3 (buckets_of os) it.buckets (file ∷ rest))
         used (Err bad) behind one = tt
         used (Ok index) behind one = λ yes tells. (
           o.buckets,
           subst (λ (x : Standing D). PutsToUse disk (buckets_of os) o.buckets index.buckets x (s3 file.name)) (sym (it yes).was)
               (subst (λ (x : Standing D). PutsToUse disk (buckets_of os) o.buckets index.buckets (there d) x) (ap there (sym e_is) ∙ sym (is_there yes))
-              (put disk (length conf.arenas.items) os d o n opened index tells one)),
+              (put disk (length conf.arenas.items) inner.total os d o n opened index.buckets tells one)),
           subst (λ (k : ℕ). ArePutToUse disk s0 s3 k index.buckets rest) buckets
               (put_rest disk s0 s1 s2 s3 (was_there yes) (becomes_there yes) (buckets_of (os ++ o ∷ [])) index.buckets rest (behind yes tells)),
+        )
+
+        stopped : (r : Result Index IndexBad)
+            → IfErr r (λ bad. told → IsTrue disk.tells → StopsIndex disk s1 s2 (buckets_of (os ++ o ∷ [])) inner.total
+            (length conf.arenas.items + length (os ++ o ∷ [])) rest bad)
+            → LeavesOne disk (length conf.arenas.items) inner.total r (length os) (buckets_of os) o n
+            → IfErr r (λ bad. told → IsTrue disk.tells → StopsIndex disk s0 s3 (buckets_of os) inner.total
+            (length conf.arenas.items + length os) (file ∷ rest) bad)
+        stopped (Ok index) behind one = tt
+        stopped (Err (Fault part)) behind one = λ yes tells. tt
+        stopped (Err (Refused bad)) behind one = λ yes tells. tt
+        stopped (Err (Stopped part)) behind one = λ yes tells. (
+          o.buckets,
+          subst (λ (x : Standing D). StopsSection disk (buckets_of os) o.buckets inner.total (length conf.arenas.items + length os) part x (s3 file.name))
+              (sym (it yes).was)
+              (subst (λ (x : Standing D). StopsSection disk (buckets_of os) o.buckets inner.total (length conf.arenas.items + length os) part (there d) x)
+              (ap there (sym e_is) ∙ sym (is_there yes))
+              (leaves_section disk (length conf.arenas.items) inner.total os d o n opened part tells one)),
+          stopped_rest disk s0 s1 s2 s3 (was_there yes) (becomes_there yes) (buckets_of os + o.buckets) inner.total (length conf.arenas.items + length os + 1) part
+              rest
+              (subst (λ (k : ℕ). StopsSections disk s1 s2 k inner.total (length conf.arenas.items + length os + 1) part rest) buckets
+              (subst (λ (k : ℕ). StopsSections disk s1 s2 (buckets_of (os ++ o ∷ [])) inner.total k part rest) many (behind yes tells))),
         )
 
         finds : told → IsTrue disk.tells → (found : Option MountBad)
@@ -232,7 +265,7 @@ module _ {D : Type 0} (disk : DiskOf D) (told : Type 0) (conf : Conf) (file : Pa
         cause : (r : Result Index IndexBad)
             → IfErr r (λ bad. ((f2 ≡ f1) × IsStoppedAmong (length conf.arenas.items) (length (os ++ o ∷ [])) bad)
             ⊎ Fails disk told (length conf.arenas.items + length (os ++ o ∷ [])) (rest ++ listed conf.filter) s1 s2 f1 f2 bad)
-            → LeavesOne disk (length conf.arenas.items) r (length os) (buckets_of os) o n
+            → LeavesOne disk (length conf.arenas.items) inner.total r (length os) (buckets_of os) o n
             → IfErr r (λ bad. ((f3 ≡ f0) × IsStoppedAmong (length conf.arenas.items) (length os) bad)
             ⊎ Fails disk told (length conf.arenas.items + length os) ((file ∷ rest) ++ listed conf.filter) s0 s3 f0 f3 bad)
         cause (Ok index) why one = tt
@@ -242,8 +275,8 @@ module _ {D : Type 0} (disk : DiskOf D) (told : Type 0) (conf : Conf) (file : Pa
             (λ this. inr (subst (λ (b : IndexBad). Fails disk told (length conf.arenas.items + length os) ((file ∷ rest) ++ listed conf.filter) s0 s3 f0 f3 b)
             (sym this.1) (
               last ∙ here.0 ∙ first,
-              stopped_here disk (length conf.arenas.items) os d o n opened this.0 told file (rest ++ listed conf.filter) s0 s3
-                  (subst (λ (b : IndexBad). LeavesOne disk (length conf.arenas.items) (Err b) (length os) (buckets_of os) o n) this.1 one) this.2
+              stopped_here disk (length conf.arenas.items) inner.total os d o n opened this.0 told file (rest ++ listed conf.filter) s0 s3
+                  (subst (λ (b : IndexBad). LeavesOne disk (length conf.arenas.items) inner.total (Err b) (length os) (buckets_of os) o n) this.1 one) this.2
                   (λ yes. (it yes).was) (λ yes. is_there yes ∙ ap there e_is),
             )))
             (stopped_among (length conf.arenas.items) (length os) bad

@@ -1,7 +1,7 @@
 -- A slice whose first element is taken apart, and lists that grow by one.
 use Rattle.std.proofs.Common.{◌≡◌, ℕ, zero, suc, ◌+◌, ◌-◌, ◌<◌, List, [], ◌∷◌, ◌++◌, Ok, Err, Result, length, take, drop, get_or, refl, sym, ◌∙◌, ap, arith}
 use Rattle.std.specs.Prelude.{All}
-use Rattle.std.proofs.Math.Seq.{take-length}
+use Rattle.std.proofs.Math.Seq.{take-append_seam, take-length}
 use Rattle.std.proofs.lemmas.List.{map-append}
 use Rattle.std.proofs.lemmas.List.Elements.{All-append}
 use Rattle.std.proofs.lemmas.List.Sums.{sum_by-append}
@@ -24,6 +24,16 @@ first_and_rest {X = X} (y ∷ ys) x d some is =
     let one : length (y ∷ ys) - 1 ≡ length ys = omega arith in
     ap (λ (z : X). z ∷ ys) (sym is)
     ∙ ap (λ (zs : List X). x ∷ zs) (sym (ap (λ (n : ℕ). take n ys) one ∙ take-length ys))
+
+pub is_empty : {X : Type 0} (xs : List X) → length xs < 1 → xs ≡ []
+is_empty [] few = refl
+is_empty (x ∷ xs) few = absurd (omega (arith, few))
+
+-- what a slice of a whole vector becomes, the vector does
+pub written_back : {X : Type 0} (n : ℕ) (items news : List X) → n ≡ length items → length news ≡ length items
+    → take n (news ++ drop (length news) items) ≡ news
+written_back n items news all many =
+    ap (λ (k : ℕ). take k (news ++ drop (length news) items)) (all ∙ sym many) ∙ take-append_seam news (drop (length news) items)
 
 pub rest_long : {X : Type 0} (xs : List X) → length (take (length xs - 1) (drop 1 xs)) ≡ length xs - 1
 rest_long [] = refl
@@ -50,9 +60,9 @@ arenas_more {D = D} ps p =
     ∙ (let e = sum_by-append (λ (t : Table). t.count) (tables_of ps) (table_of p ∷ []) in omega (arith, e))
 
 -- as many sections are left as were opened
-pub as_many_left : {D : Type 0} (disk : DiskOf D) (number : ℕ) (r : Result Index IndexBad) (olds news : List (SectionState D))
-    → LeavesOpened disk number r olds news → length news ≡ length olds
-as_many_left disk number (Ok it) olds news left = left.many
-as_many_left disk number (Err (Fault part)) olds news left = ap length left
-as_many_left disk number (Err (Refused bad)) olds news left = ap length left
-as_many_left disk number (Err (Stopped part)) olds news left = left.2.many
+pub as_many_left : {D : Type 0} (disk : DiskOf D) (number total : ℕ) (r : Result Index IndexBad) (olds news : List (SectionState D))
+    → LeavesOpened disk number total r olds news → length news ≡ length olds
+as_many_left disk number total (Ok it) olds news left = left.many
+as_many_left disk number total (Err (Fault part)) olds news left = ap length left
+as_many_left disk number total (Err (Refused bad)) olds news left = ap length left
+as_many_left disk number total (Err (Stopped part)) olds news left = left.2.many

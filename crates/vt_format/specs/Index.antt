@@ -12,7 +12,7 @@ use Rattle.vt_format.specs.declared.index.Index.{Index}
 use Rattle.vt_format.specs.declared.index.IndexBad.{IndexBad}
 use Rattle.vt_format.specs.declared.index.IndexBad.TheVariants.{Fault, Refused, Stopped}
 use Rattle.vt_format.specs.Opening.{FindsArenas, FindsSections, NamesCause}
-use Rattle.vt_format.specs.Usage.{AreUsed, StopsAt, buckets_of, head_in}
+use Rattle.vt_format.specs.Usage.{AreUsed, LeavesMidway, StopsAt, buckets_of, head_in}
 use Rattle.vt_isect.specs.declared.head.Head.{Head}
 use Rattle.vt_isect.specs.declared.TheConstants.{FRAME_LEN}
 use Rattle.vt_isect.specs.Head.{IsHeadFrame}
@@ -93,6 +93,40 @@ ArePutToUse disk old new first total (file ∷ files) =
     (count : ℕ) × PutsToUse disk first count total (old file.name) (new file.name)
     × ArePutToUse disk old new (first + count) total files
 
+-- Where a call failed of the section with number `part`, this became of one of them, the section with
+-- this number: it is in use where it stands before that one, and as it was where it stands behind
+-- it. That one itself is left midway, whatever a crash leaves.
+pub record StopsSection {D : Type 0} (disk : DiskOf D) (first count total number part : ℕ)
+    (old new : Standing D) : Type 0 where
+  pub before : D
+  pub after : D
+  pub was : old ≡ there before
+  pub is : new ≡ there after
+  pub buckets : count ≡ buckets_in (disk.size before)
+  pub name : List ℕ
+  pub head : Head
+  pub named : IsHeadFrame name head (current_frame head_place FRAME_LEN (disk.bytes before))
+  pub used : number < part → PutsToUse disk first count total old new
+  pub midway : number ≡ part → (file : List ℕ) → disk.images after file
+      → LeavesMidway name head first count total (disk.images before) file
+  pub stays : part < number → StaysThere disk old new
+
+-- so it is with the sections of these files, one behind the other, to the last bucket of all
+abbrev pub StopsSections : {D : Type 0} → DiskOf D → (old new : List ℕ → Standing D)
+    → (first total number part : ℕ) → List PartFile → Type 0
+StopsSections disk old new first total number part [] = total ≡ first
+StopsSections disk old new first total number part (file ∷ files) =
+    (count : ℕ)
+    × StopsSection disk first count total number part (old file.name) (new file.name)
+    × StopsSections disk old new (first + count) total (number + 1) part files
+
+abbrev pub StopsIndex : {D : Type 0} → DiskOf D → (old new : List ℕ → Standing D)
+    → (first total number : ℕ) → List PartFile → IndexBad → Type 0
+StopsIndex disk old new first total number files (Fault part) = ⊤
+StopsIndex disk old new first total number files (Refused bad) = ⊤
+StopsIndex disk old new first total number files (Stopped part) =
+    StopsSections disk old new first total number part files
+
 -- ---- why it isn't done
 
 -- it is done, or stopped, only where nothing is refused, and refused for the first cause
@@ -131,15 +165,15 @@ Fails disk told number files old new faults faults' (Stopped part) =
 
 -- ---- what is opened meanwhile
 
--- These sections were opened, from the partition with this number on: all are in use, or one of
--- them isn't, or nothing became of them.
-abbrev pub LeavesOpened : {D : Type 0} → DiskOf D → (number : ℕ) → Result Index IndexBad
+-- These sections were opened, from the partition with this number on, and have so many buckets with
+-- those behind them: all are in use, or one of them isn't, or nothing became of them.
+abbrev pub LeavesOpened : {D : Type 0} → DiskOf D → (number total : ℕ) → Result Index IndexBad
     → (olds news : List (SectionState D)) → Type 0
-LeavesOpened disk number (Ok it) olds news = AreUsed disk it.buckets olds news
-LeavesOpened disk number (Err (Fault part)) olds news = news ≡ olds
-LeavesOpened disk number (Err (Refused bad)) olds news = news ≡ olds
-LeavesOpened disk number (Err (Stopped part)) olds news =
-    (i : ℕ) × (part ≡ number + i) × StopsAt disk i olds news
+LeavesOpened disk number total (Ok it) olds news = AreUsed disk it.buckets olds news
+LeavesOpened disk number total (Err (Fault part)) olds news = news ≡ olds
+LeavesOpened disk number total (Err (Refused bad)) olds news = news ≡ olds
+LeavesOpened disk number total (Err (Stopped part)) olds news =
+    (i : ℕ) × (part ≡ number + i) × StopsAt disk i total olds news
 
 -- one of so many opened ones is the one that is stopped
 abbrev pub IsStoppedAmong : (number count : ℕ) → IndexBad → Type 0
@@ -173,6 +207,10 @@ pub record IndexesSections {D : Type 0} (disk : DiskOf D) (told : Type 0) (conf 
     (olds news : List (SectionState D)) (result : Result Index IndexBad) : Type 0 where
   pub used : IfOk result (λ it. told → IsTrue disk.tells
       → ArePutToUse disk old new (buckets_of olds) it.buckets files)
+  pub total : ℕ
+  pub stopped : IfErr result (λ bad. told → IsTrue disk.tells
+      → StopsIndex disk old new (buckets_of olds) total
+      (length conf.arenas.items + length olds) files bad)
   pub sections : IfOk result (λ it. it.sections ≡ length conf.sections.items)
   pub found : told → IsTrue disk.tells → AnswersFor (FindsSections disk old conf.filter
       (length conf.arenas.items + length olds) (buckets_of olds) files) result
@@ -185,7 +223,7 @@ pub record IndexesSections {D : Type 0} (disk : DiskOf D) (told : Type 0) (conf 
   pub back : told → (name : List ℕ) → LeavesThere disk result (old name) (new name)
   pub stays : told → (name : List ℕ) → ¬ Contains (map (λ file. file.name) files) name
       → StaysThere disk (old name) (new name)
-  pub left : LeavesOpened disk (length conf.arenas.items) result olds news
+  pub left : LeavesOpened disk (length conf.arenas.items) total result olds news
 
 -- The partitions of arenas of these files are opened behind those that are open, then the log is
 -- found, and the same is done of all sections.
@@ -194,6 +232,9 @@ pub record IndexesArenas {D : Type 0} (disk : DiskOf D) (told : Type 0) (conf : 
     (olds news : List (Part D)) (result : Result Index IndexBad) : Type 0 where
   pub used : IfOk result (λ it. told → IsTrue disk.tells
       → ArePutToUse disk old new 0 it.buckets conf.sections.items)
+  pub total : ℕ
+  pub stopped : IfErr result (λ bad. told → IsTrue disk.tells
+      → StopsIndex disk old new 0 total (length conf.arenas.items) conf.sections.items bad)
   pub sections : IfOk result (λ it. it.sections ≡ length conf.sections.items)
   pub found : told → IsTrue disk.tells → AnswersFor (FindsArenas disk old conf (tables_of olds)
       (map disk.bytes (disks_of olds)) files) result

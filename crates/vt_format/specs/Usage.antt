@@ -1,13 +1,19 @@
 -- What it is to put index sections to use (venti(8), fmtindex).
-use Rattle.std.specs.Prelude.{ℕ, ◌≡◌, ◌≢◌, ◌+◌, ◌*◌, ◌<◌, ◌≤◌, IsTrue, List, [], Some, length, slice_get, sum_by, take}
+use Rattle.std.specs.Prelude.{ℕ, ◌≡◌, ◌≢◌, ◌⊎◌, ◌+◌, ◌*◌, ◌<◌, ◌≤◌, IsTrue, List, [], Some, length, slice_get, sum_by, take}
 use Rattle.vt_base.specs.Faults.{HasRisen}
 use Rattle.vt_disk.specs.Calls.{IsSynced}
+use Rattle.vt_disk.specs.Disk.{ChangesAt, SameBut}
 use Rattle.vt_disk.specs.Members.{DiskOf}
+use Rattle.vt_disk.specs.Region.{Inside}
+use Rattle.vt_isect.specs.declared.TheConstants.{FRAME_LEN}
 use Rattle.vt_isect.specs.declared.head.Head.{Head}
+use Rattle.vt_isect.specs.declared.phase.Phase.TheVariants.{ChangeHead}
 use Rattle.vt_isect.specs.Filling.{with_buckets}
-use Rattle.vt_isect.specs.Layout.{IsSection}
+use Rattle.vt_isect.specs.Head.{IsHeadFrame}
+use Rattle.vt_isect.specs.Layout.{IsSection, head_place}
 use Rattle.vt_isect.specs.Section.{IsAtRest, SectionState}
 use Rattle.vt_isect.specs.Sound.{DiskHolds, Known, nothing_known}
+use Rattle.vt_twin.specs.Frames.{current_frame}
 
 -- a head with mark 0 of a section with this place among the others
 abbrev pub head_in : (state first count total : ℕ) → Head
@@ -17,6 +23,23 @@ head_in state first count total =
 -- so many of its buckets, from the first on, are known to have no entries
 abbrev pub cleared : (first count : ℕ) → Known
 cleared first count = with_buckets first count (Some []) nothing_known
+
+-- What a crash leaves of a section while it is put to use, which had this name and head and these
+-- images: it has that head, and is written in the place of its head alone; or its head says that it
+-- is being built; or it is in use.
+abbrev pub LeavesMidway : (name : List ℕ) → (old : Head) → (first count total : ℕ)
+    → (images : List ℕ → Type 0) → (file : List ℕ) → Type 0
+LeavesMidway name old first count total images file =
+    (IsHeadFrame name old (current_frame head_place FRAME_LEN file)
+    × (before : List ℕ) × images before × SameBut (Inside head_place) before file)
+    ⊎ IsHeadFrame name (head_in 2 first count total) (current_frame head_place FRAME_LEN file)
+    ⊎ IsSection name (head_in 1 first count total) count (λ n. []) file
+
+-- so it is with the images of the section's disk
+abbrev pub IsMidway : {D : Type 0} → DiskOf D → (first total : ℕ) → (old new : SectionState D)
+    → Type 0
+IsMidway disk first total old new = (file : List ℕ) → disk.images new.disk file
+    → LeavesMidway old.name old.head first old.buckets total (disk.images old.disk) file
 
 -- The section is in use, with its buckets from this number on, of which none has entries: whatever
 -- a crash leaves.
@@ -51,6 +74,18 @@ pub record ChangesHead {D : Type 0} (disk : DiskOf D) (state first total : ℕ)
   pub keeps : (known : Known) → IsTrue disk.tells → first ≡ old.head.first
       → DiskHolds disk old known → DiskHolds disk new known
 
+-- The change of its head to this one has stopped, and what was known of its buckets still is.
+pub record StopsHead {D : Type 0} (disk : DiskOf D) (state first total : ℕ)
+    (old new : SectionState D) : Type 0 where
+  pub phase : new.phase ≡ ChangeHead
+  pub name : new.name ≡ old.name
+  pub buckets : new.buckets ≡ old.buckets
+  pub head : new.head ≡ old.head
+  pub next : new.next ≡ head_in state first old.buckets total
+  pub images : ChangesAt (Inside head_place) (disk.images old.disk) (disk.images new.disk)
+  pub keeps : (known : Known) → IsTrue disk.tells → DiskHolds disk old known
+      → DiskHolds disk new known
+
 -- a section as it is mounted: at rest, and its disk holds its head
 pub record IsOpened {D : Type 0} (disk : DiskOf D) (t : SectionState D) : Type 0 where
   pub rest : IsAtRest t
@@ -79,16 +114,19 @@ pub record AreUsed {D : Type 0} (disk : DiskOf D) (total : ℕ) (olds news : Lis
   pub each : (i : ℕ) (old new : SectionState D) → slice_get olds i ≡ Some old
       → slice_get news i ≡ Some new → IsUsed disk (first_of olds i) total old new
 
--- a call of this one failed, and nothing was done to those behind it
-pub record IsStopped {D : Type 0} (disk : DiskOf D) (number i : ℕ) (old new : SectionState D)
-    : Type 0 where
+-- A call of the one with this number failed: those before it are in use, and those behind it as they
+-- were.
+pub record IsStopped {D : Type 0} (disk : DiskOf D) (number i first total : ℕ)
+    (old new : SectionState D) : Type 0 where
   pub size : disk.size new.disk ≡ disk.size old.disk
   pub rose : i ≡ number → HasRisen (disk.faults old.disk) (disk.faults new.disk)
   pub others : i ≢ number → disk.faults new.disk ≡ disk.faults old.disk
+  pub before : i < number → IsUsed disk first total old new
+  pub midway : i ≡ number → IsTrue disk.tells → IsMidway disk first total old new
   pub behind : number < i → new ≡ old
 
-pub record StopsAt {D : Type 0} (disk : DiskOf D) (number : ℕ) (olds news : List (SectionState D))
-    : Type 0 where
+pub record StopsAt {D : Type 0} (disk : DiskOf D) (number total : ℕ)
+    (olds news : List (SectionState D)) : Type 0 where
   pub many : length news ≡ length olds
   pub each : (i : ℕ) (old new : SectionState D) → slice_get olds i ≡ Some old
-      → slice_get news i ≡ Some new → IsStopped disk number i old new
+      → slice_get news i ≡ Some new → IsStopped disk number i (first_of olds i) total old new

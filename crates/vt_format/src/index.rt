@@ -2,7 +2,7 @@
 
 ghost use Rattle.std.specs.Prelude.{◌≡◌, ◌+◌, ◌^◌, ◌<◌, ◌≤◌, ℕ, List, [], All, IsTrue, IfErr, IfOk, OnOk, length, map};
 ghost use Rattle.std.specs.List.{Contains};
-ghost use Rattle.vt_format.specs.Index.{AnswersFor, ArePutToUse, Fails, IndexesArenas, IndexesSections, IsStoppedAmong, LeavesOpened, LeavesThere, files_of};
+ghost use Rattle.vt_format.specs.Index.{AnswersFor, ArePutToUse, Fails, IndexesArenas, IndexesSections, IsStoppedAmong, LeavesOpened, StopsIndex, LeavesThere, files_of};
 ghost use Rattle.vt_format.specs.Opening.{FindsArenas, NamesCause};
 ghost use Rattle.vt_format.specs.Usage.{IsOpened, buckets_of};
 ghost use Rattle.vt_log.specs.Logs.{arena_count};
@@ -64,6 +64,13 @@ pub fn format_index<P: Parts, S: Scorer + Drop, G: Progress>(
         → ArePutToUse P.Disk.Disk (P.standing parts.old) (P.standing parts.new)
         0 it.buckets conf.now.sections.items) }
     ensures sections { IfOk result (λ it. it.sections ≡ length conf.now.sections.items) }
+
+    // Where a call fails of a section, those before it have their buckets of all, and those behind
+    // it are as they were. That one has buckets without entries only where its head says that it is
+    // being built, or all of them are cleared.
+    ensures stopped { IfErr result (λ bad. IsTrue P.tells → IsTrue P.Disk.tells → (total : ℕ)
+        × StopsIndex P.Disk.Disk (P.standing parts.old) (P.standing parts.new)
+        0 total (length conf.now.arenas.items) conf.now.sections.items bad) }
 
     // It is refused for the first cause in the order of the configuration.
     ensures found { IsTrue P.tells → IsTrue P.Disk.tells → AnswersFor
@@ -270,7 +277,8 @@ fn index_opened<D: Disk, G: Progress>(
         ≡ buckets_of opened.old) }
     ensures sections { IfOk result (λ it. it.sections ≡ length opened.old) }
     ensures stopped { IfErr result (IsStoppedAmong behind (length opened.old)) }
-    ensures left { LeavesOpened D.Disk behind result opened.old opened.new }
+    ensures left { LeavesOpened D.Disk behind (buckets_of opened.old) result
+        opened.old opened.new }
 {
     let sections = opened.len() as u32;
     match put_all_to_use(opened, progress) {

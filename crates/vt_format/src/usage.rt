@@ -1,8 +1,8 @@
 //! Putting index sections to use.
 
-ghost use Rattle.std.specs.Prelude.{◌≡◌, ◌+◌, ◌*◌, ◌^◌, ◌<◌, ◌≤◌, ℕ, List, All, IsTrue, IfErr, IfOk, OnOk, Ok, Err, length};
+ghost use Rattle.std.specs.Prelude.{◌≡◌, ◌+◌, ◌*◌, ◌^◌, ◌<◌, ◌≤◌, ℕ, List, All, IsTrue, IfErr, IfOk, OnOk, OnErr, Ok, Err, length};
 ghost use Rattle.vt_base.specs.Faults.{CountsFault};
-ghost use Rattle.vt_format.specs.Usage.{AreUsed, CallsForBuckets, ChangesHead, IsInUse, IsOpened, StopsAt, buckets_of, cleared};
+ghost use Rattle.vt_format.specs.Usage.{AreUsed, CallsForBuckets, ChangesHead, IsInUse, IsMidway, IsOpened, StopsAt, StopsHead, buckets_of, cleared};
 ghost use Rattle.vt_isect.specs.Faults.{is_fault};
 ghost use Rattle.vt_isect.specs.Section.{IsAtRest};
 ghost use Rattle.vt_isect.specs.Sound.{DiskHolds, nothing_known};
@@ -16,7 +16,8 @@ use vt_out::Progress;
 const PIECES: u32 = 16;
 
 /// Puts these sections to use, one behind the other, and gives the count of their buckets. Where a
-/// call fails, it gives the number of that section, and nothing is written behind it.
+/// call fails, it gives the number of that section: those before it are in use, and nothing is
+/// written behind it.
 pub fn put_all_to_use<D: Disk, G: Progress>(
     sections: &mut [Section<D>],
     progress: &mut G,
@@ -26,7 +27,8 @@ pub fn put_all_to_use<D: Disk, G: Progress>(
     ensures used { IfOk result (λ total. AreUsed D.Disk total sections.old sections.new) }
     ensures total { IfOk result (λ total. total ≡ buckets_of sections.old) }
     ensures among { IfErr result (λ number. number < length sections.old) }
-    ensures stops { IfErr result (λ number. StopsAt D.Disk number sections.old sections.new) }
+    ensures stops { IfErr result (λ number. StopsAt D.Disk number (buckets_of sections.old)
+        sections.old sections.new) }
 {
     let total = buckets_in(sections);
     let mut first = 0;
@@ -65,6 +67,10 @@ fn put_to_use<D: Disk, G: Progress>(
     requires numbers { first + section.old.buckets ≤ 2 ^ 32 }
     ensures in_use { OnOk result ((IsTrue D.tells → DiskHolds D.Disk section.old nothing_known)
         → IsInUse D.Disk first total section.old section.new) }
+    // Where a call fails, no crash leaves an old head with buckets that are cleared, nor one that
+    // says that it is in use with buckets that aren't.
+    ensures midway { OnErr result (IsTrue D.tells → DiskHolds D.Disk section.old nothing_known
+        → IsMidway D.Disk first total section.old section.new) }
     ensures size { D.size section.new.disk ≡ D.size section.old.disk }
     ensures calls { CallsForBuckets D.Disk 24 section.old section.new }
     ensures refused { IfErr result (λ bad. bad ≡ ShardErr.Fault) }
@@ -88,6 +94,7 @@ fn change_head<D: Disk>(
     requires rest { IsAtRest section.old }
     requires numbers { first + section.old.buckets ≤ 2 ^ 32 }
     ensures changed { OnOk result (ChangesHead D.Disk state first total section.old section.new) }
+    ensures stops { OnErr result (StopsHead D.Disk state first total section.old section.new) }
     ensures size { D.size section.new.disk ≡ D.size section.old.disk }
     ensures calls { IsTrue D.tells
         → D.calls section.new.disk ≤ D.calls section.old.disk + 4 }
@@ -116,6 +123,8 @@ fn clear_buckets<D: Disk, G: Progress>(
     ensures holds { OnOk result (IsTrue D.tells → DiskHolds D.Disk section.old nothing_known
         → DiskHolds D.Disk section.new
         (cleared section.old.head.first section.old.buckets)) }
+    ensures sound { IsTrue D.tells → DiskHolds D.Disk section.old nothing_known
+        → DiskHolds D.Disk section.new nothing_known }
     ensures size { D.size section.new.disk ≡ D.size section.old.disk }
     ensures calls { CallsForBuckets D.Disk 16 section.old section.new }
     ensures refused { IfErr result (λ bad. bad ≡ ShardErr.Fault) }

@@ -11,8 +11,38 @@ use Rattle.vt_format.specs.Opening.{IsOpenedSection, RefusesDisk, RefusesSection
 use Rattle.vt_format.specs.Usage.{IsOpened, buckets_of}
 use Rattle.vt_format.proofs.Levels.{handed_is}
 use Rattle.vt_format.proofs.SectionLevel.{section_behind, section_left_out, section_missing, section_refused_here}
-use Rattle.vt_format.proofs.Slices.{all_more, as_many_left, buckets_more, first_and_rest, rest_long}
+use Rattle.vt_format.proofs.Slices.{all_more, as_many_left, buckets_more, first_and_rest, is_empty, rest_long, written_back}
 use Rattle.vt_format.proofs.index.+index_sections.Goals as goal
+
+pub returns-in_default : goal.returns-in_default
+returns-in_default g t c =
+    let os = c.args.opened.now.items in
+    let ns = c.index_filter.new.opened in
+    let value : c.deref_mut.result.now ≡ os = c.deref_mut.ensures.value in
+    let many : length ns ≡ length os =
+    as_many_left g.P.Disk.Disk (length c.args.conf.now.arenas.items)
+    c.index_filter.ensures.total c.index_filter.result c.deref_mut.result.now ns
+    c.index_filter.ensures.left
+    ∙ ap (λ (sections : List (SectionState g.row.P-Disk.Denot)). length sections) value in
+    subst (λ (files : List PartFile). IndexesSections g.P.Disk.Disk (IsTrue g.P.Parts.tells)
+    c.args.conf.now files (g.P.Parts.standing c.args.parts.now)
+    (g.P.Parts.standing c.index_filter.new.parts) (g.P.Parts.faults c.args.parts.now)
+    (g.P.Parts.faults c.index_filter.new.parts) os
+    (take c.args.opened.now.len (ns ++ drop (length ns) os)) c.index_filter.result)
+    (sym (is_empty c.args.files.now c.in_default.len_below))
+    (subst (λ (olds : List (SectionState g.row.P-Disk.Denot)). IndexesSections g.P.Disk.Disk
+    (IsTrue g.P.Parts.tells) c.args.conf.now [] (g.P.Parts.standing c.args.parts.now)
+    (g.P.Parts.standing c.index_filter.new.parts) (g.P.Parts.faults c.args.parts.now)
+    (g.P.Parts.faults c.index_filter.new.parts) olds
+    (take c.args.opened.now.len (ns ++ drop (length ns) os)) c.index_filter.result)
+    value
+    (subst (λ (news : List (SectionState g.row.P-Disk.Denot)). IndexesSections g.P.Disk.Disk
+    (IsTrue g.P.Parts.tells) c.args.conf.now [] (g.P.Parts.standing c.args.parts.now)
+    (g.P.Parts.standing c.index_filter.new.parts) (g.P.Parts.faults c.args.parts.now)
+    (g.P.Parts.faults c.index_filter.new.parts) c.deref_mut.result.now news
+    c.index_filter.result)
+    (sym (written_back c.args.opened.now.len os ns (omega (arith, c.args.opened.now.ok.0)) many))
+    c.index_filter.ensures))
 
 pub returns-in_default-part : goal.returns-in_default-part
 returns-in_default-part g t c =
@@ -150,7 +180,8 @@ index_sections-done-requires g t c =
 pub unreachable-requires : goal.unreachable-requires
 unreachable-requires g t c =
     let left : length c.index_sections-done.new.opened.items ≡ length c.push.new.self.items =
-    as_many_left g.P.Disk.Disk (length c.args.conf.now.arenas.items) c.index_sections-done.result
+    as_many_left g.P.Disk.Disk (length c.args.conf.now.arenas.items)
+    c.index_sections-done.ensures.total c.index_sections-done.result
     c.push.new.self.items c.index_sections-done.new.opened.items
     c.index_sections-done.ensures.left in
     omega (

@@ -1,5 +1,5 @@
 use Rattle.std.proofs.Common.{◌∙◌}
-use Rattle.vt_format.proofs.Clearing.{one_more}
+use Rattle.vt_format.proofs.Clearing.{one_more, still_sound}
 use Rattle.vt_format.proofs.usage.clear_buckets.Goals as goal
 
 pub loop-piece-preserved : goal.loop-piece-preserved
@@ -15,3 +15,12 @@ returns-in_err-clear-clause-size g c = c.clear.ensures.writes.size ∙ c.loop-pi
 
 pub returns-clause-size : goal.returns-clause-size
 returns-clause-size g c = c.loop-piece.invariant.size
+
+pub returns-in_err-clear-clause-sound : goal.returns-in_err-clear-clause-sound
+returns-in_err-clear-clause-sound g c =
+    still_sound g.D.Disk c.soundness_is_kept.ensures.forget c.loop-piece.piece _ _ c.args.section.now c.loop-piece.section c.clear.new.self
+    c.loop-piece.invariant c.clear.ensures.others
+
+pub returns-clause-sound : goal.returns-clause-sound
+returns-clause-sound g c told sound =
+    c.soundness_is_kept.ensures.forget c.loop-piece.section _ _ (λ n entries is. absurd (cc)) (c.loop-piece.invariant.holds told sound)
