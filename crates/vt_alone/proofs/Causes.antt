@@ -19,10 +19,11 @@ use Rattle.vt_core.specs.Asking.{MayBeTold, shard_of, stop_for}
 use Rattle.vt_core.specs.Causes.{CountsSaid}
 use Rattle.vt_core.specs.Core.{CoreState, each_of, stops_of}
 use Rattle.vt_core.specs.Events.{operation_in}
+use Rattle.vt_core.proofs.AskWork.{one_rose}
 use Rattle.vt_wire.specs.Views.{message_of}
 use Rattle.vt_drive.specs.Driven.{DrivenState, DoesRequest, result_of}
 use Rattle.vt_drive.specs.Ending.{EndsFor}
-use Rattle.vt_drive.proofs.Risen.{one_rose, same_fell}
+use Rattle.vt_drive.proofs.Risen.{same_fell}
 use Rattle.vt_alone.specs.Sessions.{FailsFor, TellsStops, store_on}
 use Rattle.vt_alone.proofs.Runs.{calls_run, one_runs}
 use Rattle.vt_alone.proofs.Tells.{all_fit, rose_within, run_tells, tells_more, tells_same}

@@ -1,51 +1,22 @@
 -- What requests leave as it is: what a store was mounted with, and the time of new clumps.
-use Rattle.std.proofs.Common.{◌≡◌, ℕ, List, [], ◌∷◌, Option, None, Result, refl, sym, ◌∙◌, subst, arith}
+use Rattle.std.proofs.Common.{◌≡◌, ℕ, List, [], ◌∷◌, Option, None, Result, refl, sym, ◌∙◌, subst}
 use Rattle.vt_base.specs.Protocol.{Operation, ping, read, write, sync, RMessage}
 use Rattle.vt_base.specs.declared.why.Why.{Why}
 use Rattle.vt_disk.specs.Members.{DiskOf}
 use Rattle.vt_answer.specs.Taking.{DoesOne, DoesCalls, DoesSome}
-use Rattle.vt_core.specs.Core.{CoreState}
 use Rattle.vt_drive.specs.Answers.{KeepsAll}
 use Rattle.vt_drive.specs.Driven.{DrivenState, DoesRequest}
+use Rattle.vt_drive.proofs.WorkDone.{all_kept, keeps_on}
 use Rattle.vt_alone.specs.Sessions.{store_on}
 
 module _ {D : Type 0} (disk : DiskOf D) where
-  pub keeps_same : (k : CoreState D) → KeepsAll disk k k
-  keeps_same k = record {
-    tables = refl;
-    layout = refl;
-    setup = refl;
-    shards = refl;
-    filter = refl;
-    sizes = refl;
-    waiting = refl;
-    len = omega arith;
-    durable = omega arith;
-    synced = omega arith;
-  }
-
-  pub keeps_more : (old mid new : CoreState D) → KeepsAll disk old mid → KeepsAll disk mid new
-      → KeepsAll disk old new
-  keeps_more old mid new x y = record {
-    tables = y.tables ∙ x.tables;
-    layout = y.layout ∙ x.layout;
-    setup = y.setup ∙ x.setup;
-    shards = y.shards ∙ x.shards;
-    filter = y.filter ∙ x.filter;
-    sizes = y.sizes ∙ x.sizes;
-    waiting = y.waiting ∙ x.waiting;
-    len = omega (arith, x.len, y.len);
-    durable = omega (arith, x.durable, y.durable);
-    synced = omega (arith, x.synced, y.synced);
-  }
-
   record Kept (old new : DrivenState D) : Type 0 where
     core : KeepsAll disk old.core new.core
     time : new.now ≡ old.now
 
   kept_same : (d d' : DrivenState D) → d' ≡ d → Kept d d'
   kept_same d d' it = subst (λ (e : DrivenState D). Kept d e) (sym it)
-      (record { core = keeps_same d.core; time = refl })
+      (record { core = all_kept disk d.core; time = refl })
 
   module _ (score : List ℕ → List ℕ) where
     request_keeps : (d d' : DrivenState D) (m : Operation) (given : Result RMessage Why)
@@ -67,7 +38,7 @@ module _ {D : Type 0} (disk : DiskOf D) where
         let first = one_keeps d it.0 call.0 call.1 it.1 in
         let more = calls_keep it.0 last calls it.2 in
         record {
-          core = keeps_more d.core it.0.core last.core first.core more.core;
+          core = keeps_on disk d.core it.0.core last.core first.core more.core;
           time = more.time ∙ first.time;
         }
 

@@ -9,10 +9,11 @@ use Rattle.vt_core.specs.Core.{CoreState, each_of, stops_of}
 use Rattle.vt_core.specs.Sound.{IsSound}
 use Rattle.vt_drive.specs.Answers.{KeepsAll}
 use Rattle.vt_drive.proofs.Risen.{same_fell}
+use Rattle.vt_drive.proofs.WorkDone.{keeps_on}
 use Rattle.vt_alone.specs.declared.serving.StoreServed.{StoreServed}
 use Rattle.vt_alone.specs.Sessions.{MakesRun, NoCallFails, ServesStore, TellsCauses, TellsStops, at_time}
 use Rattle.vt_alone.proofs.Causes.{by_failure, if_closed, if_failure}
-use Rattle.vt_alone.proofs.Keeps.{asked_keeps, keeps_more}
+use Rattle.vt_alone.proofs.Keeps.{asked_keeps}
 use Rattle.vt_alone.proofs.Quiet.{still_none}
 use Rattle.vt_alone.proofs.Runs.{asked_run, run_more}
 use Rattle.vt_alone.proofs.Tells.{all_fit, rose_within, run_tells}
@@ -37,7 +38,7 @@ module _ {D : Type 0} (score : List ℕ → List ℕ) (disk : DiskOf D) (end : S
   store_runs = run_more score disk old x.served new session_runs end_runs
 
   pub store_keeps : KeepsAll disk old new
-  store_keeps = keeps_more disk old x.served new
+  store_keeps = keeps_on disk old x.served new
       (asked_keeps disk score (at_time now old) (at_time now x.served) end.failure x.asked)
       x.ends.keeps
 

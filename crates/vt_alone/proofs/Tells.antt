@@ -13,7 +13,8 @@ use Rattle.vt_core.specs.Steps.{Runs}
 use Rattle.vt_core.specs.declared.event.Event.{Event}
 use Rattle.vt_core.specs.declared.event.Out.{Out}
 use Rattle.vt_core.specs.declared.event.Out.TheVariants.{Said as SaidOut, Waits, NotYet, Moved, Nothing, Failed}
-use Rattle.vt_drive.proofs.Risen.{AllFit, fits_in, fell_then, one_rose, rose_fell, same_fell}
+use Rattle.vt_core.proofs.AskWork.{one_rose}
+use Rattle.vt_drive.proofs.Risen.{AllFit, fits_in, fell_then, rose_fell, same_fell}
 use Rattle.vt_alone.specs.Sessions.{MakesRun, TellsStops}
 
 -- a count that rose in a while rose in a longer one

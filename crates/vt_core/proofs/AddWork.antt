@@ -15,6 +15,7 @@ use Rattle.vt_disk.specs.Members.{DiskOf}
 use Rattle.vt_log.specs.Log.{LogState, front, queued}
 use Rattle.vt_log.specs.Queue.{QueueState}
 use Rattle.vt_log.specs.declared.filling.Filling.{Filling}
+use Rattle.vt_log.proofs.Places.{slice_get_there}
 use Rattle.vt_model.specs.History.{History, Accepted}
 use Rattle.vt_model.specs.Legal.{HasOtherKey, IsLegal}
 use Rattle.vt_model.specs.Places.{Setup, LiesIn, bucket_count, bucket_of, section_of_bucket, section_of_score}
@@ -64,11 +65,6 @@ each_set {X} P xs i x y at new old j z there = ⊎_elim
     subst (λ (n : ℕ). P n z) (sym e) (subst (λ (t : X). P i t) (sym same) new))
     (λ (other : j ≢ i). old j z other (sym (get_other xs i j x other) ∙ there))
     (one_or_other j i)
-
-pub at_place : {X : Type 0} (xs : List X) (n : ℕ) → n < length xs → (x : X) × (slice_get xs n ≡ Some x)
-at_place [] n below = absurd (omega (arith, below))
-at_place (x ∷ xs) zero below = (x, refl)
-at_place (x ∷ xs) (suc n) below = at_place xs n (omega (arith, below))
 
 end_or_before : {X : Type 0} (xs : List X) (x y : X) (n : ℕ) → slice_get (xs ++ x ∷ []) n ≡ Some y → (y ≡ x) ⊎ (slice_get xs n ≡ Some y)
 end_or_before [] x y zero at = inl (sym (same_Some x y at))
@@ -120,7 +116,7 @@ module _ {D : Type 0} (disk : DiskOf D) (k : CoreState D) (w : IsWhole disk k) (
       let c : Setup = setup_of k in
       let j : ℕ = section_of_score c s in
       let below : j < length k.shards = omega (arith, law.1 c.sections (bucket_of (bucket_count c) s) (law.0 (bucket_count c) s bytes some_buckets), length-map k.shards (λ u. u.section.buckets)) in
-      let it = at_place k.shards j below in
+      let it = slice_get_there k.shards j below in
       none j below it.0 it.1 (is_has it.0 s it.1)
 
 -- ---- the store
@@ -216,18 +212,20 @@ module _ {D : Type 0} (score : List ℕ → List ℕ) (disk : DiskOf D) (k : Cor
 
   pub add_goes_on : IsWhole disk k → GoesOn disk k after_adding
   add_goes_on w = record {
-    tables = refl;
-    layout = refl;
-    setup = add_setup;
-    shards = length-set k.shards i new_shard;
-    filter = refl;
-    counts = (marks.m, marks.k);
-    sizes = ap (λ (ds : PerDevice D). map disk.size (all_of ds)) add_devices;
-    sessions = refl;
-    len = omega (arith, one);
+    store = record {
+      tables = refl;
+      layout = refl;
+      setup = add_setup;
+      shards = length-set k.shards i new_shard;
+      filter = refl;
+      counts = (marks.m, marks.k);
+      sizes = ap (λ (ds : PerDevice D). map disk.size (all_of ds)) add_devices;
+      sessions = refl;
+      len = omega (arith, one);
+      durable = omega arith;
+      synced = omega arith;
+    };
     one_more = omega (arith, one);
-    durable = omega arith;
-    synced = omega arith;
     synced_before = w.synced;
   }
 

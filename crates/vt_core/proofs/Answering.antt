@@ -56,18 +56,20 @@ module _ {D : Type 0} (score : List ℕ → List ℕ) (disk : DiskOf D) (k : Cor
 
   kept_on : IsWhole disk k → GoesOn disk k (record k { waiting = ws; synced = synced })
   kept_on w = record {
-    tables = refl;
-    layout = refl;
-    setup = refl;
-    shards = refl;
-    filter = refl;
-    counts = (refl, refl);
-    sizes = refl;
-    sessions = many;
-    len = omega arith;
+    store = record {
+      tables = refl;
+      layout = refl;
+      setup = refl;
+      shards = refl;
+      filter = refl;
+      counts = (refl, refl);
+      sizes = refl;
+      sessions = many;
+      len = omega arith;
+      durable = omega arith;
+      synced = low;
+    };
     one_more = omega arith;
-    durable = omega arith;
-    synced = low;
     synced_before = high;
   }
 

@@ -44,6 +44,7 @@ use Rattle.vt_core.specs.Sound.{IsSound}
 use Rattle.vt_core.specs.Steps.{Steps}
 use Rattle.vt_core.specs.Whole.{IsWhole}
 use Rattle.vt_core.proofs.Calls.{length-set}
+use Rattle.vt_core.proofs.Kept.{same_store}
 use Rattle.vt_core.proofs.ReadWork.{after_reads, no_more, none_rose, reads_counts, reads_crash, reads_go_on, reads_machine, reads_only, reads_sound, reads_stops, reads_whole, parts_are}
 use Rattle.vt_core.proofs.Recovered.{GivesPrefix, images_of}
 
@@ -82,18 +83,8 @@ module _ {D : Type 0} (score : List ℕ → List ℕ) (disk : DiskOf D) (k : Cor
     counts = counts (each_of disk.faults k);
     stops = record { stay = λ j call at. at; cause = λ _. refl };
     goes_on = record {
-      tables = refl;
-      layout = refl;
-      setup = refl;
-      shards = refl;
-      filter = refl;
-      counts = (refl, refl);
-      sizes = refl;
-      sessions = refl;
-      len = omega arith;
+      store = same_store disk k;
       one_more = omega arith;
-      durable = omega arith;
-      synced = omega arith;
       synced_before = w.synced;
     };
   }
@@ -212,18 +203,20 @@ module _ {D : Type 0} (score : List ℕ → List ℕ) (disk : DiskOf D) (k : Cor
     counts = refl;
     stops = record { stay = λ j call at. at; cause = λ _. refl };
     goes_on = record {
-      tables = refl;
-      layout = refl;
-      setup = refl;
-      shards = refl;
-      filter = refl;
-      counts = (refl, refl);
-      sizes = refl;
-      sessions = length-set k.waiting session (Some (history_len k));
-      len = omega arith;
+      store = record {
+        tables = refl;
+        layout = refl;
+        setup = refl;
+        shards = refl;
+        filter = refl;
+        counts = (refl, refl);
+        sizes = refl;
+        sessions = length-set k.waiting session (Some (history_len k));
+        len = omega arith;
+        durable = omega arith;
+        synced = omega arith;
+      };
       one_more = omega arith;
-      durable = omega arith;
-      synced = omega arith;
       synced_before = w.synced;
     };
   }
@@ -334,14 +327,14 @@ or_above zero b = inl (omega arith)
 or_above (suc a) zero = inr (omega arith)
 or_above (suc a) (suc b) = ⊎_elim (λ le. inl (omega (arith, le))) (λ ge. inr (omega (arith, ge))) (or_above a b)
 
-rose_between : (a b : ℕ) → HasRisen a b → (a < b) ⊎ (b ≡ 2 ^ 64 - 1)
+pub rose_between : (a b : ℕ) → HasRisen a b → (a < b) ⊎ (b ≡ 2 ^ 64 - 1)
 rose_between a b is = omega_cases a b (or_above (a + 1) (2 ^ 64 - 1)) is
   where
     omega_cases : (x y : ℕ) → (x + 1 ≤ 2 ^ 64 - 1) ⊎ (2 ^ 64 - 1 ≤ x + 1) → HasRisen x y → (x < y) ⊎ (y ≡ 2 ^ 64 - 1)
     omega_cases x y (inl low) rose = inl (omega (arith, low, rose))
     omega_cases x y (inr high) rose = inr (omega (arith, high, rose))
 
-one_rose : (before after : List ℕ) → OneHasRisen before after → OneRose before after
+pub one_rose : (before after : List ℕ) → OneHasRisen before after → OneRose before after
 one_rose before after it = (it.which, rose_between (slice_index before it.which) (slice_index after it.which) it.rose)
 
 -- a device or memory may keep any operation that reaches the parts, and takes memory, from its answer

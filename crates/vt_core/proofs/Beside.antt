@@ -4,9 +4,9 @@ use Rattle.std.specs.Prelude.{slice_get, slice_index, IsTrue, sum, ⊤, if◌the
 use Rattle.std.specs.List.{All, AllZip, AllByRecursion}
 use Rattle.std.proofs.lemmas.Bool.{eqb-true}
 use Rattle.std.proofs.lemmas.List.{length-map}
-use Rattle.std.proofs.lemmas.List.Elements.{All-get_or, All-from_recursion}
+use Rattle.std.proofs.lemmas.List.Elements.{All-from_recursion}
 use Rattle.std.proofs.lemmas.List.Sums.{sum_by-take-le}
-use Rattle.std.proofs.lemmas.Option.{same_Some, get_or_from_slice_get, slice_get_within}
+use Rattle.std.proofs.lemmas.Option.{same_Some, get_or_from_slice_get}
 use Rattle.vt_base.specs.declared.mount.MountBad.{MountBad}
 use Rattle.vt_base.specs.declared.place.Entry.{Entry}
 use Rattle.vt_bloom.specs.Bits.{Filter}
@@ -28,13 +28,11 @@ use Rattle.vt_core.specs.declared.TheConstants.{MOST_BUCKETS}
 use Rattle.vt_core.specs.Opening.{AgreeWith, CanBeOpened, IsOpened, IsShardMade, OpensFilter, TestsParts, buckets_in_each, wrong_at}
 use Rattle.vt_core.specs.Refusals.{wrong_head}
 use Rattle.vt_core.specs.Stands.{IsLive, SectionStandsFor, FilterStandsFor, buckets_of}
-use Rattle.vt_core.proofs.Lists.{index_map, same_lists, at_map, beside}
+use Rattle.vt_core.proofs.Lists.{index_map, same_lists, at_map}
 use Rattle.vt_core.proofs.Zips.{zip_beside, zip_length}
+use Rattle.vt_log.proofs.Lists.{at_slice, slice_get_other}
 
 -- ---- lists
-
-pub all_at : {X : Type 0} (P : X → Type 0) (xs : List X) (i : ℕ) (x : X) → All P xs → slice_get xs i ≡ Some x → P x
-all_at P xs i x all at = subst P (get_or_from_slice_get xs i x x at) (All-get_or P xs i x (slice_get_within xs i x at) all)
 
 pub by_recursion : {X : Type 0} (P : X → Type 0) (xs : List X) → ((i : ℕ) (x : X) → slice_get xs i ≡ Some x → P x) → AllByRecursion P xs
 by_recursion P [] each = tt
@@ -145,7 +143,7 @@ module _ {D : Type 0} (score : List ℕ → List ℕ) (disk : DiskOf D) (c : Set
       let inside : slice_get c.sections i ≡ Some (buckets_in (disk.size device)) =
       ap (λ (l : List ℕ). slice_get l i) agree.setup ∙ at_map (λ d. buckets_in (disk.size d)) devices i device at in
       subst (λ (n : ℕ). 0 < n) (buckets_there score disk c g tells devices agree.setup i device at)
-      (all_at (λ n. 0 < n) c.sections i (buckets_in (disk.size device)) agree.some inside) in
+      (at_slice (λ n. 0 < n) c.sections i (buckets_in (disk.size device)) agree.some inside) in
       let here : 0 < buckets_in (disk.size device) = subst (λ (n : ℕ). 0 < n) (sym (buckets_there score disk c g tells devices agree.setup i device at)) some in
       record { room = some_room (disk.size device) here; name = stands.name; head = stands.section.head; frame = stands.section.is.head_frame })
 
@@ -159,7 +157,7 @@ module _ {D : Type 0} (score : List ℕ → List ℕ) (disk : DiskOf D) (c : Set
     each_buckets = same_lists (buckets_in_each sections) c.sections
         (length-map sections (λ s. s.buckets) ∙ zip_length (IsOpened disk) devices sections zip ∙ sym (length-map devices (λ d. buckets_in (disk.size d))) ∙ ap length (sym agree.setup))
         (λ i x y here there.
-        let s = beside sections (buckets_in_each sections) i x (length-map sections (λ s. s.buckets)) here in
+        let s = slice_get_other sections (buckets_in_each sections) i x (length-map sections (λ s. s.buckets)) here in
         let e : x ≡ s.0.buckets = same_Some x s.0.buckets (sym here ∙ at_map (λ s. s.buckets) sections i s.0 s.1) in
         e ∙ (store_at i s.0 s.1).buckets ∙ get_or_from_slice_get c.sections i y 0 there)
 

@@ -1,8 +1,6 @@
 -- Which devices were called, and what is counted of them.
 use Rattle.std.proofs.Common.{◌≡◌, ◌≢◌, ℕ, zero, suc, ◌<◌, List, [], ◌∷◌, ◌++◌, length, map, Some, refl, sym, ◌∙◌, ap, subst, arith, length-append}
 use Rattle.std.specs.Prelude.{slice_get, slice_set, slice_index}
-use Rattle.std.specs.List.{All, AllByRecursion}
-use Rattle.std.proofs.lemmas.List.Elements.{recursion_from_All}
 use Rattle.std.proofs.Math.ListN.{get_or-append}
 use Rattle.std.proofs.lemmas.List.{map-append}
 use Rattle.std.proofs.lemmas.Option.{same_Some}
@@ -10,6 +8,7 @@ use Rattle.vt_base.specs.Faults.{HasRisen}
 use Rattle.vt_disk.specs.Calls.{MadeCalls}
 use Rattle.vt_disk.specs.Members.{DiskOf}
 use Rattle.vt_log.specs.Faults.{OneHasRisen}
+use Rattle.vt_log.proofs.Lists.{slice_get_left}
 use Rattle.vt_core.specs.Causes.{CallsOne}
 use Rattle.vt_core.specs.Files.{PerDevice, all_of}
 
@@ -37,15 +36,6 @@ within_get [] i x at = absurd (cc)
 within_get (y ∷ xs) zero x at = omega arith
 within_get (y ∷ xs) (suc i) x at = omega (arith, within_get xs i x at)
 
--- what holds of each thing holds of that at a place
-pub at_slice : {X : Type 0} (P : X → Type 0) (xs : List X) (i : ℕ) (x : X) → All P xs → slice_get xs i ≡ Some x → P x
-at_slice P xs i x all at = at_recursion P xs i x (recursion_from_All P xs all) at
-  where
-    at_recursion : {Y : Type 0} (Q : Y → Type 0) (ys : List Y) (j : ℕ) (y : Y) → AllByRecursion Q ys → slice_get ys j ≡ Some y → Q y
-    at_recursion Q [] j y each is = absurd (cc)
-    at_recursion Q (z ∷ ys) zero y each is = subst Q (same_Some z y is) each.0
-    at_recursion Q (z ∷ ys) (suc j) y each is = at_recursion Q ys j y each.1 is
-
 -- what is the same of the new thing as of the old is the same of all
 pub map_set : {X Y : Type 0} (f : X → Y) (xs : List X) (i : ℕ) (x y : X) → slice_get xs i ≡ Some y → f x ≡ f y → map f (slice_set xs i x) ≡ map f xs
 map_set f [] i x y at same = refl
@@ -58,11 +48,6 @@ same_behind [] (y ∷ ys) zs i many same = absurd (omega (arith, many))
 same_behind (x ∷ xs) [] zs i many same = absurd (omega (arith, many))
 same_behind (x ∷ xs) (y ∷ ys) zs zero many same = same
 same_behind (x ∷ xs) (y ∷ ys) zs (suc i) many same = same_behind xs ys zs i (omega (arith, many)) same
-
-pub get_front : {X : Type 0} (xs zs : List X) (i : ℕ) → i < length xs → slice_get (xs ++ zs) i ≡ slice_get xs i
-get_front [] zs i below = absurd (omega (arith, below))
-get_front (x ∷ xs) zs zero below = refl
-get_front (x ∷ xs) zs (suc i) below = get_front xs zs i (omega (arith, below))
 
 -- ---- one device called
 
@@ -86,7 +71,7 @@ module _ {D : Type 0} (disk : DiskOf D) where
         many = omega (arith, length-append ys zs, length-append xs zs, it.many);
         which = it.which;
         within = omega (arith, length-append xs zs, it.within);
-        one = λ old new was is. it.one old new (sym (get_front xs zs it.which it.within) ∙ was) (sym (get_front ys zs it.which below) ∙ is);
+        one = λ old new was is. it.one old new (sym (slice_get_left xs zs it.which it.within) ∙ was) (sym (slice_get_left ys zs it.which below) ∙ is);
         others = λ j other. same_behind xs ys zs j it.many (it.others j other);
       }
 

@@ -13,6 +13,7 @@ use Rattle.vt_isect.specs.declared.head.Head.{Head}
 use Rattle.vt_isect.specs.Layout.{buckets_in}
 use Rattle.vt_isect.specs.Section.{SectionState}
 use Rattle.vt_log.specs.Log.{LogState}
+use Rattle.vt_log.proofs.Lists.{at_slice, slice_get_other}
 use Rattle.vt_model.specs.Places.{first_bucket}
 use Rattle.vt_shard.specs.Shard.{ShardState}
 use Rattle.vt_core.specs.Core.{CoreState, setup_of}
@@ -20,9 +21,9 @@ use Rattle.vt_core.specs.Opening.{IsOpened, IsFilterOpened, IsShardMade, OpensFi
 use Rattle.vt_core.specs.Recalling.{AreReadBack, IsUnused, KeepsSection, ReadsBack, opened}
 use Rattle.vt_core.specs.Stands.{IsLive}
 use Rattle.vt_core.specs.Whole.{IsFilterOf, IsShardOf, IsWhole}
-use Rattle.vt_core.proofs.Beside.{all_at, head_right}
-use Rattle.vt_core.proofs.Lists.{at_map, beside, index_map, same_lists, All-replicate}
-use Rattle.vt_core.proofs.Zips.{zip_beside, zip_implies, zip_length, zip_same}
+use Rattle.vt_core.proofs.Beside.{head_right}
+use Rattle.vt_core.proofs.Lists.{at_map, index_map, same_lists, All-replicate}
+use Rattle.vt_core.proofs.Zips.{zip_beside, zip_length}
 
 -- no call was made of a shard that was just made
 pub unused_made : {D : Type 0} (disk : DiskOf D) (lumps clean : ℕ) (device : D) (section : SectionState D) (s : ShardState D)
@@ -66,8 +67,8 @@ module _ {D : Type 0} (score : List ℕ → List ℕ) (disk : DiskOf D) (devices
   made_faults = same_lists (map disk.faults (map (λ s. s.section.disk) made)) (map disk.faults devices)
       (length-map (map (λ s. s.section.disk) made) disk.faults ∙ length-map made (λ s. s.section.disk) ∙ many_made ∙ sym (length-map devices disk.faults))
       (λ i x y here there.
-      let d = beside (map (λ s. s.section.disk) made) (map disk.faults (map (λ s. s.section.disk) made)) i x (length-map (map (λ s. s.section.disk) made) disk.faults) here in
-      let s = beside made (map (λ s. s.section.disk) made) i d.0 (length-map made (λ s. s.section.disk)) d.1 in
+      let d = slice_get_other (map (λ s. s.section.disk) made) (map disk.faults (map (λ s. s.section.disk) made)) i x (length-map (map (λ s. s.section.disk) made) disk.faults) here in
+      let s = slice_get_other made (map (λ s. s.section.disk) made) i d.0 (length-map made (λ s. s.section.disk)) d.1 in
       let t = zip_beside (IsShardMade disk lumps clean) sections made i s.0 makes s.1 in
       let v = zip_beside (IsOpened disk) devices sections i t.0 opens t.1 in
       let e : x ≡ disk.faults s.0.section.disk = same_Some x (disk.faults s.0.section.disk) (sym here ∙ at_map disk.faults (map (λ s. s.section.disk) made) i s.0.section.disk (at_map (λ s. s.section.disk) made i s.0 s.1)) in
@@ -76,14 +77,10 @@ module _ {D : Type 0} (score : List ℕ → List ℕ) (disk : DiskOf D) (devices
       e ∙ m ∙ v.2.faults ∙ sym f)
 
   -- their disks are those of the sections
-  pub made_disks : map (λ s. s.section.disk) made ≡ map (λ s. s.disk) sections
-  made_disks = zip_same (λ s. s.disk) (λ s. s.section.disk) sections made
-      (zip_implies (IsShardMade disk lumps clean) (λ t s. s.section.disk ≡ t.disk) sections made (λ t s it. ap (λ (z : ShardState D). z.section.disk) it.is) makes)
-
   module _ (log log1 : LogState D) (bits bits1 : Filter) (shards : List (ShardState D)) (back : ReadsBack score disk (opened log made bits) (opened log1 shards bits1)) where
     pub chain : (i : ℕ) (after : ShardState D) → slice_get shards i ≡ Some after → IsChain disk devices sections made lumps clean i after
     chain i after at =
-        let b = beside made shards i after back.many at in
+        let b = slice_get_other made shards i after back.many at in
         let t = zip_beside (IsShardMade disk lumps clean) sections made i b.0 makes b.1 in
         let d = zip_beside (IsOpened disk) devices sections i t.0 opens t.1 in
         record {
@@ -123,7 +120,7 @@ module _ {D : Type 0} (score : List ℕ → List ℕ) (disk : DiskOf D) (devices
     same_buckets = same_lists (map (λ s. s.section.buckets) shards) (buckets_in_each sections)
         (length-map shards (λ s. s.section.buckets) ∙ many_shards ∙ sym (zip_length (IsOpened disk) devices sections opens) ∙ sym (length-map sections (λ s. s.buckets)))
         (λ i x y here there.
-        let a = beside shards (map (λ s. s.section.buckets) shards) i x (length-map shards (λ s. s.section.buckets)) here in
+        let a = slice_get_other shards (map (λ s. s.section.buckets) shards) i x (length-map shards (λ s. s.section.buckets)) here in
         let it = chain i a.0 a.1 in
         let e : x ≡ a.0.section.buckets = same_Some x a.0.section.buckets (sym here ∙ at_map (λ s. s.section.buckets) shards i a.0 a.1) in
         let f : y ≡ it.section.buckets = same_Some y it.section.buckets (sym there ∙ at_map (λ s. s.buckets) sections i it.section it.section_at) in
@@ -134,7 +131,7 @@ module _ {D : Type 0} (score : List ℕ → List ℕ) (disk : DiskOf D) (devices
     room_buckets = same_lists (map (λ s. s.section.buckets) shards) (map (λ device. buckets_in (disk.size device)) devices)
         (length-map shards (λ s. s.section.buckets) ∙ many_shards ∙ sym (length-map devices (λ device. buckets_in (disk.size device))))
         (λ i x y here there.
-        let a = beside shards (map (λ s. s.section.buckets) shards) i x (length-map shards (λ s. s.section.buckets)) here in
+        let a = slice_get_other shards (map (λ s. s.section.buckets) shards) i x (length-map shards (λ s. s.section.buckets)) here in
         let it = chain i a.0 a.1 in
         let e : x ≡ a.0.section.buckets = same_Some x a.0.section.buckets (sym here ∙ at_map (λ s. s.section.buckets) shards i a.0 a.1) in
         let f : y ≡ buckets_in (disk.size it.device) = same_Some y (buckets_in (disk.size it.device)) (sym there ∙ at_map (λ device. buckets_in (disk.size device)) devices i it.device it.device_at) in
@@ -144,8 +141,8 @@ module _ {D : Type 0} (score : List ℕ → List ℕ) (disk : DiskOf D) (devices
     shard_sizes = same_lists (map disk.size (map (λ s. s.section.disk) shards)) (map disk.size devices)
         (length-map (map (λ s. s.section.disk) shards) disk.size ∙ length-map shards (λ s. s.section.disk) ∙ many_shards ∙ sym (length-map devices disk.size))
         (λ i x y here there.
-        let d = beside (map (λ s. s.section.disk) shards) (map disk.size (map (λ s. s.section.disk) shards)) i x (length-map (map (λ s. s.section.disk) shards) disk.size) here in
-        let s = beside shards (map (λ s. s.section.disk) shards) i d.0 (length-map shards (λ s. s.section.disk)) d.1 in
+        let d = slice_get_other (map (λ s. s.section.disk) shards) (map disk.size (map (λ s. s.section.disk) shards)) i x (length-map (map (λ s. s.section.disk) shards) disk.size) here in
+        let s = slice_get_other shards (map (λ s. s.section.disk) shards) i d.0 (length-map shards (λ s. s.section.disk)) d.1 in
         let it = chain i s.0 s.1 in
         let e : x ≡ disk.size s.0.section.disk = same_Some x (disk.size s.0.section.disk) (sym here ∙ at_map disk.size (map (λ s. s.section.disk) shards) i s.0.section.disk (at_map (λ s. s.section.disk) shards i s.0 s.1)) in
         let f : y ≡ disk.size it.device = same_Some y (disk.size it.device) (sym there ∙ at_map disk.size devices i it.device it.device_at) in
@@ -210,7 +207,7 @@ module _ {D : Type 0} (score : List ℕ → List ℕ) (disk : DiskOf D) (devices
           }
 
       none_waits : (session number : ℕ) → slice_get (replicate sessions None) session ≡ Some (Some number) → ⊥
-      none_waits session number at = cc (sym (all_at (λ (o : Option ℕ). o ≡ None) (replicate sessions None) session (Some number) (All-replicate sessions) at))
+      none_waits session number at = cc (sym (at_slice (λ (o : Option ℕ). o ≡ None) (replicate sessions None) session (Some number) (All-replicate sessions) at))
 
       pub whole : IsWhole disk k
       whole = record {

@@ -9,6 +9,7 @@ use Rattle.vt_model.specs.Places.{Setup}
 use Rattle.vt_log.specs.Log.{LogState}
 use Rattle.vt_log.specs.Sound.{AreImages as AreImagesOf, AreWithinCall as AreWithinCallOf, StandForPrefix as LogStandForPrefix, IsSound as IsSoundLog}
 use Rattle.vt_log.specs.Logs.{StandsFor as LogStandsFor}
+use Rattle.vt_log.proofs.Lists.{slice_get_other}
 use Rattle.vt_bloom.specs.Bloom.{BloomState, IsSound as IsSoundBloom}
 use Rattle.vt_bloom.specs.Frame.{Saved, Covers, HasSaved}
 use Rattle.vt_bloom.specs.Laws.{CoversMore}
@@ -20,7 +21,7 @@ use Rattle.vt_core.specs.Sound.{IsSound, IsSoundFilter}
 use Rattle.vt_part.specs.Layout.{layout_of}
 use Rattle.vt_part.specs.declared.layout.ArenaRegion.{ArenaRegion}
 use Rattle.vt_core.specs.Stands.{IsLive, ArePartitions, SectionStandsFor, FilterStandsFor, StandsFor, StandForPrefix, scores_of, buckets_of}
-use Rattle.vt_core.proofs.Lists.{longer_take, at_map, index_map, beside, only_one}
+use Rattle.vt_core.proofs.Lists.{longer_take, at_map, index_map, only_one}
 
 -- ---- what the parts say of their devices
 
@@ -84,7 +85,7 @@ module _ {D : Type 0} (disk : DiskOf D) (log_stands : LogStands disk) (files_agr
       → (i : ℕ) (file : List ℕ) → slice_get files i ≡ Some file → SectionStandsFor score (setup_of k) (take n h) i file
   sections_stand n le within files left i file at =
       let many : length files ≡ length k.shards = left.many ∙ length-map k.shards (λ s. s.section.disk) in
-      let s = beside k.shards files i file many at in
+      let s = slice_get_other k.shards files i file many at in
       section_stands score (setup_of k) (take n h) i s.0 file
       (sym (index_map (λ t. t.section.buckets) k.shards i s.0 s.1))
       ((sound.whole.shards i s.0 s.1).live)
@@ -95,7 +96,7 @@ module _ {D : Type 0} (disk : DiskOf D) (log_stands : LogStands disk) (files_agr
       → (i : ℕ) (file : List ℕ) → slice_get files i ≡ Some file → FilterStandsFor score (take n h) file
   filters_stand n le files left i file at =
       let many : length files ≡ length (option_to_list k.bloom) = left.many ∙ length-map (option_to_list k.bloom) (λ b. b.disk) in
-      let b = beside (option_to_list k.bloom) files i file many at in
+      let b = slice_get_other (option_to_list k.bloom) files i file many at in
       filter_stands disk leaves more score b.0 h k.log.durable n file le (sound.filter b.0 (only_one k.bloom i b.0 b.1))
       (left.each i b.0.disk file (at_map (λ t. t.disk) (option_to_list k.bloom) i b.0 b.1) at)
 
@@ -121,7 +122,7 @@ module _ {D : Type 0} (disk : DiskOf D) (log_stands : LogStands disk) (files_agr
     many = left.many ∙ sound.log.whole.many_disks;
     each = λ i t file at is.
         let many : length files ≡ length k.log.disks = left.many in
-        let device = beside k.log.disks files i file many is in
+        let device = slice_get_other k.log.disks files i file many is in
         sound.partitions i t device.0 file at device.1 (left.each i device.0 file device.1 is);
   }
 

@@ -23,6 +23,7 @@ use Rattle.vt_model.specs.Places.{Setup, Spot, place_of}
 use Rattle.vt_arena.specs.Reading.{is_fault}
 use Rattle.vt_arena.specs.declared.bad.ReadBad.{ReadBad}
 use Rattle.vt_arena.specs.declared.bad.ReadBad.TheVariants as read_bad
+use Rattle.vt_arena.proofs.Commits.{none_is}
 use Rattle.vt_isect.specs.Agreement.{IsEntryOf, IsOfBlock}
 use Rattle.vt_isect.specs.Section.{SectionState}
 use Rattle.vt_log.specs.Answers.{OnlyReads}
@@ -91,10 +92,6 @@ kept_there key bytes s = put_found same_key s key bytes (own_key key)
 pub is_there : {X : Type 0} (o : Option X) → is_some o ≡ true → (x : X) × (o ≡ Some x)
 is_there None is = absurd (cc)
 is_there (Some x) is = (x, refl)
-
-pub isnt_there : {X : Type 0} (o : Option X) → is_some o ≡ false → o ≡ None
-isnt_there None is = refl
-isnt_there (Some x) is = absurd (cc)
 
 pub some_is : {X : Type 0} (o : Option X) (x : X) → o ≡ Some x → IsSome o
 some_is {X} o x is = subst (λ (p : Option X). IsSome p) (sym is) refl
@@ -226,7 +223,7 @@ module _ {D : Type 0} (score : List ℕ → List ℕ) (disk : DiskOf D) where
 
   -- where it isn't, nothing was used
   pub nothing_used : (key : Key) (s new : ShardState D) → is_some (bytes_of key s.lumps) ≡ false → new ≡ record s { lumps = used key s.lumps } → new ≡ s
-  nothing_used key s new none is = is ∙ ap (λ (l : LumpsState). record s { lumps = l }) (unused key s.lumps (isnt_there (bytes_of key s.lumps) none))
+  nothing_used key s new none is = is ∙ ap (λ (l : LumpsState). record s { lumps = l }) (unused key s.lumps (none_is (bytes_of key s.lumps) none))
 
   module _ (entry : Entry) (l new_log : LogState D) (s : ShardState D) (absent : bytes_of entry.key s.lumps ≡ None) (r : Result (List ℕ) ReadBad)
       (answers : AnswersRead score disk l entry.place entry.key r) (reads : OnlyReads score disk 2 l new_log)

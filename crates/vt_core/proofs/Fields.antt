@@ -11,10 +11,10 @@ use Rattle.vt_arena.specs.Heads.{clumps_in, fields_of, used_in}
 use Rattle.vt_disk.specs.Members.{DiskOf}
 use Rattle.vt_log.specs.Log.{LogState}
 use Rattle.vt_log.specs.Whole.{IsOnDisk, IsWhole}
+use Rattle.vt_log.proofs.Lists.{at_slice, slice_get_other}
 use Rattle.vt_part.specs.Layout.{layout_of}
 use Rattle.vt_part.specs.declared.layout.ArenaRegion.{ArenaRegion}
-use Rattle.vt_core.proofs.Beside.{all_at, all_from}
-use Rattle.vt_core.proofs.Lists.{beside}
+use Rattle.vt_core.proofs.Beside.{all_from}
 
 clumps_back : (h : ArenaHead) → h.clumps < 256 ^ 4 → clumps_in (fields_of h) ≡ h.clumps
 clumps_back h fits = big_number-reads_back 4 h.clumps (big_bytes 8 h.used ++ h.chain.0) fits
@@ -36,13 +36,13 @@ sums_same (f ∷ heads) each =
 module _ {D : Type 0} (disk : DiskOf D) (l : LogState D) (whole : IsWhole disk l) where
   pub short_regions : All (λ r. r.region.len ≤ 2 ^ 30) (layout_of l.tables)
   short_regions = subst (λ (rs : List ArenaRegion). All (λ r. r.region.len ≤ 2 ^ 30) rs) whole.layout
-      (all_from (λ r. r.region.len ≤ 2 ^ 30) l.layout (λ i r at. (all_at (IsOnDisk disk l.disks) l.layout i r whole.regions at).region.len.1))
+      (all_from (λ r. r.region.len ≤ 2 ^ 30) l.layout (λ i r at. (at_slice (IsOnDisk disk l.disks) l.layout i r whole.regions at).region.len.1))
 
   head_fits : (i : ℕ) (f : Found) → slice_get l.heads i ≡ Some f → (f.head.clumps < 256 ^ 4) × (f.head.used < 256 ^ 8)
   head_fits i f at =
-      let r = beside l.layout l.heads i f whole.many at in
+      let r = slice_get_other l.layout l.heads i f whole.many at in
       let fit = (whole.heads i r.0 f r.1 at).fit in
-      let len = (all_at (IsOnDisk disk l.disks) l.layout i r.0 whole.regions r.1).region.len.1 in
+      let len = (at_slice (IsOnDisk disk l.disks) l.layout i r.0 whole.regions r.1).region.len.1 in
       (omega (arith, fit, len), omega (arith, fit, len))
 
   pub clumps_at : (i : ℕ) (f : Found) → slice_get l.heads i ≡ Some f → clumps_in (fields_of f.head) ≡ f.head.clumps

@@ -26,6 +26,7 @@ use Rattle.vt_bloom.specs.Frame.{Saved, Covers, HasSaved}
 use Rattle.vt_bloom.specs.Laws.{CoversMore}
 use Rattle.vt_log.specs.Faults.{OneHasRisen}
 use Rattle.vt_log.specs.Sound.{AreImages as AreImagesOf, AreWithinCall as AreWithinCallOf}
+use Rattle.vt_log.proofs.Lists.{slice_get_other}
 use Rattle.vt_core.specs.declared.event.Event.TheVariants.{BloomAdvance}
 use Rattle.vt_core.specs.declared.event.Out.{Out}
 use Rattle.vt_core.specs.declared.event.Out.TheVariants.{Said as SaidOut, Waits, NotYet, Moved, Nothing, Failed}
@@ -42,7 +43,7 @@ use Rattle.vt_core.specs.Whole.{IsWhole}
 use Rattle.vt_core.specs.Work.{IsBegun, Saves, SavesOne, SavesIn, out_of_save}
 use Rattle.vt_core.proofs.Calls.{calls_set, calls_behind, map_all, risen_behind, joined}
 use Rattle.vt_core.proofs.Combined.{within_same, covers_longer}
-use Rattle.vt_core.proofs.Lists.{at_map, beside, only_one}
+use Rattle.vt_core.proofs.Lists.{at_map, only_one}
 use Rattle.vt_core.proofs.Recovered.{GivesPrefix}
 use Rattle.vt_core.proofs.ShardCall.{none_of, risen_set}
 
@@ -130,9 +131,6 @@ module _ {D : Type 0} (disk : DiskOf D) (begun new : BloomState D) where
 pub calls_begun : {D : Type 0} (disk : DiskOf D) (bits : Filter) (durable : ℕ) (out : Out) (old begun : BloomState D) (new : List D) → IsBegun bits durable old begun
     → CallsDevice disk out (begun.disk ∷ []) new → CallsDevice disk out (old.disk ∷ []) new
 calls_begun {D} disk bits durable out old begun new begins = subst (λ (d : D). CallsDevice disk out (d ∷ []) new) (begun_disk bits durable old begun begins)
-
-pub calls_none : {D : Type 0} (disk : DiskOf D) (old new : List D) → new ≡ old → CallsDevice disk Nothing old new
-calls_none disk old new same = record { calls = same; faults = ap (map disk.faults) same; sizes = ap (map disk.size) same }
 
 -- ---- what a save leaves of a filter
 
@@ -400,18 +398,20 @@ module _ {D : Type 0} (score : List ℕ → List ℕ) (disk : DiskOf D) (k : Cor
 
     filter_goes_on : GoesOn disk k (record k { bloom = bloom })
     filter_goes_on = record {
-      tables = refl;
-      layout = refl;
-      setup = refl;
-      shards = refl;
-      filter = filter_same (λ b. b.m) (λ before after keeps. keeps.m);
-      counts = (refl, refl);
-      sizes = filter_sizes;
-      sessions = refl;
-      len = omega arith;
+      store = record {
+        tables = refl;
+        layout = refl;
+        setup = refl;
+        shards = refl;
+        filter = filter_same (λ b. b.m) (λ before after keeps. keeps.m);
+        counts = (refl, refl);
+        sizes = filter_sizes;
+        sessions = refl;
+        len = omega arith;
+        durable = omega arith;
+        synced = omega arith;
+      };
       one_more = omega arith;
-      durable = omega arith;
-      synced = omega arith;
       synced_before = w.synced;
     }
 
@@ -437,8 +437,8 @@ module _ {D : Type 0} (score : List ℕ → List ℕ) (disk : DiskOf D) (k : Cor
           let size : D → ℕ = disk.size in
           let many : length files ≡ length (filter_devices bloom) =
           within.many ∙ sym (length-map (filter_devices k.bloom) size) ∙ ap length (sym calls.sizes) ∙ length-map (filter_devices bloom) size in
-          let old_device = beside (filter_devices k.bloom) files i file within.many at in
-          let new_device = beside (filter_devices bloom) files i file many at in
+          let old_device = slice_get_other (filter_devices k.bloom) files i file within.many at in
+          let new_device = slice_get_other (filter_devices bloom) files i file many at in
           let old = mapped_at f (option_to_list k.bloom) i old_device.0 old_device.1 in
           let new = mapped_at f (option_to_list bloom) i new_device.0 new_device.1 in
           let left = within.each i old.0.disk new.0.disk file (at_map f (option_to_list k.bloom) i old.0 old.1) (at_map f (option_to_list bloom) i new.0 new.1) at in

@@ -1,8 +1,7 @@
 -- Devices that hold what they held, and which of them failed.
-use Rattle.std.proofs.Common.{◌≡◌, ◌≢◌, ◌⊎◌, ⊎_elim, ◌<◌, ◌≤◌, ℕ, zero, suc, List, [], ◌∷◌, ◌++◌, length, refl, sym, ◌∙◌, subst, arith, length-append}
+use Rattle.std.proofs.Common.{◌≡◌, ◌≢◌, ℕ, zero, suc, List, ◌∷◌, refl, arith}
 use Rattle.std.specs.Prelude.{slice_index}
 use Rattle.std.specs.List.{AllZip}
-use Rattle.std.proofs.lemmas.List.{get_or_append_left, get_or-append_right}
 use Rattle.vt_base.specs.Faults.{HasRisen}
 use Rattle.vt_base.specs.declared.mount.MountBad.{MountBad}
 use Rattle.vt_base.specs.declared.mount.MountBad.TheVariants.{Fault, NotFormatted, TooSmall, DuplicateName, Disagree, Damaged, NoMemory}
@@ -38,44 +37,6 @@ hold_still disk ds = hold_zip disk ds ds (zip_self (IsHeld disk) ds (held_still 
 
 -- ---- counts of failed calls
 
--- a part of the counts
-pub risen_left : (old new more : List ℕ) → OneHasRisen old new → OneHasRisen (old ++ more) (new ++ more)
-risen_left old new more it =
-    let inside : it.which < length new = omega (arith, it.within, it.many) in
-    record {
-      many = omega (arith, it.many, length-append old more, length-append new more);
-      which = it.which;
-      within = omega (arith, it.within, length-append old more);
-      rose = subst (λ (a : ℕ). HasRisen a (slice_index (new ++ more) it.which)) (sym (get_or_append_left old more 0 it.which it.within))
-          (subst (λ (b : ℕ). HasRisen (slice_index old it.which) b) (sym (get_or_append_left new more 0 it.which inside)) it.rose);
-      others = λ i other. ⊎_elim
-          (λ (low : i < length old).
-          let low_too : i < length new = omega (arith, low, it.many) in
-          get_or_append_left new more 0 i low_too ∙ it.others i other ∙ sym (get_or_append_left old more 0 i low))
-          (λ (high : length old ≤ i).
-          get_or-append_right new more (length old) i 0 it.many high ∙ sym (get_or-append_right old more (length old) i 0 refl high))
-          (cases i (length old));
-    }
-  where
-    cases : (i n : ℕ) → (i < n) ⊎ (n ≤ i)
-    cases i n = grind arith
-
-pub risen_right : (less old new : List ℕ) → OneHasRisen old new → OneHasRisen (less ++ old) (less ++ new)
-risen_right [] old new it = it
-risen_right (n ∷ less) old new it =
-    let rest = risen_right less old new it in
-    record {
-      many = omega (arith, rest.many);
-      which = suc rest.which;
-      within = omega (arith, rest.within);
-      rose = rest.rose;
-      others = λ i. other_at rest.which (less ++ old) (less ++ new) i rest.others;
-    }
-  where
-    other_at : (w : ℕ) (a b : List ℕ) (i : ℕ) → ((j : ℕ) → j ≢ w → slice_index b j ≡ slice_index a j) → i ≢ suc w → slice_index (n ∷ b) i ≡ slice_index (n ∷ a) i
-    other_at w a b zero others other = refl
-    other_at w a b (suc i) others other = others i (λ e. other (omega (arith, e)))
-
 -- the first of some counts rose
 pub risen_first : (a b : ℕ) (more : List ℕ) → HasRisen a b → OneHasRisen (a ∷ more) (b ∷ more)
 risen_first a b more rose = record {
@@ -89,16 +50,6 @@ risen_first a b more rose = record {
     other_at : (i : ℕ) → i ≢ 0 → slice_index (b ∷ more) i ≡ slice_index (a ∷ more) i
     other_at zero other = absurd (other refl)
     other_at (suc i) other = refl
-
--- what holds of both cases holds of what is told
-pub counts_by : (bad : MountBad) (old new : List ℕ) → (bad ≡ Fault → OneHasRisen old new) → (bad ≢ Fault → new ≡ old) → CountsRefusal bad old new
-counts_by Fault old new risen stays = risen refl
-counts_by (NotFormatted part) old new risen stays = stays (λ e. absurd (cc))
-counts_by (TooSmall part len need) old new risen stays = stays (λ e. absurd (cc))
-counts_by (DuplicateName first second) old new risen stays = stays (λ e. absurd (cc))
-counts_by (Disagree part field found want) old new risen stays = stays (λ e. absurd (cc))
-counts_by (Damaged site want found) old new risen stays = stays (λ e. absurd (cc))
-counts_by NoMemory old new risen stays = stays (λ e. absurd (cc))
 
 pub counts_in : (bad : MountBad) (old new more less : List ℕ) → (OneHasRisen old new → OneHasRisen less more) → (new ≡ old → more ≡ less) → CountsRefusal bad old new → CountsRefusal bad less more
 counts_in Fault old new more less risen stays it = risen it

@@ -27,9 +27,10 @@ use Rattle.vt_core.specs.Mounting.{LacksEntry, LacksMany}
 use Rattle.vt_core.specs.Recalling.{KeepsSection}
 use Rattle.vt_core.specs.Stands.{IsLive, SectionStandsFor, buckets_of}
 use Rattle.vt_core.specs.TakingBack.{HasEntries, HasNoRoomFor, IsUnwritten, LacksKey}
-use Rattle.vt_core.proofs.AddWork.{HaveRanges, at_place}
+use Rattle.vt_core.proofs.AddWork.{HaveRanges}
 use Rattle.vt_core.proofs.Lists.{at_map}
 use Rattle.vt_core.proofs.PuttingBack.{any_default}
+use Rattle.vt_log.proofs.Places.{slice_get_there}
 
 -- a frame is that of one head
 abbrev pub OneHead : Type 0
@@ -52,8 +53,8 @@ same_key a b score kind =
 apart_map : (xs : List Info) → AllPairs (λ a b. a.number ≢ b.number) xs → AllPairs (λ i j. i ≢ j) (map (λ info. info.number) xs)
 apart_map xs apart = λ i j d before within same.
     let f : Info → ℕ = λ info. info.number in
-    let a = at_place xs i (omega (arith, before, within, length-map xs f)) in
-    let b = at_place xs j (omega (arith, within, length-map xs f)) in
+    let a = slice_get_there xs i (omega (arith, before, within, length-map xs f)) in
+    let b = slice_get_there xs j (omega (arith, within, length-map xs f)) in
     let first : slice_index_or (map f xs) i d ≡ f a.0 = get_or_from_slice_get (map f xs) i (f a.0) d (at_map f xs i a.0 a.1) in
     let second : slice_index_or (map f xs) j d ≡ f b.0 = get_or_from_slice_get (map f xs) j (f b.0) d (at_map f xs j b.0 b.1) in
     let own : slice_index_or xs i a.0 ≡ a.0 = get_or_from_slice_get xs i a.0 a.0 a.1 in
@@ -121,7 +122,7 @@ module _ {D : Type 0} (ranges : HaveRanges) (one_head : OneHead) (one_frame : Is
       record {
         numbers = map f dirty ++ info.number ∷ [];
         apart = all_pairs_push (λ a b. a ≢ b) (map f dirty) info.number (apart_map dirty un.apart) (λ k d below same.
-            let x = at_place dirty k (omega (arith, below, length-map dirty f)) in
+            let x = slice_get_there dirty k (omega (arith, below, length-map dirty f)) in
             let there : slice_index_or (map f dirty) k d ≡ f x.0 = get_or_from_slice_get (map f dirty) k (f x.0) d (at_map f dirty k x.0 x.1) in
             let least : info.number + 1 ≤ f x.0 = un.least x.0 (k, omega (arith, below, length-map dirty f), get_or_from_slice_get dirty k x.0 x.0 x.1) in
             omega (arith, there, least, same));

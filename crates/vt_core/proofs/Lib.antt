@@ -4,6 +4,7 @@ pub mod Recovered
 pub mod Read
 pub mod MarksRead
 pub mod NamesTwo
+pub mod Kept
 pub mod Runs
 pub mod Calls
 pub mod LogWork

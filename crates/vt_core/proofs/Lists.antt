@@ -18,14 +18,6 @@ at_map f xs i x at = slice_get-map f xs i ∙ ap (option_map f) at
 pub index_map : {X : Type 0} (f : X → ℕ) (xs : List X) (i : ℕ) (x : X) → slice_get xs i ≡ Some x → slice_index (map f xs) i ≡ f x
 index_map f xs i x at = get_or_from_slice_get (map f xs) i (f x) 0 (at_map f xs i x at)
 
--- of two lists of one length, what stands there in the one where something stands in the other
-pub beside : {X Y : Type 0} (xs : List X) (ys : List Y) (i : ℕ) (y : Y) → length ys ≡ length xs → slice_get ys i ≡ Some y → (x : X) × (slice_get xs i ≡ Some x)
-beside [] [] i y many at = absurd (cc)
-beside [] (b ∷ ys) i y many at = absurd (omega (arith, many))
-beside (a ∷ xs) [] i y many at = absurd (cc)
-beside (a ∷ xs) (b ∷ ys) zero y many at = (a, refl)
-beside (a ∷ xs) (b ∷ ys) (suc i) y many at = let few : length ys ≡ length xs = omega (arith, many) in beside xs ys i y few at
-
 -- lists of one length that have the same at each place are one
 pub same_lists : {X : Type 0} (xs ys : List X) → length xs ≡ length ys
     → ((i : ℕ) (x y : X) → slice_get xs i ≡ Some x → slice_get ys i ≡ Some y → x ≡ y) → xs ≡ ys

@@ -1,8 +1,8 @@
 -- Mounting before the sections are opened.
-use Rattle.std.proofs.Common.{◌≡◌, ◌⊎◌, ⊎_elim, inl, inr, ◌≤◌, ◌+◌, ℕ, zero, suc, Bool, true, false, List, [], ◌∷◌, ◌++◌, length, map, take, Option, Some, None, Err, refl, sym, ◌∙◌, ap, subst, arith, append_assoc, length-append, ◌*◌}
+use Rattle.std.proofs.Common.{◌≡◌, ◌⊎◌, ⊎_elim, inl, inr, ◌≤◌, ◌+◌, ℕ, Bool, true, false, List, [], ◌∷◌, ◌++◌, length, map, take, Option, Some, None, Err, refl, sym, ◌∙◌, ap, subst, arith, append_assoc, ◌*◌}
 use Rattle.std.specs.Prelude.{IsTrue, MatchBool, sum, sum_by, ⊤, codes, if◌then◌else◌, nat_lt, not, ◌||◌, ◌==◌}
 use Rattle.std.specs.Str.{bytes_eq}
-use Rattle.std.specs.List.{All, flat_map, enumerate_from, range_with_len}
+use Rattle.std.specs.List.{All}
 use Rattle.std.specs.Option.{option_to_list}
 use Rattle.std.proofs.lemmas.List.Sums.{sum_by-take-le, sum_by-cons}
 use Rattle.vt_arena.specs.declared.bad.ArenaBad.{ArenaBad}
@@ -25,7 +25,7 @@ use Rattle.vt_log.specs.Whole.{IsWhole}
 use Rattle.vt_log.specs.declared.bad.LogBad.{LogBad}
 use Rattle.vt_log.specs.declared.bad.LogBad.TheVariants as log_bad
 use Rattle.vt_model.specs.History.{History}
-use Rattle.vt_part.specs.Layout.{AreDistinct, arena_of, arenas_of, layout_of}
+use Rattle.vt_part.specs.Layout.{AreDistinct, layout_of}
 use Rattle.vt_part.specs.Parts.{names_of, table_of, tables_of, disk_of}
 use Rattle.vt_part.specs.Table.{Table}
 use Rattle.vt_part.specs.declared.bad.PartBad.TheVariants as part_bad
@@ -54,25 +54,6 @@ count_same (t ∷ tables) =
     let left : sum (map (λ t. t.count) (t ∷ tables)) ≡ t.count + sum (map (λ t. t.count) tables) = sum_by-cons (λ n. n) t.count (map (λ t. t.count) tables) in
     let right : arena_count (t ∷ tables) ≡ t.count + arena_count tables = sum_by-cons (λ t. t.count) t tables in
     omega (arith, rest, left, right)
-
--- ---- how many arenas there are
-
-length_range : (a n : ℕ) → length (range_with_len a n) ≡ n
-length_range a zero = refl
-length_range a (suc n) = omega (arith, length_range (a + 1) n)
-
-length_arenas : (part : ℕ) (t : Table) → length (arenas_of part t) ≡ t.count
-length_arenas part t = length-map (range_with_len 0 t.count) (arena_of part t) ∙ length_range 0 t.count
-
-abbrev laid : ℕ → List Table → List ArenaRegion
-laid first tables = flat_map (λ numbered. arenas_of numbered.0 numbered.1) (enumerate_from first tables)
-
-pub length_laid : (first : ℕ) (tables : List Table) → length (laid first tables) ≡ sum_by (λ t. t.count) tables
-length_laid first [] = refl
-length_laid first (t ∷ tables) =
-    let both : length (laid first (t ∷ tables)) ≡ length (arenas_of first t) + length (laid (first + 1) tables) = length-append (arenas_of first t) (laid (first + 1) tables) in
-    let sums : sum_by (λ t. t.count) (t ∷ tables) ≡ t.count + sum_by (λ t. t.count) tables = sum_by-cons (λ t. t.count) t tables in
-    omega (arith, both, sums, length_arenas first t, length_laid (first + 1) tables)
 
 -- ---- a test of an arena's fields tells no fault
 

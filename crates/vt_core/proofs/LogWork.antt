@@ -18,6 +18,7 @@ use Rattle.vt_log.specs.Faults.{CountsFaults, OneHasRisen, is_fault_now}
 use Rattle.vt_log.specs.Log.{LogState, queued}
 use Rattle.vt_log.specs.Sound.{IsSound as IsSoundLog, AreImages as AreImagesOf, AreWithinCall as AreWithinCallOf, StandForPrefix as LogStandForPrefix}
 use Rattle.vt_log.specs.Logs.{StandsFor as LogStandsFor}
+use Rattle.vt_log.proofs.Lists.{at_slice, slice_get_other}
 use Rattle.vt_bloom.specs.Laws.{CoversMore}
 use Rattle.vt_shard.specs.Shard.{ShardState}
 use Rattle.vt_shard.specs.Sound.{IsSound as IsSoundShard, IsSoundFrom}
@@ -35,7 +36,7 @@ use Rattle.vt_core.specs.Steps.{Steps, StepsSoundly, LeavesPrefix}
 use Rattle.vt_core.specs.Whole.{IsWhole}
 use Rattle.vt_core.specs.Work.{out_of_progress}
 use Rattle.std.proofs.lemmas.Option.{same_Some}
-use Rattle.vt_core.proofs.Calls.{calls_set, calls_front, length-set, get_set, get_other, at_slice, map_set, map_all, risen_front}
+use Rattle.vt_core.proofs.Calls.{calls_set, calls_front, length-set, get_set, get_other, map_set, map_all, risen_front}
 use Rattle.vt_part.specs.Layout.{layout_of}
 use Rattle.vt_part.specs.Table.{Table, IsPartition}
 use Rattle.vt_part.specs.Laws.{IsArena, LayoutsHaveArenas, ArenasAreInside}
@@ -45,7 +46,6 @@ use Rattle.vt_disk.specs.Region.{Inside}
 use Rattle.vt_disk.proofs.Calls.{changes_wider}
 use Rattle.vt_core.specs.Stands.{ArePartitions}
 use Rattle.vt_core.proofs.Combined.{within_same, covers_longer, of_tables}
-use Rattle.vt_core.proofs.Lists.{beside}
 
 -- the laws that are called
 abbrev pub MoreDurable : {D : Type 0} → DiskOf D → Type 0
@@ -69,9 +69,9 @@ tables_within : {D : Type 0} (disk : DiskOf D) (old new : LogState D) (files : L
 tables_within disk old new files many same tables was is within = record {
   many = within.many ∙ many;
   each = λ i t file at there.
-      let before = beside old.disks files i file within.many there in
+      let before = slice_get_other old.disks files i file within.many there in
       let fit : length files ≡ length new.disks = within.many ∙ sym same in
-      let after = beside new.disks files i file fit there in
+      let after = slice_get_other new.disks files i file fit there in
       ⊎_elim (λ left. was i t before.0 file at before.1 left)
       (λ left. is i t after.0 file (ap (λ (ts : List Table). slice_get ts i) tables ∙ at) after.1 left)
       (within.each i before.0 after.0 file before.1 after.1 there);
@@ -341,19 +341,21 @@ log_steps score disk k l answer step grows each more whole tables sound crash =
       counts = log_counts disk k l answer step.cause;
       stops = log_stops disk k l answer step.advances (λ busy goes. (log_called disk k l answer step busy goes).0);
       goes_on = record {
-        tables = step.kept.1;
-        layout = step.kept.0;
-        setup = setup score disk k l answer step;
-        shards = refl;
-        filter = refl;
-        counts = (refl, refl);
-        sizes = log_sizes disk k l answer step.advances
-            (λ busy goes. same_sizes score disk k l answer step (log_called disk k l answer step busy goes).1);
-        sessions = refl;
-        len = omega (arith, step.front_is);
+        store = record {
+          tables = step.kept.1;
+          layout = step.kept.0;
+          setup = setup score disk k l answer step;
+          shards = refl;
+          filter = refl;
+          counts = (refl, refl);
+          sizes = log_sizes disk k l answer step.advances
+              (λ busy goes. same_sizes score disk k l answer step (log_called disk k l answer step busy goes).1);
+          sessions = refl;
+          len = omega (arith, step.front_is);
+          durable = low;
+          synced = omega arith;
+        };
         one_more = omega (arith, step.front_is);
-        durable = low;
-        synced = omega arith;
         synced_before = whole.synced;
       };
     }

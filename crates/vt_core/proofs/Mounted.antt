@@ -34,11 +34,12 @@ use Rattle.vt_core.specs.Recalling.{ReadsBack, ReadsLogBack, opened, Recalls as 
 use Rattle.vt_core.specs.Sound.{IsSound, IsSoundFilter}
 use Rattle.vt_core.specs.Stands.{FilterStandsFor, scores_of}
 use Rattle.vt_core.specs.Whole.{IsWhole}
-use Rattle.vt_core.proofs.Beside.{all_at, all_from, by_recursion, of_store, sound_shard}
+use Rattle.vt_core.proofs.Beside.{all_from, by_recursion, of_store, sound_shard}
 use Rattle.vt_core.proofs.Chains.{chain, chain_head, chain_buckets, filter_opened, made_faults, many_shards, room_buckets, same_buckets, shard_sizes, whole, IsChain}
-use Rattle.vt_core.proofs.Lists.{at_map, beside, only_one}
+use Rattle.vt_core.proofs.Lists.{at_map, only_one}
 use Rattle.vt_core.proofs.Standing.{held_bytes, held_many}
 use Rattle.vt_log.specs.Faults.{IsMountedBy}
+use Rattle.vt_log.proofs.Lists.{at_slice, slice_get_other}
 
 -- ---- something of each device
 
@@ -69,7 +70,7 @@ own_bits disk (Some d) bloom bits it e = absurd (cc)
 all_bloom : {D : Type 0} (P : BloomState D → Type 0) (bloom : Option (BloomState D)) → ((b : BloomState D) → bloom ≡ Some b → P b) → All P (option_to_list bloom)
 all_bloom P bloom each = all_from P (option_to_list bloom) (λ i b at. each b (only_one bloom i b at))
 
-recursion_append : {X : Type 0} (P : X → Type 0) (xs ys : List X) → AllByRecursion P xs → AllByRecursion P ys → AllByRecursion P (xs ++ ys)
+pub recursion_append : {X : Type 0} (P : X → Type 0) (xs ys : List X) → AllByRecursion P xs → AllByRecursion P ys → AllByRecursion P (xs ++ ys)
 recursion_append P [] ys one more = more
 recursion_append P (x ∷ xs) ys one more = (one.0, recursion_append P xs ys one.1 more)
 
@@ -135,7 +136,7 @@ module _ {D : Type 0} (score : List ℕ → List ℕ) (disk : DiskOf D) (devices
     arenas = given.arenas;
     buckets = subst (λ (l : List ℕ). sum l ≤ MOST_BUCKETS) (sym (same_buckets score disk devices sections made sizes.lumps sizes.clean opens makes log log1 bits bits1 shards back)) tests.0;
     sections = all_from (λ n. 0 < n) (map (λ s. s.section.buckets) shards) (λ i n at.
-        let s = beside shards (map (λ s. s.section.buckets) shards) i n (length-map shards (λ s. s.section.buckets)) at in
+        let s = slice_get_other shards (map (λ s. s.section.buckets) shards) i n (length-map shards (λ s. s.section.buckets)) at in
         let it = link i s.0 s.1 in
         let e : s.0.section.buckets ≡ n = same_Some s.0.section.buckets n (sym (at_map (λ s. s.section.buckets) shards i s.0 s.1) ∙ at) in
         let some : 0 < s.0.section.buckets = subst (λ (m : ℕ). 0 < m) (sym (chain_buckets score disk devices sections made sizes.lumps sizes.clean opens makes log log1 bits bits1 shards back i s.0 it)) it.opens.some in
@@ -170,7 +171,7 @@ module _ {D : Type 0} (score : List ℕ → List ℕ) (disk : DiskOf D) (devices
   reads_once n tells covered =
       let low : n ≤ least = greatest n (record {
         shards_are = λ i s at.
-            let after = beside shards made i s (sym back.many) at in
+            let after = slice_get_other shards made i s (sym back.many) at in
             omega (arith, covered.shards_are i after.0 after.1, ap (λ h. h.mark) (back.shards i s after.0 at after.1).head);
         filter_is = covered.filter_is;
       }) in
@@ -232,10 +233,10 @@ module _ {D : Type 0} (score : List ℕ → List ℕ) (disk : DiskOf D) (devices
     still_mounted.stopped,
     recursion_append (λ stop. stop ≡ None) (map (λ s. s.section.stopped) shards) (map (λ b. b.twin.stopped) (option_to_list bloom))
         (by_recursion (λ stop. stop ≡ None) (map (λ s. s.section.stopped) shards) (λ i o at.
-        let s = beside shards (map (λ s. s.section.stopped) shards) i o (length-map shards (λ s. s.section.stopped)) at in
+        let s = slice_get_other shards (map (λ s. s.section.stopped) shards) i o (length-map shards (λ s. s.section.stopped)) at in
         same_Some o s.0.section.stopped (sym at ∙ at_map (λ s. s.section.stopped) shards i s.0 s.1) ∙ (all.rest i s.0 s.1).quiet.stopped))
         (by_recursion (λ stop. stop ≡ None) (map (λ b. b.twin.stopped) (option_to_list bloom)) (λ i o at.
-        let b = beside (option_to_list bloom) (map (λ b. b.twin.stopped) (option_to_list bloom)) i o (length-map (option_to_list bloom) (λ b. b.twin.stopped)) at in
+        let b = slice_get_other (option_to_list bloom) (map (λ b. b.twin.stopped) (option_to_list bloom)) i o (length-map (option_to_list bloom) (λ b. b.twin.stopped)) at in
         same_Some o b.0.twin.stopped (sym at ∙ at_map (λ b. b.twin.stopped) (option_to_list bloom) i b.0 b.1) ∙ (opened_filter b.0 (only_one bloom i b.0 b.1)).2.goes)),
   )
 
@@ -337,10 +338,10 @@ module _ {D : Type 0} (score : List ℕ → List ℕ) (disk : DiskOf D) (devices
     partition_stays : (i : ℕ) (t : Table) (device : D) (file : List ℕ) → slice_get log1.tables i ≡ Some t → slice_get log1.disks i ≡ Some device
         → disk.images device file → IsPartition t file
     partition_stays i t device file here there image =
-        let d = beside log.disks log1.disks i device (held_many disk log.disks log1.disks back.disks) there in
-        let b = beside before log.disks i d.0 (held_many disk before log.disks given.held) d.1 in
+        let d = slice_get_other log.disks log1.disks i device (held_many disk log.disks log1.disks back.disks) there in
+        let b = slice_get_other before log.disks i d.0 (held_many disk before log.disks given.held) d.1 in
         let was : disk.images d.0 file = back.disks.images_are i d.0 device d.1 there file image in
-        let same : file ≡ disk.bytes b.0 = all_at (IsSynced disk) log.disks i d.0 given.settled d.1 tells file was ∙ held_bytes disk before log.disks i b.0 d.0 given.held b.1 d.1 in
+        let same : file ≡ disk.bytes b.0 = at_slice (IsSynced disk) log.disks i d.0 given.settled d.1 tells file was ∙ held_bytes disk before log.disks i b.0 d.0 given.held b.1 d.1 in
         let table : slice_get log.tables i ≡ Some t = ap (λ (l : LogState D). slice_get l.tables i) (sym back.log) ∙ here in
         subst (IsPartition t) (sym same) (was_read.partitions.each i t (disk.bytes b.0) table (at_map disk.bytes before i b.0 b.1))
 

@@ -39,6 +39,7 @@ use Rattle.vt_core.proofs.AddWork.{AreMarked, MarkedStay, adding_devices, adding
 use Rattle.vt_core.proofs.AskWork.{fails_in, log_reads, mid, mid_is, mid_none, mid_sound, said_is, waits_or_not}
 use Rattle.vt_core.proofs.Calls.{get_set, length-set}
 use Rattle.vt_core.proofs.Fetching.{is_there}
+use Rattle.vt_core.proofs.Kept.{keeps_then}
 use Rattle.vt_core.proofs.ReadWork.{reads_crash, reads_go_on, reads_machine, reads_only, reads_stops, reads_whole}
 use Rattle.vt_core.proofs.Recovered.{GivesPrefix}
 use Rattle.vt_core.proofs.TestWork.{still_has}
@@ -50,7 +51,7 @@ AddsWritten = (score : List ℕ → List ℕ) (c : Setup) (h : History) (m : Ope
 abbrev pub RepliesScore : Type 0
 RepliesScore = (score : List ℕ → List ℕ) (c : Setup) (h : History) (m : Operation) (e : Accepted) → (answer score c h m).added ≡ Some e → (answer score c h m).reply ≡ r_write (score e.block.bytes)
 
-set_set : {X : Type 0} (xs : List X) (i : ℕ) (x y : X) → slice_set (slice_set xs i x) i y ≡ slice_set xs i y
+pub set_set : {X : Type 0} (xs : List X) (i : ℕ) (x y : X) → slice_set (slice_set xs i x) i y ≡ slice_set xs i y
 set_set [] i x y = refl
 set_set (z ∷ xs) zero x y = refl
 set_set (z ∷ xs) (suc i) x y = ap (λ ws. z ∷ ws) (set_set xs i x y)
@@ -182,18 +183,8 @@ module _ {D : Type 0} (score : List ℕ → List ℕ) (disk : DiskOf D) (k teste
         let y : GoesOn disk after new = subst (λ (m : CoreState D). GoesOn disk after m) (sym new_is)
         (adding_goes_on score disk after i it.after.shard at b.packed adds.after p new.bits marks stay marked whole) in
         record {
-          tables = y.tables;
-          layout = y.layout;
-          setup = y.setup ∙ x.setup;
-          shards = y.shards ∙ x.shards;
-          filter = y.filter;
-          counts = y.counts;
-          sizes = y.sizes ∙ x.sizes;
-          sessions = y.sessions;
-          len = y.len;
+          store = keeps_then disk k after new x.store y.store;
           one_more = y.one_more;
-          durable = y.durable;
-          synced = y.synced;
           synced_before = y.synced_before;
         }
 

@@ -19,11 +19,11 @@ use Rattle.vt_log.specs.Back.{GivesEntry, IsBehind, IsInfo, IsNext, IsTailOf, Mo
 use Rattle.vt_log.specs.Faults.{CountsFaults}
 use Rattle.vt_log.specs.Log.{LogState}
 use Rattle.vt_log.specs.Sound.{IsAt, IsSound as IsSoundLog}
+use Rattle.vt_log.proofs.Places.{slice_get_there}
 use Rattle.vt_model.specs.History.{History}
 use Rattle.vt_part.specs.declared.layout.ArenaRegion.{ArenaRegion}
 use Rattle.vt_core.specs.Recalling.{IsDamagedIn}
 use Rattle.vt_core.specs.TakingBack.{GivesNext, StandsOnDisks, TellsOfLog}
-use Rattle.vt_core.proofs.AddWork.{at_place}
 use Rattle.vt_core.proofs.Calls.{within_get}
 use Rattle.vt_core.proofs.LogWork.{one_or_other}
 use Rattle.vt_core.proofs.TakingAllBack.{below_or_from}
@@ -76,7 +76,7 @@ none_before (x ∷ xs) more = omega (arith, more)
 last_full : (heads : List Found) (a : ℕ) → a ≤ length heads → 0 < sum_by clumps (take a heads) → (j : ℕ) × IsLastFull heads a j
 last_full heads zero within some = absurd (none_before heads some)
 last_full heads (suc a) within some =
-    let here = at_place heads a (omega (arith, within)) in
+    let here = slice_get_there heads a (omega (arith, within)) in
     one_back heads a here.0 here.1 some (λ more. last_full heads a (omega (arith, within)) more) (clumps here.0) refl
 
 -- ---- the arena from which a walk goes on
@@ -97,14 +97,14 @@ module _ {D : Type 0} (l : LogState D) (t : TailState) (stands : StandsOnDisks l
   -- where an arena stands
   stands_at : (arena : ℕ) → arena < length l.heads → (r : ArenaRegion) × (disk : D) × IsAt l arena r disk
   stands_at arena below =
-      let r = at_place l.layout arena (omega (arith, below, stands.heads)) in
-      let d = at_place l.disks r.0.part (stands.disks arena r.0 r.1) in
+      let r = slice_get_there l.layout arena (omega (arith, below, stands.heads)) in
+      let d = slice_get_there l.disks r.0.part (stands.disks arena r.0 r.1) in
       (r.0, d.0, record { arena = r.1; disk_is = d.1 })
 
   has_here : 0 < t.at.index → HasNext l t
   has_here here =
       let below : t.arena < length l.heads = below_or_end in
-      let found = at_place l.heads t.arena below in
+      let found = slice_get_there l.heads t.arena below in
       let it = stands_at t.arena below in
       let head = tail.head found.0 found.1 in
       record {

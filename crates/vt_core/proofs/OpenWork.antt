@@ -19,9 +19,10 @@ use Rattle.vt_shard.specs.Shard.{ShardState}
 use Rattle.vt_core.specs.Opening.{IsOpened, IsShardMade}
 use Rattle.vt_core.specs.Refusals.{CountsRefusal}
 use Rattle.vt_told.specs.Told.{of_filter, of_section}
-use Rattle.vt_core.proofs.Held.{IsHeld, held_reads, held_still, hold_zip, risen_first, risen_right}
+use Rattle.vt_core.proofs.Held.{IsHeld, held_reads, held_still, hold_zip, risen_first}
 use Rattle.vt_core.proofs.Opened.{IsSplitAt, split_at}
 use Rattle.vt_core.proofs.Zips.{zip_append, zip_implies, zip_length, zip_map, zip_same, zip_self}
+use Rattle.vt_core.proofs.Calls.{risen_behind}
 
 -- ---- lists
 
@@ -113,7 +114,7 @@ module _ {D : Type 0} (disk : DiskOf D) (all : List D) (sections : List (Section
       ∙ ap (map f) (sym (back_is back waiting w b)) in
       let both : MatchBool (refuses_by_fault bad) (OneHasRisen (less ++ f device ∷ more) (less ++ f after ∷ more)) (less ++ f after ∷ more ≡ less ++ f device ∷ more) =
       lift (refuses_by_fault bad) (f device) (f after) (less ++ f device ∷ more) (less ++ f after ∷ more)
-      (λ rose. risen_right less (f device ∷ more) (f after ∷ more) (risen_first (f device) (f after) more rose)) (λ e. ap (λ (n : ℕ). less ++ n ∷ more) e) cause in
+      (λ rose. risen_behind less (f device ∷ more) (f after ∷ more) (risen_first (f device) (f after) more rose)) (λ e. ap (λ (n : ℕ). less ++ n ∷ more) e) cause in
       subst (λ (l : List ℕ). CountsRefusal (of_section part bad) l (map f back)) old
       (subst (λ (l : List ℕ). CountsRefusal (of_section part bad) (less ++ f device ∷ more) l) new
       (section_counts part bad (less ++ f device ∷ more) (less ++ f after ∷ more) both))
@@ -126,6 +127,12 @@ comes_after {X} R all made left rest x is it =
     let many : length made ≡ length it.done = zip_length R it.done made it.zip in
     ap (slice_get all) many ∙ ap (λ (l : List X). slice_get l (length it.done)) (split_at R all made left rest x is it) ∙ at_seam it.done x (reverse rest)
 
+-- the shards that are made of sections have their disks
+pub made_disks : {D : Type 0} (disk : DiskOf D) (lumps clean : ℕ) (sections : List (SectionState D)) (made : List (ShardState D)) → AllZip (IsShardMade disk lumps clean) sections made
+    → map (λ s. s.section.disk) made ≡ map (λ s. s.disk) sections
+made_disks {D} disk lumps clean sections made it = zip_same (λ s. s.disk) (λ s. s.section.disk) sections made
+    (zip_implies (IsShardMade disk lumps clean) (λ t s. s.section.disk ≡ t.disk) sections made (λ t s m. ap (λ (z : ShardState D). z.section.disk) m.is) it)
+
 -- want of memory hands back the devices of those that are made, and of the others
 pub made_back : {D : Type 0} (disk : DiskOf D) (lumps clean : ℕ) (all : List (SectionState D)) (made : List (ShardState D)) (left rest : List (SectionState D)) (section : SectionState D)
     → left ≡ rest ++ section ∷ [] → IsSplitAt (IsShardMade disk lumps clean) all made left → (again : List (SectionState D)) → again ≡ rest ++ section ∷ []
@@ -133,9 +140,7 @@ pub made_back : {D : Type 0} (disk : DiskOf D) (lumps clean : ℕ) (all : List (
     → (back : List D) → back ≡ map (λ s. s.section.disk) made ++ reverse unpacked → back ≡ map (λ s. s.disk) all
 made_back {D} disk lumps clean all made left rest section is it again same turned turn room empty unpacked un back b =
     let f : SectionState D → D = λ s. s.disk in
-    let first : map (λ s. s.section.disk) made ≡ map f it.done =
-    zip_same f (λ s. s.section.disk) it.done made
-    (zip_implies (IsShardMade disk lumps clean) (λ t s. s.section.disk ≡ t.disk) it.done made (λ t s m. ap (λ (z : ShardState D). z.section.disk) m.is) it.zip) in
+    let first : map (λ s. s.section.disk) made ≡ map f it.done = made_disks disk lumps clean it.done made it.zip in
     let others : reverse unpacked ≡ map f turned =
     ap reverse un ∙ ap (λ (l : List D). reverse (l ++ reverse (map f turned))) empty ∙ reverse-reverse (map f turned) in
     let next : map f turned ≡ map f (reverse (rest ++ section ∷ [])) = ap (map f) (turn ∙ ap reverse same) in

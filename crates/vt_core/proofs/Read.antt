@@ -12,21 +12,15 @@ use Rattle.vt_part.specs.declared.layout.ArenaRegion.{ArenaRegion}
 use Rattle.vt_part.specs.Layout.{layout_of}
 use Rattle.vt_part.specs.Table.{Table}
 use Rattle.vt_log.specs.Logs.{IsLog}
-use Rattle.vt_log.specs.Sound.{AreImages as AreImagesOf}
+use Rattle.vt_log.proofs.Lists.{slice_get_other}
 use Rattle.vt_core.specs.Core.{CoreState, setup_of, devices_of}
 use Rattle.vt_core.specs.Files.{PerDevice}
 use Rattle.vt_core.specs.Mounting.{EachStands, AllStandFor, IsLogOf, IsReadAs, IsSetupOf}
 use Rattle.vt_core.specs.Sound.{IsSound}
 use Rattle.vt_core.specs.Stands.{SectionStandsFor, FilterStandsFor, StandsFor}
-use Rattle.vt_core.proofs.Lists.{at_map, beside, same_lists}
+use Rattle.vt_core.proofs.Lists.{at_map, same_lists}
 use Rattle.vt_core.proofs.Recovered.{GivesPrefix}
-
--- what is read is an image of each
-images_read : {D : Type 0} (disk : DiskOf D) → ((d : D) → disk.images d (disk.bytes d)) → (devices : List D) → AreImagesOf disk devices (map disk.bytes devices)
-images_read disk read devices = record {
-  many = length-map devices disk.bytes;
-  each = λ i d file at is. subst (disk.images d) (same_Some (disk.bytes d) file (sym (at_map disk.bytes devices i d at) ∙ is)) (read d);
-}
+use Rattle.vt_core.proofs.Standing.{images_read}
 
 -- files are one log at most
 abbrev pub AreToldApart : Type 0
@@ -80,7 +74,7 @@ own_setup {D} score disk k h sound = record {
   sections = same_lists (map (λ s. s.section.buckets) k.shards) (map (λ device. buckets_in (disk.size device)) (map (λ s. s.section.disk) k.shards))
       (length-map k.shards (λ s. s.section.buckets) ∙ sym (length-map k.shards (λ s. s.section.disk)) ∙ sym (length-map (map (λ s. s.section.disk) k.shards) (λ device. buckets_in (disk.size device))))
       (λ i x y here there.
-      let s = beside k.shards (map (λ s. s.section.buckets) k.shards) i x (length-map k.shards (λ s. s.section.buckets)) here in
+      let s = slice_get_other k.shards (map (λ s. s.section.buckets) k.shards) i x (length-map k.shards (λ s. s.section.buckets)) here in
       let a : x ≡ s.0.section.buckets = same_Some x s.0.section.buckets (sym here ∙ at_map (λ s. s.section.buckets) k.shards i s.0 s.1) in
       let b : y ≡ buckets_in (disk.size s.0.section.disk) = same_Some y (buckets_in (disk.size s.0.section.disk))
       (sym there ∙ at_map (λ device. buckets_in (disk.size device)) (map (λ s. s.section.disk) k.shards) i s.0.section.disk (at_map (λ s. s.section.disk) k.shards i s.0 s.1)) in

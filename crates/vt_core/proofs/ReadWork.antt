@@ -17,6 +17,7 @@ use Rattle.vt_isect.specs.declared.head.Head.{Head}
 use Rattle.vt_log.specs.Answers.{OnlyReads}
 use Rattle.vt_log.specs.Faults.{OneHasRisen}
 use Rattle.vt_log.specs.Sound.{AreImages as AreImagesOf, AreWithinCall as AreWithinCallOf}
+use Rattle.vt_log.proofs.Lists.{slice_get_other}
 use Rattle.vt_model.specs.History.{History}
 use Rattle.vt_model.specs.Legal.{IsLegal}
 use Rattle.vt_model.specs.Places.{Setup}
@@ -32,7 +33,7 @@ use Rattle.vt_core.specs.Steps.{LeavesPrefix, GoesOn}
 use Rattle.vt_core.specs.Whole.{IsWhole}
 use Rattle.vt_core.proofs.Calls.{get_set, get_other, length-set, map_set, map_then, map_all, joined, with_ends, risen_front}
 use Rattle.vt_core.proofs.Combined.{within_same}
-use Rattle.vt_core.proofs.Lists.{at_map, beside}
+use Rattle.vt_core.proofs.Lists.{at_map}
 use Rattle.vt_core.proofs.LogWork.{one_or_other}
 use Rattle.vt_core.proofs.Recovered.{GivesPrefix}
 use Rattle.vt_core.proofs.ShardCall.{map_over_set, counts_rose as shard_counts_rose}
@@ -71,7 +72,7 @@ module _ {D : Type 0} (disk : DiskOf D) where
     many = within.many;
     each = λ i device file at is.
         let fit : length files ≡ length new = within.many ∙ sym many in
-        let after = beside new files i file fit is in
+        let after = slice_get_other new files i file fit is in
         ⊎_elim (λ left. left) (λ left. more i device after.0 at after.1 file left) (within.each i device after.0 file at after.1 is);
   }
 
@@ -146,7 +147,7 @@ module _ {D : Type 0} (score : List ℕ → List ℕ) (disk : DiskOf D) (k : Cor
         whole = reads_whole sound.whole;
         legal = subst (λ (c : Setup). IsLegal score c h) same sound.legal;
         partitions = λ j t device file there is left.
-            let before = beside k.log.disks ds j device many_disks is in
+            let before = slice_get_other k.log.disks ds j device many_disks is in
             sound.partitions j t before.0 file there before.1 (log.disks.images_are j before.0 device before.1 is file left);
         log = parts.log;
         shards = λ j t there. subst (λ (c : Setup). IsSoundShard score c disk t h k.log.durable) same
@@ -178,18 +179,20 @@ module _ {D : Type 0} (score : List ℕ → List ℕ) (disk : DiskOf D) (k : Cor
 
   pub reads_go_on : IsWhole disk k → GoesOn disk k after_reads
   reads_go_on w = record {
-    tables = refl;
-    layout = refl;
-    setup = reads_setup w;
-    shards = length-set k.shards i new;
-    filter = refl;
-    counts = (refl, refl);
-    sizes = each_same disk.size log.disks.sizes_are reads.reads.size;
-    sessions = refl;
-    len = omega arith;
+    store = record {
+      tables = refl;
+      layout = refl;
+      setup = reads_setup w;
+      shards = length-set k.shards i new;
+      filter = refl;
+      counts = (refl, refl);
+      sizes = each_same disk.size log.disks.sizes_are reads.reads.size;
+      sessions = refl;
+      len = omega arith;
+      durable = omega arith;
+      synced = omega arith;
+    };
     one_more = omega arith;
-    durable = omega arith;
-    synced = omega arith;
     synced_before = w.synced;
   }
 

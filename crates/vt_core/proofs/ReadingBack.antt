@@ -28,6 +28,7 @@ use Rattle.vt_log.specs.Log.{IsMounted, LogState, front, queued}
 use Rattle.vt_log.specs.Queue.{QueueState, spot_of}
 use Rattle.vt_log.specs.Sound.{IsSound as IsSoundLog}
 use Rattle.vt_log.specs.Whole.{IsOnDisk, IsWhole as IsWholeLog}
+use Rattle.vt_log.proofs.Lists.{at_slice, slice_get_other}
 use Rattle.vt_model.specs.History.{Accepted, History}
 use Rattle.vt_arena.specs.Places.{block_room}
 use Rattle.vt_model.specs.Places.{Setup, lengths_in}
@@ -39,19 +40,16 @@ use Rattle.vt_core.specs.Refusals.{CountsRefusal}
 use Rattle.vt_core.specs.Stands.{IsLive, SectionStandsFor, buckets_of}
 use Rattle.vt_core.specs.TakingBack.{GivesNext, HasEntries, IsSoundAt, IsUnwritten, StandsOnDisks, TakesAllBack, TellsOfLog}
 use Rattle.vt_core.proofs.AddWork.{AreMarked, HaveRanges, MarkedStay}
-use Rattle.vt_core.proofs.Calls.{at_slice, map_then, risen_behind, risen_front, within_get}
+use Rattle.vt_core.proofs.Calls.{map_then, risen_front, within_get}
 use Rattle.vt_core.proofs.Lacking.{OneHead, lacks_many}
-use Rattle.vt_core.proofs.Lists.{at_map, beside}
+use Rattle.vt_core.proofs.Lists.{at_map}
 use Rattle.vt_core.proofs.LogWork.{one_or_other}
 use Rattle.vt_core.proofs.PuttingBack.{LacksMore}
 use Rattle.vt_core.proofs.TakingBack.{entries_stay, keeps_none, keeps_then}
+use Rattle.vt_core.proofs.Refused.{counts_less}
+use Rattle.vt_core.proofs.Standing.{held_twice}
 
 -- ---- the log
-
--- reading leaves where a walk stands
-tail_stays : {D : Type 0} (l new : LogState D) (t : TailState) → new ≡ record l { disks = new.disks } → IsTailOf l t → IsTailOf new t
-tail_stays {D} l new t same it = subst (λ (m : LogState D). IsTailOf m t) (sym same)
-    (record { queue = it.queue; arena = it.arena; end = it.end; head = it.head; left = it.left })
 
 behind_stays : {D : Type 0} (l new : LogState D) (h : History) (n : ℕ) (t : TailState) → new.durable ≡ l.durable → IsBehind l h n t → IsBehind new h n t
 behind_stays {D} l new h n t same it = record {
@@ -61,17 +59,6 @@ behind_stays {D} l new h n t same it = record {
   index = subst (λ (d : ℕ). t.at.index ≡ length (lengths_in t.arena (take (min n d) h))) (sym same) it.index;
   end = subst (λ (d : ℕ). t.at.end ≡ sum_by block_room (lengths_in t.arena (take (min n d) h))) (sym same) it.end;
   arenas = subst (λ (d : ℕ). All (λ e. e.arena ≤ t.arena) (take (min n d) h)) (sym same) it.arenas;
-}
-
--- disks that are only read from, one time after another
-hold_then : {D : Type 0} (disk : DiskOf D) (a b c : List D) → HoldTheSame disk a b → HoldTheSame disk b c → HoldTheSame disk a c
-hold_then disk a b c one two = record {
-  bytes_are = two.bytes_are ∙ one.bytes_are;
-  sizes_are = two.sizes_are ∙ one.sizes_are;
-  images_are = λ i x z at there.
-      let many : length a ≡ length b = sym (length-map a disk.bytes) ∙ ap length (sym one.bytes_are) ∙ length-map b disk.bytes in
-      let y = beside b a i x many at in
-      λ file image. one.images_are i x y.0 at y.1 file (two.images_are i y.0 z y.1 there file image);
 }
 
 -- the disks and the heads of a whole log
@@ -225,15 +212,6 @@ counts_all : {D : Type 0} (disk : DiskOf D) (o : Opened D) → map disk.faults (
 counts_all {D} disk o = map-append disk.faults o.log.disks (map (λ (s : ShardState D). s.section.disk) o.shards)
     ∙ ap (λ (ns : List ℕ). map disk.faults o.log.disks ++ ns) (sym (map_then (λ (s : ShardState D). s.section.disk) disk.faults o.shards))
 
-counts_behind : (bad : MountBad) (xs ys zs : List ℕ) → CountsRefusal bad ys zs → CountsRefusal bad (xs ++ ys) (xs ++ zs)
-counts_behind Fault xs ys zs rose = risen_behind xs ys zs rose
-counts_behind (NotFormatted part) xs ys zs same = ap (λ ns. xs ++ ns) same
-counts_behind (TooSmall part len need) xs ys zs same = ap (λ ns. xs ++ ns) same
-counts_behind (DuplicateName first second) xs ys zs same = ap (λ ns. xs ++ ns) same
-counts_behind (Disagree part field found want) xs ys zs same = ap (λ ns. xs ++ ns) same
-counts_behind (Damaged site want found) xs ys zs same = ap (λ ns. xs ++ ns) same
-counts_behind NoMemory xs ys zs same = ap (λ ns. xs ++ ns) same
-
 counts_front : (bad : MountBad) (xs ys zs : List ℕ) → CountsRefusal bad xs ys → CountsRefusal bad (xs ++ zs) (ys ++ zs)
 counts_front Fault xs ys zs rose = risen_front xs ys zs rose
 counts_front (NotFormatted part) xs ys zs same = ap (λ ns. ns ++ zs) same
@@ -255,7 +233,7 @@ module _ {D : Type 0} (score : List ℕ → List ℕ) (disk : DiskOf D) (old now
   same_durable = ap (λ (m : LogState D). m.durable) next.reads.same
 
   hold : HoldTheSame disk old.log.disks l.disks
-  hold = hold_then disk old.log.disks now.log.disks l.disks was.reads.disks next.reads.disks
+  hold = held_twice disk old.log.disks now.log.disks l.disks was.reads.disks next.reads.disks
 
   log_sound : (h : History) → IsSoundLog score disk old.log h → IsSoundLog score disk l h
   log_sound h sound = next.reads.sound h (was.reads.sound h sound)
@@ -280,7 +258,7 @@ module _ {D : Type 0} (score : List ℕ → List ℕ) (disk : DiskOf D) (old now
       (marks : Marks now.bits info.key.score.0 bits) (stay : MarkedStay) (set : AreMarked) where
     -- a shard between
     mid_at : (i : ℕ) (z : ShardState D) → slice_get shards i ≡ Some z → (y : ShardState D) × (slice_get now.shards i ≡ Some y)
-    mid_at i z there = beside now.shards shards i z takes.many there
+    mid_at i z there = slice_get_other now.shards shards i z takes.many there
 
     pub step_reads : ReadsBack score disk old (opened l shards bits)
     step_reads = record {
@@ -355,7 +333,7 @@ reads_on {D} score disk old now t after was l info next done part shards bits ta
   recalls = λ h tells sound. subst (λ (n : ℕ). Recalls score disk h n old (opened l shards bits)) next.number.0 (record {
     bits = step_bits score disk old now t after was l info next (Ok done) part shards bits takes marks stay set h tells sound;
     shards = λ i x z at there c first.
-        let y = beside now.shards shards i z takes.many there in
+        let y = slice_get_other now.shards shards i z takes.many there in
         takes.sound tells score c h i y.0 z y.1 there (sound_at score disk old now t after was l info next h tells sound c i x y.0 at y.1 first);
   });
   unwritten = λ h i x z tells sound at there. subst (λ (n : ℕ). IsUnwrittenTo score disk h i n x z) next.number.0
@@ -371,14 +349,14 @@ ends_in_shard {D} score disk old now t after was l info next bad least part shar
   recalls = λ h tells sound. record {
     bits = λ i e above at. absurd (omega (arith, above, within_get h i e at));
     shards = λ i x z at there c first.
-        let y = beside now.shards shards i z takes.many there in
+        let y = slice_get_other now.shards shards i z takes.many there in
         let it = (given score disk old now t after was l info next h tells sound).0 in
         more score c z h (length h) (info.number + 1) (length h)
         (takes.sound tells score c h i y.0 z y.1 there (sound_at score disk old now t after was l info next h tells sound c i x y.0 at y.1 first))
         (omega (arith, within_get h info.number it.block it.at));
   };
   found = λ c h tells sound fits all. takes.found tells score c h
-      (λ i y there. let x = beside old.shards now.shards i y was.reads.many there in
+      (λ i y there. let x = slice_get_other old.shards now.shards i y was.reads.many there in
       sound_at score disk old now t after was l info next h tells sound c i x.0 y x.1 there (all i x.0 x.1)) fits;
   bytes = λ h i x z tells sound at there.
       step_bytes score disk old now t after was l info next (Err bad) part shards bits takes marks stay set ranges one_head one_frame more h i x z tells sound at there;
@@ -388,7 +366,7 @@ ends_in_shard {D} score disk old now t after was l info next bad least part shar
   calls = tt;
   ends_early = ⊎_elim
       (λ told. ⊎_elim (λ fault. inl fault) (λ it. inr (inl (Bucket it.0, it.1, it.2, it.3, it.4, it.5))) told)
-      (λ crowd. let x = beside old.shards now.shards crowd.0 crowd.1 was.reads.many crowd.2 in
+      (λ crowd. let x = slice_get_other old.shards now.shards crowd.0 crowd.1 was.reads.many crowd.2 in
       inr (inr (
         crowd.0,
         crowd.3.found,
@@ -411,7 +389,7 @@ ends_in_shard {D} score disk old now t after was l info next bad least part shar
         counts_all disk old ∙ ap (λ (ns : List ℕ). ns ++ map f old.shards) (sym (next.counts ∙ was.log_faults)) ∙ ap (λ (ns : List ℕ). map disk.faults l.disks ++ ns) (sym was.shard_faults) in
         subst (λ (xs : List ℕ). CountsRefusal bad xs (map disk.faults (devices_in (opened l shards bits)))) (sym first)
         (subst (λ (ys : List ℕ). CountsRefusal bad (map disk.faults l.disks ++ map f now.shards) ys) (sym (counts_all disk (opened l shards bits)))
-        (counts_behind bad (map disk.faults l.disks) (map f now.shards) (map f shards) takes.counts))
+        (counts_less bad (map disk.faults l.disks) (map f now.shards) (map f shards) takes.counts))
 
 -- ---- it ends in the log, or at its end
 
@@ -424,7 +402,7 @@ module _ {D : Type 0} (score : List ℕ → List ℕ) (disk : DiskOf D) (old now
   damaged_before : (arena : ℕ) (want found : FieldValue) → IsDamagedIn disk now.log arena want found → IsDamagedIn disk old.log arena want found
   damaged_before arena want found it =
       let many : length now.log.disks ≡ length old.log.disks = sym (length-map now.log.disks disk.bytes) ∙ ap length was.reads.disks.bytes_are ∙ length-map old.log.disks disk.bytes in
-      let d = beside old.log.disks now.log.disks it.r.part it.device many it.stands.disk_is in
+      let d = slice_get_other old.log.disks now.log.disks it.r.part it.device many it.stands.disk_is in
       let same : disk.bytes it.device ≡ disk.bytes d.0 = same_Some (disk.bytes it.device) (disk.bytes d.0)
       (sym (at_map disk.bytes now.log.disks it.r.part it.device it.stands.disk_is) ∙ ap (λ (fs : List (List ℕ)). slice_get fs it.r.part) was.reads.disks.bytes_are
       ∙ at_map disk.bytes old.log.disks it.r.part d.0 d.1) in
@@ -456,7 +434,7 @@ module _ {D : Type 0} (score : List ℕ → List ℕ) (disk : DiskOf D) (old now
     bytes = bytes_now;
     reads = record {
       log = reads.same ∙ ap (λ (m : LogState D). record m { disks = l.disks }) was.reads.log;
-      disks = hold_then disk old.log.disks now.log.disks l.disks was.reads.disks reads.disks;
+      disks = held_twice disk old.log.disks now.log.disks l.disks was.reads.disks reads.disks;
       sound = λ h sound. reads.sound h (was.reads.sound h sound);
       counts = was.reads.counts;
       stay = was.reads.stay;

@@ -12,6 +12,7 @@ use Rattle.vt_part.specs.Laws.{IsUnambiguous}
 use Rattle.vt_part.specs.Table.{Table}
 use Rattle.vt_isect.specs.Layout.{buckets_in}
 use Rattle.vt_log.specs.Sound.{AreImages as AreImagesOf}
+use Rattle.vt_log.proofs.Lists.{slice_get_other}
 use Rattle.vt_core.specs.Core.{CoreState, setup_of, devices_of, machine_of}
 use Rattle.vt_core.specs.Crashing.{AreLeftOf, AreLeft, IsRetried, Recovers, MayTurnInto}
 use Rattle.vt_core.specs.Files.{PerDevice, Files, AreImages, AreWithinCall}
@@ -20,7 +21,7 @@ use Rattle.vt_core.specs.Mounting.{AllStandFor, IsLogOf, IsSetupOf}
 use Rattle.vt_core.specs.Sound.{IsSound}
 use Rattle.vt_core.specs.Stands.{ArePartitions, StandsFor, StandForPrefix}
 use Rattle.vt_core.proofs.Combined.{within_same}
-use Rattle.vt_core.proofs.Lists.{at_map, beside, same_lists, All-replicate}
+use Rattle.vt_core.proofs.Lists.{at_map, same_lists, All-replicate}
 
 -- what a crash between two events leaves
 abbrev pub GivesPrefix : {D : Type 0} → DiskOf D → Type 0
@@ -33,12 +34,12 @@ GivesPrefix {D} disk = (score : List ℕ → List ℕ) (k : CoreState D) (h : Hi
 left_same : {D : Type 0} (disk : DiskOf D) (files : List (List ℕ)) (devices : List D) (again : List (List ℕ))
     → AreLeftOf disk files devices → AreImagesOf disk devices again → again ≡ files
 left_same disk files devices again left images = same_lists again files (images.many ∙ left.many)
-    (λ i x y there here. let d = beside devices files i y (sym left.many) here in (left.each i d.0 y d.1 here).1 x (images.each i d.0 x d.1 there))
+    (λ i x y there here. let d = slice_get_other devices files i y (sym left.many) here in (left.each i d.0 y d.1 here).1 x (images.each i d.0 x d.1 there))
 
 -- and they are what is read
 left_read : {D : Type 0} (disk : DiskOf D) (files : List (List ℕ)) (devices : List D) → AreLeftOf disk files devices → files ≡ map disk.bytes devices
 left_read disk files devices left = same_lists files (map disk.bytes devices) (sym left.many ∙ sym (length-map devices disk.bytes))
-    (λ i x y here there. let d = beside devices files i x (sym left.many) here in
+    (λ i x y here there. let d = slice_get_other devices files i x (sym left.many) here in
     let e : disk.bytes d.0 ≡ x = (left.each i d.0 x d.1 here).0 in
     let f : y ≡ disk.bytes d.0 = same_Some y (disk.bytes d.0) (sym there ∙ at_map disk.bytes devices i d.0 d.1) in
     sym e ∙ sym f)
@@ -102,7 +103,7 @@ module _ {D : Type 0} (disk : DiskOf D) (gives : GivesPrefix disk) (apart : IsUn
       let read : r.crash.files.partitions ≡ map disk.bytes r.left.partitions = left_read disk r.crash.files.partitions r.left.partitions r.crash.are.partitions in
       let found : ArePartitions r.tables r.crash.files.partitions = subst (ArePartitions r.tables) (sym read) r.are_tables in
       same_lists r.tables old.log.tables (sym found.many ∙ are.many)
-      (λ i s t here there. let file = beside r.crash.files.partitions r.tables i s (sym found.many) here in
+      (λ i s t here there. let file = slice_get_other r.crash.files.partitions r.tables i s (sym found.many) here in
       apart s t file.0 (found.each i s file.0 here file.1) (are.each i t file.0 there file.1))
 
   -- the sections have the buckets that they had
@@ -117,8 +118,8 @@ module _ {D : Type 0} (disk : DiskOf D) (gives : GivesPrefix disk) (apart : IsUn
         sections = same_lists (map (λ s. s.section.buckets) shards) (map (λ device. buckets_in (disk.size device)) sections)
             (length-map shards (λ s. s.section.buckets) ∙ many ∙ sym (length-map sections (λ device. buckets_in (disk.size device))))
             (λ i x y here there.
-            let s = beside shards (map (λ s. s.section.buckets) shards) i x (length-map shards (λ s. s.section.buckets)) here in
-            let d = beside sections (map (λ device. buckets_in (disk.size device)) sections) i y (length-map sections (λ device. buckets_in (disk.size device))) there in
+            let s = slice_get_other shards (map (λ s. s.section.buckets) shards) i x (length-map shards (λ s. s.section.buckets)) here in
+            let d = slice_get_other sections (map (λ device. buckets_in (disk.size device)) sections) i y (length-map sections (λ device. buckets_in (disk.size device))) there in
             let ex : x ≡ s.0.section.buckets = same_Some x s.0.section.buckets (sym here ∙ at_map (λ t. t.section.buckets) shards i s.0 s.1) in
             let ey : y ≡ buckets_in (disk.size d.0) = same_Some y (buckets_in (disk.size d.0)) (sym there ∙ at_map (λ device. buckets_in (disk.size device)) sections i d.0 d.1) in
             let size : disk.size d.0 ≡ disk.size s.0.section.disk = same_Some (disk.size d.0) (disk.size s.0.section.disk)

@@ -15,6 +15,7 @@ use Rattle.vt_disk.specs.Members.{DiskOf}
 use Rattle.vt_isect.specs.Section.{SectionState}
 use Rattle.vt_log.specs.Answers.{HoldTheSame}
 use Rattle.vt_log.specs.Log.{LogState}
+use Rattle.vt_log.proofs.Lists.{slice_get_other}
 use Rattle.vt_model.specs.Places.{Setup, bucket_count, first_bucket}
 use Rattle.vt_part.specs.Table.{Table}
 use Rattle.vt_core.specs.declared.devices.Devices.{Devices}
@@ -25,9 +26,10 @@ use Rattle.vt_core.specs.Refusals.{CountsRefusal, IsEarly, IsRefused, Refuses, F
 use Rattle.vt_core.specs.Stands.{buckets_of}
 use Rattle.vt_core.proofs.Beside.{all_from}
 use Rattle.vt_core.proofs.Fields.{clumps_are}
-use Rattle.vt_core.proofs.Held.{counts_in, risen_left, risen_right}
-use Rattle.vt_core.proofs.Lists.{at_map, beside, same_lists, index_map, only_one}
+use Rattle.vt_core.proofs.Held.{counts_in}
+use Rattle.vt_core.proofs.Lists.{at_map, same_lists, index_map, only_one}
 use Rattle.vt_core.proofs.Zips.{zip_beside, zip_length, zip_other}
+use Rattle.vt_core.proofs.Calls.{risen_behind, risen_front}
 use Rattle.vt_isect.specs.Layout.{buckets_in}
 
 -- ---- what is handed back
@@ -53,10 +55,10 @@ refuses_back score disk tables pd new bad back is are cause counts early section
 
 -- counts of some of the devices
 pub counts_less : (bad : MountBad) (less old new : List ℕ) → CountsRefusal bad old new → CountsRefusal bad (less ++ old) (less ++ new)
-counts_less bad less old new it = counts_in bad old new (less ++ new) (less ++ old) (risen_right less old new) (λ e. ap (λ (l : List ℕ). less ++ l) e) it
+counts_less bad less old new it = counts_in bad old new (less ++ new) (less ++ old) (risen_behind less old new) (λ e. ap (λ (l : List ℕ). less ++ l) e) it
 
 pub counts_more : (bad : MountBad) (more old new : List ℕ) → CountsRefusal bad old new → CountsRefusal bad (old ++ more) (new ++ more)
-counts_more bad more old new it = counts_in bad old new (new ++ more) (old ++ more) (risen_left old new more) (λ e. ap (λ (l : List ℕ). l ++ more) e) it
+counts_more bad more old new it = counts_in bad old new (new ++ more) (old ++ more) (risen_front old new more) (λ e. ap (λ (l : List ℕ). l ++ more) e) it
 
 -- ---- nothing was read back yet
 
@@ -70,7 +72,7 @@ module _ {D : Type 0} (score : List ℕ → List ℕ) (disk : DiskOf D) (before 
     same = same_lists (buckets_in_each sections) c.sections
         (length-map sections (λ s. s.buckets) ∙ zip_length (IsOpened disk) devices sections opens ∙ sym (length-map devices (λ d. buckets_in (disk.size d))) ∙ ap length (sym setup.sections))
         (λ i x y here there.
-        let s = beside sections (buckets_in_each sections) i x (length-map sections (λ s. s.buckets)) here in
+        let s = slice_get_other sections (buckets_in_each sections) i x (length-map sections (λ s. s.buckets)) here in
         let d = zip_beside (IsOpened disk) devices sections i s.0 opens s.1 in
         let e : x ≡ s.0.buckets = same_Some x s.0.buckets (sym here ∙ at_map (λ s. s.buckets) sections i s.0 s.1) in
         let f : s.0.buckets ≡ buckets_in (disk.size d.0) = ap (λ (t : SectionState D). t.buckets) d.2.fresh in
@@ -147,7 +149,7 @@ module _ {D : Type 0} (score : List ℕ → List ℕ) (disk : DiskOf D) (before 
 
       some_buckets : All (λ n. 0 < n) (buckets_in_each sections)
       some_buckets = all_from (λ n. 0 < n) (buckets_in_each sections) (λ i n at.
-          let s = beside sections (buckets_in_each sections) i n (length-map sections (λ s. s.buckets)) at in
+          let s = slice_get_other sections (buckets_in_each sections) i n (length-map sections (λ s. s.buckets)) at in
           let d = zip_beside (IsOpened disk) devices sections i s.0 opens s.1 in
           let e : s.0.buckets ≡ n = same_Some s.0.buckets n (sym (at_map (λ s. s.buckets) sections i s.0 s.1) ∙ at) in
           subst (λ (m : ℕ). 0 < m) e d.2.some)

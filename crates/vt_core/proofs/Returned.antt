@@ -23,6 +23,7 @@ use Rattle.vt_isect.specs.Section.{SectionState}
 use Rattle.vt_log.specs.Answers.{HoldTheSame}
 use Rattle.vt_log.specs.Log.{LogState}
 use Rattle.vt_log.specs.Sound.{IsSound as IsSoundLog}
+use Rattle.vt_log.proofs.Lists.{at_slice, slice_get_other}
 use Rattle.vt_model.specs.History.{History}
 use Rattle.vt_model.specs.Places.{Setup, bucket_count, crowd}
 use Rattle.vt_model.specs.declared.TheConstants.{BUCKET_ROOM}
@@ -39,12 +40,12 @@ use Rattle.vt_core.specs.Opening.{AgreeWith, AreHeld, IsLogFound, IsMountOf, IsO
 use Rattle.vt_core.specs.Recalling.{EndsEarly, IsCrowdedIn, IsDamagedAt, IsDamagedIn, ReadsBack, ReadsLogBack, KeepsBytes, Recalls as RecallsFrom, opened}
 use Rattle.vt_core.specs.Refusals.{CountsRefusal, IsDamageAt, IsDamagedEntry, IsEarly, IsRefused, BucketIsCrowded, PassesTests}
 use Rattle.vt_core.specs.Stands.{IsLive, SectionStandsFor}
-use Rattle.vt_core.proofs.Beside.{IsOfStore, all_at, of_store, sound_shard}
+use Rattle.vt_core.proofs.Beside.{IsOfStore, of_store, sound_shard}
 use Rattle.vt_core.proofs.Chains.{IsChain, chain, chain_head, chain_buckets, made_faults, many_shards, shard_sizes}
 use Rattle.vt_core.proofs.Combined.{FilesAgree, section_stands}
 use Rattle.vt_core.proofs.Fields.{clumps_at, short_regions, used_at}
 use Rattle.vt_core.proofs.Held.{IsHeld, held_reads, hold_still, hold_zip}
-use Rattle.vt_core.proofs.Lists.{at_map, beside}
+use Rattle.vt_core.proofs.Lists.{at_map}
 use Rattle.vt_core.proofs.Mounted.{LegalPrefix, ReadsPrefix, all_map, filter_same}
 use Rattle.vt_core.proofs.Refused.{beside_cause, counts_less, counts_more, passes, refuses_back}
 use Rattle.vt_core.proofs.Standing.{held_bytes, held_many, leaves_held, leaves_read}
@@ -161,7 +162,7 @@ module _ {D : Type 0} (score : List ℕ → List ℕ) (disk : DiskOf D) (before 
         file_stands : FilesAgree disk → (from : ℕ) → RecallsFrom score disk g from (opened log made bits) (opened log1 shards bits1)
             → (i : ℕ) (d : D) (file : List ℕ) → slice_get (map (λ s. s.section.disk) shards) i ≡ Some d → disk.images d file → SectionStandsFor score c g i file
         file_stands agree from recalled i d file at image =
-            let s = beside shards (map (λ s. s.section.disk) shards) i d (length-map shards (λ s. s.section.disk)) at in
+            let s = slice_get_other shards (map (λ s. s.section.disk) shards) i d (length-map shards (λ s. s.section.disk)) at in
             let it = link i s.0 s.1 in
             let store = store_of i s.0 it in
             let same : d ≡ s.0.section.disk = same_Some d s.0.section.disk (sym at ∙ at_map (λ s. s.section.disk) shards i s.0 s.1) in
@@ -178,7 +179,7 @@ module _ {D : Type 0} (score : List ℕ → List ℕ) (disk : DiskOf D) (before 
             → (i : ℕ) (b a : D) → slice_get devices i ≡ Some b → slice_get (map (λ s. s.section.disk) shards) i ≡ Some a
             → (disk.bytes a ≡ disk.bytes b) ⊎ LacksMany score c g i (disk.bytes b)
         bytes_kept keeps i b a here there =
-            let s = beside shards (map (λ s. s.section.disk) shards) i a (length-map shards (λ s. s.section.disk)) there in
+            let s = slice_get_other shards (map (λ s. s.section.disk) shards) i a (length-map shards (λ s. s.section.disk)) there in
             let it = link i s.0 s.1 in
             let store = store_of i s.0 it in
             let sound = (given.found g base tells of.read).0 in
@@ -203,7 +204,7 @@ module _ {D : Type 0} (score : List ℕ → List ℕ) (disk : DiskOf D) (before 
           → ((h : History) (i : ℕ) (b a : ShardState D) → IsTrue disk.tells → IsSoundLog score disk log h → slice_get made i ≡ Some b → slice_get shards i ≡ Some a → KeepsBytes score disk h i b a)
           → LeavesStanding score disk log.tables pd new
       read_standing prefix agree read tells recalled keeps = leaves_read score disk log.tables pd new tells read log.disks given.held back.disks
-          (λ i d at. all_at (IsSynced disk) log.disks i d given.settled at) (filter_held disk filter bloom bits filter_opens) sizes_same
+          (λ i d at. at_slice (IsSynced disk) log.disks i d given.settled at) (filter_held disk filter bloom bits filter_opens) sizes_same
           (λ c h g base of i d file at image.
           let r = recalled g (given.found g base tells of.read).0 in
           file_stands prefix tells c h g base of agree r.0 r.1 i d file at image)
@@ -233,7 +234,7 @@ module _ {D : Type 0} (score : List ℕ → List ℕ) (disk : DiskOf D) (before 
 
       entry_damaged : (arena : ℕ) (want found : FieldValue) → IsDamagedIn disk log arena want found → IsDamagedEntry disk log.tables pd arena want found
       entry_damaged arena want found it =
-          let d = beside before log.disks it.r.part it.device (held_many disk before log.disks given.held) it.stands.disk_is in
+          let d = slice_get_other before log.disks it.r.part it.device (held_many disk before log.disks given.held) it.stands.disk_is in
           let used : used_in (fields_of it.head.head) ≡ it.head.head.used = used_at disk log given.whole arena it.head it.head_is in
           let clumps : clumps_in (fields_of it.head.head) ≡ it.head.head.clumps = clumps_at disk log given.whole arena it.head it.head_is in
           record {

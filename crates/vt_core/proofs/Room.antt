@@ -1,8 +1,7 @@
 -- The memory for handing the devices of shards back.
-use Rattle.std.proofs.Common.{◌≡◌, ℕ, List, [], ◌∷◌, ◌++◌, length, map, reverse, Vec, refl, sym, ◌∙◌, ap, subst, append_assoc}
+use Rattle.std.proofs.Common.{◌≡◌, ℕ, List, [], ◌∷◌, ◌++◌, length, map, reverse, Vec, sym, ◌∙◌, ap, subst, append_assoc}
 use Rattle.std.proofs.lemmas.List.{map-append, reverse-append}
-use Rattle.std.specs.Prelude.{Option, Some, None, slice_set}
-use Rattle.std.specs.Option.{option_map, option_to_list}
+use Rattle.std.specs.Prelude.{slice_set}
 use Rattle.vt_core.specs.Files.{PerDevice}
 use Rattle.vt_core.specs.View.{HasRoom}
 use Rattle.vt_core.proofs.Calls.{length-set}
@@ -18,11 +17,6 @@ closes_last device xs rest x waiting is =
     ap (λ ds. map device rest ++ ds) (reverse-append waiting (device x ∷ []))
     ∙ sym (append_assoc (map device rest) (device x ∷ []) (reverse waiting))
     ∙ ap (λ ds. ds ++ reverse waiting) (sym (map-append device rest (x ∷ [])) ∙ ap (map device) (sym is))
-
--- what is made of one thing or none
-pub one_or_none : {X Y : Type 0} (f : X → Y) (o : Option X) → option_to_list (option_map f o) ≡ map f (option_to_list o)
-one_or_none f None = refl
-one_or_none f (Some x) = refl
 
 pub same_devices : {D : Type 0} (old new : PerDevice D) → old.partitions ≡ new.partitions → old.sections ≡ new.sections → old.filter ≡ new.filter → old ≡ new
 same_devices {D} old new p s f =

@@ -10,7 +10,8 @@ use Rattle.vt_core.specs.Core.{CoreState, machine_of}
 use Rattle.vt_core.specs.Crashing.{Act, happens, crashes, Lives, LivesMachine, MayTurnInto, Recovers}
 use Rattle.vt_core.specs.Machine.{Crashes}
 use Rattle.vt_core.specs.Sound.{IsSound}
-use Rattle.vt_core.specs.Steps.{GoesOn, KeepsStore, Runs, RunsMachine, Steps}
+use Rattle.vt_core.specs.Steps.{KeepsStore, Runs, RunsMachine, Steps}
+use Rattle.vt_core.proofs.Kept.{keeps_then, same_store}
 
 -- a store whose devices are sound for the history behind a run
 abbrev pub EndsRun : {D : Type 0} → (List ℕ → List ℕ) → DiskOf D → List Event → List Out → (old new : CoreState D) → History → Type 0
@@ -53,40 +54,10 @@ runs_on score disk events outs i d out old mid new within run step =
 
 -- ---- what a run keeps
 
-keeps_none : {D : Type 0} (disk : DiskOf D) (k : CoreState D) → KeepsStore disk k k
-keeps_none disk k = record {
-  tables = refl;
-  layout = refl;
-  setup = refl;
-  shards = refl;
-  filter = refl;
-  counts = (refl, refl);
-  sizes = refl;
-  sessions = refl;
-  len = omega arith;
-  durable = omega arith;
-  synced = omega arith;
-}
-
-keeps_then : {D : Type 0} (disk : DiskOf D) (old mid new : CoreState D) → GoesOn disk old mid → KeepsStore disk mid new → KeepsStore disk old new
-keeps_then disk old mid new one rest = record {
-  tables = rest.tables ∙ one.tables;
-  layout = rest.layout ∙ one.layout;
-  setup = rest.setup ∙ one.setup;
-  shards = rest.shards ∙ one.shards;
-  filter = rest.filter ∙ one.filter;
-  counts = (rest.counts.0 ∙ one.counts.0, rest.counts.1 ∙ one.counts.1);
-  sizes = rest.sizes ∙ one.sizes;
-  sessions = rest.sessions ∙ one.sessions;
-  len = omega (arith, one.len, rest.len);
-  durable = omega (arith, one.durable, rest.durable);
-  synced = omega (arith, one.synced, rest.synced);
-}
-
 pub runs_keep : {D : Type 0} (score : List ℕ → List ℕ) (disk : DiskOf D) (events : List Event) (outs : List Out) (old new : CoreState D) → Runs score disk events outs old new → KeepsStore disk old new
-runs_keep {D} score disk [] [] old new same = subst (λ (k : CoreState D). KeepsStore disk old k) (sym same) (keeps_none disk old)
+runs_keep {D} score disk [] [] old new same = subst (λ (k : CoreState D). KeepsStore disk old k) (sym same) (same_store disk old)
 runs_keep score disk (event ∷ events) (out ∷ outs) old new run =
-    keeps_then disk old run.0 new run.1.goes_on (runs_keep score disk events outs run.0 new run.2)
+    keeps_then disk old run.0 new run.1.goes_on.store (runs_keep score disk events outs run.0 new run.2)
 runs_keep score disk [] (out ∷ outs) old new run = absurd run
 runs_keep score disk (event ∷ events) [] old new run = absurd run
 

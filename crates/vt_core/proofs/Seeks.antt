@@ -1,16 +1,15 @@
 -- Looking for the block of a key.
 use Rattle.std.proofs.Common.{◌≡◌, ◌⊎◌, ⊎_elim, inl, inr, ℕ, Bool, true, false, not, List, Option, Some, None, refl, sym, ◌∙◌, ap, subst, arith}
-use Rattle.std.specs.Prelude.{IsSome, IfOk, IfErr, IfSome, MatchOption, MatchResult, Result, Ok, Err}
+use Rattle.std.specs.Prelude.{IsSome, IfOk, IfErr, IfSome, MatchOption, Result, Ok, Err}
 use Rattle.std.specs.Str.{bytes_eq}
-use Rattle.vt_base.specs.Faults.{CountsFault, HasRisen}
+use Rattle.vt_base.specs.Faults.{CountsFault}
 use Rattle.vt_base.specs.declared.key.Key.{Key}
 use Rattle.vt_base.specs.declared.place.Entry.{Entry}
 use Rattle.vt_base.specs.declared.why.Why.{Why}
-use Rattle.vt_base.specs.declared.why.Why.TheVariants.{BadType, TooBig, TooSmall, Absent, Collision, IndexFull, ArenasFull, DiskFault, Stopped, Damaged, NoMemory}
+use Rattle.vt_base.specs.declared.why.Why.TheVariants.{NoMemory}
 use Rattle.vt_bucket.specs.declared.decoding.BucketBad.{BucketBad}
 use Rattle.vt_bucket.specs.declared.decoding.BucketBad.TheVariants as bucket_bad
 use Rattle.vt_disk.specs.Members.{DiskOf}
-use Rattle.vt_icache.specs.Index.{entry_in}
 use Rattle.vt_isect.specs.Agreement.{IsOfBlock}
 use Rattle.vt_isect.specs.Faults.{is_fault, damage_of, NamesDamage}
 use Rattle.vt_isect.specs.Merging.{IsFaulty}
@@ -20,13 +19,13 @@ use Rattle.vt_log.specs.Log.{LogState}
 use Rattle.vt_lumps.specs.Lumps.{bytes_of}
 use Rattle.vt_model.specs.History.{History, HasScoreAt, held}
 use Rattle.vt_model.specs.Places.{Setup}
-use Rattle.vt_shard.specs.Looking.{IsFrameAt, Looks, LooksUp, looked}
-use Rattle.vt_shard.specs.Search.{Finds, FindsScore, HasKeyOf, IsFoundIn, IsLumpOf}
-use Rattle.vt_shard.specs.Shard.{ShardState, ReadBucket, HasRead, bucket_at}
-use Rattle.vt_core.specs.Finding.{Parts, parts_of, with_shard, CountsFailure, NoneRose, LooksFor, MayEndLook, MayKeepFrom, ReadsShard, SeeksBlock, ReadsFound, TakesLump, Sought}
-use Rattle.vt_core.specs.Seeking.{Fetches, IsOwn, compared, differs, fetched}
+use Rattle.vt_shard.specs.Looking.{IsFrameAt, Looks, LooksUp}
+use Rattle.vt_shard.specs.Search.{Finds, FindsScore, HasKeyOf, IsLumpOf}
+use Rattle.vt_shard.specs.Shard.{ShardState}
+use Rattle.vt_core.specs.Finding.{Parts, parts_of, with_shard, LooksFor, MayEndLook, MayKeepFrom, ReadsShard, SeeksBlock, ReadsFound, TakesLump, Sought}
+use Rattle.vt_core.specs.Seeking.{Fetches, IsOwn, differs, fetched}
 use Rattle.vt_core.specs.Work.{why_of_shard}
-use Rattle.vt_core.proofs.Fetching.{log_rests, read_then}
+use Rattle.vt_core.proofs.Fetching.{log_rests}
 
 -- ---- what an index look-up reads
 
@@ -68,66 +67,6 @@ module _ {D : Type 0} (score : List ℕ → List ℕ) (disk : DiskOf D) where
       fails (shard_err.Damaged bucket want found) counts end = record { log = log_rests score disk 2 l; shard = looks_reads n r s new it; counts = (refl, counts); cause = λ _. end }
       fails (shard_err.Stopped call) counts end = absurd end
 
-  pub looks_well : {T U : Type 0} (n : ℕ) (r : Result T ShardErr) (t : T) → r ≡ Ok t → (u : U) (l : LogState D) (s new : ShardState D) → Looks disk n r s new
-      → LooksFor score disk 2 2 (Ok u) (parts_of l s) (parts_of l new)
-  looks_well {T} n r t is u l s new it = record {
-    log = log_rests score disk 2 l;
-    shard = looks_reads n r s new it;
-    counts = (refl, subst (λ (x : Result T ShardErr). CountsFault is_fault x (disk.faults s.section.disk) (disk.faults new.section.disk)) is it.faults);
-    cause = λ _. tt;
-  }
-
-  -- ---- a look-up, and then a read of the log
-
-  counts_then : (why : Why) (l new_log : LogState D) (s mid new : ShardState D) → disk.faults mid.section.disk ≡ disk.faults s.section.disk
-      → CountsFailure disk why (parts_of l mid) (parts_of new_log new) → CountsFailure disk why (parts_of l s) (parts_of new_log new)
-  counts_then DiskFault l new_log s mid new same it = ⊎_elim
-      (λ log. inl (log.0, log.1 ∙ same))
-      (λ shard. inr (shard.0, subst (λ (n : ℕ). HasRisen n (disk.faults new.section.disk)) same shard.1))
-      it
-  counts_then BadType l new_log s mid new same it = (it.0, it.1 ∙ same)
-  counts_then TooBig l new_log s mid new same it = (it.0, it.1 ∙ same)
-  counts_then TooSmall l new_log s mid new same it = (it.0, it.1 ∙ same)
-  counts_then Absent l new_log s mid new same it = (it.0, it.1 ∙ same)
-  counts_then Collision l new_log s mid new same it = (it.0, it.1 ∙ same)
-  counts_then IndexFull l new_log s mid new same it = (it.0, it.1 ∙ same)
-  counts_then ArenasFull l new_log s mid new same it = (it.0, it.1 ∙ same)
-  counts_then (Stopped call) l new_log s mid new same it = (it.0, it.1 ∙ same)
-  counts_then (Damaged site want found) l new_log s mid new same it = (it.0, it.1 ∙ same)
-  counts_then NoMemory l new_log s mid new same it = (it.0, it.1 ∙ same)
-
-  result_then : {T : Type 0} (r : Result T Why) (l new_log : LogState D) (s mid new : ShardState D) → disk.faults mid.section.disk ≡ disk.faults s.section.disk
-      → MatchResult r (λ _. NoneRose disk (parts_of l mid) (parts_of new_log new)) (λ why. CountsFailure disk why (parts_of l mid) (parts_of new_log new))
-      → MatchResult r (λ _. NoneRose disk (parts_of l s) (parts_of new_log new)) (λ why. CountsFailure disk why (parts_of l s) (parts_of new_log new))
-  result_then (Ok t) l new_log s mid new same it = (it.0, it.1 ∙ same)
-  result_then (Err why) l new_log s mid new same it = counts_then why l new_log s mid new same it
-
-  -- of a shard whose index was looked through for a key, which is in no device
-  pub from_looked : {T : Type 0} (key : Key) (clumps : ℕ) (r : Result T Why) (l new_log : LogState D) (s new : ShardState D) → LooksFor score disk clumps 2 r (parts_of l (looked key s)) (parts_of new_log new)
-      → LooksFor score disk clumps 2 r (parts_of l s) (parts_of new_log new)
-  from_looked key clumps r l new_log s new it = record {
-    log = it.log;
-    shard = record { section = it.shard.section; reads = it.shard.reads; dirty = it.shard.dirty; writeback = it.shard.writeback; filed = it.shard.filed };
-    counts = result_then r l new_log s (looked key s) new refl it.counts;
-    cause = it.cause;
-  }
-
-  pub looks_then : {T : Type 0} (frames : ℕ) (r : Result T Why) (l new_log : LogState D) (s mid new : ShardState D) → ReadsShard disk frames s mid → disk.faults mid.section.disk ≡ disk.faults s.section.disk
-      → new ≡ record mid { lumps = new.lumps } → LooksFor score disk 2 0 r (parts_of l mid) (parts_of new_log new) → LooksFor score disk 2 frames r (parts_of l s) (parts_of new_log new)
-  looks_then frames r l new_log s mid new first same lumps then = record {
-    log = then.log;
-    shard = read_then score disk frames s mid new first lumps;
-    counts = result_then r l new_log s mid new same then.counts;
-    cause = then.cause;
-  }
-
-  -- another answer of the same kind
-  pub other_ok : {T U : Type 0} (clumps frames : ℕ) (t : T) (u : U) (old new : Parts D) → LooksFor score disk clumps frames (Ok t) old new → LooksFor score disk clumps frames (Ok u) old new
-  other_ok clumps frames t u old new it = record { log = it.log; shard = it.shard; counts = it.counts; cause = λ _. tt }
-
-  pub other_err : {T U : Type 0} (clumps frames : ℕ) (why : Why) (old new : Parts D) → LooksFor {T = T} score disk clumps frames (Err why) old new → LooksFor {T = U} score disk clumps frames (Err why) old new
-  other_err clumps frames why old new it = record { log = it.log; shard = it.shard; counts = it.counts; cause = it.cause }
-
   -- ---- by a key
 
   pub seeks_none : (may_have : Bool) (key : Key) (p : Parts D) → may_have ≡ false → SeeksBlock score disk may_have key (Ok None) p p
@@ -147,21 +86,6 @@ module _ {D : Type 0} (score : List ℕ → List ℕ) (disk : DiskOf D) where
   pub reads_fails : (entry : Entry) (r : Result (Option Entry) ShardErr) → r ≡ Ok (Some entry) → (why : Why) (old new : Parts D)
       → Fetches score disk entry (Err why) old new → ReadsFound score disk r (Err why) old new
   reads_fails entry r is why old new it = subst (λ (x : Result (Option Entry) ShardErr). ReadsFound score disk x (Err why) old new) (sym is) it
-
-  -- where there was no entry the bucket was read
-  not_in_memory : (o : Option Entry) (P : Type 0) → (IsSome o → (let none : Result (Option Entry) ShardErr = Ok None in none ≡ Ok o) × P) → o ≡ None
-  not_in_memory None P it = refl
-  not_in_memory (Some entry) P it = let e = (it refl).0 in absurd (cc)
-
-  bucket_read : (bucket : Option ReadBucket) (n : ℕ) (passes : Entry → Type 0) (found : Option Entry) → IsFoundIn bucket n passes found → MatchOption bucket ⊥ (λ b. b.number ≡ n)
-  bucket_read None n passes found it = it
-  bucket_read (Some bucket) n passes found it = it.0
-
-  pub none_read : (key : Key) (r : Result (Option Entry) ShardErr) → r ≡ Ok None → (s mid new : ShardState D) → mid ≡ s → LooksUp disk key r mid new → HasRead new (bucket_at s key.score.0)
-  none_read key r is s mid new same it =
-      let own : LooksUp disk key (Ok None) s new = subst (λ (x : Result (Option Entry) ShardErr). LooksUp disk key x s new) is (subst (λ (t : ShardState D). LooksUp disk key r t new) same it) in
-      bucket_read new.bucket (bucket_at s key.score.0) (λ entry. entry.key ≡ key) None
-      (own.in_bucket (not_in_memory (entry_in key s.index) (new ≡ looked key s) own.in_memory))
 
 -- a block of a key has its score
 pub key_has_score : (score : List ℕ → List ℕ) (h : History) (i : ℕ) (key : Key) → HasKeyOf score h i key → HasScoreAt score h i key.score.0
@@ -201,10 +125,6 @@ err_keeps_from {T} r bad why is told fault =
 pub differ_is : (found : Option (List ℕ)) (bytes : List ℕ) (same : Bool) → MatchOption found ⊥ (λ block. same ≡ bytes_eq block bytes) → (let r : Result Bool Why = Ok (not same) in r ≡ differs (Ok found) bytes)
 differ_is None bytes same is = absurd is
 differ_is (Some block) bytes same is = ap (λ (b : Bool). Ok (not b)) is
-
-pub compare_is : (found : Option (List ℕ)) (bytes : List ℕ) (same : Bool) → MatchOption found ⊥ (λ block. same ≡ bytes_eq block bytes) → (let r : Result (Option Bool) Why = Ok (Some same) in r ≡ compared (Ok found) bytes)
-compare_is None bytes same is = absurd is
-compare_is (Some block) bytes same is = ap (λ (b : Bool). Ok (Some b)) is
 
 module _ {D : Type 0} (score : List ℕ → List ℕ) (disk : DiskOf D) where
   -- memory may be short for a copy of it

@@ -243,14 +243,14 @@ list_stop (ReadFrame s) t = refl
 list_stop ChangeBucket t = refl
 list_stop ChangeHead t = refl
 
-list_head : {D : Type 0} (p : Phase) (t : SectionState D) → (without_list p t).head ≡ t.head
+pub list_head : {D : Type 0} (p : Phase) (t : SectionState D) → (without_list p t).head ≡ t.head
 list_head Rest t = refl
 list_head ReadSelector t = refl
 list_head (ReadFrame s) t = refl
 list_head ChangeBucket t = refl
 list_head ChangeHead t = refl
 
-list_next : {D : Type 0} (p : Phase) (t : SectionState D) → (without_list p t).next ≡ t.next
+pub list_next : {D : Type 0} (p : Phase) (t : SectionState D) → (without_list p t).next ≡ t.next
 list_next Rest t = refl
 list_next ReadSelector t = refl
 list_next (ReadFrame s) t = refl

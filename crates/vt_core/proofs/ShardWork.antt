@@ -130,18 +130,20 @@ module _ {D : Type 0} (score : List ℕ → List ℕ) (disk : DiskOf D) (k : Cor
 
   pub shard_goes_on : IsWhole disk k → GoesOn disk k (record k { shards = slice_set k.shards i after })
   shard_goes_on w = record {
-    tables = refl;
-    layout = refl;
-    setup = same_setup;
-    shards = length-set k.shards i after;
-    filter = refl;
-    counts = (refl, refl);
-    sizes = sizes;
-    sessions = refl;
-    len = omega arith;
+    store = record {
+      tables = refl;
+      layout = refl;
+      setup = same_setup;
+      shards = length-set k.shards i after;
+      filter = refl;
+      counts = (refl, refl);
+      sizes = sizes;
+      sessions = refl;
+      len = omega arith;
+      durable = omega arith;
+      synced = omega arith;
+    };
     one_more = omega arith;
-    durable = omega arith;
-    synced = omega arith;
     synced_before = w.synced;
   }
     where

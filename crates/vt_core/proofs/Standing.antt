@@ -14,11 +14,12 @@ use Rattle.vt_isect.specs.Layout.{buckets_in}
 use Rattle.vt_log.specs.Answers.{HoldTheSame}
 use Rattle.vt_log.specs.Logs.{IsLog}
 use Rattle.vt_log.specs.Sound.{AreImages as AreImagesOf}
+use Rattle.vt_log.proofs.Lists.{slice_get_other}
 use Rattle.vt_core.specs.Files.{PerDevice, Files, AreImages}
 use Rattle.vt_core.specs.Mounting.{AllStandFor, EachStands, IsLogOf, IsSetupOf, LacksMany, LeavesStanding}
 use Rattle.vt_core.specs.Opening.{AreHeld}
 use Rattle.vt_core.specs.Stands.{FilterStandsFor, SectionStandsFor, StandsFor}
-use Rattle.vt_core.proofs.Lists.{at_map, beside, same_lists}
+use Rattle.vt_core.proofs.Lists.{at_map, same_lists}
 
 -- ---- devices that hold what they held
 
@@ -30,7 +31,7 @@ pub images_among : {D : Type 0} (disk : DiskOf D) (old new : List D) (files : Li
 images_among disk old new files held images = record {
   many = images.many ∙ held_many disk old new held;
   each = λ i device file at is.
-      let d = beside new old i device (sym (held_many disk old new held)) at in
+      let d = slice_get_other new old i device (sym (held_many disk old new held)) at in
       held.images_are i device d.0 at d.1 file (images.each i d.0 file d.1 is);
 }
 
@@ -52,7 +53,7 @@ held_twice disk a b c ab bc = record {
   bytes_are = bc.bytes_are ∙ ab.bytes_are;
   sizes_are = bc.sizes_are ∙ ab.sizes_are;
   images_are = λ i before after here there.
-      let d = beside b c i after (held_many disk b c bc) there in
+      let d = slice_get_other b c i after (held_many disk b c bc) there in
       λ file it. ab.images_are i before d.0 here d.1 file (bc.images_are i d.0 after d.1 there file it);
 }
 
@@ -81,7 +82,7 @@ pub settled_files : {D : Type 0} (disk : DiskOf D) (devices : List D) (files : L
     → ((i : ℕ) (d : D) → slice_get devices i ≡ Some d → IsSynced disk d) → AreImagesOf disk devices files → files ≡ map disk.bytes devices
 settled_files disk devices files tells settled images = same_lists files (map disk.bytes devices) (images.many ∙ sym (length-map devices disk.bytes))
     (λ i x y here there.
-    let d = beside devices files i x images.many here in
+    let d = slice_get_other devices files i x images.many here in
     let e : x ≡ disk.bytes d.0 = settled i d.0 d.1 tells x (images.each i d.0 x d.1 here) in
     let f : y ≡ disk.bytes d.0 = same_Some y (disk.bytes d.0) (sym there ∙ at_map disk.bytes devices i d.0 d.1) in
     e ∙ sym f)
@@ -153,7 +154,7 @@ module _ {D : Type 0} (score : List ℕ → List ℕ) (disk : DiskOf D) (tables 
         log = record { base = it.log.base; log = it.log.log; least = it.log.least; most = it.log.most };
         many = images.sections.many ∙ many ∙ sym (length-map old.sections (λ device. buckets_in (disk.size device))) ∙ ap length (sym setup.sections);
         sections = λ i file at.
-            let d = beside new.sections files.sections i file images.sections.many at in
+            let d = slice_get_other new.sections files.sections i file images.sections.many at in
             stand c h (take n h) it.log.base log i d.0 file d.1 (images.sections.each i d.0 file d.1 at);
         filter = it.filter;
       }

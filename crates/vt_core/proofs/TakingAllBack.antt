@@ -14,15 +14,16 @@ use Rattle.vt_core.specs.Recalling.{KeepsSection}
 use Rattle.vt_core.specs.Refusals.{CountsRefusal}
 use Rattle.vt_core.specs.TakingBack.{CountsRose, CountsShard, HasEntries, HasNoRoomFor, IsSoundAt, IsUnwritten, TakesAllBack, TakesBack}
 use Rattle.vt_core.proofs.Calls.{get_set, get_other, length-set, within_get}
-use Rattle.vt_core.proofs.Lists.{at_map, beside}
+use Rattle.vt_core.proofs.Lists.{at_map}
 use Rattle.vt_core.proofs.LogWork.{one_or_other}
 use Rattle.vt_core.proofs.PuttingBack.{LacksMore, less_unwritten}
 use Rattle.vt_core.proofs.ShardCall.{map_over_set, risen_set}
 use Rattle.vt_core.proofs.TakingBack.{keeps_none}
+use Rattle.vt_log.proofs.Lists.{slice_get_other}
 
 -- ---- places of lists
 
-set_same : {X : Type 0} (xs : List X) (i : ℕ) (x : X) → slice_get xs i ≡ Some x → slice_set xs i x ≡ xs
+pub set_same : {X : Type 0} (xs : List X) (i : ℕ) (x : X) → slice_get xs i ≡ Some x → slice_set xs i x ≡ xs
 set_same [] i x at = refl
 set_same {X} (y ∷ xs) zero x at = ap (λ (z : X). z ∷ xs) (sym (same_Some y x at))
 set_same (y ∷ xs) (suc i) x at = ap (λ zs. y ∷ zs) (set_same xs i x at)
@@ -60,9 +61,6 @@ pub record AreTaken {D : Type 0} (disk : DiskOf D) (part : ℕ) (info : Info) (i
   pub before : (j : ℕ) (s t : ShardState D) → j < i → slice_get old j ≡ Some s → slice_get now j ≡ Some t → TakesBack {U = ⊤} disk (part + j) info (Ok tt) s t
   pub behind : (j : ℕ) → i ≤ j → slice_get now j ≡ slice_get old j
   pub faults : map (λ s. disk.faults s.section.disk) now ≡ map (λ s. disk.faults s.section.disk) old
-
-pub none_taken : {D : Type 0} (disk : DiskOf D) (part : ℕ) (info : Info) (old : List (ShardState D)) → AreTaken disk part info 0 old old
-none_taken disk part info old = record { many = refl; before = λ j s t below at there. absurd (omega (arith, below)); behind = λ j from. refl; faults = refl }
 
 module _ {D : Type 0} (disk : DiskOf D) (part : ℕ) (info : Info) (i : ℕ) (old now : List (ShardState D)) (was : AreTaken disk part info i old now)
     (before : ShardState D) (at : slice_get now i ≡ Some before) (after : ShardState D) where
@@ -143,7 +141,7 @@ all_taken {D} disk part info i old now done was all = record {
   many = was.many;
   keeps = λ j s t here there. (each j s t here there).keeps;
   rests = λ bits below rests number set j t there.
-      let s = beside old now j t was.many there in
+      let s = slice_get_other old now j t was.many there in
       (each j s.0 t s.1 there).rests bits below (rests j s.0 s.1) number set;
   counts = was.faults;
   ends_early = tt;

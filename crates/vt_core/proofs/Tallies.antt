@@ -9,14 +9,6 @@ use Rattle.vt_core.specs.Refusals.{IsFirstPast, IsTally}
 pub sum_more : (xs : List ℕ) (x : ℕ) → sum (xs ++ x ∷ []) ≡ sum xs + x
 sum_more xs x = sum_by_push (λ n. n) xs x
 
--- the part with which they first passed the limit stays that
-first_stays : (limit : ℕ) (counts : List ℕ) (x i : ℕ) → IsFirstPast limit counts i → IsFirstPast limit (counts ++ x ∷ []) i
-first_stays limit counts x i it = record {
-  within = omega (arith, it.within, length-append counts (x ∷ []));
-  before = omega (arith, it.before, ap (λ (l : List ℕ). sum l) (take-append-le i counts (x ∷ []) (omega (arith, it.within))));
-  past = omega (arith, it.past, ap (λ (l : List ℕ). sum l) (take-append-le (i + 1) counts (x ∷ []) (omega (arith, it.within))));
-}
-
 -- and one with which they do is the last so far
 last_is : (limit : ℕ) (counts : List ℕ) (x : ℕ) → sum counts ≤ limit → limit < sum (counts ++ x ∷ []) → IsFirstPast limit (counts ++ x ∷ []) (length counts)
 last_is limit counts x low high = record {
@@ -28,15 +20,6 @@ last_is limit counts x low high = record {
 module _ (limit first : ℕ) (counts : List ℕ) (count : ℕ) (old new : Tally) (was : IsTally limit first counts old) (sums : new.sum ≡ old.sum + count) where
   total_is : new.sum ≡ sum (counts ++ count ∷ [])
   total_is = omega (arith, sums, was.total, sum_more counts count)
-
-  pub stays_past : (part : ℕ) → old.past ≡ Some part → new.past ≡ Some part → IsTally limit first (counts ++ count ∷ []) new
-  stays_past part before after =
-      let it = subst (λ (o : Option ℕ). MatchOption o (sum counts ≤ limit) (λ p. (i : ℕ) × (p ≡ first + i) × IsFirstPast limit counts i)) before was.past in
-      record {
-        total = total_is;
-        past = subst (λ (o : Option ℕ). MatchOption o (sum (counts ++ count ∷ []) ≤ limit) (λ p. (i : ℕ) × (p ≡ first + i) × IsFirstPast limit (counts ++ count ∷ []) i)) (sym after)
-            (it.0, it.1, first_stays limit counts count it.0 it.2);
-      }
 
   module _ (none : old.past ≡ None) where
     low : sum counts ≤ limit

@@ -1,5 +1,5 @@
 -- The tests of heads and marks, one after another.
-use Rattle.std.proofs.Common.{◌≡◌, ◌⊎◌, ⊎_elim, inr, Option, None, Ok, Err, Result, ◌<◌, ◌≤◌, ◌+◌, ℕ, zero, suc, List, [], ◌∷◌, ◌++◌, length, take, get_or, Some, refl, sym, ◌∙◌, ap, subst, arith}
+use Rattle.std.proofs.Common.{◌≡◌, ◌⊎◌, ⊎_elim, inr, Option, None, Ok, Err, Result, ◌<◌, ◌≤◌, ◌+◌, ℕ, List, length, get_or, Some, refl, sym, ◌∙◌, ap, subst, arith}
 use Rattle.std.specs.Prelude.{slice_get, sum, MatchResult}
 use Rattle.std.proofs.lemmas.List.Sums.{sum_by_more, sum_by_more_le}
 use Rattle.std.proofs.lemmas.Option.{get_or_from_slice_get, same_Some, slice_get_read, slice_get_within}
@@ -16,15 +16,6 @@ use Rattle.vt_core.specs.Refusals.{wrong_head}
 -- what was read at a place stands there
 pub read_at : {X : Type 0} (xs : List X) (i : ℕ) (x : X) → i < length xs → x ≡ get_or xs i x → slice_get xs i ≡ Some x
 read_at xs i x lt is = slice_get_read xs (length xs) i x refl lt is
-
--- one more element
-take_suc : {X : Type 0} (xs : List X) (i : ℕ) (x : X) → slice_get xs i ≡ Some x → take (suc i) xs ≡ take i xs ++ x ∷ []
-take_suc [] i x at = absurd (cc)
-take_suc (y ∷ xs) zero x at = let e : y ≡ x = cc in ap (λ z. z ∷ []) e
-take_suc (y ∷ xs) (suc i) x at = ap (λ l. y ∷ l) (take_suc xs i x at)
-
-pub take_next : {X : Type 0} (xs : List X) (i : ℕ) (x : X) → slice_get xs i ≡ Some x → take (i + 1) xs ≡ take i xs ++ x ∷ []
-take_next xs i x at = let e : i + 1 ≡ suc i = omega arith in ap (λ n. take n xs) e ∙ take_suc xs i x at
 
 pub first_next : (xs : List ℕ) (i x : ℕ) → slice_get xs i ≡ Some x → first_bucket xs (i + 1) ≡ first_bucket xs i + x
 first_next xs i x at =

@@ -32,11 +32,11 @@ use Rattle.vt_core.specs.Machine.{WaitsForNone}
 use Rattle.vt_core.specs.Serving.{TestsBlock}
 use Rattle.vt_core.specs.Steps.{Steps}
 use Rattle.vt_core.specs.Whole.{IsWhole}
-use Rattle.vt_core.proofs.AddWork.{at_place}
 use Rattle.vt_core.proofs.AskWork.{early_steps, fails_in, log_reads, may_be_told, mid, mid_counts, mid_ends, mid_is, mid_none, mid_sound, said_is, still_steps, stopped_steps, undamaged_why, waits_or_not}
 use Rattle.vt_core.proofs.ReadWork.{reads_crash, reads_go_on, reads_machine, reads_only, reads_stops}
 use Rattle.vt_core.proofs.Recovered.{GivesPrefix}
 use Rattle.vt_core.proofs.Testing.{by_score, collision}
+use Rattle.vt_log.proofs.Places.{slice_get_there}
 
 pub some_bytes : (bytes : List ℕ) → (length bytes == 0) ≡ false → 0 < length bytes
 some_bytes [] is = absurd (cc)
@@ -46,7 +46,7 @@ some_bytes (x ∷ xs) is = omega arith
 pub stop_is : {D : Type 0} (score : List ℕ → List ℕ) (k : CoreState D) (kind : ℕ) (bytes s : List ℕ) (i : ℕ) (stop : Option ℕ) → i ≡ shard_of k s → s ≡ score bytes → i < length k.shards
     → ((t : ShardState D) → slice_get k.shards i ≡ Some t → stop ≡ option_or k.log.stopped t.section.stopped) → stop_for score k (write kind bytes) ≡ stop
 stop_is {D} score k kind bytes s i stop is scored below each =
-    let it = at_place k.shards i below in
+    let it = slice_get_there k.shards i below in
     let at : slice_get k.shards (shard_of k (score bytes)) ≡ Some it.0 = ap (λ (n : ℕ). slice_get k.shards n) (sym (is ∙ ap (λ (x : List ℕ). shard_of k x) scored)) ∙ it.1 in
     ap (λ (o : Option (ShardState D)). option_or k.log.stopped (option_and_then (λ t. t.section.stopped) o)) at ∙ sym (each it.0 it.1)
 

@@ -24,7 +24,7 @@ use Rattle.vt_told.specs.Told.{of_shard}
 use Rattle.vt_core.specs.TakingBack.{CountsShard, FaultOrDamage, WritesBack}
 use Rattle.vt_core.proofs.Calls.{within_get}
 use Rattle.vt_core.proofs.ShardCall.{fewer}
-use Rattle.vt_core.proofs.TakingBack.{keeps_then, keeps_none, tells_bucket}
+use Rattle.vt_core.proofs.TakingBack.{keeps_then, tells_bucket}
 
 -- A writeback of all that was dirty goes on or, where it is through, nothing is dirty any more.
 pub record IsWriting {D : Type 0} (disk : DiskOf D) (old now : ShardState D) : Type 0 where
@@ -80,13 +80,6 @@ begun_writing {D} disk old new below quiet above it sound = record {
 
 -- ---- a step
 
-list_name : {D : Type 0} (p : Phase) (t : SectionState D) → (without_list p t).name ≡ t.name
-list_name Rest t = refl
-list_name ReadSelector t = refl
-list_name (ReadFrame s) t = refl
-list_name ChangeBucket t = refl
-list_name ChangeHead t = refl
-
 list_same : {D : Type 0} (p : Phase) (t : SectionState D)
     → ((without_list p t).head ≡ t.head) × ((without_list p t).next ≡ t.next) × ((without_list p t).stopped ≡ t.stopped) × ((without_list p t).phase ≡ t.phase)
 list_same Rest t = (refl, refl, refl, refl)
@@ -113,7 +106,7 @@ step_goes More old new it = it.1
 step_goes Done old new it = it.2.stopped
 
 -- more is under way
-goes_on : {D : Type 0} (p : Phase) (old new : SectionState D) → NextPhase p old new → new.phase ≢ Rest
+pub goes_on : {D : Type 0} (p : Phase) (old new : SectionState D) → NextPhase p old new → new.phase ≢ Rest
 goes_on Rest old new it rest = absurd it
 goes_on ReadSelector old new it rest = let e : ReadFrame it.0.0 ≡ Rest = sym it.0.1 ∙ rest in absurd (cc)
 goes_on (ReadFrame s) old new it rest = let e : ChangeBucket ≡ Rest = sym it.0 ∙ rest in absurd (cc)
@@ -223,17 +216,6 @@ module _ {D : Type 0} (disk : DiskOf D) (old now next : ShardState D) (was : IsW
       tells (Stopped n) t read = inl refl
 
 -- ---- how it ends
-
-pub writes_none : {D : Type 0} (disk : DiskOf D) (s : ShardState D) (done : ⊤) → IsQuiet s → length s.index.dirty < ROOM → WritesBack disk (Ok done) s s
-writes_none disk s done quiet room = record {
-  keeps = keeps_none disk s;
-  rests = λ bits below was. was;
-  quiet = quiet;
-  emptied = room;
-  counts = refl;
-  tells = tt;
-  sound = λ tells score c h from was. (was, tt);
-}
 
 pub writes_all : {D : Type 0} (disk : DiskOf D) (old now : ShardState D) (done : ⊤) → IsWriting disk old now → now.writeback ≡ None → WritesBack disk (Ok done) old now
 writes_all {D} disk old now done was none = record {

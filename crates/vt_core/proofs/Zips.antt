@@ -42,16 +42,6 @@ zip_at {X} {Y} R xs ys i x y it here there =
     let b = zip_beside R xs ys i y it there in
     subst (λ (z : X). R z y) (same_Some b.0 x (sym b.1 ∙ here)) b.2
 
--- by places
-pub zip_from : {X Y : Type 0} (R : X → Y → Type 0) (xs : List X) (ys : List Y) → length ys ≡ length xs
-    → ((i : ℕ) (x : X) (y : Y) → slice_get xs i ≡ Some x → slice_get ys i ≡ Some y → R x y) → AllZip R xs ys
-zip_from R [] [] many each = tt
-zip_from R [] (y ∷ ys) many each = absurd (omega (arith, many))
-zip_from R (x ∷ xs) [] many each = absurd (omega (arith, many))
-zip_from R (x ∷ xs) (y ∷ ys) many each =
-    let few : length ys ≡ length xs = omega (arith, many) in
-    (each zero x y refl refl, zip_from R xs ys few (λ i a b. each (suc i) a b))
-
 -- the same of a relation that follows
 pub zip_implies : {X Y : Type 0} (R S : X → Y → Type 0) (xs : List X) (ys : List Y) → ((x : X) (y : Y) → R x y → S x y) → AllZip R xs ys → AllZip S xs ys
 zip_implies R S [] [] so it = tt

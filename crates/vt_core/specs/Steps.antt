@@ -52,7 +52,7 @@ Does score disk (EvictLump shard) out old new = ChangesShard shard old new (Drop
 Does score disk (EvictIndex shard) out old new = ChangesShard shard old new (DropsEntry out)
 
 -- what a store was mounted with stays, and no block and no promise is lost
-pub record GoesOn {D : Type 0} (disk : DiskOf D) (old new : CoreState D) : Type 0 where
+pub record KeepsStore {D : Type 0} (disk : DiskOf D) (old new : CoreState D) : Type 0 where
   pub tables : new.log.tables ≡ old.log.tables
   pub layout : new.log.layout ≡ old.log.layout
   pub setup : setup_of new ≡ setup_of old
@@ -62,9 +62,13 @@ pub record GoesOn {D : Type 0} (disk : DiskOf D) (old new : CoreState D) : Type 
   pub sizes : each_of disk.size new ≡ each_of disk.size old
   pub sessions : length new.waiting ≡ length old.waiting
   pub len : history_len old ≤ history_len new
-  pub one_more : history_len new ≤ history_len old + 1
   pub durable : old.log.durable ≤ new.log.durable
   pub synced : old.synced ≤ new.synced
+
+-- and an event accepts one block at most, and has only those synced that were durable before it
+pub record GoesOn {D : Type 0} (disk : DiskOf D) (old new : CoreState D) : Type 0 where
+  pub store : KeepsStore disk old new
+  pub one_more : history_len new ≤ history_len old + 1
   pub synced_before : new.synced ≤ old.log.durable
 
 pub record Steps {D : Type 0} (score : List ℕ → List ℕ) (disk : DiskOf D) (event : Event)
@@ -78,20 +82,6 @@ pub record Steps {D : Type 0} (score : List ℕ → List ℕ) (disk : DiskOf D) 
   pub counts : CountsOut out (each_of disk.faults old) (each_of disk.faults new)
   pub stops : KeepsStops out old new
   pub goes_on : GoesOn disk old new
-
--- what a store was mounted with stays, however many events there were, and no block is lost
-pub record KeepsStore {D : Type 0} (disk : DiskOf D) (old new : CoreState D) : Type 0 where
-  pub tables : new.log.tables ≡ old.log.tables
-  pub layout : new.log.layout ≡ old.log.layout
-  pub setup : setup_of new ≡ setup_of old
-  pub shards : length new.shards ≡ length old.shards
-  pub filter : option_map (λ b. b.m) new.bloom ≡ option_map (λ b. b.m) old.bloom
-  pub counts : (new.bits.m ≡ old.bits.m) × (new.bits.k ≡ old.bits.k)
-  pub sizes : each_of disk.size new ≡ each_of disk.size old
-  pub sessions : length new.waiting ≡ length old.waiting
-  pub len : history_len old ≤ history_len new
-  pub durable : old.log.durable ≤ new.log.durable
-  pub synced : old.synced ≤ new.synced
 
 -- ---- one after another
 

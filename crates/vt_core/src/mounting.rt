@@ -16,7 +16,7 @@ ghost use Rattle.vt_core.specs.Refusals.{CountsRefusal, IsTally, PassesOrRefuses
 
 use crate::devices::{Devices, close_shards, device_of};
 use crate::laws::what_is_read_is_a_prefix;
-use crate::opening::{close_sections, open_filter, open_sections, open_shards};
+use crate::opening::{close_sections, open_filter, open_memory, open_sections};
 use crate::recalling::{least_mark, read_back};
 use crate::store::Core;
 use crate::{MOST_ARENAS, MOST_BUCKETS};
@@ -144,35 +144,25 @@ fn open<D: Disk, S: Scorer + Drop>(
         bloom,
         mut bits,
     } = beside;
-    let (mut shards, room) = match open_shards(alloc, sections, sizes, room) {
+    let (mut shards, room, waiting) = match open_memory(alloc, sections, sizes, sessions, room) {
         Ok(opened) => opened,
         Err(sections) => {
-            return Err((
-                MountBad::NoMemory,
-                hand_back(log, sections, device_of(bloom)),
-            ));
+            let devices = hand_back(log, sections, device_of(bloom));
+            return Err((MountBad::NoMemory, devices));
         }
-    };
-    let Ok(waiting) = vec![in alloc; None; sessions as usize] else {
-        let sections = close_shards(shards, room);
-        return Err((
-            MountBad::NoMemory,
-            hand_back(log, sections, device_of(bloom)),
-        ));
     };
     let least = least_mark(&shards, &bloom);
     if let Err(bad) = read_back(&mut log, &mut shards, &mut bits, least, part) {
         let sections = close_shards(shards, room);
         return Err((bad, hand_back(log, sections, device_of(bloom))));
     }
-    let synced = log.durable();
     Ok(Core {
+        synced: log.durable(),
         log,
         shards,
         bloom,
         bits,
         waiting,
-        synced,
         room,
     })
 }

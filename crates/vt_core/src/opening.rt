@@ -1,6 +1,6 @@
 //! Opening the sections and the filter of a store, and closing them.
 
-ghost use Rattle.std.specs.Prelude.{◌≡◌, ◌⊎◌, ◌+◌, ◌++◌, ◌^◌, ◌<◌, ◌≤◌, ℕ, All, IfOk, IfErr, IsTrue, length, map, reverse, vec_capacity};
+ghost use Rattle.std.specs.Prelude.{◌≡◌, ◌⊎◌, ◌+◌, ◌++◌, ◌^◌, ◌<◌, ◌≤◌, ℕ, All, IfOk, IfErr, IsTrue, None, length, map, replicate, reverse, vec_capacity};
 ghost use Rattle.std.specs.List.{AllZip};
 ghost use Rattle.std.specs.Option.{ForSome, option_to_list};
 ghost use Rattle.vt_base.specs.declared.mount.MountBad.{MountBad};
@@ -87,7 +87,7 @@ fn unpack<D: Disk>(mut sections: Vec<Section<D>>, mut devices: Vec<D>) -> Vec<D>
 
 /// The shards of these sections, with room to hand their devices back in. Want of memory hands them
 /// back.
-pub(crate) fn open_shards<D: Disk>(
+fn open_shards<D: Disk>(
     alloc: Global,
     mut sections: Vec<Section<D>>,
     sizes: Sizes,
@@ -117,6 +117,31 @@ pub(crate) fn open_shards<D: Disk>(
     }
     sections.destroy_empty();
     Ok((shards, room))
+}
+
+/// What a store has in memory: the shards of these sections, room to hand their devices back in,
+/// and a row for each session, none of which waits. Want of memory hands the devices back.
+pub(crate) fn open_memory<D: Disk>(
+    alloc: Global,
+    sections: Vec<Section<D>>,
+    sizes: Sizes,
+    sessions: u32,
+    room: Vec<D>,
+) -> Result<(Vec<Shard<D>>, Vec<D>, Vec<Option<u64>>), Vec<D>>
+    requires lumps { 0 < sizes.lumps }
+    requires clean { 0 < sizes.clean }
+    requires rest { All (λ s. IsAtRest s) sections.items }
+    requires room { HasRoom (length sections.items) room }
+    ensures made { IfOk result (λ it. AllZip (IsShardMade D.Disk sizes.lumps sizes.clean)
+        sections.items it.0.items × HasRoom (length sections.items) it.1) }
+    ensures rows { IfOk result (λ it. it.2.items ≡ replicate sessions None) }
+    ensures memory { IfErr result (λ devices. devices.items ≡ map (λ s. s.disk) sections.items) }
+{
+    let (shards, room) = open_shards(alloc, sections, sizes, room)?;
+    let Ok(rows) = vec![in alloc; None; sessions as usize] else {
+        return Err(close_shards(shards, room));
+    };
+    Ok((shards, room, rows))
 }
 
 /// The filter of a device, which is this part of the store, and its bits. Without a device there

@@ -55,7 +55,7 @@ module _ {D : Type 0} (score : List ℕ → List ℕ) (disk : DiskOf D) (session
       let before = behind_test score disk session now r old later.mid again.0 room in
       told_behind score disk (operation_in (message_of r)) a old later.mid new before
       (told_again score disk session now r a later.mid new (subst (λ (ws : List (Option ℕ)). WaitsForNone ws session) (sym room.waiting) free) room.reaches
-      (stop_for_same score (operation_in (message_of r)) old later.mid before.stops before.keeps.shards before.keeps.setup ∙ room.goes) again.1))
+      (stop_for_same score (operation_in (message_of r)) old later.mid before.stops before.keeps.store.shards before.keeps.store.setup ∙ room.goes) again.1))
       (λ waits.
       told_wait score disk session now r a old later.mid new free waits.0
       (wait_given score session (operation_in (message_of r)) old later.mid (gives score disk session now Waits old later.mid (operation_in (message_of r)) other (waits.0.does.serves free))) waits.1)

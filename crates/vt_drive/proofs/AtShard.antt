@@ -1,5 +1,5 @@
 -- A store at one of its shards, before and behind a piece of work.
-use Rattle.std.proofs.Common.{◌≡◌, ◌≢◌, ◌⊎◌, ⊎_elim, inl, inr, ◌<◌, ◌≤◌, ℕ, zero, suc, List, [], ◌∷◌, length, Option, Some, None, refl, sym, ◌∙◌, ap, subst, arith}
+use Rattle.std.proofs.Common.{◌≡◌, ◌≢◌, ◌⊎◌, ⊎_elim, inl, inr, ◌<◌, ◌≤◌, ℕ, List, [], ◌∷◌, length, Option, Some, None, sym, ◌∙◌, ap, subst, arith}
 use Rattle.std.specs.Option.{option_map_or}
 use Rattle.std.specs.Prelude.{IsSome, slice_get}
 use Rattle.std.specs.List.{Contains}
@@ -178,11 +178,6 @@ begun_ends {D} shard old new out rests it = record {
     by (SaidOut answer) b = absurd b
     by Waits b = absurd b
     by NotYet b = absurd b
-
-pub shard_there : {X : Type 0} (xs : List X) (i : ℕ) → i < length xs → (x : X) × (slice_get xs i ≡ Some x)
-shard_there [] i within = absurd (omega (arith, within))
-shard_there (x ∷ xs) zero within = (x, refl)
-shard_there (x ∷ xs) (suc i) within = shard_there xs i (omega (arith, within))
 
 -- a writeback begins, or there is nothing to do
 pub begin_went_on : {D : Type 0} (shard : ℕ) (old new : CoreState D) (out : Out) → ChangesShard shard old new (BeginsWriteback old.log.durable out) → WentOn out

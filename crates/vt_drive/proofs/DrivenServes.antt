@@ -36,11 +36,12 @@ use Rattle.vt_core.specs.Events.{GivesAnswer, operation_in, reply_of}
 use Rattle.vt_core.specs.Files.{all_of}
 use Rattle.vt_core.specs.Machine.{Machine}
 use Rattle.vt_core.specs.Sound.{IsSound}
+use Rattle.vt_core.proofs.AskWork.{one_rose}
 use Rattle.vt_drive.specs.Answers.{DrivesRequest, IsServed}
 use Rattle.vt_drive.specs.Driven.{DoesRequest, DrivenState, HoldsOn, asked_for, condition_of, result_of, stops_in}
 use Rattle.vt_drive.proofs.DrivenStops.{stop_known, stops_in_same, stops_stay}
 use Rattle.vt_drive.proofs.EndsAll.{why_fell}
-use Rattle.vt_drive.proofs.Risen.{AllFit, fits_in, one_rose, same_fell}
+use Rattle.vt_drive.proofs.Risen.{AllFit, fits_in, same_fell}
 use Rattle.vt_drive.proofs.Told.{Told}
 
 -- ---- a read asks for no more than a block may have
@@ -199,15 +200,15 @@ module _ {D : Type 0} (score : List ℕ → List ℕ) (disk : DiskOf D) (fit : (
 
   pub goes_on : GoesOn (condition_of disk old) (condition_of disk new)
   goes_on = record {
-    setup = it.keeps.setup;
+    setup = it.keeps.store.setup;
     alone = λ yes. yes;
     faults = counts_fell;
-    stops = stops_stay old.core new.core it.keeps.shards it.stops.stay;
-    durable = it.keeps.durable;
+    stops = stops_stay old.core new.core it.keeps.store.shards it.stops.stay;
+    durable = it.keeps.store.durable;
   }
 
   same_stops : a.said ≢ Refused DiskFault → stops_in new.core ≡ stops_in old.core
-  same_stops other = stops_in_same old.core new.core it.keeps.shards (it.stops.cause other)
+  same_stops other = stops_in_same old.core new.core it.keeps.store.shards (it.stops.cause other)
 
   -- the part that had stopped to which it writes
   stop_here : (call : ℕ) → a.said ≡ Refused (Stopped call) → (part : Part) × WritesTo score (setup_of old.core) m part × Contains (stops_in new.core) (part, call)

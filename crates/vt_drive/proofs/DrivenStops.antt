@@ -15,6 +15,7 @@ use Rattle.vt_core.specs.Asking.{shard_of, stop_for}
 use Rattle.vt_core.specs.Core.{CoreState, setup_of, stops_of}
 use Rattle.vt_drive.specs.Driven.{section_stops, stops_in}
 use Rattle.vt_drive.proofs.Whys.{log_stop_same, shard_stops_same}
+use Rattle.vt_log.proofs.Lists.{slice_get_left}
 
 abbrev stops_at : {D : Type 0} → List (ShardState D) → List (Option ℕ)
 stops_at shards = map (λ s. s.section.stopped) shards
@@ -75,11 +76,6 @@ section_from first (o ∷ stops) p has = ⊎_elim
 
 -- ---- stops that stay
 
-in_front : {X : Type 0} (xs ys : List X) (i : ℕ) → i < length xs → slice_get (xs ++ ys) i ≡ slice_get xs i
-in_front [] ys i within = absurd (omega (arith, within))
-in_front (x ∷ xs) ys zero within = refl
-in_front (x ∷ xs) ys (suc i) within = in_front xs ys i (omega (arith, within))
-
 pub stops_stay : {D : Type 0} (old new : CoreState D) → length new.shards ≡ length old.shards
     → ((i call : ℕ) → slice_get (stops_of old) i ≡ Some (Some call) → slice_get (stops_of new) i ≡ Some (Some call)) → (p : Part × ℕ) → Contains (stops_in old) p → Contains (stops_in new) p
 stops_stay {D} old new many stay p has = ⊎_elim
@@ -101,8 +97,8 @@ stops_stay {D} old new many stay p has = ⊎_elim
         let within = slice_get_within (stops_at old.shards) i (Some call) at in
         let here : i < length (stops_at new.shards) =
         omega (arith, within, many, length-map old.shards (λ (s : ShardState D). s.section.stopped), length-map new.shards (λ (s : ShardState D). s.section.stopped)) in
-        sym (in_front (stops_at new.shards) (filter_of new) i here)
-        ∙ stay (suc i) call (in_front (stops_at old.shards) (filter_of old) i within ∙ at)
+        sym (slice_get_left (stops_at new.shards) (filter_of new) i here)
+        ∙ stay (suc i) call (slice_get_left (stops_at old.shards) (filter_of old) i within ∙ at)
 
 pub stops_in_same : {D : Type 0} (old new : CoreState D) → length new.shards ≡ length old.shards → stops_of new ≡ stops_of old → stops_in new ≡ stops_in old
 stops_in_same old new many same =

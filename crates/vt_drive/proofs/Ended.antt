@@ -16,6 +16,7 @@ use Rattle.vt_core.specs.declared.event.Out.TheVariants.{Said as SaidOut, Waits,
 use Rattle.vt_core.specs.Core.{CoreState}
 use Rattle.vt_core.specs.Steps.{Runs, Steps}
 use Rattle.vt_core.proofs.Runs.{one_more_event}
+use Rattle.vt_core.proofs.Mounted.{recursion_append}
 use Rattle.vt_drive.specs.Ending.{FilesAll, HasFailed, TellsFirst, first_failure, first_of}
 use Rattle.vt_drive.specs.Working.{DoesWork, Files, HasFiled, IsFiled, IsOwnWork, WentOn, Works}
 use Rattle.vt_drive.proofs.AtShard.{same_others}
@@ -23,7 +24,7 @@ use Rattle.vt_drive.proofs.WorkDone.{AreOwn, runs_then, works_run}
 
 -- ---- lists
 
-get_left : {X : Type 0} (xs ys : List X) (i : ℕ) (x : X) → slice_get xs i ≡ Some x → slice_get (xs ++ ys) i ≡ Some x
+pub get_left : {X : Type 0} (xs ys : List X) (i : ℕ) (x : X) → slice_get xs i ≡ Some x → slice_get (xs ++ ys) i ≡ Some x
 get_left [] ys i x at = absurd (cc)
 get_left (y ∷ xs) ys zero x at = at
 get_left (y ∷ xs) ys (suc i) x at = get_left xs ys i x at
@@ -34,10 +35,6 @@ get_right {X} (y ∷ xs) ys zero i x is at = absurd (omega (arith, is))
 get_right {X} (y ∷ xs) ys (suc n) i x is at =
     let next : suc n + i ≡ suc (n + i) = omega arith in
     ap (λ (j : ℕ). slice_get (y ∷ xs ++ ys) j) next ∙ get_right xs ys n i x (omega (arith, is)) at
-
-pub all_then : {X : Type 0} (P : X → Type 0) (xs ys : List X) → AllByRecursion P xs → AllByRecursion P ys → AllByRecursion P (xs ++ ys)
-all_then P [] ys a b = b
-all_then P (x ∷ xs) ys a b = (a.0, all_then P xs ys a.1 b)
 
 -- ---- what failed
 
@@ -131,7 +128,7 @@ as_run {D} score disk Needs event own fails (Err why) old new it =
     record {
       events = it.events ++ it.ends.event ∷ [];
       outs = it.outs ++ Failed why ∷ [];
-      own = all_then IsOwnWork it.events (it.ends.event ∷ []) (are_own score disk Needs own it.events it.outs old it.mid it.works) (own it.ends.event it.mid it.ends.needed, tt);
+      own = recursion_append IsOwnWork it.events (it.ends.event ∷ []) (are_own score disk Needs own it.events it.outs old it.mid it.works) (own it.ends.event it.mid it.ends.needed, tt);
       runs = one_more_event score disk it.events it.outs it.ends.event (Failed why) old it.mid new run it.ends.steps;
       tells = failure_then it.outs (Failed why ∷ []) ∙ ap (λ (o : Option Why). option_or o (Some why)) (none_failed score disk Needs it.events it.outs old it.mid it.works);
       failed = λ w is. failed_right event it.events (it.ends.event ∷ []) it.outs (Failed why ∷ []) many
@@ -199,7 +196,7 @@ one_shard_more {D} score disk shard all filed old mid new a works has =
     record {
       events = a.events ++ b.events;
       outs = a.outs ++ b.outs;
-      own = All-from_recursion IsOwnWork (a.events ++ b.events) (all_then IsOwnWork a.events b.events (recursion_from_All IsOwnWork a.events a.own) b.own);
+      own = All-from_recursion IsOwnWork (a.events ++ b.events) (recursion_append IsOwnWork a.events b.events (recursion_from_All IsOwnWork a.events a.own) b.own);
       runs = runs_then score disk a.events b.events a.outs b.outs old mid new a.runs b.runs;
       same = keeps.same ∙ ap (λ (k : CoreState D). record k { shards = new.shards }) a.same;
       shards = λ i s within at well. ⊎_elim

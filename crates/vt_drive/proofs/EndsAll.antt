@@ -24,14 +24,16 @@ use Rattle.vt_core.specs.Sound.{IsSound}
 use Rattle.vt_core.specs.Steps.{Runs, Steps}
 use Rattle.vt_core.specs.Work.{IsSaved}
 use Rattle.vt_core.proofs.Lists.{at_map}
+use Rattle.vt_core.proofs.AskWork.{one_rose}
 use Rattle.vt_drive.specs.Ending.{Ends, EndsFor, EndsParts, FilesAll, HasFailed, TellsFirst, first_failure, first_of}
 use Rattle.vt_drive.specs.Working.{DoesWork, Fails, IsFiled, IsOwnWork, NeedsDurable, Works}
-use Rattle.vt_drive.proofs.Ended.{AsRun, as_many, as_run, failed_left, failed_right, tells_then}
+use Rattle.vt_drive.proofs.Ended.{AsRun, as_many, as_run, failed_left, failed_right, get_left, tells_then}
 use Rattle.vt_drive.proofs.FilterLeft.{filter_gives}
 use Rattle.vt_drive.proofs.Pieces.{log_gives, shard_gives}
-use Rattle.vt_drive.proofs.Risen.{AllFit, fell_then, one_rose, rose_fell, rose_then}
+use Rattle.vt_drive.proofs.Risen.{AllFit, fell_then, rose_fell, rose_then}
 use Rattle.vt_drive.proofs.Whys.{IsStoppedAt, IsWhy, filter_fails, log_fails, shard_fails}
 use Rattle.vt_drive.proofs.WorkDone.{AreOwn, Worked, none_worked, runs_then, step_worked, worked_on}
+use Rattle.vt_drive.proofs.SyncTold.{durable_is_own}
 
 -- ---- runs of own work
 
@@ -150,11 +152,6 @@ behind_front {X} (y ∷ xs) ys i x at =
     let next : length (y ∷ xs) + i ≡ suc (length xs + i) = omega arith in
     ap (λ (n : ℕ). slice_get (y ∷ xs ++ ys) n) next ∙ behind_front xs ys i x at
 
-in_front : {X : Type 0} (xs ys : List X) (i : ℕ) (x : X) → slice_get xs i ≡ Some x → slice_get (xs ++ ys) i ≡ Some x
-in_front [] ys i x at = absurd (cc)
-in_front (y ∷ xs) ys zero x at = at
-in_front (y ∷ xs) ys (suc i) x at = in_front xs ys i x at
-
 -- where a part has stopped that is worked on, it is one of those that have
 abbrev HasStopped : {D : Type 0} → (k : CoreState D) → (call : ℕ) → Type 0
 HasStopped k call = (i : ℕ) × (slice_get (stops_of k) i ≡ Some (Some call))
@@ -181,7 +178,7 @@ step_ends {D} score disk (FileAdvance shard) why old mid new own step rose =
     to_ends disk why (IsStoppedAt shard old) old new rose
     (λ call is. (
       suc shard,
-      in_front (map (λ (s : ShardState D). s.section.stopped) old.shards) (map (λ (b : BloomState D). b.twin.stopped) (option_to_list old.bloom)) shard (Some call)
+      get_left (map (λ (s : ShardState D). s.section.stopped) old.shards) (map (λ (b : BloomState D). b.twin.stopped) (option_to_list old.bloom)) shard (Some call)
           (at_map (λ (s : ShardState D). s.section.stopped) old.shards shard is.0 is.1 ∙ ap Some is.2),
     ))
     (shard_fails disk shard why old mid step.does)
@@ -259,9 +256,6 @@ none_has event events outs none it = by_place outs it.at none it.out_is
 
 -- ---- the whole end
 
-commits_own : {D : Type 0} (number : ℕ) → AreOwn (NeedsDurable {D = D} number)
-commits_own number event k needed = subst (λ (e : Event). IsOwnWork e) (sym needed.0) tt
-
 saves_own : {D : Type 0} → AreOwn {D = D} (λ event k. event ≡ BloomAdvance)
 saves_own event k needed = subst (λ (e : Event). IsOwnWork e) (sym needed) tt
 
@@ -271,7 +265,7 @@ module _ {D : Type 0} (score : List ℕ → List ℕ) (disk : DiskOf D) (fit : (
     (saves : DoesWork score disk (λ event k. event ≡ BloomAdvance) r3 k2 new) (saves_same : new ≡ record k2 { bloom = new.bloom })
     (saved : (done : Unit {0}) → r3 ≡ Ok done → (b : BloomState D) → new.bloom ≡ Some b → IsSaved new.log.durable b) where
   abbrev a : AsRun score disk LogAdvance r1 old k1
-  a = as_run score disk (NeedsDurable (history_len old)) LogAdvance (commits_own (history_len old)) (λ e why x y needed step. needed.0) r1 old k1 commits
+  a = as_run score disk (NeedsDurable (history_len old)) LogAdvance (durable_is_own (history_len old)) (λ e why x y needed step. needed.0) r1 old k1 commits
 
   abbrev c : AsRun score disk BloomAdvance r3 k2 new
   c = as_run score disk (λ event k. event ≡ BloomAdvance) BloomAdvance saves_own (λ e why x y needed step. needed) r3 k2 new saves
@@ -311,7 +305,7 @@ module _ {D : Type 0} (score : List ℕ → List ℕ) (disk : DiskOf D) (fit : (
   log_new = ap (λ (k : CoreState D). k.log) saves_same
 
   many_shards : length k2.shards ≡ length k1.shards
-  many_shards = (own_worked score disk files.events files.outs k1 k2 files_own files.runs).keeps.shards
+  many_shards = (own_worked score disk files.events files.outs k1 k2 files_own files.runs).keeps.store.shards
 
   not_left : (event : Event) → ¬ HasFailed event events outs → ¬ HasFailed event a.events a.outs
   not_left event none failed = none (failed_left event (a.events ++ files.events) c.events (a.outs ++ files.outs) c.outs (failed_left event a.events files.events a.outs files.outs failed))

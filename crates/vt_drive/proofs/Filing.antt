@@ -3,7 +3,7 @@ use Rattle.std.proofs.Common.{◌≡◌, ◌≢◌, ◌⊎◌, ⊎_elim, inl, in
 use Rattle.std.specs.Prelude.{IsSome, max, nat_lt, ◌||◌}
 use Rattle.std.specs.List.{list_any}
 use Rattle.std.proofs.Math.Nat.{mul-le-mul_left, mul-le-mul_right, suc-mul}
-use Rattle.std.proofs.lemmas.Bool.{cases_Bool, cases_lt, ltb-true, ltb-false, lt-ltb, le-ltb}
+use Rattle.std.proofs.lemmas.Bool.{cases_Bool, ltb-true, ltb-false, lt-ltb, le-ltb}
 use Rattle.std.proofs.lemmas.List.{length-map}
 use Rattle.std.proofs.lemmas.List.Elements.{Contains-get_or}
 use Rattle.std.proofs.lemmas.List.Folds.{list_any_at, list_any_none}
@@ -16,7 +16,7 @@ use Rattle.vt_isect.specs.declared.head.Head.{Head}
 use Rattle.vt_isect.specs.declared.phase.Phase.{Phase}
 use Rattle.vt_isect.specs.declared.phase.Phase.TheVariants.{Rest, ReadSelector, ReadFrame, ChangeBucket, ChangeHead}
 use Rattle.vt_isect.specs.Section.{SectionState, entries_of}
-use Rattle.vt_isect.specs.Writeback.{BeginsBehind, NextPhase, calls_left, most_calls}
+use Rattle.vt_isect.specs.Writeback.{BeginsBehind, calls_left, most_calls}
 use Rattle.vt_twin.specs.declared.step.Step.{Step}
 use Rattle.vt_twin.specs.declared.step.Step.TheVariants.{More, Done}
 use Rattle.vt_log.specs.Log.{LogState}
@@ -25,24 +25,13 @@ use Rattle.vt_shard.specs.Shard.{HasBelow, ShardState}
 use Rattle.vt_shard.specs.Writeback.{HasWork, TakesStep, without_list}
 use Rattle.vt_core.specs.declared.event.Out.TheVariants.{Moved}
 use Rattle.vt_core.specs.Work.{AdvancesWriteback, BeginsWriteback}
+use Rattle.vt_core.proofs.WritingBack.{goes_on}
+use Rattle.vt_core.proofs.ShardCall.{list_head, list_next}
 use Rattle.vt_drive.specs.Working.{has_work, left_in, left_with, most_left}
 use Rattle.vt_drive.proofs.Pieces.{shard_moved}
+use Rattle.vt_model.proofs.Lists.{both_false}
 
 -- ---- a step of a writeback
-
-list_head : {D : Type 0} (p : Phase) (t : SectionState D) → (without_list p t).head ≡ t.head
-list_head Rest t = refl
-list_head ReadSelector t = refl
-list_head (ReadFrame s) t = refl
-list_head ChangeBucket t = refl
-list_head ChangeHead t = refl
-
-list_next : {D : Type 0} (p : Phase) (t : SectionState D) → (without_list p t).next ≡ t.next
-list_next Rest t = refl
-list_next ReadSelector t = refl
-list_next (ReadFrame s) t = refl
-list_next ChangeBucket t = refl
-list_next ChangeHead t = refl
 
 list_phase : {D : Type 0} (p : Phase) (t : SectionState D) → (without_list p t).phase ≡ t.phase
 list_phase Rest t = refl
@@ -50,15 +39,6 @@ list_phase ReadSelector t = refl
 list_phase (ReadFrame s) t = refl
 list_phase ChangeBucket t = refl
 list_phase ChangeHead t = refl
-
--- behind a call that wasn't the last, the next one is under way
-goes_on : {D : Type 0} (p : Phase) (old new : SectionState D) → NextPhase p old new → new.phase ≢ Rest
-goes_on Rest old new next rest = next
-goes_on ReadSelector old new next rest = let is = next.0.1 in let no = sym is ∙ rest in cc
-goes_on (ReadFrame s) old new next rest = let no = sym next.0 ∙ rest in cc
-goes_on ChangeBucket old new next rest = ⊎_elim (λ more. let no = sym more.1 ∙ rest in cc)
-    (λ last. ⊎_elim (λ group. let no = sym group.0 ∙ rest in cc) (λ head. let no = sym head.0 ∙ rest in cc) last.1) next
-goes_on ChangeHead old new next rest = let no = sym next.1 ∙ rest in cc
 
 -- What is known of a shard behind a call that went well.
 pub record Advanced {D : Type 0} (before after : ShardState D) : Type 0 where
@@ -132,10 +112,6 @@ pub there_is_none : {D : Type 0} (durable : ℕ) (s : ShardState D) → ¬ HasBe
 there_is_none durable s none mark =
     ap (λ (b : Bool). b || nat_lt s.section.head.mark durable) (none_below durable s.index.dirty none) ∙ le-ltb s.section.head.mark durable mark
 
--- with nothing to write back, none is below and the mark isn't
-pub filed_is : {D : Type 0} (durable : ℕ) (s : ShardState D) → ¬ HasWork durable s → has_work durable s ≡ false
-filed_is durable s none = there_is_none durable s (λ below. none (inl below)) (⊎_elim (λ low. absurd (none (inr low))) (λ high. high) (cases_lt s.section.head.mark durable))
-
 pub no_work_from : {D : Type 0} (durable : ℕ) (s : ShardState D) → ¬ HasBelow durable s.index.dirty → durable ≤ s.section.head.mark → ¬ HasWork durable s
 no_work_from durable s none mark work = ⊎_elim none (λ low. omega (arith, low, mark)) work
 
@@ -159,10 +135,6 @@ same_times a m n x y fewer less =
     let second : a * (m + 1) ≤ a * (n + 1) = times_more a (m + 1) (n + 1) (omega (arith, fewer)) in
     omega (arith, second, less)
 
--- what is left of a writeback, where its end leaves something (or not)
-left_by : (calls most : ℕ) (again : Bool) → ℕ
-left_by calls most again = calls + cond again most 0
-
 less_by : (calls calls' most most' : ℕ) (again : Bool) → calls' < calls → most' ≤ most → calls' + cond again most' 0 < calls + cond again most 0
 less_by calls calls' most most' true less fewer = omega (arith, less, fewer)
 less_by calls calls' most most' false less fewer = omega (arith, less)
@@ -172,11 +144,6 @@ ended_by calls most most' true true some fewer ends = omega (arith, some, fewer)
 ended_by calls most most' true false some fewer ends = omega (arith, some)
 ended_by calls most most' false true some fewer ends = absurd (let no = ends refl in cc)
 ended_by calls most most' false false some fewer ends = omega (arith, some)
-
-both_false : (a b : Bool) → (a || b) ≡ false → (a ≡ false) × (b ≡ false)
-both_false true b is = absurd (cc)
-both_false false true is = absurd (cc)
-both_false false false is = (refl, refl)
 
 pub most_fewer : {D : Type 0} (before after : ShardState D) → length after.index.dirty ≤ length before.index.dirty → most_left after ≤ most_left before
 most_fewer before after fewer = omega (arith, fewer)

@@ -14,9 +14,10 @@ use Rattle.vt_core.specs.Asking.{shard_of}
 use Rattle.vt_core.specs.Core.{CoreState, history_len}
 use Rattle.vt_core.specs.Steps.{Runs, Steps}
 use Rattle.vt_core.proofs.Runs.{one_more_event}
+use Rattle.vt_core.proofs.Mounted.{recursion_append}
 use Rattle.vt_drive.specs.Requests.{IsForRequest, IsRequested, WritesAgain, refused}
 use Rattle.vt_drive.specs.Working.{DoesWork, IsOwnWork}
-use Rattle.vt_drive.proofs.Ended.{all_then, are_own}
+use Rattle.vt_drive.proofs.Ended.{are_own}
 use Rattle.vt_drive.proofs.SyncTold.{durable_is_own}
 use Rattle.vt_drive.proofs.Told.{room_is_own}
 use Rattle.vt_drive.proofs.WorkDone.{AreOwn, works_run}
@@ -48,7 +49,7 @@ module _ {D : Type 0} (score : List ℕ → List ℕ) (disk : DiskOf D) (session
   last_of_run event out old mid new is run step = (
     run.0 ++ event ∷ [],
     run.1 ++ out ∷ [],
-    all_then (IsForRequest session r now) run.0 (event ∷ []) run.2 (is, tt),
+    recursion_append (IsForRequest session r now) run.0 (event ∷ []) run.2 (is, tt),
     one_more_event score disk run.0 run.1 event out old mid new run.3 step,
   )
 

@@ -1,19 +1,11 @@
 -- Counts of failed calls, of which one has risen.
-use Rattle.std.proofs.Common.{◌≡◌, ◌⊎◌, ⊎_elim, inl, inr, ◌-◌, ◌^◌, ◌<◌, ◌≤◌, ℕ, zero, suc, List, [], ◌∷◌, map, sym, subst, arith}
+use Rattle.std.proofs.Common.{⊎_elim, inl, inr, ◌-◌, ◌^◌, ◌<◌, ◌≤◌, ℕ, zero, suc, List, [], ◌∷◌, map, sym, subst, arith}
 use Rattle.std.proofs.lemmas.Bool.{cases_lt}
 use Rattle.std.specs.Prelude.{slice_index}
 use Rattle.vt_base.specs.Faults.{HasRisen}
 use Rattle.vt_log.specs.Faults.{OneHasRisen}
 use Rattle.vt_session.specs.Answered.{NoneFell, OneRose}
 use Rattle.vt_core.proofs.LogWork.{one_or_other}
-
-pub rises : (old new : ℕ) → HasRisen old new → (old < new) ⊎ (new ≡ 2 ^ 64 - 1)
-rises old new is = ⊎_elim
-    (λ below. inl (omega (arith, below, is)))
-    (λ above. inr (omega (arith, above, is))) (cases_lt old (2 ^ 64 - 1))
-
-pub one_rose : (old new : List ℕ) → OneHasRisen old new → OneRose old new
-one_rose old new it = (it.which, rises (slice_index old it.which) (slice_index new it.which) it.rose)
 
 -- ---- no count falls, since each fits its type
 
@@ -40,7 +32,7 @@ rose_fell old new fit it i = ⊎_elim
     (λ same. subst (λ (j : ℕ). slice_index old j ≤ slice_index new j) (sym same) (rose_up (slice_index old it.which) (slice_index new it.which) (fit it.which) it.rose))
     (λ other. omega (arith, it.others i other)) (one_or_other i it.which)
 
--- one that rose has risen, whatever rises later
+-- one that rose has risen, whatever rose_between later
 pub rose_then : (old mid new : List ℕ) → AllFit new → OneRose old mid → NoneFell mid new → OneRose old new
 rose_then old mid new fit it fell = (
   it.0,

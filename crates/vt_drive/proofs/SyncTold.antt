@@ -1,7 +1,5 @@
 -- What is told of a sync that was waited for.
-use Rattle.std.proofs.Common.{◌≡◌, ◌⊎◌, ⊎_elim, inl, inr, ◌+◌, ◌<◌, ◌≤◌, ℕ, zero, suc, List, [], ◌∷◌, length, Option, Some, None, Result, Ok, Err, refl, sym, ◌∙◌, ap, subst, arith}
-use Rattle.std.proofs.lemmas.Option.{same_Some}
-use Rattle.std.specs.Option.{option_map}
+use Rattle.std.proofs.Common.{◌≡◌, ◌⊎◌, ⊎_elim, inl, inr, ◌+◌, ◌<◌, ◌≤◌, ℕ, List, length, Option, Some, None, Result, Ok, Err, refl, sym, ◌∙◌, ap, subst, arith}
 use Rattle.std.specs.Prelude.{IsTrue, MatchResult, OnOk, max, slice_get, slice_set}
 use Rattle.vt_base.specs.declared.answer.Answer.{Answer}
 use Rattle.vt_base.specs.declared.answer.Said.{Said}
@@ -9,7 +7,6 @@ use Rattle.vt_base.specs.declared.answer.Said.TheVariants.{Score, Block, Synced,
 use Rattle.vt_base.specs.declared.why.Why.{Why}
 use Rattle.vt_base.specs.declared.why.Why.TheVariants.{BadType, TooBig, TooSmall, Absent, Collision, IndexFull, ArenasFull, DiskFault, Stopped, Damaged, NoMemory}
 use Rattle.vt_base.specs.Protocol.{Operation, sync}
-use Rattle.vt_bloom.specs.Bloom.{BloomState}
 use Rattle.vt_disk.specs.Members.{DiskOf}
 use Rattle.vt_model.specs.History.{History}
 use Rattle.vt_log.specs.declared.bad.LogErr.{LogErr}
@@ -28,33 +25,24 @@ use Rattle.vt_core.specs.declared.event.Out.TheVariants.{Said as SaidOut, Waits,
 use Rattle.vt_core.specs.declared.event.Out.{Out}
 use Rattle.vt_core.specs.Asking.{AnswersSync, EndsSync, MayBeTold, with_waiting}
 use Rattle.vt_core.specs.Causes.{CountsSaid, CountsWhy, IsUndamagedSaid, IsUndamagedWhy}
-use Rattle.vt_core.specs.Core.{CoreState, each_of, history_len, machine_of, setup_of, stops_of}
+use Rattle.vt_core.specs.Core.{CoreState, each_of, history_len, machine_of, stops_of}
 use Rattle.vt_core.specs.Events.{EndsWaiting, operation_in}
 use Rattle.vt_core.specs.Machine.{Machine, WaitsForNone, WaitsAt}
 use Rattle.vt_core.specs.Sound.{IsSound}
-use Rattle.vt_core.specs.Steps.{GoesOn, Steps}
+use Rattle.vt_core.specs.Steps.{KeepsStore, Steps}
 use Rattle.vt_core.proofs.Calls.{get_set}
+use Rattle.vt_core.proofs.Kept.{keeps_then}
+use Rattle.vt_core.proofs.AskWork.{one_rose}
+use Rattle.vt_core.proofs.TakingAllBack.{set_same}
+use Rattle.vt_core.proofs.NewWork.{set_set}
 use Rattle.vt_core.specs.Work.{AdvancesLog, out_of_progress}
-use Rattle.vt_drive.specs.Answers.{KeepsAll, Suits}
+use Rattle.vt_drive.specs.Answers.{Suits}
 use Rattle.vt_drive.specs.Requests.{EndsWait, refused}
 use Rattle.vt_drive.specs.Working.{DoesWork, IsOwnWork, NeedsDurable}
 use Rattle.vt_drive.proofs.AskGives.{IsWaiting}
-use Rattle.vt_drive.proofs.Risen.{one_rose}
 use Rattle.vt_drive.proofs.Told.{Told}
 use Rattle.vt_drive.proofs.Whys.{log_faults, log_stop_same, log_stopped}
 use Rattle.vt_drive.proofs.WorkDone.{AreOwn, Did, Worked, did, works_well}
-
--- ---- a list of what sessions wait for
-
-set_set : {X : Type 0} (xs : List X) (i : ℕ) (x y : X) → slice_set (slice_set xs i x) i y ≡ slice_set xs i y
-set_set [] i x y = refl
-set_set (z ∷ xs) zero x y = refl
-set_set {X} (z ∷ xs) (suc i) x y = ap (λ (ys : List X). z ∷ ys) (set_set xs i x y)
-
-set_own : {X : Type 0} (xs : List X) (i : ℕ) (x : X) → slice_get xs i ≡ Some x → slice_set xs i x ≡ xs
-set_own [] i x at = refl
-set_own {X} (z ∷ xs) zero x at = ap (λ (y : X). y ∷ xs) (sym (same_Some z x at))
-set_own {X} (z ∷ xs) (suc i) x at = ap (λ (ys : List X). z ∷ ys) (set_own xs i x at)
 
 -- ---- what is said in the end
 
@@ -88,52 +76,6 @@ by_said session at (Refused IndexFull) old new it = absurd it
 by_said session at (Refused ArenasFull) old new it = absurd it
 by_said session at (Score score) old new it = absurd it
 by_said session at (Block bytes) old new it = absurd it
-
--- ---- what stays, whoever waits
-
-record Kept {D : Type 0} (disk : DiskOf D) (old new : CoreState D) : Type 0 where
-  tables : new.log.tables ≡ old.log.tables
-  layout : new.log.layout ≡ old.log.layout
-  setup : setup_of new ≡ setup_of old
-  shards : length new.shards ≡ length old.shards
-  filter : option_map (λ (b : BloomState D). b.m) new.bloom ≡ option_map (λ (b : BloomState D). b.m) old.bloom
-  sizes : each_of disk.size new ≡ each_of disk.size old
-  len : history_len old ≤ history_len new
-  durable : old.log.durable ≤ new.log.durable
-  synced : old.synced ≤ new.synced
-
-kept_by : {D : Type 0} (disk : DiskOf D) (old new : CoreState D) → GoesOn disk old new → Kept disk old new
-kept_by disk old new on = record { tables = on.tables; layout = on.layout; setup = on.setup; shards = on.shards; filter = on.filter; sizes = on.sizes; len = on.len; durable = on.durable; synced = on.synced }
-
-kept_in : {D : Type 0} (disk : DiskOf D) (old new : CoreState D) → KeepsAll disk old new → Kept disk old new
-kept_in disk old new on = record { tables = on.tables; layout = on.layout; setup = on.setup; shards = on.shards; filter = on.filter; sizes = on.sizes; len = on.len; durable = on.durable; synced = on.synced }
-
-kept_then : {D : Type 0} (disk : DiskOf D) (old mid new : CoreState D) → Kept disk old mid → Kept disk mid new → Kept disk old new
-kept_then disk old mid new a b = record {
-  tables = b.tables ∙ a.tables;
-  layout = b.layout ∙ a.layout;
-  setup = b.setup ∙ a.setup;
-  shards = b.shards ∙ a.shards;
-  filter = b.filter ∙ a.filter;
-  sizes = b.sizes ∙ a.sizes;
-  len = omega (arith, a.len, b.len);
-  durable = omega (arith, a.durable, b.durable);
-  synced = omega (arith, a.synced, b.synced);
-}
-
-all_kept : {D : Type 0} (disk : DiskOf D) (old new : CoreState D) → Kept disk old new → new.waiting ≡ old.waiting → KeepsAll disk old new
-all_kept disk old new on waiting = record {
-  tables = on.tables;
-  layout = on.layout;
-  setup = on.setup;
-  shards = on.shards;
-  filter = on.filter;
-  sizes = on.sizes;
-  waiting = waiting;
-  len = on.len;
-  durable = on.durable;
-  synced = on.synced;
-}
 
 -- ---- the work
 
@@ -171,12 +113,12 @@ module _ {D : Type 0} (score : List ℕ → List ℕ) (disk : DiskOf D) (session
   at_is : (at : ℕ) → WaitsAt committed.waiting session at → at ≡ history_len old
   at_is at it = let both : Some (Some at) ≡ Some (Some (history_len old)) = sym it ∙ is_waiting in cc
 
-  kept : Kept disk old new
-  kept = kept_then disk old w new (kept_by disk old w asks.goes_on) (kept_then disk w committed new (kept_in disk w committed worked.keeps) (kept_by disk committed new ends.goes_on))
+  kept : KeepsStore disk old new
+  kept = keeps_then disk old w new asks.goes_on.store (keeps_then disk w committed new worked.keeps.store ends.goes_on.store)
 
   waits_no_more : new.waiting ≡ slice_set committed.waiting session None → new.waiting ≡ old.waiting
   waits_no_more is = is ∙ ap (λ (ws : List (Option ℕ)). slice_set ws session None) (worked.keeps.waiting ∙ ap (λ (k : CoreState D). k.waiting) waits.new_is)
-      ∙ set_set old.waiting session (Some (history_len old)) None ∙ set_own old.waiting session None free
+      ∙ set_set old.waiting session (Some (history_len old)) None ∙ set_same old.waiting session None free
 
   one_more : history_len new ≡ history_len committed → history_len new ≤ history_len old + 1
   one_more same = omega (arith, same, worked.len, len)
@@ -196,7 +138,7 @@ module _ {D : Type 0} (score : List ℕ → List ℕ) (disk : DiskOf D) (session
   back : (x : Machine) → x.waiting ≡ old.waiting → record (waiting_machine x) { waiting = slice_set (slice_set x.waiting session (Some (history_len old))) session None } ≡ x
   back x same =
       let here : slice_get x.waiting session ≡ Some None = ap (λ (ws : List (Option ℕ)). slice_get ws session) same ∙ free in
-      ap (λ (ws : List (Option ℕ)). record x { waiting = ws }) (set_set x.waiting session (Some (history_len old)) None ∙ set_own x.waiting session None here)
+      ap (λ (ws : List (Option ℕ)). record x { waiting = ws }) (set_set x.waiting session (Some (history_len old)) None ∙ set_same x.waiting session None here)
 
   -- it is synced
   told_well : stops_of committed ≡ stops_of old → each_of disk.faults committed ≡ each_of disk.faults old → EndsWell session said.at said.said committed new
@@ -205,14 +147,14 @@ module _ {D : Type 0} (score : List ℕ → List ℕ) (disk : DiskOf D) (session
     at = at_is said.at it.waits;
     one_more = one_more (ap (λ (k : CoreState D). history_len k) it.new_is);
     suits = subst (λ (s : Said). Suits score sync s) (sym it.said_is) tt;
-    keeps = all_kept disk old new kept (waits_no_more (ap (λ (k : CoreState D). k.waiting) it.new_is));
+    keeps = record { store = kept; waiting = waits_no_more (ap (λ (k : CoreState D). k.waiting) it.new_is) };
     stops = record {
       stay = λ i call at. ends.stops.stay i call (subst (λ (l : List (Option ℕ)). slice_get l i ≡ Some (Some call)) (sym stops) at);
       cause = λ _. ends.stops.cause (λ e. cc) ∙ stops;
     };
     counts = subst (λ (ns : List ℕ). CountsSaid said.said ns (each_of disk.faults new)) counts ends.counts;
     cause = λ why e. absurd (let no = sym it.said_is ∙ e in cc);
-    covered = λ _. omega (arith, it.durable, at_is said.at it.waits, ends.goes_on.durable);
+    covered = λ _. omega (arith, it.durable, at_is said.at it.waits, ends.goes_on.store.durable);
     serves = λ h tells sound.
         let first = sound_then h tells sound in
         let last = ends.machine tells h first.0 in
@@ -235,7 +177,7 @@ module _ {D : Type 0} (score : List ℕ → List ℕ) (disk : DiskOf D) (session
     at = at_is said.at it.waits;
     one_more = one_more (ap (λ (k : CoreState D). history_len k) it.new_is);
     suits = tt;
-    keeps = all_kept disk old new kept (waits_no_more (ap (λ (k : CoreState D). k.waiting) it.new_is));
+    keeps = record { store = kept; waiting = waits_no_more (ap (λ (k : CoreState D). k.waiting) it.new_is) };
     stops = record {
       stay = λ i call at. ends.stops.stay i call (made.stops.stay i call (subst (λ (l : List (Option ℕ)). slice_get l i ≡ Some (Some call)) (sym stops) at));
       cause = λ other. absurd (other (ap Refused fell.why_is));

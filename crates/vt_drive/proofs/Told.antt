@@ -1,6 +1,6 @@
 -- What is told of a request that was driven to its answer.
 use Rattle.std.proofs.Common.{◌≡◌, ◌≢◌, ⊎_elim, inl, inr, ◌+◌, ◌-◌, ◌<◌, ◌≤◌, ℕ, List, length, Option, Some, None, Result, Ok, Err, refl, sym, ◌∙◌, ap, subst, arith}
-use Rattle.std.specs.Prelude.{IsTrue, MatchResult, OnOk, slice_get}
+use Rattle.std.specs.Prelude.{IsTrue, MatchResult, slice_get}
 use Rattle.vt_base.specs.declared.answer.Answer.{Answer}
 use Rattle.vt_base.specs.declared.answer.Said.{Said}
 use Rattle.vt_base.specs.declared.answer.Said.TheVariants.{Synced, Refused}
@@ -33,7 +33,7 @@ use Rattle.vt_shard.specs.declared.TheConstants.{ROOM}
 use Rattle.vt_drive.specs.Working.{DoesWork, NeedsDurable, NeedsRoom}
 use Rattle.vt_drive.proofs.AskGives.{FindsNoRoom, Given, IsSaid, gives}
 use Rattle.vt_drive.proofs.Whys.{IsStoppedAt, IsWhy, log_fails, log_stop_same, nothing_stopped, shard_fails, stop_for_same, stopped_before}
-use Rattle.vt_drive.proofs.WorkDone.{AreOwn, Did, did, keeps_all, keeps_on, works_well}
+use Rattle.vt_drive.proofs.WorkDone.{AreOwn, Did, did, keeps_on, works_well}
 
 -- all that is told but by which events
 pub record Told {D : Type 0} (score : List ℕ → List ℕ) (disk : DiskOf D) (m : Operation) (a : Answer) (old new : CoreState D) : Type 0 where
@@ -69,7 +69,7 @@ told_at_once {D} score disk session now r a old new free other step =
       at = ap (λ (x : Answer). x.at) is;
       one_more = step.goes_on.one_more;
       suits = subst (λ (s : Said). Suits score m s) (sym said_is) it.suits;
-      keeps = keeps_all disk old new step.goes_on it.waiting;
+      keeps = record { store = step.goes_on.store; waiting = it.waiting };
       stops = record { stay = step.stops.stay; cause = λ _. step.stops.cause (λ e. cc) };
       counts = step.counts;
       cause = λ why e. step.does.cause why (it.out_is ∙ ap (λ (s : Said). says s old) (sym said_is ∙ e));
@@ -89,15 +89,6 @@ pub record Behind {D : Type 0} (score : List ℕ → List ℕ) (disk : DiskOf D)
   pub stops : stops_of new ≡ stops_of old
   pub quiet : (h : History) → IsTrue disk.tells → IsSound score disk old h → IsSound score disk new h × (machine_of new h ≡ machine_of old h)
 
-pub behind_then : {D : Type 0} (score : List ℕ → List ℕ) (disk : DiskOf D) (m : Operation) (old mid new : CoreState D) → Behind score disk m old mid → Behind score disk m mid new → Behind score disk m old new
-behind_then score disk m old mid new a b = record {
-  keeps = keeps_on disk old mid new a.keeps b.keeps;
-  len = b.len ∙ a.len;
-  counts = b.counts ∙ a.counts;
-  stops = b.stops ∙ a.stops;
-  quiet = λ h tells sound. let first = a.quiet h tells sound in let second = b.quiet h tells first.0 in (second.0, second.1 ∙ first.1);
-}
-
 -- work that went on
 pub behind_work : {D T : Type 0} (score : List ℕ → List ℕ) (disk : DiskOf D) (m : Operation) (done : T) (old new : CoreState D) → Did {T = T} score disk (Ok done) old new → Behind score disk m old new
 behind_work score disk m done old new it = record { keeps = it.worked.keeps; len = it.worked.len; counts = it.counts; stops = it.stops; quiet = it.worked.quiet }
@@ -106,7 +97,7 @@ behind_work score disk m done old new it = record { keeps = it.worked.keeps; len
 pub behind_test : {D : Type 0} (score : List ℕ → List ℕ) (disk : DiskOf D) (session now : ℕ) (r : Request) (old new : CoreState D) → Steps score disk (Ask session r now) NotYet old new
     → FindsNoRoom score (operation_in (message_of r)) NotYet old new → Behind score disk (operation_in (message_of r)) old new
 behind_test {D} score disk session now r old new step it = record {
-  keeps = keeps_all disk old new step.goes_on it.waiting;
+  keeps = record { store = step.goes_on.store; waiting = it.waiting };
   len = it.len;
   counts = step.counts;
   stops = step.stops.cause (λ e. cc);
@@ -140,7 +131,7 @@ told_behind {D} score disk m a old mid new before it = record {
     cause = λ other. it.stops.cause other ∙ before.stops;
   };
   counts = subst (λ (ns : List ℕ). CountsSaid a.said ns (each_of disk.faults new)) before.counts it.counts;
-  cause = λ why e. told_before score m old mid (stop_for_same score m old mid before.stops before.keeps.shards before.keeps.setup) why (it.cause why e);
+  cause = λ why e. told_before score m old mid (stop_for_same score m old mid before.stops before.keeps.store.shards before.keeps.store.setup) why (it.cause why e);
   covered = λ e. omega (arith, it.covered e, before.len);
   serves = λ h tells sound.
       let first = before.quiet h tells sound in
@@ -234,7 +225,7 @@ pub room_failure : {D : Type 0} (score : List ℕ → List ℕ) (disk : DiskOf D
 room_failure {D} score disk shard why old new log_goes shard_goes it =
     let well = works_well score disk (NeedsRoom shard) (room_is_own shard) it.events it.outs old it.mid it.works in
     let log_now : it.mid.log.stopped ≡ None = log_stop_same old it.mid well.stops ∙ log_goes in
-    let shard_now : (call : ℕ) → ¬ IsStoppedAt shard it.mid call = λ call. still old it.mid well.stops well.worked.keeps.shards call (shard_goes call) in
+    let shard_now : (call : ℕ) → ¬ IsStoppedAt shard it.mid call = λ call. still old it.mid well.stops well.worked.keeps.store.shards call (shard_goes call) in
     by_event it.ends.event it.mid it.ends.needed log_now shard_now it.ends.steps
   where
     still : (k mid : CoreState D) → stops_of mid ≡ stops_of k → length mid.shards ≡ length k.shards → (call : ℕ) → ¬ IsStoppedAt shard k call → ¬ IsStoppedAt shard mid call
@@ -280,10 +271,6 @@ told_again {D} score disk session now r a old new free reaches goes it = by_made
 pub room_from_durable : {D : Type 0} (shard number : ℕ) (old k : CoreState D) (event : Event) → number ≡ history_len old - 63 → history_len k ≡ history_len old → NeedsDurable number event k
     → NeedsRoom shard event k
 room_from_durable shard number old k event is same needed = subst (λ (e : Event). NeedsRoom shard e k) (sym needed.0) (inl (omega (arith, is, same, needed.1)))
-
-pub always_ok : {X E P : Type 0} (r : Result X E) → P → OnOk r P
-always_ok (Ok x) p = p
-always_ok (Err e) p = tt
 
 -- ---- a block for which there is room
 

@@ -1,5 +1,5 @@
 -- What pieces of a store's own work leave, one after another.
-use Rattle.std.proofs.Common.{◌≡◌, ◌≢◌, ℕ, List, [], ◌∷◌, ◌++◌, Some, Ok, Err, Result, refl, sym, ◌∙◌, ap, subst, arith}
+use Rattle.std.proofs.Common.{◌≡◌, ◌≢◌, ℕ, List, [], ◌∷◌, ◌++◌, Some, Ok, Err, Result, refl, sym, ◌∙◌, ap, subst}
 use Rattle.std.specs.Prelude.{IsTrue, IfErr, MatchResult, slice_get}
 use Rattle.std.specs.Result.{IsErrAnd}
 use Rattle.vt_base.specs.declared.why.Why.{Why}
@@ -15,7 +15,8 @@ use Rattle.vt_core.specs.Core.{CoreState, each_of, history_len, machine_of, stop
 use Rattle.vt_core.specs.Events.{IsWork, MakesStep}
 use Rattle.vt_core.specs.Machine.{Machine}
 use Rattle.vt_core.specs.Sound.{IsSound}
-use Rattle.vt_core.specs.Steps.{Does, GoesOn, Runs, Steps}
+use Rattle.vt_core.specs.Steps.{Does, Runs, Steps}
+use Rattle.vt_core.proofs.Kept.{keeps_then, same_store}
 use Rattle.vt_drive.specs.Answers.{KeepsAll, KeepsStopped}
 use Rattle.vt_drive.specs.Working.{DoesWork, IsOwnWork, WentOn, Works}
 
@@ -96,42 +97,17 @@ pub record Worked {D : Type 0} (score : List ℕ → List ℕ) (disk : DiskOf D)
   pub synced : new.synced ≡ old.synced
   pub quiet : (h : History) → IsTrue disk.tells → IsSound score disk old h → IsSound score disk new h × (machine_of new h ≡ machine_of old h)
 
-pub keeps_all : {D : Type 0} (disk : DiskOf D) (old new : CoreState D) → GoesOn disk old new → new.waiting ≡ old.waiting → KeepsAll disk old new
-keeps_all disk old new on waiting = record {
-  tables = on.tables;
-  layout = on.layout;
-  setup = on.setup;
-  shards = on.shards;
-  filter = on.filter;
-  sizes = on.sizes;
-  waiting = waiting;
-  len = on.len;
-  durable = on.durable;
-  synced = on.synced;
-}
-
 pub all_kept : {D : Type 0} (disk : DiskOf D) (k : CoreState D) → KeepsAll disk k k
-all_kept disk k = record { tables = refl; layout = refl; setup = refl; shards = refl; filter = refl; sizes = refl; waiting = refl; len = omega arith; durable = omega arith; synced = omega arith }
+all_kept disk k = record { store = same_store disk k; waiting = refl }
 
 pub keeps_on : {D : Type 0} (disk : DiskOf D) (old mid new : CoreState D) → KeepsAll disk old mid → KeepsAll disk mid new → KeepsAll disk old new
-keeps_on disk old mid new a b = record {
-  tables = b.tables ∙ a.tables;
-  layout = b.layout ∙ a.layout;
-  setup = b.setup ∙ a.setup;
-  shards = b.shards ∙ a.shards;
-  filter = b.filter ∙ a.filter;
-  sizes = b.sizes ∙ a.sizes;
-  waiting = b.waiting ∙ a.waiting;
-  len = omega (arith, a.len, b.len);
-  durable = omega (arith, a.durable, b.durable);
-  synced = omega (arith, a.synced, b.synced);
-}
+keeps_on disk old mid new a b = record { store = keeps_then disk old mid new a.store b.store; waiting = b.waiting ∙ a.waiting }
 
 pub step_worked : {D : Type 0} (score : List ℕ → List ℕ) (disk : DiskOf D) (event : Event) (out : Out) (old new : CoreState D) → IsOwnWork event → Steps score disk event out old new → Worked score disk old new
 step_worked {D} score disk event out old new own step =
     let rest = own_keeps score disk event out old new own step.does in
     record {
-      keeps = keeps_all disk old new step.goes_on rest.waiting;
+      keeps = record { store = step.goes_on.store; waiting = rest.waiting };
       len = rest.len;
       synced = rest.synced;
       quiet = λ h tells sound.
@@ -259,11 +235,6 @@ pub piece_fails : {D T : Type 0} (score : List ℕ → List ℕ) (disk : DiskOf 
     → Needs event old → Steps score disk event (Failed why) old new → DoesWork {T = T} score disk Needs (Err why) old new
 piece_fails score disk Needs why event old new needed step =
     record { events = []; outs = []; mid = old; works = refl; ends = record { event = event; needed = needed; steps = step } }
-
--- failing is failing, whatever would have been given
-pub fails_alike : {D T U : Type 0} (score : List ℕ → List ℕ) (disk : DiskOf D) (Needs : Event → CoreState D → Type 0) (why : Why) (old new : CoreState D)
-    → DoesWork {T = T} score disk Needs (Err why) old new → DoesWork {T = U} score disk Needs (Err why) old new
-fails_alike score disk Needs why old new it = record { events = it.events; outs = it.outs; mid = it.mid; works = it.works; ends = it.ends }
 
 -- needed for one thing is needed for another, of stores that have accepted as many blocks
 pub works_for : {D : Type 0} (score : List ℕ → List ℕ) (disk : DiskOf D) (Needs Wants : Event → CoreState D → Type 0) (len : ℕ) → AreOwn Needs

@@ -1,6 +1,5 @@
 -- What the answer to a request that was driven to its end says, and what it leaves.
 use Rattle.std.specs.Prelude.{◌≡◌, ◌≢◌, ◌⊎◌, ⊤, ℕ, ◌+◌, ◌≤◌, max, IsTrue, None, Some, Result, Ok, Err, List, length, slice_get}
-use Rattle.std.specs.Option.{option_map}
 use Rattle.vt_base.specs.declared.answer.Answer.{Answer}
 use Rattle.vt_base.specs.declared.answer.Said.{Said}
 use Rattle.vt_base.specs.declared.answer.Said.TheVariants.{Score, Block, Synced, Refused}
@@ -19,6 +18,7 @@ use Rattle.vt_core.specs.Events.{FailsIn, GivesAnswer, operation_in}
 use Rattle.vt_core.specs.Files.{all_of}
 use Rattle.vt_core.specs.Machine.{Machine}
 use Rattle.vt_core.specs.Sound.{IsSound}
+use Rattle.vt_core.specs.Steps.{KeepsStore}
 use Rattle.vt_drive.specs.Requests.{IsRequested}
 
 -- ---- what stays
@@ -26,16 +26,8 @@ use Rattle.vt_drive.specs.Requests.{IsRequested}
 -- what a store was mounted with stays, and no block and no promise is lost; every session waits for
 -- what it waited for
 pub record KeepsAll {D : Type 0} (disk : DiskOf D) (old new : CoreState D) : Type 0 where
-  pub tables : new.log.tables ≡ old.log.tables
-  pub layout : new.log.layout ≡ old.log.layout
-  pub setup : setup_of new ≡ setup_of old
-  pub shards : length new.shards ≡ length old.shards
-  pub filter : option_map (λ b. b.m) new.bloom ≡ option_map (λ b. b.m) old.bloom
-  pub sizes : each_of disk.size new ≡ each_of disk.size old
+  pub store : KeepsStore disk old new
   pub waiting : new.waiting ≡ old.waiting
-  pub len : history_len old ≤ history_len new
-  pub durable : old.log.durable ≤ new.log.durable
-  pub synced : old.synced ≤ new.synced
 
 -- a part that has stopped stays so, and one stops only where a call failed
 pub record KeepsStopped {D : Type 0} (failed : Type 0) (old new : CoreState D) : Type 0 where

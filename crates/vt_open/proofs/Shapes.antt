@@ -11,7 +11,8 @@ use Rattle.vt_disk.specs.Members.{DiskOf}
 use Rattle.vt_parts.specs.Parts.{there}
 use Rattle.vt_core.specs.Core.{CoreState, devices_of, each_of}
 use Rattle.vt_core.specs.Files.{PerDevice, all_of}
-use Rattle.vt_core.specs.Steps.{Runs, Steps}
+use Rattle.vt_core.specs.Steps.{Runs}
+use Rattle.vt_core.proofs.Runs.{runs_keep}
 use Rattle.vt_core.specs.declared.event.Event.{Event}
 use Rattle.vt_core.specs.declared.event.Out.{Out}
 use Rattle.vt_open.specs.Names.{AreUnder, HaveOneShape, StandUnder, files_of}
@@ -133,15 +134,5 @@ module _ {D : Type 0} where
       shape_of disk new (devices_of old) sizes (shards ∙ sym (length-map old.shards (λ s. s.section.disk)))
       (one_bloom new.bloom old.bloom bloom ∙ sym (length-map (option_to_list old.bloom) (λ b. b.disk)))
 
-  step_shape : (score : List ℕ → List ℕ) (disk : DiskOf D) (event : Event) (out : Out) (old new : CoreState D) → Steps score disk event out old new → HaveOneShape (devices_of new) (devices_of old)
-  step_shape score disk event out old new it = let on = it.goes_on in kept_shape disk old new on.sizes on.shards on.filter
-
-  still : (k : CoreState D) → HaveOneShape (devices_of k) (devices_of k)
-  still k = record { partitions = refl; sections = refl; filter = refl }
-
   pub run_shape : (score : List ℕ → List ℕ) (disk : DiskOf D) (events : List Event) (outs : List Out) (old new : CoreState D) → Runs score disk events outs old new → HaveOneShape (devices_of new) (devices_of old)
-  run_shape score disk [] [] old new it = subst (λ (k : CoreState D). HaveOneShape (devices_of k) (devices_of old)) (sym it) (still old)
-  run_shape score disk [] (out ∷ outs) old new it = absurd it
-  run_shape score disk (event ∷ events) [] old new it = absurd it
-  run_shape score disk (event ∷ events) (out ∷ outs) old new (mid, step, rest) =
-      shape_on (devices_of new) (devices_of mid) (devices_of old) (run_shape score disk events outs mid new rest) (step_shape score disk event out old mid step)
+  run_shape score disk events outs old new run = let keeps = runs_keep score disk events outs old new run in kept_shape disk old new keeps.sizes keeps.shards keeps.filter

@@ -1,5 +1,5 @@
 -- In which partition an arena stands.
-use Rattle.std.proofs.Common.{◌≡◌, ◌<◌, ◌≤◌, ◌+◌, ◌-◌, ℕ, zero, suc, List, [], ◌∷◌, ◌++◌, get_or, length, take, Option, Some, refl, ◌∙◌, ap, arith, length-append}
+use Rattle.std.proofs.Common.{◌≡◌, ◌<◌, ◌≤◌, ◌+◌, ◌-◌, ℕ, zero, suc, List, [], ◌∷◌, get_or, length, take, Option, Some, refl, ◌∙◌, ap, arith, length-append}
 use Rattle.std.specs.Prelude.{slice_get, sum_by}
 use Rattle.std.specs.List.{flat_map, enumerate_from, range_with_len}
 use Rattle.std.specs.Option.{option_map, option_map_or}
@@ -12,6 +12,7 @@ use Rattle.vt_part.specs.Table.{Table}
 use Rattle.vt_part.specs.declared.part.Part.{Part}
 use Rattle.vt_part.specs.declared.layout.ArenaRegion.{ArenaRegion}
 use Rattle.vt_told.specs.Told.{partition_of}
+use Rattle.vt_log.proofs.Lists.{slice_get_left, slice_get_right}
 
 abbrev laid : ℕ → List Table → List ArenaRegion
 laid first tables = flat_map (λ numbered. arenas_of numbered.0 numbered.1) (enumerate_from first tables)
@@ -28,30 +29,19 @@ get_range a (suc n) (suc i) lt = get_range (a + 1) n i (omega (arith, lt)) ∙ a
 length_arenas : (part : ℕ) (t : Table) → length (arenas_of part t) ≡ t.count
 length_arenas part t = length-map (range_with_len 0 t.count) (arena_of part t) ∙ length_range 0 t.count
 
-get_front : {X : Type 0} (xs ys : List X) (i : ℕ) → i < length xs → slice_get (xs ++ ys) i ≡ slice_get xs i
-get_front [] ys i lt = absurd (omega (arith, lt))
-get_front (x ∷ xs) ys zero lt = refl
-get_front (x ∷ xs) ys (suc i) lt = get_front xs ys i (omega (arith, lt))
-
-get_behind : {X : Type 0} (xs ys : List X) (i : ℕ) → slice_get (xs ++ ys) (length xs + i) ≡ slice_get ys i
-get_behind [] ys i = ap (slice_get ys) (omega arith)
-get_behind (x ∷ xs) ys i =
-    let e : length (x ∷ xs) + i ≡ suc (length xs + i) = omega arith in
-    ap (slice_get (x ∷ (xs ++ ys))) e ∙ get_behind xs ys i
-
 -- an arena of the first partition, and one of the others
 here : (first : ℕ) (t : Table) (tables : List Table) (i : ℕ) → i < t.count → option_map_or (λ r. r.part) (slice_get (laid first (t ∷ tables)) i) 0 ≡ first
 here first t tables i lt =
     let inside : i < length (arenas_of first t) = omega (arith, lt, length_arenas first t) in
     let it : slice_get (laid first (t ∷ tables)) i ≡ Some (arena_of first t (0 + i)) =
-    get_front (arenas_of first t) (laid (first + 1) tables) i inside ∙ slice_get-map (arena_of first t) (range_with_len 0 t.count) i
+    slice_get_left (arenas_of first t) (laid (first + 1) tables) i inside ∙ slice_get-map (arena_of first t) (range_with_len 0 t.count) i
     ∙ ap (option_map (arena_of first t)) (get_range 0 t.count i lt) in
     ap (λ (o : Option ArenaRegion). option_map_or (λ r. r.part) o 0) it
 
 behind : (first : ℕ) (t : Table) (tables : List Table) (i : ℕ) → slice_get (laid first (t ∷ tables)) (t.count + i) ≡ slice_get (laid (first + 1) tables) i
 behind first t tables i =
     let many : t.count + i ≡ length (arenas_of first t) + i = omega (arith, length_arenas first t) in
-    ap (λ (k : ℕ). slice_get (laid first (t ∷ tables)) k) many ∙ get_behind (arenas_of first t) (laid (first + 1) tables) i
+    ap (λ (k : ℕ). slice_get (laid first (t ∷ tables)) k) many ∙ slice_get_right (arenas_of first t) (laid (first + 1) tables) i
 
 part_from : (first : ℕ) (tables : List Table) (n : ℕ) (t : Table) (k : ℕ) → slice_get tables n ≡ Some t → k < t.count
     → option_map_or (λ r. r.part) (slice_get (laid first tables) (sum_by (λ t. t.count) (take n tables) + k)) 0 ≡ first + n

@@ -23,8 +23,8 @@ returns g c score end now old new tells input output h serves disk_tells sound t
       closed = closed;
       marked = marked;
       stands = subst (λ (t : List Table). AllStandFor score disk (setup_of old) t (devices_of new)
-          session.last (length session.last)) keeps.tables
+          session.last (length session.last)) keeps.store.tables
           (subst (λ (s : Setup). AllStandFor score disk s new.log.tables (devices_of new)
-          session.last (length session.last)) keeps.setup
+          session.last (length session.last)) keeps.store.setup
           (c.stores_can_be_mounted.ensures.all score new session.last left marked.durable));
     }

@@ -18,10 +18,10 @@ returns g c score end now old new tells input output h serves disk_tells sound t
       keeps = keeps;
       sound = left;
       synced = all_most (synced_numbers (session.turns ++ session.unsaid)) serves.served.log.durable
-          new.log.durable serves.ends.keeps.durable session.synced;
+          new.log.durable serves.ends.keeps.store.durable session.synced;
       stands = subst (λ (t : List Table). EachStands score disk (setup_of old) t new.log.durable
-          (devices_of new) session.last) keeps.tables
+          (devices_of new) session.last) keeps.store.tables
           (subst (λ (s : Setup). EachStands score disk s new.log.tables new.log.durable
-          (devices_of new) session.last) keeps.setup
+          (devices_of new) session.last) keeps.store.setup
           (c.stores_can_be_mounted.ensures.prefix score new session.last left));
     }

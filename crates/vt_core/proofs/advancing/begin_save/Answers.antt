@@ -1,10 +1,10 @@
 use Rattle.std.proofs.Common.{inr, sym, ◌∙◌}
-use Rattle.vt_core.proofs.Fetching.{isnt_there}
+use Rattle.vt_arena.proofs.Commits.{none_is}
 use Rattle.vt_core.proofs.advancing.begin_save.Goals as goal
 
 pub returns-clause-begun : goal.returns-clause-begun
 returns-clause-begun g c = λ _. inr (
-  isnt_there c.args.bloom.now.twin.change (sym c.saving.ensures ∙ c.if-saving.false),
+  none_is c.args.bloom.now.twin.change (sym c.saving.ensures ∙ c.if-saving.false),
   (λ same. c.if-mark-durable.false (c.mark.ensures ∙ same)),
   c.save.ensures.begun,
 )

@@ -6,8 +6,9 @@ use Rattle.vt_lumps.specs.Lumps.{bytes_of}
 use Rattle.vt_shard.specs.Shard.{ShardState}
 use Rattle.vt_core.specs.Finding.{ReadsFound, parts_of}
 use Rattle.std.proofs.lemmas.Result.{err_from_is_err_and}
-use Rattle.vt_core.proofs.Fetching.{isnt_there, nothing_used, shard_sound, there_taken}
+use Rattle.vt_core.proofs.Fetching.{nothing_used, shard_sound, there_taken}
 use Rattle.vt_core.proofs.Seeks.{err_keeps_from, found_entry, found_key, found_none, reads_entry, reads_fails, seeks_index}
+use Rattle.vt_arena.proofs.Commits.{none_is}
 use Rattle.vt_core.proofs.finding.seek.Goals as goal
 
 pub returns-then-touch_lump-clause-seeks : goal.returns-then-touch_lump-clause-seeks
@@ -28,7 +29,7 @@ returns-in_err-fetch-in-Ok-Some-clause-right g c = λ setup h durable tells soun
     let s2 : ShardState g.row.D.Denot = c.lookup.new.self in
     let none = sym c.touch_lump.ensures.kept ∙ c.if-touch_lump.false in
     let same : mid ≡ s = nothing_used score g.D.Disk key s mid none c.touch_lump.ensures.used in
-    let absent = isnt_there (bytes_of key s.lumps) none in
+    let absent = none_is (bytes_of key s.lumps) none in
     let entry : Entry = c.in-Ok-Some.entry in
     let is : c.lookup.result ≡ Ok (Some entry) = c.in-Ok-Some.is ∙ ap (λ (o : Option Entry). Ok o) c.in-Ok-Some.field-0-is in
     let kept = c.touch_lump.ensures.sound score setup h durable 0 sound.shard in
@@ -46,7 +47,7 @@ returns-in_err-fetch-in-Ok-Some-clause-sound g c = λ setup h durable tells soun
     let s2 : ShardState g.row.D.Denot = c.lookup.new.self in
     let none = sym c.touch_lump.ensures.kept ∙ c.if-touch_lump.false in
     let same : mid ≡ s = nothing_used score g.D.Disk key s mid none c.touch_lump.ensures.used in
-    let absent = isnt_there (bytes_of key s.lumps) none in
+    let absent = none_is (bytes_of key s.lumps) none in
     let entry : Entry = c.in-Ok-Some.entry in
     let is : c.lookup.result ≡ Ok (Some entry) = c.in-Ok-Some.is ∙ ap (λ (o : Option Entry). Ok o) c.in-Ok-Some.field-0-is in
     let kept = c.touch_lump.ensures.sound score setup h durable 0 sound.shard in
@@ -63,7 +64,7 @@ returns-in_err-fetch-in-Ok-Some-clause-seeks g c =
     let s2 : ShardState g.row.D.Denot = c.lookup.new.self in
     let none = sym c.touch_lump.ensures.kept ∙ c.if-touch_lump.false in
     let same : mid ≡ s = nothing_used score g.D.Disk key s mid none c.touch_lump.ensures.used in
-    let absent = isnt_there (bytes_of key s.lumps) none in
+    let absent = none_is (bytes_of key s.lumps) none in
     let entry : Entry = c.in-Ok-Some.entry in
     let is : c.lookup.result ≡ Ok (Some entry) = c.in-Ok-Some.is ∙ ap (λ (o : Option Entry). Ok o) c.in-Ok-Some.field-0-is in
     let p = err_from_is_err_and c.from_residual.result c.from_residual.ensures.1 in
@@ -80,7 +81,7 @@ returns-in_ok-fetch-in-Ok-Some-clause-sound g c = λ setup h durable tells sound
     let s2 : ShardState g.row.D.Denot = c.lookup.new.self in
     let none = sym c.touch_lump.ensures.kept ∙ c.if-touch_lump.false in
     let same : mid ≡ s = nothing_used score g.D.Disk key s mid none c.touch_lump.ensures.used in
-    let absent = isnt_there (bytes_of key s.lumps) none in
+    let absent = none_is (bytes_of key s.lumps) none in
     let entry : Entry = c.in-Ok-Some.entry in
     let is : c.lookup.result ≡ Ok (Some entry) = c.in-Ok-Some.is ∙ ap (λ (o : Option Entry). Ok o) c.in-Ok-Some.field-0-is in
     let kept = c.touch_lump.ensures.sound score setup h durable 0 sound.shard in
@@ -97,7 +98,7 @@ returns-in_ok-fetch-in-Ok-Some-clause-seeks g c =
     let s2 : ShardState g.row.D.Denot = c.lookup.new.self in
     let none = sym c.touch_lump.ensures.kept ∙ c.if-touch_lump.false in
     let same : mid ≡ s = nothing_used score g.D.Disk key s mid none c.touch_lump.ensures.used in
-    let absent = isnt_there (bytes_of key s.lumps) none in
+    let absent = none_is (bytes_of key s.lumps) none in
     let entry : Entry = c.in-Ok-Some.entry in
     let is : c.lookup.result ≡ Ok (Some entry) = c.in-Ok-Some.is ∙ ap (λ (o : Option Entry). Ok o) c.in-Ok-Some.field-0-is in
     seeks_index score g.D.Disk key (Ok (bytes_of key c.fetch.new.shard.lumps)) l s mid s2 (parts_of c.fetch.new.log c.fetch.new.shard) c.lookup.result absent same c.lookup.ensures.looks_up
@@ -113,7 +114,7 @@ returns-in-Ok-None-clause-right g c = λ setup h durable tells sound.
     let s2 : ShardState g.row.D.Denot = c.lookup.new.self in
     let none = sym c.touch_lump.ensures.kept ∙ c.if-touch_lump.false in
     let same : mid ≡ s = nothing_used score g.D.Disk key s mid none c.touch_lump.ensures.used in
-    let absent = isnt_there (bytes_of key s.lumps) none in
+    let absent = none_is (bytes_of key s.lumps) none in
     let is : c.lookup.result ≡ Ok None = c.in-Ok-None.is ∙ ap (λ (o : Option Entry). Ok o) c.in-Ok-None.field-0-is in
     let kept = c.touch_lump.ensures.sound score setup h durable 0 sound.shard in
     (λ _. found_none score setup h key c.lookup.result is (c.lookup.ensures.found score setup h durable 0 tells kept))
@@ -128,7 +129,7 @@ returns-in-Ok-None-clause-sound g c = λ setup h durable tells sound.
     let s2 : ShardState g.row.D.Denot = c.lookup.new.self in
     let none = sym c.touch_lump.ensures.kept ∙ c.if-touch_lump.false in
     let same : mid ≡ s = nothing_used score g.D.Disk key s mid none c.touch_lump.ensures.used in
-    let absent = isnt_there (bytes_of key s.lumps) none in
+    let absent = none_is (bytes_of key s.lumps) none in
     let kept = c.touch_lump.ensures.sound score setup h durable 0 sound.shard in
     let looked = shard_sound score g.D.Disk setup h durable l s s2 (c.lookup.ensures.sound.keeps tells score setup h durable 0 kept) sound in
     looked
@@ -143,7 +144,7 @@ returns-in-Ok-None-clause-seeks g c =
     let s2 : ShardState g.row.D.Denot = c.lookup.new.self in
     let none = sym c.touch_lump.ensures.kept ∙ c.if-touch_lump.false in
     let same : mid ≡ s = nothing_used score g.D.Disk key s mid none c.touch_lump.ensures.used in
-    let absent = isnt_there (bytes_of key s.lumps) none in
+    let absent = none_is (bytes_of key s.lumps) none in
     let is : c.lookup.result ≡ Ok None = c.in-Ok-None.is ∙ ap (λ (o : Option Entry). Ok o) c.in-Ok-None.field-0-is in
     seeks_index score g.D.Disk key (Ok None) l s mid s2 (parts_of l s2) c.lookup.result absent same c.lookup.ensures.looks_up
     (subst (λ (x : Result (Option Entry) ShardErr). ReadsFound score g.D.Disk x (Ok None) (parts_of l s2) (parts_of l s2)) (sym is) (refl, refl))
@@ -164,7 +165,7 @@ returns-in-Err-clause-sound g c = λ setup h durable tells sound.
     let s2 : ShardState g.row.D.Denot = c.lookup.new.self in
     let none = sym c.touch_lump.ensures.kept ∙ c.if-touch_lump.false in
     let same : mid ≡ s = nothing_used score g.D.Disk key s mid none c.touch_lump.ensures.used in
-    let absent = isnt_there (bytes_of key s.lumps) none in
+    let absent = none_is (bytes_of key s.lumps) none in
     let kept = c.touch_lump.ensures.sound score setup h durable 0 sound.shard in
     let looked = shard_sound score g.D.Disk setup h durable l s s2 (c.lookup.ensures.sound.keeps tells score setup h durable 0 kept) sound in
     looked
@@ -179,7 +180,7 @@ returns-in-Err-clause-seeks g c =
     let s2 : ShardState g.row.D.Denot = c.lookup.new.self in
     let none = sym c.touch_lump.ensures.kept ∙ c.if-touch_lump.false in
     let same : mid ≡ s = nothing_used score g.D.Disk key s mid none c.touch_lump.ensures.used in
-    let absent = isnt_there (bytes_of key s.lumps) none in
+    let absent = none_is (bytes_of key s.lumps) none in
     seeks_index score g.D.Disk key (Err c.why_of_shard.result) l s mid s2 (parts_of l s2) c.lookup.result absent same c.lookup.ensures.looks_up
     (subst (λ (x : Result (Option Entry) ShardErr). ReadsFound score g.D.Disk x (Err c.why_of_shard.result) (parts_of l s2) (parts_of l s2)) (sym c.in-Err.is)
     (ap (λ w. Err w) c.why_of_shard.ensures, refl))

@@ -6,8 +6,9 @@ use Rattle.vt_part.specs.Parts.{table_of, tables_of}
 use Rattle.vt_core.specs.Refusals.{IsFirstPast, IsTally, PassesOrRefuses}
 use Rattle.vt_core.proofs.Lists.{at_map}
 use Rattle.vt_core.proofs.Tallies.{sum_more}
-use Rattle.vt_core.proofs.TestsParts.{read_at, take_next}
+use Rattle.vt_core.proofs.TestsParts.{read_at}
 use Rattle.vt_core.proofs.mounting.test_arenas.Goals as goal
+use Rattle.vt_core.proofs.Runs.{one_longer}
 
 pub loop-i-preserved : goal.loop-i-preserved
 loop-i-preserved g c =
@@ -18,7 +19,7 @@ loop-i-preserved g c =
     let at : slice_get counts i ≡ Some count =
     at_map (λ t. t.count) (tables_of parts) i (table_of c.index-parts-i.result)
     (at_map (λ part. table_of part) parts i c.index-parts-i.result (read_at parts i c.index-parts-i.result c.loop-i-test.true c.index-parts-i.is)) in
-    let next : take (i + 1) counts ≡ take i counts ++ count ∷ [] = take_next counts i count at in
+    let next : take (i + 1) counts ≡ take i counts ++ count ∷ [] = one_longer counts i count at in
     let many : length counts ≡ length parts = length-map (tables_of parts) (λ t. t.count) ∙ length-map parts (λ part. table_of part) in
     let len : length (take i counts) ≡ i = omega (arith, length-take i counts, many) in
     let tally = c.add.ensures 0 (take i counts) c.loop-i.invariant.tally (omega (arith, len)) in

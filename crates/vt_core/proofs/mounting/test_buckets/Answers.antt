@@ -5,8 +5,9 @@ use Rattle.vt_base.specs.declared.mount.MountField.TheVariants.{Buckets}
 use Rattle.vt_core.specs.Refusals.{IsFirstPast, IsTally, PassesOrRefuses}
 use Rattle.vt_core.proofs.Lists.{at_map}
 use Rattle.vt_core.proofs.Tallies.{sum_more}
-use Rattle.vt_core.proofs.TestsParts.{read_at, take_next}
+use Rattle.vt_core.proofs.TestsParts.{read_at}
 use Rattle.vt_core.proofs.mounting.test_buckets.Goals as goal
+use Rattle.vt_core.proofs.Runs.{one_longer}
 
 pub loop-i-preserved : goal.loop-i-preserved
 loop-i-preserved g c =
@@ -16,7 +17,7 @@ loop-i-preserved g c =
     let count = c.index-sections-i.result.buckets in
     let at : slice_get counts i ≡ Some count =
     at_map (λ s. s.buckets) sections i c.index-sections-i.result (read_at sections i c.index-sections-i.result c.loop-i-test.true c.index-sections-i.is) in
-    let next : take (i + 1) counts ≡ take i counts ++ count ∷ [] = take_next counts i count at in
+    let next : take (i + 1) counts ≡ take i counts ++ count ∷ [] = one_longer counts i count at in
     let many : length counts ≡ length sections = length-map sections (λ s. s.buckets) in
     let len : length (take i counts) ≡ i = omega (arith, length-take i counts, many) in
     let tally = c.add.ensures c.args.part (take i counts) c.loop-i.invariant.tally (omega (arith, len)) in

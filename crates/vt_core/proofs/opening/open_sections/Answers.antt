@@ -3,10 +3,11 @@ use Rattle.vt_isect.specs.Section.{SectionState}
 use Rattle.vt_core.specs.Opening.{CanBeOpened, IsOpened}
 use Rattle.vt_told.specs.Told.{of_section}
 use Rattle.vt_core.specs.Refusals.{CountsRefusal}
-use Rattle.vt_core.proofs.Beside.{all_at, room_some}
+use Rattle.vt_core.proofs.Beside.{room_some}
 use Rattle.vt_core.proofs.Held.{hold_still, hold_zip}
 use Rattle.vt_core.proofs.Opened.{IsSplitAt, split_all, split_many, split_more, split_none}
 use Rattle.vt_core.proofs.OpenWork.{back_counts, back_held, comes_next, no_items, opened_faults, opened_held}
+use Rattle.vt_log.proofs.Lists.{at_slice}
 use Rattle.vt_core.proofs.opening.open_sections.Goals as goal
 
 pub returns-in_default-clause-refused : goal.returns-in_default-clause-refused
@@ -106,7 +107,7 @@ returns-in-Err-clause-refused g c = inr (record {
 pub returns-in-Err-clause-found : goal.returns-in-Err-clause-found
 returns-in-Err-clause-found g c = λ tells can.
     let at = comes_next g.D.Disk c.args.devices.items c.loop-device.sections.items c.loop-device.devices.items c.pop.new.self.items c.in-Some.device c.in-Err.device c.in-Some.ensures.items c.loop-device.invariant.split in
-    let it = all_at (CanBeOpened g.D.Disk) c.args.devices.items (length c.loop-device.sections.items) c.in-Some.device can at in
+    let it = at_slice (CanBeOpened g.D.Disk) c.args.devices.items (length c.loop-device.sections.items) c.in-Some.device can at in
     ⊎_elim (λ e. inl (c.of_section-bad.ensures ∙ ap (of_section (c.args.part + c.len-in-Err.result)) e)) (λ e. inr (c.of_section-bad.ensures ∙ ap (of_section (c.args.part + c.len-in-Err.result)) e))
     (c.in-Err.ensures.all_are_found it.name it.head tells it.room it.frame)
 

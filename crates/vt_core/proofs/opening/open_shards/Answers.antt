@@ -3,9 +3,9 @@ use Rattle.std.proofs.lemmas.List.{append-nil, length-map, length-reverse}
 use Rattle.vt_isect.specs.Section.{IsAtRest, SectionState}
 use Rattle.vt_shard.specs.Shard.{ShardState}
 use Rattle.vt_core.specs.Opening.{IsShardMade}
-use Rattle.vt_core.proofs.Beside.{all_at}
 use Rattle.vt_core.proofs.Opened.{IsSplitAt, split_all, split_many, split_more, split_none}
 use Rattle.vt_core.proofs.OpenWork.{made_back, comes_after, no_items}
+use Rattle.vt_log.proofs.Lists.{at_slice}
 use Rattle.vt_core.proofs.opening.open_shards.Goals as goal
 
 pub close_sections-requires : goal.close_sections-requires
@@ -28,7 +28,7 @@ loop-section-init g c =
 pub mount-requires-clause-rest : goal.mount-requires-clause-rest
 mount-requires-clause-rest g c =
     let R = IsShardMade g.D.Disk c.args.sizes.lumps c.args.sizes.clean in
-    all_at (λ s. IsAtRest s) c.args.sections.items (length c.loop-section.shards.items) c.in-Some.section c.requires.rest
+    at_slice (λ s. IsAtRest s) c.args.sections.items (length c.loop-section.shards.items) c.in-Some.section c.requires.rest
     (comes_after R c.args.sections.items c.loop-section.shards.items c.loop-section.sections.items c.pop.new.self.items c.in-Some.section c.in-Some.ensures.items c.loop-section.invariant.split)
 
 pub push_reserved-requires : goal.push_reserved-requires

@@ -20,7 +20,7 @@ loop-why-preserved g c = record {
   works = work_then {T = Unit {0}} {U = Unit {0}} g.S.Scorer.score_of g.D.Disk (λ event k. event ≡ FileAdvance c.args.shard) tt (Ok tt) c.args.core.now c.loop-why.core c.step.new.self
       c.loop-why.invariant.works
       (one_piece g.S.Scorer.score_of g.D.Disk (λ event k. event ≡ FileAdvance c.args.shard) tt (FileAdvance c.args.shard) Moved c.loop-why.core c.step.new.self refl tt c.in-Moved.ensures);
-  within = omega (arith, c.loop-why.invariant.within, c.in-Moved.ensures.goes_on.shards);
+  within = omega (arith, c.loop-why.invariant.within, c.in-Moved.ensures.goes_on.store.shards);
   ends = λ is. ending_moves g.D.Disk c.args.shard c.loop-why.core c.step.new.self c.in-Moved.ensures.does (c.loop-why.invariant.ends is);
 }
 

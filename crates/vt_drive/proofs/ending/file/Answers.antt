@@ -21,12 +21,12 @@ returns-in_err-advance_file-clause-works g c =
 pub step-requires : goal.step-requires
 step-requires g c =
     let made = did g.S.Scorer.score_of g.D.Disk (λ event k. event ≡ FileAdvance c.args.shard) (advances_own c.args.shard) (Ok tt) c.args.core.now c.advance_file.new.core c.in_ok-advance_file.ensures.works in
-    omega (arith, made.worked.keeps.shards, c.requires)
+    omega (arith, made.worked.keeps.store.shards, c.requires)
 
 pub advance_file-requires-2 : goal.advance_file-requires-2
 advance_file-requires-2 g c =
     let made = did g.S.Scorer.score_of g.D.Disk (λ event k. event ≡ FileAdvance c.args.shard) (advances_own c.args.shard) (Ok tt) c.args.core.now c.advance_file.new.core c.in_ok-advance_file.ensures.works in
-    omega (arith, made.worked.keeps.shards, c.requires, c.step.ensures.goes_on.shards)
+    omega (arith, made.worked.keeps.store.shards, c.requires, c.step.ensures.goes_on.store.shards)
 
 pub returns-clause-works : goal.returns-clause-works
 returns-clause-works g c =

@@ -19,5 +19,5 @@ loop-shard-preserved g c =
           (one_shard_more g.S.Scorer.score_of g.D.Disk c.loop-shard.shard c.loop-shard.all c.file-filed.result c.args.core.now c.loop-shard.core c.file-filed.new.core c.loop-shard.invariant.files
           c.file-filed.ensures.works
           (λ done is. subst (λ (r : Result (Unit {0}) Why). OnOk r (HasFiled c.loop-shard.shard c.file-filed.new.core)) is c.file-filed.ensures.filed));
-      many = made.worked.keeps.shards ∙ c.loop-shard.invariant.many;
+      many = made.worked.keeps.store.shards ∙ c.loop-shard.invariant.many;
     }

@@ -19,7 +19,7 @@ pub write_in_room-requires-clause-spare : goal.write_in_room-requires-clause-spa
 write_in_room-requires-clause-spare g c = λ s at.
     let made = did {T = Unit {0}} g.S.Scorer.score_of g.D.Disk (NeedsRoom c.shard_of-shard.result) (room_is_own c.shard_of-shard.result) (Ok tt) c.args.core.now c.make_room.new.core c.in-Ok.ensures.works in
     let own : shard_of c.make_room.new.core (g.S.Scorer.score_of c.args.bytes.now) ≡ c.shard_of-shard.result =
-    ap (λ (x : Setup). section_of_score x (g.S.Scorer.score_of c.args.bytes.now)) made.worked.keeps.setup
+    ap (λ (x : Setup). section_of_score x (g.S.Scorer.score_of c.args.bytes.now)) made.worked.keeps.store.setup
     ∙ ap (λ (x : List ℕ). section_of_score (setup_of c.args.core.now) x) (sym c.score.ensures) ∙ sym c.shard_of-shard.ensures.shard in
     c.in-Ok.ensures.spare s refl (ap (λ (n : ℕ). slice_get c.make_room.new.core.shards n) (sym own) ∙ at)
 

@@ -2,8 +2,9 @@ use Rattle.std.proofs.Common.{◌≤◌, Ok, Err, Result, sym, subst, arith}
 use Rattle.vt_base.specs.declared.why.Why.{Why}
 use Rattle.vt_drive.specs.Working.{DoesWork, NeedsDurable, NeedsRoom}
 use Rattle.vt_drive.proofs.SyncTold.{durable_is_own}
-use Rattle.vt_drive.proofs.Told.{always_ok, room_from_durable}
+use Rattle.vt_drive.proofs.Told.{room_from_durable}
 use Rattle.vt_drive.proofs.WorkDone.{did, handed_on, work_for, work_then}
+use Rattle.vt_log.proofs.AreFound.{on_ok}
 use Rattle.vt_drive.proofs.working.make_room.Goals as goal
 
 pub returns-in_err-commit-clause-works : goal.returns-in_err-commit-clause-works
@@ -18,7 +19,7 @@ returns-in_err-commit-clause-works g c =
 pub make_spare-requires : goal.make_spare-requires
 make_spare-requires g c =
     let made = did g.S.Scorer.score_of g.D.Disk (NeedsDurable c.saturating_sub-number.result) (durable_is_own c.saturating_sub-number.result) (Ok tt) c.args.core.now c.commit.new.core c.in_ok-commit.ensures.works in
-    omega (arith, made.worked.keeps.shards, c.requires)
+    omega (arith, made.worked.keeps.store.shards, c.requires)
 
 pub returns-clause-works : goal.returns-clause-works
 returns-clause-works g c =
@@ -33,4 +34,4 @@ pub returns-clause-queue : goal.returns-clause-queue
 returns-clause-queue g c =
     let made = did g.S.Scorer.score_of g.D.Disk (NeedsDurable c.saturating_sub-number.result) (durable_is_own c.saturating_sub-number.result) (Ok tt) c.args.core.now c.commit.new.core c.in_ok-commit.ensures.works in
     let durable : c.saturating_sub-number.result ≤ c.commit.new.core.log.durable = c.in_ok-commit.ensures.durable in
-    always_ok c.make_spare.result (omega (arith, durable, made.worked.len, c.make_spare.ensures.queue))
+    on_ok c.make_spare.result (omega (arith, durable, made.worked.len, c.make_spare.ensures.queue))

@@ -40,7 +40,7 @@ pub returns-in-Failed-clause-works : goal.returns-in-Failed-clause-works
 returns-in-Failed-clause-works g c = piece_fails g.S.Scorer.score_of g.D.Disk (NeedsRoom c.args.shard) c.in-Failed.why (FileAdvance c.args.shard) c.args.core.now c.step.new.self (refl, c.requires.full) c.in-Failed.ensures
 
 pub step-requires-2 : goal.step-requires-2
-step-requires-2 g c = omega (arith, slice_get_within c.args.core.now.shards c.args.shard c.requires.full.state c.requires.full.at, c.in-Nothing.ensures.goes_on.shards)
+step-requires-2 g c = omega (arith, slice_get_within c.args.core.now.shards c.args.shard c.requires.full.state c.requires.full.at, c.in-Nothing.ensures.goes_on.store.shards)
 
 pub returns-in-Moved-step-clause-works : goal.returns-in-Moved-step-clause-works
 returns-in-Moved-step-clause-works g c =

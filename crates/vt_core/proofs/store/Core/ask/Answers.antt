@@ -9,7 +9,8 @@ use Rattle.vt_core.specs.Steps.{Steps}
 use Rattle.vt_core.specs.View.{state_of}
 use Rattle.vt_core.proofs.Answering.{there_is}
 use Rattle.vt_core.proofs.AskWork.{waiting_steps}
-use Rattle.vt_core.proofs.Fetching.{is_there, isnt_there}
+use Rattle.vt_core.proofs.Fetching.{is_there}
+use Rattle.vt_arena.proofs.Commits.{none_is}
 use Rattle.vt_core.proofs.store.Core.ask.Goals as goal
 
 pub returns-then-is_some : goal.returns-then-is_some
@@ -28,7 +29,7 @@ returns-in-Read g c =
     let v : Option ℕ = c.index.result.now in
     let none : WaitsForNone k.waiting c.args.session = there_is k.waiting c.args.session v None
     (subst (λ (m : CoreState g.row.D.Denot). c.args.session < length m.waiting) (sym c.self.view_is) c.requires.session)
-    (sym c.index.ensures ∙ isnt_there v (sym c.is_some.ensures ∙ c.if-is_some.false)) in
+    (sym c.index.ensures ∙ none_is v (sym c.is_some.ensures ∙ c.if-is_some.false)) in
     subst (λ (r : Request). Steps g.S.Scorer.score_of g.D.Disk (Ask c.args.session r c.args.now) c.ask_read.result c.args.self.now c.ask_read.new.self) (sym c.in-Read.is)
     (c.ask_read.ensures c.args.session c.args.now (subst (λ (m : CoreState g.row.D.Denot). WaitsForNone m.waiting c.args.session) c.self.view_is none))
 
@@ -38,7 +39,7 @@ returns-in-Write g c =
     let v : Option ℕ = c.index.result.now in
     let none : WaitsForNone k.waiting c.args.session = there_is k.waiting c.args.session v None
     (subst (λ (m : CoreState g.row.D.Denot). c.args.session < length m.waiting) (sym c.self.view_is) c.requires.session)
-    (sym c.index.ensures ∙ isnt_there v (sym c.is_some.ensures ∙ c.if-is_some.false)) in
+    (sym c.index.ensures ∙ none_is v (sym c.is_some.ensures ∙ c.if-is_some.false)) in
     subst (λ (r : Request). Steps g.S.Scorer.score_of g.D.Disk (Ask c.args.session r c.args.now) c.ask_write.result c.args.self.now c.ask_write.new.self) (sym c.in-Write.is)
     (c.ask_write.ensures c.args.session (subst (λ (m : CoreState g.row.D.Denot). WaitsForNone m.waiting c.args.session) c.self.view_is none))
 
@@ -49,7 +50,7 @@ ask_sync-requires-clause-free g c =
     subst (λ (m : CoreState g.row.D.Denot). WaitsForNone m.waiting c.args.session) c.self.view_is
     (there_is k.waiting c.args.session v None
     (subst (λ (m : CoreState g.row.D.Denot). c.args.session < length m.waiting) (sym c.self.view_is) c.requires.session)
-    (sym c.index.ensures ∙ isnt_there v (sym c.is_some.ensures ∙ c.if-is_some.false)))
+    (sym c.index.ensures ∙ none_is v (sym c.is_some.ensures ∙ c.if-is_some.false)))
 
 pub returns-in-Sync : goal.returns-in-Sync
 returns-in-Sync g c =

@@ -18,8 +18,8 @@ loop-i-preserved g c =
           (omega arith) c.loop-i.invariant.runs c.step-out.ensures);
       many = omega (arith, longer, c.loop-i.invariant.many);
       room = omega (arith, c.loop-i.invariant.room, c.push_reserved.ensures.capacity);
-      sessions = c.step-out.ensures.goes_on.sessions ∙ c.loop-i.invariant.sessions;
-      shards = c.step-out.ensures.goes_on.shards ∙ c.loop-i.invariant.shards;
+      sessions = c.step-out.ensures.goes_on.store.sessions ∙ c.loop-i.invariant.sessions;
+      shards = c.step-out.ensures.goes_on.store.shards ∙ c.loop-i.invariant.shards;
     }
 
 pub returns-clause-runs : goal.returns-clause-runs
