@@ -1,10 +1,10 @@
 -- What it is to open a store, and to close it.
-use Rattle.std.specs.Prelude.{◌≡◌, ◌⊎◌, ⊤, ℕ, ◌/◌, IsTrue, List, length, map, max, min}
+use Rattle.std.specs.Prelude.{◌≡◌, ◌⊎◌, ⊤, ℕ, IsTrue, List, length, map}
 use Rattle.std.specs.List.{AllZip, Contains}
-use Rattle.vt_base.specs.declared.TheConstants.{MAX_BLOCK}
 use Rattle.vt_base.specs.declared.mount.MountBad.{MountBad}
 use Rattle.vt_base.specs.declared.mount.MountBad.TheVariants.{Fault, NoMemory}
 use Rattle.vt_conf.specs.declared.conf.Conf.{Conf}
+use Rattle.vt_conf.specs.Room.{block_room, entry_room}
 use Rattle.vt_core.specs.Core.{CoreState, devices_of}
 use Rattle.vt_core.specs.Files.{PerDevice, all_of}
 use Rattle.vt_core.specs.Mounting.{IsLogOf, IsSetupOf, KeepsLimits, LeavesStanding, Mounts}
@@ -30,12 +30,11 @@ pub record AreRead {D : Type 0} (disk : DiskOf D) (handed mounted : PerDevice D)
   pub sections : mounted.sections ≡ handed.sections
   pub filter : mounted.filter ≡ handed.filter
 
--- How much each shard keeps in memory: as many blocks and as many clean index entries as `mem` and
--- `icmem` have room for, divided among the sections, but not too few and not too many.
+-- How many blocks and how many clean index entries each shard keeps in memory.
 abbrev pub sizes_of : Conf → Sizes
 sizes_of conf = record {
-  lumps = min 65536 (max 4 (conf.mem / MAX_BLOCK / length conf.sections.items));
-  clean = min 1048576 (max 64 (conf.icmem / 64 / length conf.sections.items));
+  lumps = block_room conf.mem (length conf.sections.items);
+  clean = entry_room conf.icmem (length conf.sections.items);
 }
 
 -- The partitions of all files that a configuration names were handed out, and a store was found on

@@ -1,9 +1,9 @@
 use Rattle.std.proofs.Common.{◌≡◌, inl, inr, ℕ, length, refl, ◌∙◌, ap, subst, arith}
 use Rattle.std.proofs.lemmas.Result.{err_from_is_err_and}
-use Rattle.std.specs.Prelude.{IsTrue, max, min, ◌/◌}
-use Rattle.vt_base.specs.declared.TheConstants.{MAX_BLOCK}
+use Rattle.std.specs.Prelude.{IsTrue}
 use Rattle.vt_core.specs.Mounting.{Mounts, devices_in, tables_in}
 use Rattle.vt_open.specs.declared.bad.OpenBad.TheVariants.{Refused}
+use Rattle.vt_conf.specs.Room.{block_room, entry_room}
 use Rattle.vt_open.specs.Opening.{sizes_of}
 use Rattle.vt_shard.specs.declared.mounting.Sizes.{Sizes}
 use Rattle.vt_open.proofs.Opened.{all_rooms, arenas_some, finds_none, many_arenas, many_sections, opens, shape_back_}
@@ -67,9 +67,9 @@ returns-in-Ok-clause-opens g c =
     let conf = c.args.conf.now in
     let many : c.len-sections.result ≡ length conf.sections.items = omega (arith, c.len-sections.ensures, conf.sections.ok.0) in
     let lumps : c.block_room.result ≡ (sizes_of conf).lumps =
-    c.block_room.ensures ∙ ap (λ (n : ℕ). min 65536 (max 4 (conf.mem / MAX_BLOCK / n))) many in
+    c.block_room.ensures ∙ ap (λ (n : ℕ). block_room conf.mem n) many in
     let clean : c.entry_room.result ≡ (sizes_of conf).clean =
-    c.entry_room.ensures ∙ ap (λ (n : ℕ). min 1048576 (max 64 (conf.icmem / 64 / n))) many in
+    c.entry_room.ensures ∙ ap (λ (n : ℕ). entry_room conf.icmem n) many in
     let sizes : record { lumps = c.block_room.result; clean = c.entry_room.result } ≡ sizes_of conf =
     ap (λ (n : ℕ). record { lumps = n; clean = c.entry_room.result }) lumps ∙ ap (λ (n : ℕ). record { lumps = (sizes_of conf).lumps; clean = n }) clean in
     opens g.P.Disk.Disk (IsTrue g.P.Parts.tells) c.args.conf.now (g.P.Parts.standing c.args.parts.now) (g.P.Parts.standing c.take_all.new.parts) c.in_ok-devices.devices c.in_ok-devices.ensures.taken
