@@ -68,7 +68,7 @@ stop_at (stop ∷ stops) (suc i) call all is =
 
 -- ---- one request
 
-said_why : (said : Said) (why : Why) → result_of said ≡ Err why → said ≡ Refused why
+pub said_why : (said : Said) (why : Why) → result_of said ≡ Err why → said ≡ Refused why
 said_why (Score given) why is = absurd (cc)
 said_why (Block bytes) why is = absurd (cc)
 said_why Synced why is = absurd (cc)

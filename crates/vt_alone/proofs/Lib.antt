@@ -5,3 +5,5 @@ pub mod Causes
 pub mod Quiet
 pub mod Over
 pub mod Leaves
+pub mod Marks
+pub mod Sound

@@ -1,10 +1,11 @@
 -- One session over a store on devices, and the end of the store's use.
-use Rattle.std.specs.Prelude.{ℕ, ◌≡◌, ◌≢◌, ◌≤◌, ◌⊎◌, ◌++◌, ⊤, Bool, IsTrue, None, IfSome, List, [], length, Ok, IfErr}
+use Rattle.std.specs.Prelude.{ℕ, ◌≡◌, ◌≢◌, ◌≤◌, ◌⊎◌, ◌++◌, ⊤, Bool, IsTrue, None, Some, IfSome, List, [], length, slice_get, Ok, IfErr}
 use Rattle.std.specs.List.{All, AllByRecursion}
 use Rattle.vt_base.specs.Damage.{Differ}
 use Rattle.vt_base.specs.declared.why.Why.{Why}
 use Rattle.vt_base.specs.declared.why.Why.TheVariants as whys
 use Rattle.vt_disk.specs.Members.{DiskOf}
+use Rattle.vt_isect.specs.declared.head.Head.{Head}
 use Rattle.vt_model.specs.History.{History}
 use Rattle.vt_model.specs.Places.{Setup}
 use Rattle.vt_session.specs.declared.Ended.{Ended}
@@ -17,7 +18,8 @@ use Rattle.vt_answer.specs.Condition.{IsNoDamage}
 use Rattle.vt_alone.specs.Members.{StoreOf}
 use Rattle.vt_answer.specs.Taking.{DoesEach, DoesSome}
 use Rattle.vt_core.specs.Core.{CoreState, devices_of, each_of, setup_of, stops_of}
-use Rattle.vt_core.specs.Mounting.{AllStandFor, EachStands}
+use Rattle.vt_core.specs.Files.{PerDevice}
+use Rattle.vt_core.specs.Mounting.{AllStandFor, EachStands, IsHeadRead, IsMarkRead}
 use Rattle.vt_core.specs.Sound.{IsSound}
 use Rattle.vt_core.specs.Steps.{Runs}
 use Rattle.vt_core.specs.declared.event.Event.{Event}
@@ -149,12 +151,28 @@ pub record LeavesAll {D : Type 0} (score : List ℕ → List ℕ) (disk : DiskOf
   pub stands : EachStands score disk (setup_of old) old.log.tables new.log.durable
       (devices_of new) last
 
+-- The head of each section and the filter, as they are read of these devices, are marked with so
+-- many blocks.
+pub record AreMarkedOn {D : Type 0} (disk : DiskOf D) (n : ℕ) (devices : PerDevice D) : Type 0
+  where
+    pub heads : (i : ℕ) (device : D) → slice_get devices.sections i ≡ Some device
+        → (head : Head) × IsHeadRead disk devices i head × (head.mark ≡ n)
+    pub filter : (device : D) → slice_get devices.filter 0 ≡ Some device
+        → IsMarkRead disk devices n
+
 -- Where nothing but memory failed, the store's use ended well: every block is durable, and has its
--- entry below every mark.
+-- entry below every mark, as the devices have it.
 pub record EndsWell {D : Type 0} (score : List ℕ → List ℕ) (disk : DiskOf D) (end : StoreServed)
     (causes : List Cause) (last : History) (old new : CoreState D) : Type 0 where
   pub failures : OnlyMemory causes
   pub closed : end.closed ≡ Ok tt
   pub marked : AreMarkedAt (length last) new
+  pub read : AreMarkedOn disk (length last) (devices_of new)
   pub stands : AllStandFor score disk (setup_of old) old.log.tables (devices_of new) last
       (length last)
+
+-- Memory was all that was wanting: the first failure that is told is want of it, and the store's use
+-- ended well.
+pub record NeedsMemory (end : StoreServed) : Type 0 where
+  pub failure : IfSome end.failure (λ why. why ≡ whys.NoMemory)
+  pub closed : end.closed ≡ Ok tt

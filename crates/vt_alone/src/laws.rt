@@ -6,11 +6,11 @@ ghost use Rattle.vt_core.specs.Core.{CoreState, stops_of};
 ghost use Rattle.vt_core.specs.Sound.{IsSound};
 ghost use Rattle.vt_drive.specs.Answers.{KeepsAll};
 ghost use Rattle.vt_model.specs.History.{History};
-ghost use Rattle.vt_alone.specs.Sessions.{EndsWell, LeavesAll, MakesRun, NoCallFails, ServesStore, TellsCauses, TellsStops};
+ghost use Rattle.vt_alone.specs.Sessions.{EndsWell, LeavesAll, MakesRun, NeedsMemory, NoCallFails, ServesStore, TellsCauses, TellsStops};
 ghost use Rattle.vt_alone.specs.declared.serving.StoreServed.{StoreServed};
 ghost use Rattle.vt_session.specs.Turns.{causes_of, synced_numbers};
 
-use vt_core::stores_can_be_mounted;
+use vt_core::{marks_are_read, stores_can_be_mounted};
 use vt_disk::Disk;
 
 /// A session and the end of the store's use are a run of events, so all holds of them that holds of
@@ -41,6 +41,16 @@ pub fn sessions_tell_causes<D: Disk>()
     sessions_are_runs::<D>();
 }
 
+/// Where no device counted a failed call, a session over a sound store needs memory alone, whatever
+/// its streams tell of what came in and went out.
+pub fn sound_stores_need_memory<D: Disk>()
+    ensures { (score : List ℕ → List ℕ) (end : StoreServed) (now : ℕ) (old new : CoreState D)
+        (tells : Bool) (input output : List ℕ) (h : History)
+        → ServesStore score D.Disk end now old new tells input output
+        → IsTrue D.tells → IsSound score D.Disk old h → NoCallFails D.Disk old new
+        → NeedsMemory end }
+{}
+
 /// Whatever device calls failed, what is left behind a session stands for a prefix of its history
 /// that has all that a sync was answered for.
 pub fn sessions_leave_all<D: Disk>()
@@ -57,7 +67,7 @@ pub fn sessions_leave_all<D: Disk>()
 }
 
 /// Where no device counted a failed call, nothing but memory was wanting, and all is on the devices
-/// and marked.
+/// and marked, as it is read of them.
 pub fn sessions_end_well<D: Disk>()
     ensures { (score : List ℕ → List ℕ) (end : StoreServed) (now : ℕ) (old new : CoreState D)
         (tells : Bool) (input output : List ℕ) (h : History)
@@ -68,6 +78,7 @@ pub fn sessions_end_well<D: Disk>()
         EndsWell score D.Disk end (causes_of (session.turns ++ session.unsaid)) session.last
         old new }
 {
+    marks_are_read::<D>();
     stores_can_be_mounted::<D>();
     sessions_are_runs::<D>();
 }

@@ -84,7 +84,7 @@ pub fn formatted_stores_can_be_opened<D: Disk>()
     partitions_are_told_apart();
 }
 
-/// A disk in memory that `new` made has no failed calls.
+/// A disk in memory that `new` made counts no failed call.
 pub fn memory_never_fails()
     ensures { (disk : MemDisk Never) → ⟦<MemDisk<Never> as Disk>⟧.faults disk ≡ 0 }
 {}

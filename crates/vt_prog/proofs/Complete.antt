@@ -1,7 +1,10 @@
--- Input that ends well is answered to its end.
-use Rattle.std.proofs.Common.{◌≡◌, List, [], ◌++◌, ℕ, length, Bool, true, false, cond, refl, sym, ◌∙◌, ap, subst, ◌⊎◌, inl, inr, append-nil, arith, length-append, Ok, Err}
+-- Input that ends well is answered to its end, unless memory runs out.
+use Rattle.std.specs.Prelude.{◌&&◌, IfSome, IsTrue}
+use Rattle.std.proofs.Common.{◌≡◌, Bool, Option, Some, None, List, [], ◌++◌, ℕ, length, refl, sym, ◌∙◌, ap, subst, ◌⊎◌, inl, inr, append-nil, arith, length-append, Ok, Err}
 use Rattle.vt_base.specs.Bytes.{AreBytes}
 use Rattle.vt_base.specs.Faults.{HasRisen}
+use Rattle.vt_base.specs.declared.why.Why.{Why}
+use Rattle.vt_base.specs.declared.why.Why.TheVariants as whys
 use Rattle.vt_session.specs.declared.Ended.{Ended}
 use Rattle.vt_session.specs.declared.Ended.TheVariants.{Goodbye, Closed, Cut, Malformed, Spent, ReadFault, WriteFault, NoMemory}
 use Rattle.vt_session.specs.Heard.{Item, Heard}
@@ -10,10 +13,13 @@ use Rattle.vt_session.specs.Talk.{Carries}
 use Rattle.vt_session.proofs.Hearings.{heard_one, heard_last}
 use Rattle.vt_answer.specs.Links.{ReadCause}
 use Rattle.vt_answer.specs.Sessions.{SinkCause}
-use Rattle.vt_prog.specs.declared.commands.session.SessionEnd.{SessionEnd}
+use Rattle.vt_alone.specs.declared.serving.StoreServed.{StoreServed}
+use Rattle.vt_alone.specs.Sessions.{NeedsMemory}
 use Rattle.vt_prog.specs.declared.failure.Failure.TheVariants as failures
+use Rattle.vt_prog.specs.Change.{Change, Work}
+use Rattle.vt_prog.specs.Commands.Session.{DoesSession}
 use Rattle.vt_prog.specs.Failure.{Outcome}
-use Rattle.vt_prog.specs.Commands.Session.{IsSession, HasCauses, EndsWell, outcome_of, outcome_of_end}
+use Rattle.vt_prog.specs.Served.{EndsWell, PassesOver, closed_with, failed_in, failure_for, first_of, outcome_of, outcome_of_end}
 
 -- an input that ends well ends no other way
 well_is : (had : List ℕ) (items : List Item) (ended : Ended) → EndsWell had → Heard had items ended → (ended ≡ Goodbye) ⊎ (ended ≡ Closed)
@@ -21,12 +27,12 @@ well_is had items ended well heard =
     let same = heard_one had well.items items well.ended ended well.heard heard in
     elim (well.well) [ inl e ↦ inl (sym same.1 ∙ e) | inr e ↦ inr (sym same.1 ∙ e) ]
 
-abbrev IsWell : Outcome → Type 0
+abbrev pub IsWell : Outcome → Type 0
 IsWell outcome = (outcome ≡ Ok tt) ⊎ (outcome ≡ Err failures.NoMemory)
 
 module _ (had input left output : List ℕ) (turns : List Turn) (bytes : AreBytes had)
     (well : EndsWell had) (parts : had ≡ input ++ left) where
-  end_outcome : (ended : Ended) (n source source' sink sink' : ℕ) → (ended ≡ Cut → left ≡ [])
+  pub end_outcome : (ended : Ended) (n source source' sink sink' : ℕ) → (ended ≡ Cut → left ≡ [])
       → Carries input output turns ended → ReadCause ended source source'
       → SinkCause ended sink sink' → ¬ (HasRisen source source') → ¬ (HasRisen sink sink')
       → IsWell (outcome_of_end ended n)
@@ -56,16 +62,45 @@ module _ (had input left output : List ℕ) (turns : List Turn) (bytes : AreByte
       absurd (no_write write)
   end_outcome NoMemory n source source' sink sink' none carried read write no_read no_write = inr refl
 
-pub ends_well : (score : List ℕ → List ℕ) (end : SessionEnd) (had left before after : List ℕ)
-    (source source' sink sink' : ℕ) → AreBytes had → EndsWell had
-    → IsSession score end had left before after → HasCauses end source source' sink sink'
-    → ¬ (HasRisen source source') → ¬ (HasRisen sink sink') → IsWell (outcome_of end)
-ends_well score end had left before after source source' sink sink' bytes well x causes no_read
-    no_write =
-    elim (end.ran_out) as (λ b. IsWell (cond b (Err failures.NoMemory)
-    (outcome_of_end end.ended end.taken))) [
-      | true ↦ inr refl
-      | false ↦ end_outcome had x.input left x.output x.turns bytes well x.took.parts end.ended
-          end.taken source source' sink sink' x.took.cut x.alone.carried causes.read causes.write
-          no_read no_write
-    ]
+-- ---- the outcome of a store that needs memory alone
+
+first_well : (first second : Outcome) → IsWell first → IsWell second → IsWell (first_of first second)
+first_well (Ok done) second x y = y
+first_well (Err failure) second x y = x
+
+failed_well : (failure : Option Why) → IfSome failure (λ why. why ≡ whys.NoMemory)
+    → IsWell (failed_in failure)
+failed_well None it = inl refl
+failed_well (Some why) it = inr (ap (λ (w : Why). Err (failure_for w)) it)
+
+pub served_well : {R K : Type 0} (end : StoreServed) (input output : List ℕ) (turns : List Turn)
+    (source : Change R) (sink : Change K) → NeedsMemory end
+    → PassesOver end input output source sink → Carries input output turns end.ended
+    → ReadCause end.ended source.faults source.faults'
+    → SinkCause end.ended sink.faults sink.faults' → EndsWell source.old
+    → ¬ HasRisen source.faults source.faults' → ¬ HasRisen sink.faults sink.faults'
+    → IsWell (outcome_of end)
+served_well end input output turns source sink needs passes carried read write well no_read no_write =
+    first_well (failed_in end.failure) _ (failed_well end.failure needs.failure)
+    (first_well (outcome_of_end end.ended end.taken) (closed_with end.closed)
+    (end_outcome source.old input source.new output turns passes.bytes well passes.took.parts
+    end.ended end.taken source.faults source.faults' sink.faults sink.faults' passes.took.cut
+    carried read write no_read no_write)
+    (inl (ap closed_with needs.closed)))
+
+-- in memory
+pub memory_well : {R K I P D : Type 0} (score : List ℕ → List ℕ) (outcome : Outcome)
+    (work : Work R K I P D) → DoesSession score outcome work
+    → IsTrue (work.source.tells && work.sink.tells) → EndsWell work.source.old
+    → ¬ HasRisen work.source.faults work.source.faults'
+    → ¬ HasRisen work.sink.faults work.sink.faults' → IsWell outcome
+memory_well score outcome work x tells well no_read no_write =
+    let s = x.serves in
+    let session = s.session tells in
+    subst IsWell (sym x.outcome_is) (served_well x.end s.input s.output session.turns work.source
+    work.sink s.needs (s.passes tells) session.alone.carried s.read s.write well no_read no_write)
+
+-- streams that tell both
+pub both_tell : (a b : Bool) → IsTrue a → IsTrue b → IsTrue (a && b)
+both_tell Bool.true b x y = y
+both_tell Bool.false b x y = absurd (cc)

@@ -16,13 +16,14 @@ use Rattle.vt_prog.specs.Change.{Work}
 use Rattle.vt_prog.specs.Commands.Fmtarenas.{AsksForNoArenas}
 use Rattle.vt_prog.specs.Commands.Fmtbloom.{AsksForNoFilter}
 use Rattle.vt_prog.specs.Commands.Fmtisect.{AsksForNoSection}
-use Rattle.vt_prog.specs.Commands.Session.{DoesSession, outcome_of_end}
+use Rattle.vt_prog.specs.Commands.Session.{DoesSession}
+use Rattle.vt_prog.specs.Commands.SessionConf.{DoesSessionConf}
 use Rattle.vt_prog.specs.Failure.{Outcome, HasFailed, status_of, line_of, line, HasCauseIn}
 use Rattle.vt_prog.specs.Formatting.{RefusesWord}
 use Rattle.vt_prog.specs.Run.{Does, DoesAsked, DoesWords, EndsIdle, in_memory}
 use Rattle.vt_prog.proofs.Causes.{formats_never}
 use Rattle.vt_prog.proofs.IndexCauses.{index_never}
-use Rattle.vt_prog.proofs.SessionCauses.{end_never_bad, session_conf_never}
+use Rattle.vt_prog.proofs.SessionCauses.{outcome_never, session_conf_never}
 
 -- ---- by what the words ask for
 
@@ -53,12 +54,7 @@ module _ {R K I P D : Type 0} (disk : DiskOf D) (score : List ℕ → List ℕ) 
 
 session_never : {R K I P D : Type 0} (score : List ℕ → List ℕ) (outcome : Outcome) (work : Work R K I P D)
     → DoesSession score outcome work → status_of outcome ≢ 1
-session_never score outcome work x one =
-    elim (x.end.ran_out) as (λ b. status_of (cond b (Err NoMemory)
-    (outcome_of_end x.end.ended x.end.taken)) ≡ 1 → ⊥) [
-      | true ↦ λ is. cc
-      | false ↦ end_never_bad x.end.ended x.end.taken
-    ] (ap status_of (sym x.outcome_is) ∙ one)
+session_never score outcome work x one = outcome_never x.end (ap status_of (sym x.outcome_is) ∙ one)
 
 -- a word that is refused has a cause that has another status
 abbrev IsOther : Failure → Type 0
@@ -206,3 +202,10 @@ pub session_well : {R K I P D : Type 0} (disk : DiskOf D) (score : List ℕ → 
     → Does disk score (Session in_memory) outcome work ⊎ EndsIdle (Err NoMemory) outcome work → (outcome ≡ Ok tt) ⊎ (outcome ≡ Err NoMemory)
 session_well disk score outcome work well done = ⊎_elim
     (λ does. ⊎_elim (λ known. well known.1) (λ other. absurd (other.0 refl)) does) (λ idle. inr idle.is) done
+
+-- a session over the store of a configuration
+pub conf_well : {R K I P D : Type 0} (disk : DiskOf D) (score : List ℕ → List ℕ) (file : List ℕ) (outcome : Outcome) (work : Work R K I P D)
+    → file ≢ in_memory → (DoesSessionConf score disk file outcome work → (outcome ≡ Ok tt) ⊎ (outcome ≡ Err NoMemory))
+    → Does disk score (Session file) outcome work ⊎ EndsIdle (Err NoMemory) outcome work → (outcome ≡ Ok tt) ⊎ (outcome ≡ Err NoMemory)
+conf_well disk score file outcome work other well done = ⊎_elim
+    (λ does. ⊎_elim (λ memory. absurd (other memory.0)) (λ conf. well conf.1) does) (λ idle. inr idle.is) done

@@ -1,4 +1,4 @@
--- Why a session over a configuration ends with a status other than 0.
+-- Why a session ends with a status other than 0.
 use Rattle.std.proofs.Common.{◌≡◌, ◌≢◌, ◌⊎◌, ⊎_elim, inl, inr, ℕ, zero, suc, ◌<◌, ◌^◌, ◌-◌, List, [], ◌∷◌, length, map, Option, None, Some, Result, Ok, Err, refl, sym, ◌∙◌, ap, subst, arith}
 use Rattle.std.specs.List.{All, AllZip}
 use Rattle.std.specs.Prelude.{◌&&◌, IsTrue, IfErr, IfSome, slice_index}
@@ -32,10 +32,11 @@ use Rattle.vt_alone.proofs.Leaves.{tells_causes}
 use Rattle.vt_prog.specs.declared.failure.Failure.{Failure}
 use Rattle.vt_prog.specs.declared.failure.Failure.TheVariants.{Damaged, DiskFault, NoMemory}
 use Rattle.vt_prog.specs.Change.{Change, PartsChange, Work}
-use Rattle.vt_prog.specs.Commands.Session.{outcome_of_end}
-use Rattle.vt_prog.specs.Commands.SessionConf.{DoesSessionConf, IsOpenRefusal, OpensNone, ServesConf, closed_with, failed_in, failure_for, first_of, outcome_of}
+use Rattle.vt_prog.specs.Commands.Session.{ServesMemory}
+use Rattle.vt_prog.specs.Commands.SessionConf.{DoesSessionConf, IsOpenRefusal, OpensNone, ServesConf}
 use Rattle.vt_prog.specs.Configurations.{IsRefusalAmong}
 use Rattle.vt_prog.specs.Failure.{HasCauseIn, HasFailed, HaveFailed, Outcome, status_of}
+use Rattle.vt_prog.specs.Served.{closed_with, failed_in, failure_for, first_of, outcome_of, outcome_of_end}
 use Rattle.vt_prog.proofs.Causes.{have_failed}
 use Rattle.vt_prog.proofs.IndexCauses.{IsOther, among_never, none_never, other_as}
 
@@ -153,8 +154,9 @@ module _ {R K I P D : Type 0} (score : List ℕ → List ℕ) (disk : DiskOf D) 
   none_opened outcome x = subst (λ (o : Outcome). HasCauseIn disk work o) (sym x.outcome_is)
       (open_told x.bad x.failure x.refused x.differs x.told)
 
-  -- ---- a session over one that is
+-- ---- how a session ends
 
+module _ {R K I P D : Type 0} (disk : DiskOf D) (work : Work R K I P D) where
   ended_cause : (ended : Ended) (taken : ℕ)
       → ReadCause ended work.source.faults work.source.faults'
       → SinkCause ended work.sink.faults work.sink.faults'
@@ -168,62 +170,87 @@ module _ {R K I P D : Type 0} (score : List ℕ → List ℕ) (disk : DiskOf D) 
   ended_cause ends.WriteFault taken read write = write
   ended_cause ends.NoMemory taken read write = tt
 
-  module _ (opened ended : CoreState D)
-      (rises : OneRose (each_of disk.faults opened) (each_of disk.faults ended)
-      → HasFailed disk work.parts) where
-    why_cause : (why : Why) → FailsFor disk why opened ended
-        → HasCauseIn disk work (Err (failure_for why))
-    why_cause whys.DiskFault it = inr (rises it)
-    why_cause (whys.Stopped call) it = inr (rises it)
-    why_cause (whys.Damaged site want found) it = it
-    why_cause whys.NoMemory it = tt
-    why_cause whys.BadType it = absurd it
-    why_cause whys.TooBig it = absurd it
-    why_cause whys.TooSmall it = absurd it
-    why_cause whys.Absent it = absurd it
-    why_cause whys.Collision it = absurd it
-    why_cause whys.IndexFull it = absurd it
-    why_cause whys.ArenasFull it = absurd it
-
-    failed_cause : (failure : Option Why) → IfSome failure (λ why. FailsFor disk why opened ended)
+  -- where what the store fails for has its cause
+  module _ (Fails : Why → Type 0)
+      (causes : (why : Why) → Fails why → HasCauseIn disk work (Err (failure_for why))) where
+    failed_cause : (failure : Option Why) → IfSome failure Fails
         → HasCauseIn disk work (failed_in failure)
     failed_cause None it = tt
-    failed_cause (Some why) it = why_cause why it
+    failed_cause (Some why) it = causes why it
 
-    closed_cause : (closed : Result (Unit {0}) Why)
-        → IfErr closed (λ why. FailsFor disk why opened ended)
+    closed_cause : (closed : Result (Unit {0}) Why) → IfErr closed Fails
         → HasCauseIn disk work (closed_with closed)
     closed_cause (Ok done) it = tt
-    closed_cause (Err why) it = why_cause why it
+    closed_cause (Err why) it = causes why it
 
     first_cause : (first second : Outcome) → HasCauseIn disk work first
         → HasCauseIn disk work second → HasCauseIn disk work (first_of first second)
     first_cause (Ok done) second x y = y
     first_cause (Err failure) second x y = x
 
-    outcome_cause : (end : StoreServed) → TellsCauses disk end opened ended
+    outcome_cause : (end : StoreServed) → IfSome end.failure Fails → IfErr end.closed Fails
         → ReadCause end.ended work.source.faults work.source.faults'
         → SinkCause end.ended work.sink.faults work.sink.faults'
         → HasCauseIn disk work (outcome_of end)
-    outcome_cause end tells read write = first_cause (failed_in end.failure) _
-        (failed_cause end.failure tells.failure)
+    outcome_cause end failed closed read write = first_cause (failed_in end.failure) _
+        (failed_cause end.failure failed)
         (first_cause (outcome_of_end end.ended end.taken) (closed_with end.closed)
-        (ended_cause end.ended end.taken read write) (closed_cause end.closed tells.closed))
+        (ended_cause end.ended end.taken read write) (closed_cause end.closed closed))
+
+  why_cause : (opened ended : CoreState D)
+      → (OneRose (each_of disk.faults opened) (each_of disk.faults ended)
+      → HasFailed disk work.parts) → (why : Why) → FailsFor disk why opened ended
+      → HasCauseIn disk work (Err (failure_for why))
+  why_cause opened ended rises whys.DiskFault it = inr (rises it)
+  why_cause opened ended rises (whys.Stopped call) it = inr (rises it)
+  why_cause opened ended rises (whys.Damaged site want found) it = it
+  why_cause opened ended rises whys.NoMemory it = tt
+  why_cause opened ended rises whys.BadType it = absurd it
+  why_cause opened ended rises whys.TooBig it = absurd it
+  why_cause opened ended rises whys.TooSmall it = absurd it
+  why_cause opened ended rises whys.Absent it = absurd it
+  why_cause opened ended rises whys.Collision it = absurd it
+  why_cause opened ended rises whys.IndexFull it = absurd it
+  why_cause opened ended rises whys.ArenasFull it = absurd it
+
+  -- over a store in memory nothing but memory is wanting
+  memory_cause : (why : Why) → why ≡ whys.NoMemory → HasCauseIn disk work (Err (failure_for why))
+  memory_cause why is = subst (λ (w : Why). HasCauseIn disk work (Err (failure_for w))) (sym is) tt
+
+  pub memory_served_cause : (score : List ℕ → List ℕ) (end : StoreServed)
+      → ServesMemory score end work.source work.sink → HasCauseIn disk work (outcome_of end)
+  memory_served_cause score end x = outcome_cause (λ why. why ≡ whys.NoMemory) memory_cause end
+      x.needs.failure
+      (subst (λ (closed : Result (Unit {0}) Why). IfErr closed (λ why. why ≡ whys.NoMemory))
+      (sym x.needs.closed) tt)
+      x.read x.write
+
+-- ---- a session over the store of a configuration
+
+module _ {R K I P D : Type 0} (score : List ℕ → List ℕ) (disk : DiskOf D) (file : List ℕ)
+    (conf : Conf) (work : Work R K I P D) where
+  pub served_rises : (outcome : Outcome)
+      → (x : ServesConf score disk conf outcome work.source work.sink work.parts)
+      → OneRose (each_of disk.faults x.opened) (each_of disk.faults x.serves.ended)
+      → HasFailed disk work.parts
+  served_rises outcome x rose =
+      let s = x.serves in
+      has_failed disk work.parts (all_of (files_of conf)) (all_of x.opens.handed)
+      (all_of (devices_of s.ended)) rose.0 (same_len x.opens.handed (files_of conf) x.opens.shape)
+      (same_len (devices_of s.ended) (files_of conf) s.shape) x.opens.taken.stood
+      (λ t. s.given.stand t (x.opens.taken.out t) (x.opens.taken.apart t))
+      (subst (λ (counts : List ℕ). HaveFailed (slice_index counts rose.0)
+      (slice_index (each_of disk.faults s.ended) rose.0)) x.opens.faults_are rose.1)
 
   pub served_cause : (outcome : Outcome)
       → (x : ServesConf score disk conf outcome work.source work.sink work.parts)
       → TellsCauses disk x.serves.end x.opened x.serves.ended → HasCauseIn disk work outcome
   served_cause outcome x tells =
       let s = x.serves in
-      let rises = λ (rose : OneRose (each_of disk.faults x.opened) (each_of disk.faults s.ended)).
-      has_failed disk work.parts (all_of (files_of conf)) (all_of x.opens.handed)
-      (all_of (devices_of s.ended)) rose.0 (same_len x.opens.handed (files_of conf) x.opens.shape)
-      (same_len (devices_of s.ended) (files_of conf) s.shape) x.opens.taken.stood
-      (λ t. s.given.stand t (x.opens.taken.out t) (x.opens.taken.apart t))
-      (subst (λ (counts : List ℕ). HaveFailed (slice_index counts rose.0)
-      (slice_index (each_of disk.faults s.ended) rose.0)) x.opens.faults_are rose.1) in
       subst (λ (o : Outcome). HasCauseIn disk work o) (sym s.outcome_is)
-      (outcome_cause x.opened s.ended rises s.end tells s.read s.write)
+      (outcome_cause disk work (λ why. FailsFor disk why x.opened s.ended)
+      (why_cause disk work x.opened s.ended (served_rises outcome x)) s.end tells.failure
+      tells.closed s.read s.write)
 
 -- either has its cause
 pub session_has_cause : {R K I P D : Type 0} (score : List ℕ → List ℕ) (disk : DiskOf D)
@@ -243,7 +270,7 @@ session_has_cause score disk fits file conf work outcome done = ⊎_elim
 
 -- ---- it never ends as other words do
 
-pub end_never_bad : (ended : Ended) (taken : ℕ) → status_of (outcome_of_end ended taken) ≡ 1 → ⊥
+end_never_bad : (ended : Ended) (taken : ℕ) → status_of (outcome_of_end ended taken) ≡ 1 → ⊥
 end_never_bad ends.Goodbye taken is = cc
 end_never_bad ends.Closed taken is = cc
 end_never_bad ends.Cut taken is = cc
@@ -279,7 +306,7 @@ first_never : (first second : Outcome) → status_of first ≢ 1 → status_of s
 first_never (Ok done) second x y = y
 first_never (Err failure) second x y = x
 
-outcome_never : (end : StoreServed) → status_of (outcome_of end) ≢ 1
+pub outcome_never : (end : StoreServed) → status_of (outcome_of end) ≢ 1
 outcome_never end = first_never (failed_in end.failure) _ (failed_never end.failure)
     (first_never (outcome_of_end end.ended end.taken) (closed_with end.closed)
     (end_never_bad end.ended end.taken) (closed_never end.closed))

@@ -1,4 +1,3 @@
-pub mod Asked
 pub mod Change
 pub mod Commands
 pub mod Configurations
@@ -7,8 +6,6 @@ pub mod Fields
 pub mod Formatting
 pub mod Hosts
 pub mod Members
-pub mod Memory
 pub mod Run
-pub mod Serving
-pub mod Store
+pub mod Served
 pub mod Words

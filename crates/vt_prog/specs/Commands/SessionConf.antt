@@ -1,9 +1,9 @@
 -- The command `session CONF`: one session over the store that a configuration names (venti(8)).
-use Rattle.std.specs.Prelude.{ℕ, ◌≡◌, ◌⊎◌, ◌≤◌, ◌++◌, ◌&&◌, IsTrue, Option, Some, None, List, length, map, Result, Ok, Err}
+use Rattle.std.specs.Prelude.{ℕ, ◌≡◌, ◌⊎◌, ◌≤◌, ◌++◌, ◌&&◌, IsTrue, Some, List, length, map, Err}
 use Rattle.std.specs.List.{AllByRecursion}
-use Rattle.vt_base.specs.declared.why.Why.{Why}
-use Rattle.vt_base.specs.declared.why.Why.TheVariants as whys
+use Rattle.vt_base.specs.Faults.{HasRisen}
 use Rattle.vt_conf.specs.declared.conf.Conf.{Conf}
+use Rattle.vt_conf.specs.Configuration.{Configures}
 use Rattle.vt_disk.specs.Members.{DiskOf}
 use Rattle.vt_format.specs.Index.{files_of as files_in}
 use Rattle.vt_model.specs.History.{History}
@@ -13,10 +13,10 @@ use Rattle.vt_answer.specs.Links.{ReadCause}
 use Rattle.vt_answer.specs.Sessions.{SinkCause}
 use Rattle.vt_session.specs.Answered.{Faults, OneRose}
 use Rattle.vt_session.specs.Talk.{Alone, Took}
-use Rattle.vt_session.specs.Turns.{Turn, causes_of, synced_numbers}
+use Rattle.vt_session.specs.Turns.{Cause, Turn, causes_of, synced_numbers}
 use Rattle.vt_core.specs.Core.{CoreState, devices_of}
 use Rattle.vt_core.specs.Files.{PerDevice, all_of}
-use Rattle.vt_core.specs.Mounting.{AllStandFor, EachStands}
+use Rattle.vt_core.specs.Mounting.{AllStandFor, EachStands, IsLogOf, KeepsLimits}
 use Rattle.vt_open.specs.declared.bad.OpenBad.{OpenBad}
 use Rattle.vt_open.specs.declared.bad.OpenBad.TheVariants.{Missing, Refused}
 use Rattle.vt_open.specs.Names.{AreUnder, files_of, HaveOneShape}
@@ -24,13 +24,13 @@ use Rattle.vt_open.specs.Opening.{NamesCause, Opens, RefusesStore}
 use Rattle.vt_open.specs.Taking.{AreGiven}
 use Rattle.vt_parts.specs.Parts.{Standing}
 use Rattle.vt_alone.specs.declared.serving.StoreServed.{StoreServed}
-use Rattle.vt_alone.specs.Sessions.{AreUnsaid, OnlyMemory, ServesStore}
+use Rattle.vt_alone.specs.Sessions.{AreMarkedOn, AreUnsaid, OnlyMemory, ServesStore}
 use Rattle.vt_prog.specs.declared.failure.Failure.{Failure}
-use Rattle.vt_prog.specs.declared.failure.Failure.TheVariants.{Damaged, DiskFault, NoMemory}
+use Rattle.vt_prog.specs.declared.failure.Failure.TheVariants.{DiskFault, NoMemory}
 use Rattle.vt_prog.specs.Change.{Change, PartsChange, Work, ReadsFiles}
-use Rattle.vt_prog.specs.Commands.Session.{outcome_of_end}
 use Rattle.vt_prog.specs.Configurations.{IsRefusalAmong, ReadsConf, ReadsNone}
-use Rattle.vt_prog.specs.Failure.{Outcome}
+use Rattle.vt_prog.specs.Failure.{HasFailed, Outcome}
+use Rattle.vt_prog.specs.Served.{EndsWell, PassesOver, outcome_of}
 
 -- ---- what is told
 
@@ -40,38 +40,7 @@ IsOpenRefusal file conf (Missing part) failure = failure ≡ DiskFault
 IsOpenRefusal file conf (Refused bad) failure =
     IsRefusalAmong file (files_in conf) bad failure ⊎ (failure ≡ NoMemory)
 
--- why the store failed in a request, or at its end: a call of a device, or a part that had stopped
--- since one failed; or damage; or want of memory
-abbrev pub failure_for : Why → Failure
-failure_for (whys.Damaged site want found) = Damaged want found
-failure_for whys.NoMemory = NoMemory
-failure_for why = DiskFault
-
-abbrev pub failed_in : Option Why → Outcome
-failed_in None = Ok tt
-failed_in (Some why) = Err (failure_for why)
-
-abbrev pub closed_with : Result (Unit {0}) Why → Outcome
-closed_with (Ok done) = Ok tt
-closed_with (Err why) = Err (failure_for why)
-
-abbrev pub first_of : (first second : Outcome) → Outcome
-first_of (Ok done) second = second
-first_of (Err failure) second = Err failure
-
--- the first cause in time: a failure in a request, the session's end, the end of the store's use
-abbrev pub outcome_of : StoreServed → Outcome
-outcome_of end = first_of (failed_in end.failure)
-    (first_of (outcome_of_end end.ended end.taken) (closed_with end.closed))
-
 -- ---- what is done
-
--- these bytes came from the source and went to the sink
-pub record PassesOver {R K : Type 0} (end : StoreServed) (input output : List ℕ)
-    (source : Change R) (sink : Change K) : Type 0 where
-  pub took : Took source.old input source.new end.ended
-  pub taken : end.taken ≡ length input
-  pub written : sink.new ≡ sink.old ++ output
 
 -- A store that was opened served a session, and was closed: its partitions are back.
 pub record ServesOpened {R K D : Type 0} (score : List ℕ → List ℕ) (disk : DiskOf D) (conf : Conf)
@@ -129,13 +98,21 @@ DoesSessionConf score disk file outcome work =
 
 -- ---- the promise
 
+-- Where no device counts a failed call, each reply is the model's or `no memory`, and the devices
+-- stand for all of the history, which every mark that is read of them says.
+pub record EndsQuietly {D : Type 0} (score : List ℕ → List ℕ) (disk : DiskOf D) (c : Setup)
+    (tables : List Table) (causes : List Cause) (last : History) (back : PerDevice D) : Type 0
+  where
+    pub failures : OnlyMemory causes
+    pub stands : AllStandFor score disk c tables back last (length last)
+    pub marks : AreMarkedOn disk (length last) back
+
 -- What a session promises where all that is handed in tells what it holds, over partitions of which
 -- every combination of images stands for a prefix of one legal history, and that read as history
 -- `g`: what came in and went out is a session that nobody shares, from `g` to `last`; and whatever
 -- device calls failed, what any crash then leaves of the partitions, taken together, stands for a
--- prefix of `last` that has each block behind which a sync was answered. Where no device counts a
--- failed call, each reply is the model's or `no memory`, and it stands for all of `last`.
-pub record KeepsStore {D : Type 0} (score : List ℕ → List ℕ) (disk : DiskOf D) (conf : Conf)
+-- prefix of `last` that has each block behind which a sync was answered.
+pub record KeepsConf {D : Type 0} (score : List ℕ → List ℕ) (disk : DiskOf D) (conf : Conf)
     (end : StoreServed) (input output : List ℕ) (new : List ℕ → Standing D) (tables : List Table)
     (devices : PerDevice D) (c : Setup) (g : History) : Type 0 where
   pub faults : Faults
@@ -151,5 +128,36 @@ pub record KeepsStore {D : Type 0} (score : List ℕ → List ℕ) (disk : DiskO
   pub stands : EachStands score disk c tables least back last
   pub synced : AllByRecursion (λ n. n ≤ least) (synced_numbers (turns ++ unsaid))
   pub quiet : ¬ OneRose (map disk.faults (all_of devices)) (map disk.faults (all_of back))
-      → OnlyMemory (causes_of (turns ++ unsaid))
-      × AllStandFor score disk c tables back last (length last)
+      → EndsQuietly score disk c tables (causes_of (turns ++ unsaid)) last back
+
+-- All that is handed in tells what it holds: the file of this name is a configuration, of what
+-- stands under its names every combination of images stands for a prefix of one legal history,
+-- within the limits of a store, and the input ends well.
+pub record IsWellHandedIn {R K I P D : Type 0} (score : List ℕ → List ℕ) (disk : DiskOf D)
+    (file : List ℕ) (work : Work R K I P D) : Type 0 where
+  pub streams : IsTrue (work.source.tells && work.sink.tells)
+  pub files : IsTrue work.files.tells
+  pub parts : IsTrue work.parts.tells
+  pub disks : IsTrue disk.tells
+  pub text : List ℕ
+  pub content : work.files.content file ≡ Some text
+  pub conf : Conf
+  pub says : Configures text conf
+  pub tables : List Table
+  pub devices : PerDevice D
+  pub under : AreUnder work.parts.old conf devices
+  pub c : Setup
+  pub h : History
+  pub g : History
+  pub base : ℕ
+  pub log : IsLogOf score disk tables devices c h g base
+  pub limits : KeepsLimits tables c
+  pub input : EndsWell work.source.old
+
+-- no call failed: no count rose, of the streams, the files, the partitions or a disk of these
+pub record NoneFails {R K I P D : Type 0} (disk : DiskOf D) (work : Work R K I P D) : Type 0 where
+  pub source : ¬ HasRisen work.source.faults work.source.faults'
+  pub sink : ¬ HasRisen work.sink.faults work.sink.faults'
+  pub files : ¬ HasRisen work.files.faults work.files.faults'
+  pub parts : ¬ HasRisen work.parts.faults work.parts.faults'
+  pub disks : ¬ HasFailed disk work.parts

@@ -5,19 +5,18 @@ ghost use Rattle.vt_core.specs.Core.{devices_of};
 ghost use Rattle.vt_core.specs.Machine.{WaitsForNone};
 ghost use Rattle.vt_open.specs.Names.{HaveOneShape, files_of};
 ghost use Rattle.vt_prog.specs.Change.{parts_change, sink_change, source_change, work_of};
-ghost use Rattle.vt_prog.specs.Commands.Session.{outcome_of_end};
-ghost use Rattle.vt_prog.specs.Commands.SessionConf.{DoesSessionConf, IsOpenRefusal, OpensNone, ServesConf, ServesOpened, failure_for, outcome_of};
+ghost use Rattle.vt_prog.specs.Commands.SessionConf.{DoesSessionConf, IsOpenRefusal, OpensNone, ServesConf, ServesOpened};
 ghost use Rattle.vt_prog.specs.Failure.{HasCauseIn};
 
 use crate::commands::fmtindex::{name_at, refusal_among};
-use crate::commands::session::end_of;
 use crate::configuration::read_conf;
 use crate::failure::Failure;
 use crate::host::Host;
 use crate::refusal::name_failed;
+use crate::served::outcome_of;
 use std::alloc::Global;
-use vt_alone::{StoreServed, serve_store, sessions_are_runs};
-use vt_base::{NoMemory, Scorer, Text, Why};
+use vt_alone::{serve_store, sessions_are_runs};
+use vt_base::{NoMemory, Scorer, Text};
 use vt_conf::Conf;
 use vt_core::Core;
 use vt_open::{OpenBad, close_store, configurations_can_be_opened, open_store, shapes_are_kept};
@@ -100,35 +99,6 @@ fn serve_opened<H: Host, S: Scorer + Drop>(
     let (served, core) = serve_store(alloc, core, now, host.streams());
     close_store(host.parts(), conf, core);
     outcome_of(served)
-}
-
-/// The first cause in time: a failure in a request, the session's end, the end of the store's use.
-fn outcome_of(served: StoreServed) -> Result<(), Failure>
-    ensures { result ≡ outcome_of served }
-{
-    if let Some(why) = served.failure {
-        return Err(failure_for(why));
-    }
-    end_of(served.ended, served.taken)?;
-    match served.closed {
-        Ok(()) => Ok(()),
-        Err(why) => Err(failure_for(why)),
-    }
-}
-
-/// What is told where the store failed.
-fn failure_for(why: Why) -> Failure
-    ensures { result ≡ failure_for why }
-{
-    match why {
-        Why::Damaged {
-            site: _,
-            want,
-            found,
-        } => Failure::Damaged { want, found },
-        Why::NoMemory => Failure::NoMemory,
-        _ => Failure::DiskFault,
-    }
 }
 
 /// What is told where the store isn't opened. A file that can't be had is named on the terminal.

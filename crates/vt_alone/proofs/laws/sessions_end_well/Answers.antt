@@ -5,6 +5,7 @@ use Rattle.vt_part.specs.Table.{Table}
 use Rattle.vt_core.specs.Core.{devices_of, setup_of}
 use Rattle.vt_core.specs.Mounting.{AllStandFor}
 use Rattle.vt_alone.proofs.Leaves.{closes_well, session_quiet, store_keeps}
+use Rattle.vt_alone.proofs.Marks.{marked_on}
 use Rattle.vt_alone.proofs.laws.sessions_end_well.Goals as goal
 
 pub returns : goal.returns
@@ -22,6 +23,9 @@ returns g c score end now old new tells input output h serves disk_tells sound t
           fits quiet);
       closed = closed;
       marked = marked;
+      read = marked_on disk (length session.last) new marked
+          (λ i s. c.marks_are_read.ensures.heads score new session.last i s disk_tells left)
+          (λ b. c.marks_are_read.ensures.mark score new session.last b disk_tells left);
       stands = subst (λ (t : List Table). AllStandFor score disk (setup_of old) t (devices_of new)
           session.last (length session.last)) keeps.store.tables
           (subst (λ (s : Setup). AllStandFor score disk s new.log.tables (devices_of new)

@@ -7,6 +7,7 @@ use Rattle.vt_words.specs.Words.{Asks}
 use Rattle.vt_prog.specs.Change.{Attempts}
 use Rattle.vt_prog.specs.Failure.{status_of}
 use Rattle.vt_prog.specs.Run.{in_memory}
+use Rattle.vt_prog.proofs.Complete.{both_tell, memory_well}
 use Rattle.vt_prog.proofs.DidTells.{refused, done, never_bad, line_of_one, disk_risen, read_risen, write_risen, well_status, session_well}
 use Rattle.vt_prog.proofs.laws.did_tells.Goals as goal
 
@@ -52,6 +53,6 @@ returns-clause-write_fault g c score words status work complaint did is =
 pub returns-clause-complete : goal.returns-clause-complete
 returns-clause-complete g c score words status work complaint did is tells tells' well no_read no_write =
     well_status did.outcome status did.status_is
-    (session_well g.P.Disk.Disk score did.outcome work (λ x. x.complete tells tells' well no_read no_write)
+    (session_well g.P.Disk.Disk score did.outcome work (λ x. memory_well score did.outcome work x (both_tell _ _ tells tells') well no_read no_write)
     (done g.P.Disk.Disk score words did.preface did.outcome work (Session in_memory)
     (subst (λ said. Asks said (Do (Session in_memory))) (sym is) (session_taken, session_spoken)) did.does))

@@ -11,8 +11,8 @@ use Rattle.vt_core.specs.Mounting.{AllStandFor, EachStands}
 use Rattle.vt_alone.specs.Sessions.{AreUnsaid, faults_over}
 use Rattle.vt_prog.proofs.laws.sessions_keep_the_store.Goals as goal
 
-pub returns : goal.returns
-returns g c score conf outcome source sink parts tables devices setup h history base x tells disk_tells told under log =
+pub returns-clause-served : goal.returns-clause-served
+returns-clause-served g c score conf outcome source sink parts tables devices setup h history base x tells disk_tells told under log =
     let disk = g.P.Disk.Disk in
     let s = x.serves in
     let k = x.opened in
@@ -52,11 +52,17 @@ returns g c score conf outcome source sink parts tables devices setup h history 
           disk_tells recalls.sound told (record {
             goes_on = x.opens.mounts.fresh.stops;
             none_rose = λ rose. none (subst (λ (counts : List ℕ). OneRose counts (each_of disk.faults s.ended)) counts_are rose);
-          }) in (
-            well.failures,
-            subst (λ (t : List Table). AllStandFor score disk (record setup { base = base }) t (devices_of s.ended)
+          }) in record {
+            failures = well.failures;
+            stands = subst (λ (t : List Table). AllStandFor score disk (record setup { base = base }) t (devices_of s.ended)
                 session.last (length session.last)) tables_are
                 (subst (λ (m : Setup). AllStandFor score disk m k.log.tables (devices_of s.ended) session.last
-                (length session.last)) recalls.setup well.stands),
-          );
+                (length session.last)) recalls.setup well.stands);
+            marks = well.read;
+          };
     }
+
+pub returns-clause-refused : goal.returns-clause-refused
+returns-clause-refused g c score file conf outcome source sink parts tables devices back x tells disk_tells under under' =
+    c.refused_stores_stand.ensures.standing score parts.tells conf parts.old parts.new parts.faults parts.faults'
+    x.bad tables devices back tells disk_tells x.refused under under'

@@ -41,6 +41,7 @@ returns-clause-serves g c =
           (g.H.Sink.Sink.written client.sink);
       serves = serve.serves;
       passes = λ tells. record {
+        bytes = g.met.H.Source.Source.left_bytes _;
         took = serve.took tells;
         taken = serve.taken tells;
         written = serve.written tells;
