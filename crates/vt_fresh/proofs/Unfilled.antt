@@ -104,8 +104,8 @@ module _ {D : Type 0} (disk : DiskOf D) where
   there_at (x ∷ xs) zero within = (x, refl)
   there_at (x ∷ xs) (suc i) within = let less : i < length xs = omega (arith, within) in there_at xs i less
 
-  pub never_stops : ((d : D) → disk.faults d ≡ 0) → (number : ℕ) (olds news : List (SectionState D)) → number < length olds → StopsAt disk number olds news → ⊥
-  never_stops never number olds news within stops =
+  pub never_stops : ((d : D) → disk.faults d ≡ 0) → (number total : ℕ) (olds news : List (SectionState D)) → number < length olds → StopsAt disk number total olds news → ⊥
+  never_stops never number total olds news within stops =
       let many = stops.many in
       let old = there_at olds number within in
       let also : number < length news = omega (arith, within, many) in

@@ -17,7 +17,7 @@ put_all_to_use-requires-clause-few g c =
 
 pub unreachable-requires : goal.unreachable-requires
 unreachable-requires g c =
-    never_stops g.D.Disk c.requires.never c.in_default.field-0 c.deref_mut.result.now c.put_all_to_use.new.sections c.in_default.ensures.among c.in_default.ensures.stops
+    never_stops g.D.Disk c.requires.never c.in_default.field-0 (buckets_of c.deref_mut.result.now) c.deref_mut.result.now c.put_all_to_use.new.sections c.in_default.ensures.among c.in_default.ensures.stops
 
 pub returns-clause-unfilled : goal.returns-clause-unfilled
 returns-clause-unfilled g c =
