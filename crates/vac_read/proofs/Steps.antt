@@ -1,0 +1,134 @@
+-- What a part tells, said of the whole.
+use Rattle.std.proofs.Common.{◌≡◌, ◌+◌, ℕ, Option, Result, Ok, Err, Some, None, true, false, List, ◌∷◌, ◌++◌, length, sym, subst, inl, inr}
+use Rattle.vt_tree.specs.declared.entry.Entry.{Entry}
+use Rattle.vt_tree.specs.Maps.{BlockMap}
+use Rattle.vac_meta.specs.declared.record.Record.{Record}
+use Rattle.vac_meta.specs.declared.record.RecordKind.{RecordKind}
+use Rattle.vac_meta.specs.declared.record.RecordKind.TheVariants.{File, Folder}
+use Rattle.vac_meta.specs.Records.{all_spelled, string}
+use Rattle.vac_model.specs.Trees.{AreFolder, HasEntry}
+use Rattle.vac_read.specs.declared.err.VacBad.{VacBad}
+use Rattle.vac_read.specs.declared.node.Node.{Node}
+use Rattle.vac_read.specs.declared.node.Stored.TheVariants as stored
+use Rattle.vac_read.specs.Broken.{IsUnfound, LacksEntries, LacksEntry, LacksNode}
+use Rattle.vac_read.specs.Folders.{IsNamed, TellsNodes}
+use Rattle.vac_read.specs.Nodes.{AreNodes, Finds, IsFound, IsNode, IsStored, named}
+use Rattle.vac_read.specs.Reading.{ListsFolder}
+
+-- ---- the entries of a record
+
+module _ (map : BlockMap) (stream old : Entry) (kind : RecordKind) (n i field : ℕ)
+    (number : n ≡ i) (bad : VacBad)
+  where
+    pub lacks_file : kind ≡ File → LacksEntry map stream n false field bad
+        → LacksEntries map stream kind i field bad
+    lacks_file is lacks =
+        subst (λ (k : RecordKind). LacksEntries map stream k i field bad) (sym is)
+        (subst (λ (j : ℕ). LacksEntry map stream j false field bad) number lacks)
+
+    pub lacks_first : kind ≡ Folder → LacksEntry map stream n true field bad
+        → LacksEntries map stream kind i field bad
+    lacks_first is lacks =
+        subst (λ (k : RecordKind). LacksEntries map stream k i field bad) (sym is)
+        (inl (subst (λ (j : ℕ). LacksEntry map stream j true field bad) number lacks))
+
+    pub lacks_second : kind ≡ Folder → (e : Entry) → old ≡ stream
+        → HasEntry map stream n e × (e.is_dir ≡ true)
+        → LacksEntry map old (n + 1) false field bad
+        → LacksEntries map stream kind i field bad
+    lacks_second is e same first lacks =
+        let here = subst (λ (s : Entry). LacksEntry map s (n + 1) false field bad) same lacks in
+        subst (λ (k : RecordKind). LacksEntries map stream k i field bad) (sym is)
+        (inr (
+          e,
+          subst (λ (j : ℕ). HasEntry map stream j e) number first.0,
+          first.1,
+          subst (λ (j : ℕ). LacksEntry map stream (j + 1) false field bad) number here,
+        ))
+
+pub both_stored : (map : BlockMap) (stream old : Entry) (kind : RecordKind) (n i : ℕ)
+    (e m : Entry) → n ≡ i → kind ≡ Folder → old ≡ stream
+    → HasEntry map stream n e × (e.is_dir ≡ true)
+    → HasEntry map old (n + 1) m × (m.is_dir ≡ false)
+    → IsStored map stream kind i (stored.Folder e m)
+both_stored map stream old kind n i e m number is same first second = (
+  is,
+  subst (λ (j : ℕ). HasEntry map stream j e) number first.0,
+  first.1,
+  subst (λ (j : ℕ). HasEntry map stream (j + 1) m) number
+      (subst (λ (s : Entry). HasEntry map s (n + 1) m) same second.0),
+  second.1,
+)
+
+-- ---- the items of records
+
+pub node_lacks : (map : BlockMap) (entries stream : Entry) (records before : List Record)
+    (nodes : List Node) (r : Record) (rest : List Record) (place : ℕ) (bad : VacBad)
+    → AreNodes map entries before nodes → records ≡ before ++ r ∷ rest
+    → place ≡ length (all_spelled before) → stream ≡ entries
+    → LacksEntries map stream r.kind r.entry (place + length (string r.name) + 1) bad
+    → LacksNode map entries records bad
+node_lacks map entries stream records before nodes r rest place bad stand among at same lacks =
+    record {
+      before = before;
+      nodes = nodes;
+      stand = stand;
+      r = r;
+      rest = rest;
+      among = among;
+      lacks =
+          subst (λ (n : ℕ).
+          LacksEntries map entries r.kind r.entry (n + length (string r.name) + 1) bad) at
+          (subst (λ (e : Entry).
+          LacksEntries map e r.kind r.entry (place + length (string r.name) + 1) bad) same
+          lacks);
+    }
+
+pub list_told : (map : BlockMap) (entries metadata : Entry) (records : List Record)
+    (result : Result (List Node) VacBad) → AreFolder map entries metadata records
+    → TellsNodes entries records result map
+    → ListsFolder (stored.Folder entries metadata) result map
+list_told map entries metadata records (Ok nodes) are told =
+    record { records = records; are = are; stand = told }
+list_told map entries metadata records (Err bad) are told =
+    λ some. inr (records, are, told some)
+
+-- ---- the item of a name
+
+module _ (map : BlockMap) (entries metadata stream : Entry) (records : List Record)
+    (name : List ℕ) (r : Record) (at : ℕ) (are : AreFolder map entries metadata records)
+    (is : IsNamed records name r at) (same : stream ≡ entries)
+  where
+    pub name_lacks : (bad : VacBad)
+        → LacksEntries map stream r.kind r.entry (at + length (string r.name) + 1) bad
+        → IsUnfound map (stored.Folder entries metadata) name bad
+    name_lacks bad lacks = inr (record {
+      records = records;
+      are = are;
+      before = is.before;
+      r = r;
+      rest = is.rest;
+      among = is.among;
+      is = is.is;
+      lacks =
+          subst (λ (n : ℕ).
+          LacksEntries map entries r.kind r.entry (n + length (string r.name) + 1) bad)
+          is.place_is
+          (subst (λ (e : Entry).
+          LacksEntries map e r.kind r.entry (at + length (string r.name) + 1) bad) same lacks);
+    })
+
+    pub name_found : (node : Node) → IsNode map stream r node
+        → Finds map (stored.Folder entries metadata) name (Some node)
+    name_found node there = (
+      records,
+      are,
+      subst (λ (o : Option Record). IsFound map entries o (Some node)) (sym is.is)
+          (subst (λ (e : Entry). IsNode map e r node) same there),
+    )
+
+pub name_absent : (map : BlockMap) (entries metadata : Entry) (records : List Record)
+    (name : List ℕ) → AreFolder map entries metadata records → named name records ≡ None
+    → Finds map (stored.Folder entries metadata) name None
+name_absent map entries metadata records name are none =
+    (records, are, subst (λ (o : Option Record). IsFound map entries o None) (sym none) tt)

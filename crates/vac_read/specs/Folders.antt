@@ -1,0 +1,133 @@
+-- What the parts of a reader of folders answer.
+use Rattle.std.specs.Prelude.{ℕ, ◌≡◌, ◌+◌, ◌-◌, ◌*◌, ◌/◌, ◌%◌, ◌<◌, ◌≤◌, ◌⊎◌, min, Bool, true, false, Option, Some, None, Result, Ok, Err, List, [], ◌∷◌, ◌++◌, codes, length, take, drop}
+use Rattle.vt_fields.specs.Filled.{filled}
+use Rattle.vt_tree.specs.declared.entry.Entry.{Entry}
+use Rattle.vt_tree.specs.declared.root.Root.{Root as TreeRoot}
+use Rattle.vt_tree.specs.Entries.{IsEntry, SpellsEntry}
+use Rattle.vt_tree.specs.Content.{size_of, byte_of, AreGiven}
+use Rattle.vt_tree.specs.Maps.{BlockMap}
+use Rattle.vt_tree.specs.Roots.{IsRoot, spelled as root_bytes}
+use Rattle.vac_meta.specs.declared.record.Record.{Record}
+use Rattle.vac_meta.specs.declared.record.RecordKind.{RecordKind}
+use Rattle.vac_meta.specs.Records.{all_spelled}
+use Rattle.vac_model.specs.declared.TheConstants.{MIN_BLOCK_SIZE, MAX_BLOCK_SIZE}
+use Rattle.vac_model.specs.Trees.{entry_place, HasEntry, AreFolder}
+use Rattle.vac_read.specs.declared.directory.Directory.{Directory}
+use Rattle.vac_read.specs.declared.err.RootField.{RootField}
+use Rattle.vac_read.specs.declared.err.VacBad.{VacBad}
+use Rattle.vac_read.specs.declared.err.VacBad.TheVariants.{Root}
+use Rattle.vac_read.specs.declared.node.Node.{Node}
+use Rattle.vac_read.specs.declared.node.Stored.{Stored}
+use Rattle.vac_read.specs.declared.node.Stored.TheVariants as stored
+use Rattle.vac_read.specs.Broken.{IsUnread, IsNoEntry, LacksEntry, LacksEntries, LacksNode, LacksRecords, IsUnfound, root_flaw}
+use Rattle.vac_read.specs.Nodes.{AreNodes, IsNode, IsStored, Finds, named}
+use Rattle.vac_read.specs.Reading.{Answers}
+
+-- ---- entries
+
+-- the bytes are the leaf of a directory that begins there, as far as the directory goes
+pub record IsLeaf (map : BlockMap) (stream : Entry) (start : ℕ) (bytes : List ℕ) : Type 0 where
+  pub all : length bytes ≡ min stream.dsize (size_of stream - start)
+  pub given : AreGiven (byte_of map stream) start bytes
+
+-- what is kept of a directory is a leaf of it, or nothing
+abbrev pub Keeps : BlockMap → Directory → Type 0
+Keeps map d = (d.leaf ≡ []) ⊎ IsLeaf map d.stream d.start d.leaf
+
+-- the place of an entry of a directory: its leaf begins at `start`, and the entry stands so far
+-- inside it
+pub record IsPlace (stream : Entry) (i start inside : ℕ) : Type 0 where
+  pub whole : 40 ≤ stream.dsize
+  pub start_is : start ≡ i / (stream.dsize / 40) * stream.dsize
+  pub inside_is : inside ≡ 40 * (i % (stream.dsize / 40))
+  pub within : inside + 40 ≤ stream.dsize
+  pub there : start + inside + 40 ≤ size_of stream
+
+-- the place of entry i, or none where the directory ends before
+abbrev pub IsPlaceOf : (stream : Entry) → (i : ℕ) → Option (ℕ × ℕ) → Type 0
+IsPlaceOf stream i (Some place) = IsPlace stream i place.0 place.1
+IsPlaceOf stream i None = size_of stream < entry_place stream i + 40
+
+-- the leaf that begins there is kept
+abbrev pub TellsLeaf : (old new : Directory) → (start : ℕ) → Result (Unit {0}) VacBad → BlockMap
+    → Type 0
+TellsLeaf old new start result map =
+    Answers result (λ _. IsLeaf map old.stream start new.leaf)
+    (IsUnread map old.stream start (min old.stream.dsize (size_of old.stream - start)))
+
+-- forty bytes are this entry, or none of this kind
+abbrev pub TellsBytes : (bytes : List ℕ) → (is_dir : Bool) → (field : ℕ) → Result Entry VacBad
+    → Type 0
+TellsBytes bytes is_dir field (Ok e) = IsEntry e × SpellsEntry e bytes × (e.is_dir ≡ is_dir)
+TellsBytes bytes is_dir field (Err bad) = IsNoEntry bytes is_dir field bad
+
+-- the entry of this number
+abbrev pub TellsEntry : (stream : Entry) → (i : ℕ) → (is_dir : Bool) → (field : ℕ)
+    → Result Entry VacBad → BlockMap → Type 0
+TellsEntry stream i is_dir field result map =
+    Answers result (λ e. HasEntry map stream i e × (e.is_dir ≡ is_dir))
+    (LacksEntry map stream i is_dir field)
+
+-- the entries of a record
+abbrev pub TellsStored : (stream : Entry) → RecordKind → (i field : ℕ) → Result Stored VacBad
+    → BlockMap → Type 0
+TellsStored stream kind i field result map =
+    Answers result (IsStored map stream kind i) (LacksEntries map stream kind i field)
+
+-- the item of a record
+abbrev pub TellsNode : (stream : Entry) → Record → (field : ℕ) → Result Node VacBad → BlockMap
+    → Type 0
+TellsNode stream r field result map =
+    Answers result (IsNode map stream r) (LacksEntries map stream r.kind r.entry field)
+
+-- the items of records, in their order
+abbrev pub TellsNodes : (stream : Entry) → List Record → Result (List Node) VacBad → BlockMap
+    → Type 0
+TellsNodes stream records result map =
+    Answers result (AreNodes map stream records) (LacksNode map stream records)
+
+-- ---- records
+
+abbrev pub TellsRecords : (entries metadata : Entry) → Result (List Record) VacBad → BlockMap
+    → Type 0
+TellsRecords entries metadata result map =
+    Answers result (AreFolder map entries metadata) (LacksRecords map entries metadata)
+
+-- a record is the first of this name, and its bytes stand at this place of the metadata
+pub record IsNamed (records : List Record) (name : List ℕ) (r : Record) (place : ℕ) : Type 0
+  where
+    pub before : List Record
+    pub rest : List Record
+    pub among : records ≡ before ++ r ∷ rest
+    pub is : named name records ≡ Some r
+    pub place_is : place ≡ length (all_spelled before)
+
+-- ---- names
+
+-- the item of this name
+abbrev pub TellsFound : Stored → (name : List ℕ) → Result (Option Node) VacBad → BlockMap → Type 0
+TellsFound stored name result map =
+    Answers result (Finds map stored name) (IsUnfound map stored name)
+
+-- ---- roots
+
+-- bytes are the root of an archive
+pub record IsArchiveRoot (bytes : List ℕ) (root : TreeRoot) : Type 0 where
+  pub allowed : IsRoot root
+  pub is : bytes ≡ root_bytes root
+  pub kind : root.kind ≡ filled 128 (codes "rvac")
+  pub least : MIN_BLOCK_SIZE ≤ root.block_size
+  pub most : root.block_size ≤ MAX_BLOCK_SIZE
+
+-- bytes are the root of no archive
+abbrev pub IsNoRoot : (bytes : List ℕ) → VacBad → Type 0
+IsNoRoot bytes bad = (field : RootField) × (bad ≡ Root field) × (root_flaw bytes ≡ Some field)
+
+-- bytes begin with the two entries of a folder
+abbrev pub BeginsWith : (bytes : List ℕ) → Stored → Type 0
+BeginsWith bytes (stored.File e) = ⊥
+BeginsWith bytes (stored.Folder entries metadata) =
+    (80 ≤ length bytes) × IsEntry entries × SpellsEntry entries (take 40 bytes)
+    × (entries.is_dir ≡ true)
+    × IsEntry metadata × SpellsEntry metadata (take 40 (drop 40 bytes))
+    × (metadata.is_dir ≡ false)

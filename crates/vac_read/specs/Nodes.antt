@@ -1,0 +1,134 @@
+-- The items of an archive, as a reader hands them out (vacfs(4)).
+use Rattle.std.specs.Prelude.{ℕ, ◌≡◌, ◌+◌, ⊤, true, false, Option, Some, None, List, [], ◌∷◌, find, codes}
+use Rattle.std.specs.Str.{bytes_eq}
+use Rattle.vt_folder.specs.declared.item.Item.{Item}
+use Rattle.vt_folder.specs.declared.item.ItemKind.{ItemKind}
+use Rattle.vt_folder.specs.declared.item.ItemKind.TheVariants as kinds
+use Rattle.vt_folder.specs.Items.{item_of as listed_as}
+use Rattle.vt_tree.specs.declared.entry.Entry.{Entry}
+use Rattle.vt_tree.specs.Content.{size_of}
+use Rattle.vt_tree.specs.Entries.{IsEntry}
+use Rattle.vt_tree.specs.Maps.{BlockMap}
+use Rattle.vac_meta.specs.declared.record.Record.{Record}
+use Rattle.vac_meta.specs.declared.record.RecordKind.{RecordKind}
+use Rattle.vac_meta.specs.declared.record.RecordKind.TheVariants.{File, Folder}
+use Rattle.vac_model.specs.Trees.{described, HasEntry, AreFolder, IsArchive, AreTopEntries}
+use Rattle.vac_read.specs.declared.node.Node.{Node}
+use Rattle.vac_read.specs.declared.node.Stored.{Stored}
+use Rattle.vac_read.specs.declared.node.Stored.TheVariants as stored
+
+-- ---- one item
+
+abbrev pub kind_of : RecordKind → ItemKind
+kind_of File = kinds.File
+kind_of Folder = kinds.Folder
+
+-- what a record says of an item, with the low nine bits of its mode
+abbrev pub item_of : Record → Item
+item_of r = listed_as (described r).facts (kind_of r.kind)
+
+-- it may stand in a directory, and is a directory's itself, or not
+abbrev pub IsDirectory : Entry → Type 0
+IsDirectory e = IsEntry e × (e.is_dir ≡ true)
+
+abbrev pub IsPlain : Entry → Type 0
+IsPlain e = IsEntry e × (e.is_dir ≡ false)
+
+-- the entries that a node keeps are those of a file or of a folder
+abbrev pub AreEntries : Stored → Type 0
+AreEntries (stored.File e) = IsPlain e
+AreEntries (stored.Folder entries metadata) = IsDirectory entries × IsPlain metadata
+
+-- the entries that a record of this kind names, from entry i on, are these
+abbrev pub IsStored : BlockMap → (stream : Entry) → RecordKind → (i : ℕ) → Stored → Type 0
+IsStored map stream kind i (stored.File e) =
+    (kind ≡ File) × HasEntry map stream i e × (e.is_dir ≡ false)
+IsStored map stream kind i (stored.Folder entries metadata) =
+    (kind ≡ Folder) × HasEntry map stream i entries × (entries.is_dir ≡ true)
+    × HasEntry map stream (i + 1) metadata × (metadata.is_dir ≡ false)
+
+-- how many bytes a file has; a folder has none
+abbrev pub len_of : Stored → ℕ
+len_of (stored.File e) = size_of e
+len_of (stored.Folder entries metadata) = 0
+
+-- a node is the item of a record, in a folder whose entries these are
+pub record IsNode (map : BlockMap) (stream : Entry) (r : Record) (node : Node) : Type 0 where
+  pub item : node.item ≡ item_of r
+  pub qid : node.qid ≡ r.qid
+  pub size : node.size ≡ len_of node.stored
+  pub is_stored : IsStored map stream r.kind r.entry node.stored
+
+-- ---- the items of a folder
+
+abbrev pub AreNodes : BlockMap → (stream : Entry) → List Record → List Node → Type 0
+AreNodes map stream [] [] = ⊤
+AreNodes map stream (r ∷ records) (node ∷ nodes) =
+    IsNode map stream r node × AreNodes map stream records nodes
+AreNodes map stream records nodes = ⊥
+
+-- a folder's two entries are those of a folder with these items
+pub record HasNodes (map : BlockMap) (entries metadata : Entry) (nodes : List Node) : Type 0 where
+  pub records : List Record
+  pub are : AreFolder map entries metadata records
+  pub stand : AreNodes map entries records nodes
+
+-- the items of what is stored so; a file has none
+abbrev pub Lists : BlockMap → Stored → List Node → Type 0
+Lists map (stored.File e) nodes = nodes ≡ []
+Lists map (stored.Folder entries metadata) nodes = HasNodes map entries metadata nodes
+
+-- ---- names on a way
+
+-- the first record of this name
+abbrev pub named : (name : List ℕ) → List Record → Option Record
+named name records = find (λ r. bytes_eq r.name name) records
+
+-- the item of a folder that has this record, if there is one; the other items need not stand
+abbrev pub IsFound : BlockMap → (stream : Entry) → Option Record → Option Node → Type 0
+IsFound map stream (Some r) (Some node) = IsNode map stream r node
+IsFound map stream None None = ⊤
+IsFound map stream (Some r) None = ⊥
+IsFound map stream None (Some node) = ⊥
+
+-- the item of this name in what is stored so: None where it is absent, and below a file
+abbrev pub Finds : BlockMap → Stored → (name : List ℕ) → Option Node → Type 0
+Finds map (stored.File e) name found = found ≡ None
+Finds map (stored.Folder entries metadata) name found =
+    (records : List Record) × AreFolder map entries metadata records
+    × IsFound map entries (named name records) found
+
+-- where these names lead from a node, one after another
+abbrev pub Leads : BlockMap → Option Node → (names : List (List ℕ)) → Option Node → Type 0
+Leads map None names found = found ≡ None
+Leads map (Some node) [] found = found ≡ Some node
+Leads map (Some node) (name ∷ names) found =
+    (next : Option Node) × Finds map node.stored name next × Leads map next names found
+
+-- ---- the top folder
+
+-- what is told of it (vacfs(4))
+abbrev pub top_item : Item
+top_item = record {
+  name = codes "/";
+  kind = kinds.Folder;
+  mode = 365;
+  mtime = 0;
+  uid = codes "vac";
+  gid = codes "vac";
+}
+
+abbrev pub AreTop : BlockMap → (score : List ℕ) → Stored → Type 0
+AreTop map score (stored.File e) = ⊥
+AreTop map score (stored.Folder entries metadata) =
+    AreTopEntries map score entries metadata
+    × (entries.is_dir ≡ true) × (metadata.is_dir ≡ false)
+
+-- a node is the top folder of the archive of this score
+pub record IsTop (map : BlockMap) (score : List ℕ) (node : Node) : Type 0 where
+  pub item : node.item ≡ top_item
+  pub qid : node.qid ≡ 0
+  pub size : node.size ≡ 0
+  pub top : List ℕ
+  pub archive : IsArchive map score top
+  pub is_stored : AreTop map top node.stored

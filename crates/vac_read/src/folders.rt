@@ -1,0 +1,96 @@
+//! What is in the folders of an archive.
+
+ghost use Rattle.std.specs.Prelude.{IfOk, IfSome};
+ghost use Rattle.std.specs.List.{All};
+ghost use Rattle.vac_read.specs.Folders.{TellsFound};
+ghost use Rattle.vac_read.specs.Nodes.{AreEntries};
+ghost use Rattle.vac_read.specs.Reading.{Reads, ListsFolder, WalksTo, ReadsNode};
+
+use crate::directory::Directory;
+use crate::items::{node_of, nodes_of};
+use crate::records::{find_named, records_of};
+use crate::{Node, Nodes, Stored, VacBad};
+use std::alloc::Global;
+use vt_base::{Bytes, Text};
+use vt_tree::{Blocks, read_range};
+
+/// The items of a folder, in the order of their names. A file has none. The first record that
+/// can't stand in its metadata, or whose entry isn't there or is of another kind, is told.
+pub fn list<B: Blocks>(alloc: Global, blocks: &mut B, node: &Node) -> Result<Nodes, VacBad>
+    requires { AreEntries node.now.stored }
+    ensures lists { Reads B.does B.holds B.score_of blocks.old blocks.new result
+        (ListsFolder node.now.stored result) }
+    ensures entries { IfOk result (All (λ n. AreEntries n.stored)) }
+{
+    let Stored::Folder { entries, metadata } = node.stored else {
+        return Ok(Nodes::from_vec(Vec::new(alloc)));
+    };
+    let records = records_of(alloc, blocks, &entries, &metadata)?;
+    nodes_of(alloc, blocks, entries, records)
+}
+
+/// The node that these names lead to from another, one after another; None exactly where a name is
+/// absent or stands below a file. Of a folder on the way its records have to stand, and of these
+/// only the one of the next name has to have its entries.
+pub fn walk<B: Blocks>(
+    alloc: Global,
+    blocks: &mut B,
+    node: &Node,
+    names: &[Text],
+) -> Result<Option<Node>, VacBad>
+    requires { AreEntries node.now.stored }
+    ensures walks { Reads B.does B.holds B.score_of blocks.old blocks.new result
+        (WalksTo node.now names.now result) }
+    ensures entries { IfOk result (λ found. IfSome found (λ n. AreEntries n.stored)) }
+{
+    let mut found = node.copied(alloc)?;
+    for name in names {
+        match step(alloc, blocks, &found, name)? {
+            Some(next) => found = next,
+            None => return Ok(None),
+        }
+    }
+    Ok(Some(found))
+}
+
+/// So many bytes of a file from this place on, and fewer where it ends before. A folder has none.
+pub fn read<B: Blocks>(
+    alloc: Global,
+    blocks: &mut B,
+    node: &Node,
+    at: u64,
+    n: u32,
+) -> Result<Bytes, VacBad>
+    requires { AreEntries node.now.stored }
+    ensures { ReadsNode B.does B.holds B.score_of blocks.old blocks.new node.now.stored at n
+        result }
+{
+    match node.stored {
+        Stored::File(entry) => Ok(read_range(alloc, blocks, &entry, at, n)?),
+        Stored::Folder { .. } => Ok(Bytes::from_vec(Vec::new(alloc))),
+    }
+}
+
+/// The item of this name in a folder.
+fn step<B: Blocks>(
+    alloc: Global,
+    blocks: &mut B,
+    node: &Node,
+    name: &Text,
+) -> Result<Option<Node>, VacBad>
+    requires { AreEntries node.now.stored }
+    ensures reads { Reads B.does B.holds B.score_of blocks.old blocks.new result
+        (TellsFound node.now.stored name.now result) }
+    ensures entries { IfOk result (λ found. IfSome found (λ n. AreEntries n.stored)) }
+{
+    let Stored::Folder { entries, metadata } = node.stored else {
+        return Ok(None);
+    };
+    let records = records_of(alloc, blocks, &entries, &metadata)?;
+    let Some((record, at)) = find_named(records, name.as_slice()) else {
+        return Ok(None);
+    };
+    let mut directory = Directory::new(alloc, entries);
+    let found = node_of(blocks, &mut directory, record, at)?;
+    Ok(Some(found))
+}

@@ -1,0 +1,16 @@
+//! Reading archives (vacfs(4)).
+#![tactic(auto)]
+
+mod archive;
+mod directory;
+mod err;
+mod folders;
+mod items;
+pub mod laws;
+mod node;
+mod records;
+
+pub use archive::Archive;
+pub use err::{RootField, VacBad};
+pub use folders::{list, read, walk};
+pub use node::{Node, Nodes, Stored};
