@@ -55,16 +55,14 @@ impl<P: Parts> Stores<P> {
         Ok(())
     }
 
-    /// Puts the sections of a configuration to use.
-    fn index(&mut self, text: &[u8]) -> Result<(), Fail> {
+    /// Puts the sections of a configuration to use, and says whether they are.
+    fn index(&mut self, text: &[u8]) -> Result<bool, Fail> {
         configurations_number_their_files();
         let Ok(conf) = parse_conf(self.alloc, text) else {
             return Err("configuration".into());
         };
-        format_index(self.alloc, &mut self.parts, Sha1Scorer, &mut Silent, &conf)
-            .ok()
-            .ok_or("index")?;
-        Ok(())
+        let done = format_index(self.alloc, &mut self.parts, Sha1Scorer, &mut Silent, &conf);
+        Ok(done.is_ok())
     }
 
     /// Opens the store of a configuration and closes it: how many blocks it has.
@@ -82,6 +80,16 @@ impl<P: Parts> Stores<P> {
             Err(bad) => Ok(Err(bad)),
         }
     }
+}
+
+/// What is told where the second partition disagrees.
+fn disagrees(field: MountField, found: u128, want: u128) -> Result<u64, OpenBad> {
+    Err(OpenBad::Refused(MountBad::Disagree {
+        part: 1,
+        field,
+        found,
+        want,
+    }))
 }
 
 /// What is told, and what isn't there or isn't in use. Behind each answer all is there again.
@@ -106,23 +114,10 @@ fn opens_each<P: Parts>(rt: &impl Abort, to: &mut Stores<P>) -> Result<(), Fail>
                 need: 41_472,
             }),
         ),
-        (
-            b"arenas a\nisect j\n",
-            refused(MountBad::Disagree {
-                part: 1,
-                field: MountField::First,
-                found: 4,
-                want: 0,
-            }),
-        ),
+        (b"arenas a\nisect j\n", disagrees(MountField::First, 4, 0)),
         (
             b"arenas a\nisect k\nbloom b\n",
-            refused(MountBad::Disagree {
-                part: 1,
-                field: MountField::State,
-                found: 0,
-                want: 1,
-            }),
+            disagrees(MountField::State, 0, 1),
         ),
         (b"arenas a\narenas c\nisect i\nisect j\nbloom b\n", Ok(0)),
     ];
@@ -144,7 +139,7 @@ fn stores_are_opened(rt: HostRuntime) -> Result<(), Fail> {
     to.section(b"j", 41_472)?;
     to.section(b"k", 41_472)?;
     to.filter(b"b")?;
-    to.index(b"arenas a\narenas c\nisect i\nisect j\nbloom b\n")?;
+    assert!(rt; to.index(b"arenas a\narenas c\nisect i\nisect j\nbloom b\n")?);
     opens_each(&rt, &mut to)
 }
 
@@ -153,7 +148,7 @@ fn stores_are_opened(rt: HostRuntime) -> Result<(), Fail> {
 fn fails_and_opens<P: Parts>(rt: &impl Abort, to: &mut Stores<P>) -> Result<(), Fail> {
     to.arenas(b"a")?;
     to.section(b"i", 41_472)?;
-    to.index(b"arenas a\nisect i\n")?;
+    assert!(rt; to.index(b"arenas a\nisect i\n")?);
     let fault = Err(OpenBad::Refused(MountBad::Fault));
     assert_eq!(rt; to.open(b"arenas a\nisect i\n")?, fault);
     assert_eq!(rt; to.open(b"arenas a\nisect i\n")?, Ok(0));
@@ -168,6 +163,44 @@ fn calls_fail_in_turn(rt: HostRuntime) -> Result<(), Fail> {
         let maker = Failing::new(Vec::<u64>::new(alloc));
         let parts = MemParts::new(alloc, maker).with(Text::copy_of(alloc, b"i")?, disk)?;
         fails_and_opens(&rt, &mut Stores { alloc, parts })?;
+    }
+    Ok(())
+}
+
+/// The state of a section of which a call fails while it is put to use: the one for which opening
+/// refuses it then, or 1 where it doesn't.
+fn state_behind<P: Parts>(to: &mut Stores<P>) -> Result<u128, Fail> {
+    to.arenas(b"a")?;
+    to.section(b"i", 41_472)?;
+    if to.index(b"arenas a\nisect i\n")? {
+        return Err("not stopped".into());
+    }
+    match to.open(b"arenas a\nisect i\n")? {
+        Ok(_) => Ok(1),
+        Err(OpenBad::Refused(MountBad::Disagree { part: 1, found, .. })) => Ok(found),
+        Err(_) => Err("another refusal".into()),
+    }
+}
+
+/// Three calls make the section and three mount it. The selector of its head is written by the
+/// third of the next four, and then by the third of the last four.
+#[test]
+fn a_section_is_refused_until_it_is_in_use(rt: HostRuntime) -> Result<(), Fail> {
+    let alloc = rt.alloc();
+    for call in 6..32 {
+        let disk = MemDisk::failing(alloc, 41_472, vec![in alloc; call; 1]?)?;
+        let maker = Failing::new(Vec::<u64>::new(alloc));
+        let parts = MemParts::new(alloc, maker).with(Text::copy_of(alloc, b"i")?, disk)?;
+        let state = match call {
+            6..9 => 0,
+            9..31 => 2,
+            _ => 1,
+        };
+        assert_eq!(rt;
+            state_behind(&mut Stores { alloc, parts })?,
+            state,
+            "{call}"
+        );
     }
     Ok(())
 }
