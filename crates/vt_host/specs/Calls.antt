@@ -11,6 +11,12 @@ pub record Opening : Type 0 where
   pub name : List ℕ
   pub ok : Bool
 
+-- a connection was to be made to this host and port
+pub record Connecting : Type 0 where
+  pub host : List ℕ
+  pub port : ℕ
+  pub ok : Bool
+
 -- A call of an open file: its length, a change of its length, a read that leaves these bytes in its
 -- buffer, a write, taking its lock, or a sync.
 pub data FileCall : Type 0 where

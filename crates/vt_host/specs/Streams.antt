@@ -1,6 +1,7 @@
 -- What the adapters of streams stand on.
 use Rattle.vt_host.specs.declared.source.StdSource.{StdSource}
 use Rattle.vt_host.specs.declared.sink.StdSink.{StdSink}
+use Rattle.vt_host.specs.declared.link.StdLink.{StdLink}
 
 -- the reader that a source takes from
 abbrev pub source_input : {R : Type 0} → StdSource R → R
@@ -9,3 +10,10 @@ source_input source = source.input
 -- the writer that a sink puts to
 abbrev pub sink_output : {W : Type 0} → StdSink W → W
 sink_output sink = sink.output
+
+-- the two directions of a link
+abbrev pub link_source : {R W : Type 0} → StdLink R W → StdSource R
+link_source link = link.source
+
+abbrev pub link_sink : {R W : Type 0} → StdLink R W → StdSink W
+link_sink link = link.sink

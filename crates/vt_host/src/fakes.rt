@@ -2,7 +2,7 @@
 
 ghost use Rattle.std.specs.Prelude.{◌≡◌, ◌++◌, ◌∷◌, [], is_ok};
 
-use crate::system::{ClockCalls, FileCalls, Opener, ReadCalls, WriteCalls};
+use crate::system::{ClockCalls, Connector, FileCalls, Opener, ReadCalls, WriteCalls};
 use std::alloc::Global;
 use std::fs::OpenOptions;
 use std::io;
@@ -264,5 +264,46 @@ impl<R: Abort + Drop> ReadCalls for FakeInput<R> {
         let buf = self.notes.copy_of(buf);
         self.notes.note(ReadNote { buf, answer });
         answer
+    }
+}
+
+/// A connection that was to be made.
+#[derive(Drop)]
+pub struct ConnectNote {
+    pub host: Text,
+    pub port: u16,
+    pub ok: bool,
+}
+
+/// Makes connections, of which the one with a stated number fails.
+#[derive(Drop)]
+pub struct FakeConnector<R> {
+    pub notes: Notes<ConnectNote, R>,
+}
+
+impl<R: Abort + Copy + Drop> Connector for FakeConnector<R> {
+    ghost use Rattle.std.specs.Prelude.{true, map};
+
+    type Input = FakeInput<R>;
+
+    type Output = FakeOutput<R>;
+
+    ghost tells = { true };
+
+    ghost connected = { λ net. map (λ note.
+        record { host = note.host; port = note.port; ok = note.ok }) net.notes.calls.items };
+
+    fn connect(&mut self, host: &str, port: u16) -> io::Result<(FakeInput<R>, FakeOutput<R>)> {
+        let ok = self.notes.next_is_ok();
+        let host = Text::from_vec(self.notes.copy_of(host.as_bytes()).into_vec());
+        self.notes.note(ConnectNote { host, port, ok });
+        answer(ok)?;
+        let input = FakeInput {
+            notes: Notes::new(self.notes.rt, self.notes.alloc, 9),
+        };
+        let output = FakeOutput {
+            notes: Notes::new(self.notes.rt, self.notes.alloc, 9),
+        };
+        Ok((input, output))
     }
 }

@@ -1,4 +1,5 @@
-//! The outside as it is: standard streams, the system's clock, files, and files as disks.
+//! The outside as it is: standard streams, connections over TCP, the system's clock, files, and files
+//! as disks.
 //!
 //! Nothing is told of what they hold. Each failed call is counted. Which calls of the system an
 //! adapter makes, in which order, and that it hands on what they answer is proved over every file,
@@ -6,21 +7,25 @@
 #![tactic(auto)]
 
 mod clock;
+mod dialer;
 mod disk;
 mod faults;
 mod files;
+mod link;
 mod parts;
 mod sink;
 mod source;
 mod system;
 
 pub use clock::StdClock;
+pub use dialer::StdDialer;
 pub use disk::FileDisk;
 pub use files::StdFiles;
+pub use link::StdLink;
 pub use parts::FileParts;
 pub use sink::StdSink;
 pub use source::StdSource;
-pub use system::{ClockCalls, FileCalls, Opener, ReadCalls, WriteCalls};
+pub use system::{ClockCalls, Connector, FileCalls, Opener, ReadCalls, WriteCalls};
 
 #[cfg(test)]
 mod fakes;

@@ -8,12 +8,14 @@ ghost use Rattle.std.specs.Prelude.{◌≡◌, ◌≤◌, ◌++◌, ◌∷◌, �
 ghost use Rattle.std.specs.Prelude.{Option, IfOk, OnOk, is_ok};
 ghost use Rattle.std.specs.Io.KnownBytes.{Appends, Keeps, ReadConsumes};
 ghost use Rattle.std.specs.Result.{result_ok};
+ghost use Rattle.vt_host.specs.Calls.{Connecting};
 ghost use Rattle.vt_host.specs.Calls.{Opening, FileCall, measured, resized, read, written, locked};
 ghost use Rattle.vt_host.specs.Calls.{synced};
 ghost use Rattle.vt_host.specs.Calls.{WriteCall, put, flushed, ReadCall};
 
 use std::fs::{File, Files, OpenOptions};
 use std::io::{Read, Seek, SeekFrom, Write};
+use std::net::{Net, OpenStream, TcpStream};
 use std::os::unix::fs::FileExt;
 use std::time::Duration;
 use std::{io, time};
@@ -111,6 +113,30 @@ pub trait ReadCalls {
         ensures bytes { ReadConsumes (remaining self.old) (remaining self.new) result buf.new };
 }
 
+/// Makes connections.
+pub trait Connector {
+    /// What comes in.
+    type Input: ReadCalls;
+
+    /// What goes out.
+    type Output: WriteCalls;
+
+    /// Whether it tells which connections were to be made.
+    ghost tells: { Bool };
+
+    /// Those, in order.
+    ghost connected: { Self → List Connecting };
+
+    /// Makes one to a host, which is told by its name or its number, at a port.
+    fn connect(&mut self, host: &str, port: u16) -> io::Result<(Self::Input, Self::Output)>
+        ensures noted { IsTrue tells → connected self.new ≡ connected self.old
+            ++ record { host = host.now; port = port; ok = is_ok result } ∷ [] }
+        ensures unread { IfOk result (λ both. IsTrue Self.Input.tells
+            → Self.Input.made both.0 ≡ []) }
+        ensures unwritten { IfOk result (λ both. IsTrue Self.Output.tells
+            → Self.Output.made both.1 ≡ []) };
+}
+
 /// A clock.
 pub trait ClockCalls {
     ghost use Rattle.std.specs.declared.time.Duration.{Duration};
@@ -197,6 +223,25 @@ impl<R: Read> ReadCalls for R {
 
     fn read_some(&mut self, buf: &mut [u8]) -> io::Result<usize> {
         self.read(buf)
+    }
+}
+
+/// A name has the addresses that the system finds for it, which are tried in order.
+impl<N: Net> Connector for N {
+    ghost use Rattle.std.specs.Prelude.{false};
+
+    type Input = N::Stream;
+
+    type Output = N::Stream;
+
+    ghost tells = { false };
+
+    ghost connected = { λ _. [] };
+
+    fn connect(&mut self, host: &str, port: u16) -> io::Result<(N::Stream, N::Stream)> {
+        let input = TcpStream::connect(&*self, (host, port))?;
+        let output = input.try_clone()?;
+        Ok((input, output))
     }
 }
 

@@ -1,14 +1,17 @@
 use super::*;
-use crate::fakes::{FakeClock, FakeInput, FakeOpener, FakeOutput, Notes};
+use crate::fakes::{FakeClock, FakeConnector, FakeInput, FakeOpener, FakeOutput, Notes};
 use std::alloc::Global;
 use std::io::{Read, Write};
+use std::net::TcpListener;
 use std::process::Abort;
 use std::test::Fail;
 use std::time::{Duration, SystemTime};
 use std::{fs, io, process};
 use vt_base::{Failed, Text};
+use vt_conf::Address;
+use vt_dial::Dialer;
 use vt_disk::Disk;
-use vt_out::{Clock, Files, OutErr, Sink, Source};
+use vt_out::{Clock, Files, Link, OutErr, Sink, Source};
 use vt_parts::Parts;
 
 /// Is interrupted once, gives and takes three bytes at once, and breaks at its call number 3.
@@ -198,6 +201,58 @@ fn partitions_and_files_by_name(rt: HostRuntime) -> Result<(), Fail> {
     let bytes = files.read(alloc, &name, 4).expect(&rt, "its front");
     assert_eq!(rt; bytes.as_slice(), [7; 5].as_slice());
     assert!(rt; matches!(files.read(alloc, &name, 4), Err(OutErr::Failed)));
+    Ok(())
+}
+
+/// The address of a host, or of every host.
+fn address(alloc: Global, host: Option<&[u8]>, port: u16) -> Result<Address, Fail> {
+    let host = match host {
+        Some(name) => match Text::copy_of(alloc, name) {
+            Ok(name) => Some(name),
+            Err(_) => return Err("no memory".into()),
+        },
+        None => None,
+    };
+    Ok(Address { host, port })
+}
+
+#[test]
+fn one_host_is_dialled_by_its_name(rt: HostRuntime) -> Result<(), Fail> {
+    let alloc = rt.alloc();
+    let mut dialer = StdDialer::new(FakeConnector {
+        notes: Notes::new(rt, alloc, 1),
+    });
+    let near = address(alloc, Some(b"localhost"), 17_034)?;
+    let link = dialer.dial(&near)?;
+    dialer.done(link);
+    assert!(rt; dialer.dial(&near).is_err());
+    for nobody in [None, Some(b"\xff".as_slice())] {
+        assert!(rt; dialer.dial(&address(alloc, nobody, 17_034)?).is_err());
+    }
+    Ok(())
+}
+
+#[test]
+fn a_connection_is_a_link(rt: HostRuntime) -> Result<(), Fail> {
+    let Ok(listener) = TcpListener::bind(&rt, "127.0.0.1:0") else {
+        return Ok(());
+    };
+    let port = listener.local_addr()?.port();
+    let here = address(rt.alloc(), Some(b"127.0.0.1"), port)?;
+    let mut dialer = StdDialer::new(rt);
+    let mut link = dialer.dial(&here)?;
+    let (mut peer, _) = listener.accept()?;
+    let mut buf = [b'.'; 4];
+    assert_eq!(rt; link.put(b"ab"), Ok(()));
+    assert_eq!(rt; peer.read(&mut buf)?, 2);
+    peer.write_all(b"cde")?;
+    assert_eq!(rt; link.take(&mut buf), Ok(3));
+    assert_eq!(rt; buf, *b"cde.");
+    drop(peer);
+    assert_eq!(rt; link.take(&mut buf), Ok(0));
+    dialer.done(link);
+    drop(listener);
+    assert!(rt; dialer.dial(&here).is_err());
     Ok(())
 }
 

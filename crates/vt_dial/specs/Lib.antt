@@ -1,0 +1,4 @@
+pub mod Dialled
+pub mod Members
+pub mod Memory
+pub mod Places

@@ -1,0 +1,12 @@
+//! Links that are made to an address, as a trait, with their fake in memory.
+#![tactic(auto)]
+
+mod dialer;
+mod mem_dialer;
+mod place;
+
+pub use dialer::Dialer;
+pub use mem_dialer::MemDialer;
+
+#[cfg(test)]
+mod tests;

@@ -1,0 +1,94 @@
+//! Connections over TCP.
+
+ghost use Rattle.std.specs.Prelude.{◌≡◌, ℕ, List, IfSome, IsSomeAnd};
+ghost use Rattle.vt_host.specs.Dialling.{Names};
+
+use crate::faults::Faults;
+use crate::link::StdLink;
+use crate::system::Connector;
+use std::str;
+use vt_base::Failed;
+use vt_conf::Address;
+use vt_dial::Dialer;
+use vt_out::Link;
+
+/// Makes connections over TCP. A host is told by its number or by its name, whose addresses are
+/// tried in order.
+#[derive(Drop)]
+pub struct StdDialer<N> {
+    net: N,
+    faults: Faults,
+}
+
+impl<N: Connector> StdDialer<N> {
+    ghost use Rattle.vt_host.specs.Dialling.{dialer_faults, dialer_net};
+
+    /// Connections that this makes.
+    pub fn new(net: N) -> Self
+        ensures net { dialer_net result ≡ net }
+        ensures faults { dialer_faults result ≡ 0 }
+    {
+        StdDialer {
+            net,
+            faults: Faults::new(),
+        }
+    }
+}
+
+/// The name of an address's host, if it is that of one, and UTF-8.
+fn name_in(address: &Address) -> Option<&str>
+    ensures name { IfSome result (λ name. Names address.now name.now) }
+    ensures only { (name : List ℕ) → Names address.now name
+        → IsSomeAnd result (λ found. found.now ≡ name) }
+{
+    str::from_utf8(address.host.as_ref()?.as_slice()).ok()
+}
+
+impl<N: Connector> Dialer for StdDialer<N>
+where
+    N::Input: Drop,
+    N::Output: Drop,
+{
+    ghost use Rattle.std.specs.Prelude.{◌≡◌, [], false, IsTrue, IsSome, IfOk, OnOk};
+    ghost use Rattle.vt_base.specs.Faults.{HasCause};
+    ghost use Rattle.vt_dial.specs.Dialled.{IsFresh, nobody};
+    ghost use Rattle.vt_host.specs.Dialling.{Connects, dialer_faults, dialer_net};
+    ghost use Rattle.vt_host.specs.Streams.{link_sink, link_source, sink_output, source_input};
+
+    type Link = StdLink<N::Input, N::Output>;
+
+    ghost tells = { false };
+
+    ghost dialled = { λ _. nobody };
+
+    ghost faults = { dialer_faults };
+
+    ghost faults_fit = { λ dialer. dialer.faults.fits };
+
+    /// One connection is made at most.
+    fn dial(&mut self, address: &Address) -> Result<StdLink<N::Input, N::Output>, Failed>
+        ensures host { OnOk result (IsSome address.now.host) }
+        ensures fresh { IfOk result (IsFresh ⟦<StdLink<N::Input, N::Output> as Link>⟧) }
+        ensures unread { IfOk result (λ link. IsTrue N.Input.tells
+            → N.Input.made (source_input (link_source link)) ≡ []) }
+        ensures unwritten { IfOk result (λ link. IsTrue N.Output.tells
+            → N.Output.made (sink_output (link_sink link)) ≡ []) }
+        ensures connects { IsTrue N.tells → Connects address.now result
+            (N.connected (dialer_net self.old)) (N.connected (dialer_net self.new)) }
+        ensures cause { HasCause result (dialer_faults self.old) (dialer_faults self.new) }
+    {
+        let Some(name) = name_in(address) else {
+            self.faults.count_one();
+            return Err(Failed);
+        };
+        let (input, output) = self.faults.counted(self.net.connect(name, address.port))?;
+        Ok(StdLink::new(input, output))
+    }
+
+    fn done(&mut self, link: StdLink<N::Input, N::Output>)
+        ensures net { dialer_net self.new ≡ dialer_net self.old }
+        ensures faults { dialer_faults self.new ≡ dialer_faults self.old }
+    {
+        drop(link);
+    }
+}
