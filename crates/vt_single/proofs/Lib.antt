@@ -1,0 +1,5 @@
+pub mod Causes
+pub mod Goes
+pub mod Kept
+pub mod Stays
+pub mod Using

@@ -1,0 +1,118 @@
+-- One block, read from a store on devices or written to it.
+use Rattle.std.specs.Prelude.{ℕ, ◌≡◌, ◌⊎◌, ⊤, Bool, None, Result, Ok, Err, OnOk, List, [], ◌∷◌, length}
+use Rattle.vt_base.specs.declared.TheConstants.{MAX_BLOCK}
+use Rattle.vt_base.specs.declared.score.Score.{Score}
+use Rattle.vt_base.specs.declared.why.Why.{Why}
+use Rattle.vt_base.specs.Protocol.{Operation, read, write, sync, RMessage, r_read, r_write, r_sync}
+use Rattle.vt_disk.specs.Members.{DiskOf}
+use Rattle.vt_model.specs.Answer.{answer, with_added}
+use Rattle.vt_model.specs.History.{History}
+use Rattle.vt_model.specs.Places.{Setup}
+use Rattle.vt_answer.specs.Serving.{answered, reply_in, tells_failure}
+use Rattle.vt_answer.specs.Taking.{DoesCalls}
+use Rattle.vt_core.specs.Causes.{READS_MOST, IsUndamagedWhy, OnlyReadFrom}
+use Rattle.vt_core.specs.Core.{CoreState, devices_of, setup_of}
+use Rattle.vt_core.specs.Files.{all_of}
+use Rattle.vt_core.specs.Mounting.{AllStandFor, EachStands}
+use Rattle.vt_core.specs.Sound.{IsSound}
+use Rattle.vt_drive.specs.Answers.{KeepsAll}
+use Rattle.vt_drive.specs.Ending.{Ends}
+use Rattle.vt_alone.specs.Sessions.{at_time, store_on}
+use Rattle.vt_single.specs.Members.{StoreOf}
+
+-- ---- what is asked
+
+-- an operation, and its answer
+abbrev pub Asked : Type 0
+Asked = Operation × Result RMessage Why
+
+-- a block is asked for, and answered so
+abbrev pub asks_block : (kind : ℕ) (s : List ℕ) → Result (List ℕ) Why → List Asked
+asks_block kind s result =
+    (read s kind MAX_BLOCK, answered (λ (bytes : List ℕ). r_read bytes) result) ∷ []
+
+-- A block is written, and then all is synced: the score is told where both are done. Where the
+-- block is refused no sync is asked for.
+abbrev pub ArePut : (kind : ℕ) (bytes : List ℕ) → Result Score Why → List Asked → Type 0
+ArePut kind bytes (Ok given) calls =
+    calls ≡ (write kind bytes, Ok (r_write given.0)) ∷ (sync, Ok r_sync) ∷ []
+ArePut kind bytes (Err why) calls =
+    (calls ≡ (write kind bytes, Err why) ∷ [])
+    ⊎ ((given : List ℕ) × (calls ≡ (write kind bytes, Ok (r_write given)) ∷ (sync, Err why) ∷ []))
+
+-- a store was asked for a block and a sync, and for nothing else
+abbrev pub Puts : {S : Type 0} → StoreOf S → (kind : ℕ) (bytes : List ℕ) → Result Score Why
+    → (old new : S) → Type 0
+Puts T kind bytes result old new =
+    (calls : List Asked) × ArePut kind bytes result calls × DoesCalls T old calls new
+
+-- ---- on devices
+
+-- a store was asked for a block, and for nothing else
+abbrev pub ReadsBlock : {D : Type 0} → (List ℕ → List ℕ) → DiskOf D → (kind : ℕ) (s : List ℕ)
+    → Result (List ℕ) Why → (old new : CoreState D) → Type 0
+ReadsBlock score disk kind s result old new =
+    DoesCalls (store_on score disk) (at_time 0 old) (asks_block kind s result) (at_time 0 new)
+
+-- the first refusal of the two, or the score
+abbrev pub closed_behind : Result Score Why → Result (Unit {0}) Why → Result Score Why
+closed_behind (Err why) closed = Err why
+closed_behind (Ok given) (Ok done) = Ok given
+closed_behind (Ok given) (Err why) = Err why
+
+-- A block was put into a store, whose use was then ended, whatever was answered.
+pub record WritesBlock {D : Type 0} (score : List ℕ → List ℕ) (disk : DiskOf D) (now : ℕ)
+    (kind : ℕ) (bytes : List ℕ) (result : Result Score Why) (old new : CoreState D) : Type 0 where
+  pub put : Result Score Why
+  pub closed : Result (Unit {0}) Why
+  pub kept : CoreState D
+  pub puts : Puts (store_on score disk) kind bytes put (at_time now old) (at_time now kept)
+  pub ends : Ends score disk closed kept new
+  pub result_is : result ≡ closed_behind put closed
+
+-- ---- what follows
+
+-- the store failed, and it isn't the model that refuses, nor damage
+abbrev pub HasFailed : Result RMessage Why → Type 0
+HasFailed (Ok reply) = ⊥
+HasFailed (Err why) = (tells_failure why ≡ Bool.true) × IsUndamagedWhy why
+
+-- it is what the model answers on a history, or the store failed
+abbrev pub IsAnswer : (List ℕ → List ℕ) → Setup → History → Operation → Result RMessage Why
+    → Type 0
+IsAnswer score c h m reply =
+    (reply_in reply ≡ (answer score c h m).reply) ⊎ HasFailed reply
+
+-- What is told of a block that was read is true of the history, which stays, and nothing but reads
+-- was made of the devices.
+pub record ReadsTrue {D : Type 0} (score : List ℕ → List ℕ) (disk : DiskOf D) (kind : ℕ)
+    (s : List ℕ) (result : Result (List ℕ) Why) (h : History) (old new : CoreState D) : Type 0 where
+  pub answers : IsAnswer score (setup_of old) h (read s kind MAX_BLOCK)
+      (answered (λ (bytes : List ℕ). r_read bytes) result)
+  pub sound : IsSound score disk new h
+  pub reads : OnlyReadFrom disk READS_MOST (all_of (devices_of old)) (all_of (devices_of new))
+  pub keeps : KeepsAll disk old new
+  pub stands : EachStands score disk (setup_of old) old.log.tables new.log.durable
+      (devices_of new) h
+
+-- the history behind a write of a block: with the block, if the model adds it
+abbrev pub written_to : (List ℕ → List ℕ) → Setup → History → (kind : ℕ) (bytes : List ℕ)
+    → History
+written_to score c h kind bytes = with_added h (answer score c h (write kind bytes)).added
+
+-- What the devices hold behind a write: the history, and perhaps the block that the model adds. A
+-- crash leaves a prefix of that with all that is durable. Where a score is told, it is the model's
+-- answer, the block is there, and no crash takes it away.
+pub record KeepsBlock {D : Type 0} (score : List ℕ → List ℕ) (disk : DiskOf D) (kind : ℕ)
+    (bytes : List ℕ) (result : Result Score Why) (h : History) (old new : CoreState D) : Type 0
+  where
+    pub answers : IsAnswer score (setup_of old) h (write kind bytes)
+        (answered (λ (given : Score). r_write given.0) result)
+    pub last : History
+    pub last_is : (last ≡ h) ⊎ (last ≡ written_to score (setup_of old) h kind bytes)
+    pub sound : IsSound score disk new last
+    pub keeps : KeepsAll disk old new
+    pub stands : EachStands score disk (setup_of old) old.log.tables new.log.durable
+        (devices_of new) last
+    pub done : OnOk result ((last ≡ written_to score (setup_of old) h kind bytes)
+        × AllStandFor score disk (setup_of old) old.log.tables (devices_of new) last (length last))

@@ -1,0 +1,84 @@
+-- One block of the store that a configuration names, on partitions that are handed out by name.
+use Rattle.std.specs.Prelude.{ℕ, ◌≡◌, ◌≤◌, ◌⊎◌, Result, Ok, Err, OnOk, List, length}
+use Rattle.vt_base.specs.Protocol.{read, write, r_read, r_write}
+use Rattle.vt_base.specs.declared.TheConstants.{MAX_BLOCK}
+use Rattle.vt_base.specs.declared.score.Score.{Score}
+use Rattle.vt_base.specs.declared.why.Why.{Why}
+use Rattle.vt_conf.specs.declared.conf.Conf.{Conf}
+use Rattle.vt_disk.specs.Members.{DiskOf}
+use Rattle.vt_model.specs.History.{History}
+use Rattle.vt_model.specs.Places.{Setup}
+use Rattle.vt_part.specs.Table.{Table}
+use Rattle.vt_parts.specs.Parts.{Standing}
+use Rattle.vt_answer.specs.Serving.{answered}
+use Rattle.vt_core.specs.Core.{CoreState, devices_of}
+use Rattle.vt_core.specs.Files.{PerDevice, all_of}
+use Rattle.vt_core.specs.Mounting.{AllStandFor, EachStands}
+use Rattle.vt_open.specs.Names.{AreUnder, HaveOneShape, files_of}
+use Rattle.vt_open.specs.Opening.{NamesCause, Opens, RefusesStore}
+use Rattle.vt_open.specs.Taking.{AreGiven}
+use Rattle.vt_single.specs.declared.stored.StoredBad.{StoredBad}
+use Rattle.vt_single.specs.declared.stored.StoredBad.TheVariants.{Unopened, Refused}
+use Rattle.vt_single.specs.Single.{IsAnswer, written_to}
+
+-- The store of a configuration was opened, this was done with it, and it was closed: its partitions
+-- are back.
+pub record Uses {D : Type 0} (score : List ℕ → List ℕ) (disk : DiskOf D) (told : Type 0)
+    (conf : Conf) (Does : (opened left : CoreState D) → Type 0) (old new : List ℕ → Standing D)
+    : Type 0 where
+  pub opened : CoreState D
+  pub left : CoreState D
+  pub during : List ℕ → Standing D
+  pub opens : Opens score disk told conf 1 old during opened
+  pub does : Does opened left
+  pub shape : HaveOneShape (devices_of left) (files_of conf)
+  pub given : AreGiven told (all_of (files_of conf)) during new (all_of (devices_of left))
+
+-- what a store that was opened answered
+abbrev pub as_stored : {T : Type 0} → Result T Why → Result T StoredBad
+as_stored (Ok value) = Ok value
+as_stored (Err why) = Err (Refused why)
+
+-- That was done, with this result; or the store wasn't opened, for its cause.
+abbrev pub UsesStore : {D T : Type 0} → (List ℕ → List ℕ) → DiskOf D → (told : Type 0) → Conf
+    → (Does : Result T Why → (opened left : CoreState D) → Type 0)
+    → (old new : List ℕ → Standing D) → (faults faults' : ℕ) → Result T StoredBad → Type 0
+UsesStore score disk told conf Does old new faults faults' (Ok value) =
+    Uses score disk told conf (Does (Ok value)) old new × (faults' ≡ faults)
+UsesStore score disk told conf Does old new faults faults' (Err (Refused why)) =
+    Uses score disk told conf (Does (Err why)) old new × (faults' ≡ faults)
+UsesStore score disk told conf Does old new faults faults' (Err (Unopened bad)) =
+    RefusesStore score disk told conf old new faults faults' bad × NamesCause bad
+
+-- ---- what follows
+
+-- On partitions that read as history `g`, what is told of a block that was read is true of it; and
+-- whatever a crash then leaves of the partitions, taken together, stands for all of it.
+pub record ReadsStore {D : Type 0} (score : List ℕ → List ℕ) (disk : DiskOf D) (conf : Conf)
+    (kind : ℕ) (s : List ℕ) (result : Result (List ℕ) Why) (new : List ℕ → Standing D)
+    (tables : List Table) (c : Setup) (g : History) : Type 0 where
+  pub answers : IsAnswer score c g (read s kind MAX_BLOCK)
+      (answered (λ (bytes : List ℕ). r_read bytes) result)
+  pub back : PerDevice D
+  pub under : AreUnder new conf back
+  pub least : ℕ
+  pub all : length g ≤ least
+  pub stands : EachStands score disk c tables least back g
+
+-- What a write leaves of such partitions: whatever calls failed, and whatever a crash then leaves of
+-- them, they stand for all of the history, perhaps with the block that the model adds. Where a score
+-- is told, it is the model's answer, and they stand for the history with that block.
+pub record WritesStore {D : Type 0} (score : List ℕ → List ℕ) (disk : DiskOf D) (conf : Conf)
+    (kind : ℕ) (bytes : List ℕ) (result : Result Score Why) (new : List ℕ → Standing D)
+    (tables : List Table) (c : Setup) (g : History) : Type 0 where
+  pub answers : IsAnswer score c g (write kind bytes)
+      (answered (λ (given : Score). r_write given.0) result)
+  pub last : History
+  pub last_is : (last ≡ g) ⊎ (last ≡ written_to score c g kind bytes)
+  pub back : PerDevice D
+  pub under : AreUnder new conf back
+  pub least : ℕ
+  pub all : length g ≤ least
+  pub stands : EachStands score disk c tables least back last
+  pub done : OnOk result ((last ≡ written_to score c g kind bytes)
+      × AllStandFor score disk c tables back last (length last))
