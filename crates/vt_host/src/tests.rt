@@ -216,20 +216,29 @@ fn address(alloc: Global, host: Option<&[u8]>, port: u16) -> Result<Address, Fai
     Ok(Address { host, port })
 }
 
+/// Whether a connection to this address is made, where the connection of this number fails.
+fn dials<R: Abort + Copy + Drop>(rt: R, alloc: Global, failing: usize, to: &Address) -> bool {
+    let mut dialer = StdDialer::new(FakeConnector {
+        notes: Notes::new(rt, alloc, failing),
+    });
+    dialer.dial(to).is_ok()
+}
+
 #[test]
 fn one_host_is_dialled_by_its_name(rt: HostRuntime) -> Result<(), Fail> {
     let alloc = rt.alloc();
-    let mut dialer = StdDialer::new(FakeConnector {
-        notes: Notes::new(rt, alloc, 1),
-    });
     let near = address(alloc, Some(b"localhost"), 17_034)?;
-    let link = dialer.dial(&near)?;
-    dialer.done(link);
-    assert!(rt; dialer.dial(&near).is_err());
-    for nobody in [None, Some(b"\xff".as_slice())] {
-        assert!(rt; dialer.dial(&address(alloc, nobody, 17_034)?).is_err());
-    }
+    assert!(rt; dials(rt, alloc, 9, &near));
+    assert!(rt; !dials(rt, alloc, 0, &near));
+    assert!(rt; !dials(rt, alloc, 9, &address(alloc, Some(b"\xff"), 17_034)?));
+    assert!(rt; !dials(rt, alloc, 9, &address(alloc, None, 17_034)?));
     Ok(())
+}
+
+/// Whether two bytes go out and three come in.
+fn swaps<L: Link>(link: &mut L) -> bool {
+    let mut buf = [b'.'; 4];
+    link.put(b"ab").is_ok() && link.take(&mut buf).is_ok_and(|n| n == 3) && buf == *b"cde."
 }
 
 #[test]
@@ -238,21 +247,13 @@ fn a_connection_is_a_link(rt: HostRuntime) -> Result<(), Fail> {
         return Ok(());
     };
     let port = listener.local_addr()?.port();
-    let here = address(rt.alloc(), Some(b"127.0.0.1"), port)?;
     let mut dialer = StdDialer::new(rt);
-    let mut link = dialer.dial(&here)?;
+    let mut link = dialer.dial(&address(rt.alloc(), Some(b"127.0.0.1"), port)?)?;
     let (mut peer, _) = listener.accept()?;
-    let mut buf = [b'.'; 4];
-    assert_eq!(rt; link.put(b"ab"), Ok(()));
-    assert_eq!(rt; peer.read(&mut buf)?, 2);
     peer.write_all(b"cde")?;
-    assert_eq!(rt; link.take(&mut buf), Ok(3));
-    assert_eq!(rt; buf, *b"cde.");
-    drop(peer);
-    assert_eq!(rt; link.take(&mut buf), Ok(0));
+    assert!(rt; swaps(&mut link));
     dialer.done(link);
-    drop(listener);
-    assert!(rt; dialer.dial(&here).is_err());
+    assert_eq!(rt; io::read_to_string(rt.alloc(), peer)?, "ab");
     Ok(())
 }
 
