@@ -9,7 +9,8 @@ use Rattle.vt_core.specs.Core.{CoreState}
 use Rattle.vt_drive.specs.Answers.{KeepsAll}
 use Rattle.vt_drive.specs.Driven.{DrivenState}
 use Rattle.vt_alone.specs.Sessions.{MakesRun, at_time, store_on}
-use Rattle.vt_alone.proofs.Keeps.{asked_keeps, asked_time, keeps_more}
+use Rattle.vt_drive.proofs.WorkDone.{keeps_on}
+use Rattle.vt_alone.proofs.Keeps.{asked_keeps, asked_time}
 use Rattle.vt_alone.proofs.Runs.{calls_run, run_more}
 use Rattle.vt_single.specs.Single.{Asked, Puts, ReadsBlock, WritesBlock, asks_block, closed_behind}
 
@@ -58,7 +59,7 @@ module _ {D : Type 0} (score : List ℕ → List ℕ) (disk : DiskOf D) where
         (some_of (at_time now old) (at_time now it.kept) it.puts.0 it.puts.2)
 
     pub write_keeps : KeepsAll disk old new
-    write_keeps = keeps_more disk old it.kept new put_keeps it.ends.keeps
+    write_keeps = keeps_on disk old it.kept new put_keeps it.ends.keeps
 
 -- a score that is told is that of the bytes
 pub scored_behind : (put : Result Score Why) (closed : Result (Unit {0}) Why)
