@@ -1,0 +1,137 @@
+-- What a client's calls put over its link, one behind another.
+use Rattle.std.proofs.Common.{◌≡◌, ⊎_elim, inl, inr, ℕ, ◌+◌, ◌%◌, Bool, false, true, Result, Ok, Err, List, [], ◌∷◌, length, take, refl, sym, ◌∙◌, ap, subst, arith}
+use Rattle.std.specs.Prelude.{IsTrue, codes}
+use Rattle.std.proofs.lemmas.List.{take_all}
+use Rattle.vt_base.specs.Protocol.{TMessage, RMessage, t_ask, t_goodbye, t_hello, read, write, sync, r_hello, r_read, r_write, r_sync}
+use Rattle.vt_base.specs.declared.TheConstants.{MAX_BLOCK}
+use Rattle.vt_base.specs.declared.score.Score.{Score}
+use Rattle.vt_client.specs.declared.err.ClientErr.{ClientErr}
+use Rattle.vt_client.specs.declared.err.Parted.{Parted}
+use Rattle.vt_client.specs.Clients.{Asks, ClientState, SaysGoodbye, block_of, committing, spent_by, taking_in}
+use Rattle.vt_client.specs.Exchanges.{Answers, Exchanges, Moves, Traffic, Wanted, traffic_of}
+use Rattle.vt_client.specs.Greetings.{Begins, Greets, welcome}
+use Rattle.vt_wire.specs.Messages.{asked}
+use Rattle.vt_remote.specs.Exchanged.{Exchanged, ExchangesEach}
+use Rattle.vt_remote.specs.Members.{LinkOf}
+use Rattle.vt_remote.specs.Remote.{AsksForBlock, Meets, PutsBlock, Talks, link_in}
+
+module _ {L : Type 0} (link : LinkOf L) (score_of : List ℕ → List ℕ) (told : IsTrue link.tells) where
+  exchanged_by : {T : Type 0} (w : Wanted T) (tag : ℕ) (before after : Traffic) (value : T)
+      → Answers score_of tag w before after (Ok value)
+      → Exchanges before after tag w.request (w.reply value)
+  exchanged_by w tag before after value (inl (reply, exchanges, judged)) =
+      subst (λ (r : RMessage). Exchanges before after tag w.request r) judged.0 exchanges
+  exchanged_by w tag before after value (inr never) = absurd never
+
+  -- a call that was answered well
+  record Step {T : Type 0} (w : Wanted T) (c next : ClientState L) (value : T) : Type 0 where
+    exchanged : Exchanges (traffic_of link c.link) (traffic_of link next.link) c.tag w.request
+        (w.reply value)
+    unspent : next.spent ≡ false
+    tag : next.tag ≡ (c.tag + 1) % 256
+
+  step : {T : Type 0} (w : Wanted T) (c next : ClientState L) (value : T) → c.spent ≡ false
+      → Asks link score_of w c next (Ok value) → Step w c next value
+  step w c next value unspent asks =
+      let same = asks.goes_on unspent in
+      record {
+        exchanged = exchanged_by w c.tag (traffic_of link c.link) (traffic_of link next.link) value
+            (asks.answers told unspent);
+        unspent = ap (λ (s : ClientState L). s.spent) same;
+        tag = ap (λ (s : ClientState L). s.tag) same;
+      }
+
+  -- a goodbye goes out whole, or a front of it
+  parts : (c : ClientState L) (parted : Result L (Parted L)) → c.spent ≡ false
+      → SaysGoodbye link c parted
+      → (n : ℕ) × Moves (traffic_of link c.link) (traffic_of link (link_in parted))
+      (take n (asked c.tag t_goodbye)) []
+  parts c (Ok l) unspent says = (
+    length (asked c.tag t_goodbye),
+    subst (λ (out : List ℕ). Moves (traffic_of link c.link) (traffic_of link l) out [])
+        (sym (take_all (length (asked c.tag t_goodbye)) (asked c.tag t_goodbye)
+        (omega arith))) (says.2 told),
+  )
+  parts c (Err parted) unspent says = ⊎_elim
+      (λ spent. let no : true ≡ false = sym spent.0 ∙ unspent in absurd (cc))
+      (λ failed. failed.3 told) says
+
+  greeted : (before after : Traffic) → Greets score_of before after (Ok tt)
+      → (between : Traffic) × Begins before between
+      × Exchanges between after 0 (t_hello (codes "02")) r_hello
+  greeted before after (inl never) = absurd never
+  greeted before after (inr (between, begins, answers)) =
+      (between, begins, exchanged_by welcome 0 between after tt answers)
+
+  module _ {Does : (c c' : ClientState L) → Type 0} (back : L) (x : Talks link score_of Does back)
+      (calls : List (TMessage × RMessage)) where
+    all_of : ExchangesEach 1 calls (traffic_of link x.met.link) (traffic_of link x.last.link)
+        → x.last.spent ≡ false → x.last.tag ≡ 1 + length calls
+        → Exchanged calls (traffic_of link back)
+    all_of each unspent tag =
+        let met = greeted (traffic_of link x.meets.made) (traffic_of link x.met.link)
+        (x.meets.greets told) in
+        let goodbye = parts x.last x.parted unspent x.says in
+        record {
+          before = traffic_of link x.meets.made;
+          unsent = x.meets.fresh.written told;
+          untaken = x.meets.fresh.given told;
+          between = met.0;
+          begins = met.1;
+          greeted = traffic_of link x.met.link;
+          hello = met.2;
+          last = traffic_of link x.last.link;
+          each = each;
+          goodbye = (
+            goodbye.0,
+            subst (λ (t : ℕ). Moves (traffic_of link x.last.link) (traffic_of link back)
+                (take goodbye.0 (asked t t_goodbye)) []) tag
+                (subst (λ (l : L). Moves (traffic_of link x.last.link) (traffic_of link l)
+                (take goodbye.0 (asked x.last.tag t_goodbye)) []) (sym x.back_is) goodbye.1),
+          );
+        }
+
+    fresh_spent : x.met.spent ≡ false
+    fresh_spent = ap (λ (s : ClientState L). s.spent) x.meets.client
+
+    fresh_tag : x.met.tag ≡ 1
+    fresh_tag = ap (λ (s : ClientState L). s.tag) x.meets.client
+
+  pub block_read : (kind : ℕ) (s bytes : List ℕ) (back : L)
+      → Talks link score_of (AsksForBlock link score_of kind s (Ok bytes)) back
+      → Exchanged ((t_ask (read s kind MAX_BLOCK), r_read bytes) ∷ []) (traffic_of link back)
+  block_read kind s bytes back x =
+      let did = step (block_of s kind) x.met x.last bytes (fresh_spent back x []) x.does in
+      all_of back x ((t_ask (read s kind MAX_BLOCK), r_read bytes) ∷ []) (
+        traffic_of link x.last.link,
+        subst (λ (t : ℕ). Exchanges (traffic_of link x.met.link)
+            (traffic_of link x.last.link) t (t_ask (read s kind MAX_BLOCK)) (r_read bytes))
+            (fresh_tag back x []) did.exchanged,
+        refl,
+      )
+      did.unspent (did.tag ∙ ap (λ (t : ℕ). (t + 1) % 256) (fresh_tag back x []))
+
+  pub block_written : (kind : ℕ) (bytes : List ℕ) (given : Score) (back : L)
+      → Talks link score_of (PutsBlock link score_of kind bytes (Ok given)) back
+      → Exchanged ((t_ask (write kind bytes), r_write given.0) ∷ (t_ask sync, r_sync) ∷ [])
+      (traffic_of link back)
+  block_written kind bytes given back x =
+      let mid = x.does.0 in
+      let put = step (taking_in score_of kind bytes) x.met mid given (fresh_spent back x [])
+      x.does.1 in
+      let committed = step committing mid x.last tt put.unspent x.does.2 in
+      let second : mid.tag ≡ 2 =
+      put.tag ∙ ap (λ (t : ℕ). (t + 1) % 256) (fresh_tag back x []) in
+      all_of back x ((t_ask (write kind bytes), r_write given.0) ∷ (t_ask sync, r_sync) ∷ []) (
+        traffic_of link mid.link,
+        subst (λ (t : ℕ). Exchanges (traffic_of link x.met.link)
+            (traffic_of link mid.link) t (t_ask (write kind bytes)) (r_write given.0))
+            (fresh_tag back x []) put.exchanged,
+        (
+          traffic_of link x.last.link,
+          subst (λ (t : ℕ). Exchanges (traffic_of link mid.link)
+              (traffic_of link x.last.link) t (t_ask sync) r_sync) second committed.exchanged,
+          refl,
+        ),
+      )
+      committed.unspent (committed.tag ∙ ap (λ (t : ℕ). (t + 1) % 256) second)

@@ -1,0 +1,26 @@
+//! What went over the link to a server.
+
+ghost use Rattle.std.specs.Prelude.{◌≡◌, ℕ, IsTrue, List, [], ◌∷◌, Ok};
+ghost use Rattle.vt_base.specs.Protocol.{read, write, sync, t_ask, r_read, r_write, r_sync};
+ghost use Rattle.vt_base.specs.declared.TheConstants.{MAX_BLOCK};
+ghost use Rattle.vt_base.specs.declared.score.Score.{Score};
+ghost use Rattle.vt_client.specs.Exchanges.{traffic_of};
+ghost use Rattle.vt_remote.specs.Exchanged.{Exchanged};
+ghost use Rattle.vt_remote.specs.Remote.{AsksForBlock, PutsBlock, Talks};
+
+use vt_out::Link;
+
+/// Where a block was read, or written, over a link that tells its bytes, the one request for it went
+/// out, and behind that of a write the one to commit; each had its reply; and nothing else was asked.
+pub fn answered_blocks_are_exchanged<L: Link>()
+    ensures read { (score_of : List ℕ → List ℕ) (kind : ℕ) (s bytes : List ℕ) (back : L)
+        → IsTrue L.tells
+        → Talks L.Link score_of (AsksForBlock L.Link score_of kind s (Ok bytes)) back
+        → Exchanged ((t_ask (read s kind MAX_BLOCK), r_read bytes) ∷ [])
+        (traffic_of L.Link back) }
+    ensures written { (score_of : List ℕ → List ℕ) (kind : ℕ) (bytes : List ℕ) (given : Score)
+        (back : L) → IsTrue L.tells
+        → Talks L.Link score_of (PutsBlock L.Link score_of kind bytes (Ok given)) back
+        → Exchanged ((t_ask (write kind bytes), r_write given.0) ∷ (t_ask sync, r_sync) ∷ [])
+        (traffic_of L.Link back) }
+{}

@@ -1,0 +1,12 @@
+//! One block, read from a Venti server at an address or written to it.
+#![tactic(auto)]
+
+mod laws;
+mod remote;
+mod talk;
+
+pub use laws::answered_blocks_are_exchanged;
+pub use remote::{RemoteBad, read_remote, write_remote};
+
+#[cfg(test)]
+mod tests;
