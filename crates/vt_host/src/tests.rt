@@ -253,7 +253,7 @@ fn a_connection_is_a_link(rt: HostRuntime) -> Result<(), Fail> {
     peer.write_all(b"cde")?;
     assert!(rt; swaps(&mut link));
     dialer.done(link);
-    assert_eq!(rt; io::read_to_string(rt.alloc(), peer)?, "ab");
+    assert_eq!(rt; io::read_to_string(rt.alloc(), peer)?.as_str(), "ab");
     Ok(())
 }
 
