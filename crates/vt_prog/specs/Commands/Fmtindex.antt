@@ -10,7 +10,7 @@ use Rattle.vt_disk.specs.Members.{DiskOf}
 use Rattle.vt_format.specs.declared.index.Index.{Index}
 use Rattle.vt_format.specs.declared.index.IndexBad.{IndexBad}
 use Rattle.vt_format.specs.declared.index.IndexBad.TheVariants as index_bad
-use Rattle.vt_format.specs.Index.{AnswersFor, ArePutToUse, Fails, LeavesThere, files_of}
+use Rattle.vt_format.specs.Index.{AnswersFor, ArePutToUse, Fails, LeavesThere, StopsIndex, files_of}
 use Rattle.vt_format.specs.Opening.{FindsArenas, NamesCause}
 use Rattle.vt_parts.specs.Parts.{StaysThere}
 use Rattle.vt_prog.specs.declared.failure.Failure.{Failure}
@@ -39,6 +39,9 @@ pub record FormatsIndex {P D : Type 0} (disk : DiskOf D) (conf : Conf) (parts : 
   pub used : IfOk result (λ it. IsTrue parts.tells → IsTrue disk.tells
       → ArePutToUse disk parts.old parts.new 0 it.buckets conf.sections.items)
   pub sections : IfOk result (λ it. it.sections ≡ length conf.sections.items)
+  pub stopped : IfErr result (λ bad. IsTrue parts.tells → IsTrue disk.tells → (total : ℕ)
+      × StopsIndex disk parts.old parts.new 0 total (length conf.arenas.items)
+      conf.sections.items bad)
   pub found : IsTrue parts.tells → IsTrue disk.tells → AnswersFor
       (FindsArenas disk parts.old conf [] [] conf.arenas.items) result
   pub differs : IfErr result NamesCause

@@ -16,6 +16,7 @@ returns-in-Ok-clause-indexes g c =
           c.parts.ensures.parts (record {
             used = c.in-Ok.ensures.used;
             sections = c.in-Ok.ensures.sections;
+            stopped = c.in-Ok.ensures.stopped;
             found = c.in-Ok.ensures.found;
             differs = c.in-Ok.ensures.differs;
             cause = c.in-Ok.ensures.cause;
@@ -37,6 +38,7 @@ returns-in-Err-clause-indexes g c =
           c.parts.ensures.parts (record {
             used = c.in-Err.ensures.used;
             sections = c.in-Err.ensures.sections;
+            stopped = c.in-Err.ensures.stopped;
             found = c.in-Err.ensures.found;
             differs = c.in-Err.ensures.differs;
             cause = c.in-Err.ensures.cause;
