@@ -1,7 +1,7 @@
 //! What stores answer, also to a sync that waits, with a full queue, and with a log that has
 //! stopped.
 
-use crate::disks::{Mem, NEVER};
+use crate::disks::{Fails, Mem};
 use crate::stores::{Act, DATA, Given, TestStore, again, do_all, does, fresh, see};
 use std::alloc::Global;
 use std::test::Fail;
@@ -59,7 +59,7 @@ const DROPS: [Act<'static>; 10] = [
 
 /// Requests of a session, their refusals, syncs, what is dropped, and the next mount.
 fn answers<T: TestStore>(alloc: Global) -> Result<(), &'static str> {
-    let mut store: T = fresh(alloc, 1, 0, NEVER)?;
+    let mut store: T = fresh(alloc, 1, 0, Fails::Never)?;
     for acts in [&WRITES[..], &READS, &SYNCS, &DROPS, &READS] {
         do_all(alloc, &mut store, acts)?;
     }
@@ -91,7 +91,7 @@ const FULL: [Act<'static>; 5] = [
 
 /// Of 65 writes without a sync the last one meets a full queue, which is committed.
 fn fills_queue<T: TestStore>(alloc: Global) -> Result<(), &'static str> {
-    let mut store: T = fresh(alloc, 1, 0, NEVER)?;
+    let mut store: T = fresh(alloc, 1, 0, Fails::Never)?;
     for number in 0..64u8 {
         let write = Act::Write(DATA, &[number], Ok(()));
         see(does(alloc, &mut store, &write), "another reply to a write")?;
@@ -121,7 +121,7 @@ const STOPPED: [Act<'static>; 9] = [
 
 /// The first sync of the partition behind mounting fails.
 fn stops<T: TestStore>(alloc: Global) -> Result<(), &'static str> {
-    let mut store: T = fresh(alloc, 1, 0, MOUNTING + 2)?;
+    let mut store: T = fresh(alloc, 1, 0, Fails::At(MOUNTING + 2))?;
     do_all(alloc, &mut store, &STOPPED)
 }
 

@@ -1,6 +1,6 @@
 //! Scripts that are stopped at each device call, and what a crash leaves then.
 
-use crate::disks::{Disks, Mem, NEVER, TestDisk, crashed, small};
+use crate::disks::{Disks, Fails, Mem, TestDisk, crashed, small};
 use crate::stores::{
     Act, DATA, Given, TestStore, again, ask, do_all, does, fresh, is, opened, see, settle,
 };
@@ -79,11 +79,20 @@ fn repeat<T: TestStore>(alloc: Global, store: &mut T, times: u8, deed: Deed) -> 
     failed
 }
 
-/// Makes the script happen, also behind a call that fails. It gives whether one did.
+/// Whether a deed isn't a write, or all blocks before its own were accepted.
+fn is_next<T: TestStore>(store: &T, deed: Deed) -> bool {
+    match deed {
+        Deed::Write(block) => store.counts()[0] == block as u64,
+        Deed::Sync | Deed::Own(_) => true,
+    }
+}
+
+/// Makes the script happen, also behind a call that fails, but for writes behind one that isn't
+/// accepted. It gives whether a call failed.
 fn play<T: TestStore>(alloc: Global, store: &mut T) -> bool {
     let mut failed = false;
     for (times, deed) in &SCRIPT {
-        if repeat(alloc, store, *times, *deed) {
+        if is_next(store, *deed) && repeat(alloc, store, *times, *deed) {
             failed = true;
         }
     }
@@ -143,15 +152,15 @@ fn mounts_again<T: TestStore>(
     }
 }
 
-/// The script is stopped at this call of this disk, with a crash in this mode behind it. It gives
-/// whether the call came.
+/// These calls of this disk fail in the script, with a crash in this mode behind it. It gives
+/// whether one of them came.
 fn stops_at<T: TestStore>(
     alloc: Global,
     device: usize,
-    call: u64,
+    fails: Fails,
     mode: CrashMode,
 ) -> Result<bool, &'static str> {
-    let Some(disks) = small(alloc, 1, device, call) else {
+    let Some(disks) = small(alloc, 1, device, fails) else {
         return Err("no disks");
     };
     match T::open(alloc, disks) {
@@ -169,14 +178,26 @@ fn stops_at<T: TestStore>(
     }
 }
 
+/// It is stopped at this call of this disk, which fails alone, or with all behind it. It gives
+/// whether the call came.
+fn stops_in_each_mode<T: TestStore>(
+    alloc: Global,
+    device: usize,
+    call: u64,
+) -> Result<bool, &'static str> {
+    let mut came = false;
+    for mode in CrashMode::ALL {
+        came = stops_at::<T>(alloc, device, Fails::At(call), mode)?;
+        let also = stops_at::<T>(alloc, device, Fails::From(call), mode)?;
+        see(came == also, "a call comes once")?;
+    }
+    Ok(came)
+}
+
 /// It is stopped at each call of this disk. It gives how many there are.
 fn stops<T: TestStore>(alloc: Global, device: usize) -> Result<u64, &'static str> {
     for call in 0..100 {
-        let mut came = false;
-        for mode in CrashMode::ALL {
-            came = stops_at::<T>(alloc, device, call, mode)?;
-        }
-        if !came {
+        if !stops_in_each_mode::<T>(alloc, device, call)? {
             return Ok(call);
         }
     }
@@ -195,7 +216,7 @@ const CALLS: [u64; 4] = [
 ];
 
 fn script<T: TestStore>(alloc: Global) -> Result<(), &'static str> {
-    let mut store: T = fresh(alloc, 1, 0, NEVER)?;
+    let mut store: T = fresh(alloc, 1, 0, Fails::Never)?;
     see(!play(alloc, &mut store), "a call fails")?;
     see(store.counts() == [3, 3, 2], "another length")?;
     for (device, calls) in CALLS.iter().enumerate() {
@@ -229,7 +250,7 @@ const WRITTEN: [Act<'static>; 8] = [
 
 /// A crash leaves this byte of a bucket's selector.
 fn is_torn<T: TestStore>(alloc: Global, byte: u16) -> Result<(), &'static str> {
-    let mut store: T = fresh(alloc, 1, 0, NEVER)?;
+    let mut store: T = fresh(alloc, 1, 0, Fails::Never)?;
     do_all(alloc, &mut store, &WRITTEN)?;
     let mut disks = store.close().ok_or("no disks")?;
     let section = disks.sections.pop().ok_or("no section")?;

@@ -10,12 +10,21 @@ use vt_disk::Disk;
 use vt_memdisk::{CrashMode, Listed, MemDisk, Plan};
 use vt_part::Part;
 
+/// Which calls of a disk fail: its reads, writes and syncs, counted together from 0.
+#[derive(Clone, Copy)]
+pub enum Fails {
+    Never,
+    /// This one alone.
+    At(u64),
+    /// It, and all behind it.
+    From(u64),
+}
+
 /// A disk that a test makes and crashes. What is done to stores is proved for any such disk, which
 /// is much less work than for one in memory, and runs on that.
 pub trait TestDisk: Disk + Drop {
-    /// One of so many zero bytes, of which this call fails. Reads, writes and syncs are counted
-    /// together, from 0.
-    fn failing(alloc: Global, len: u64, call: u64) -> Option<Self>;
+    /// One of so many zero bytes, of which these calls fail behind the first ones that are made.
+    fn failing(alloc: Global, len: u64, made: u64, fails: Fails) -> Option<Self>;
 
     /// What a crash in a mode leaves.
     fn crashed(self, mode: CrashMode) -> Self;
@@ -27,19 +36,37 @@ pub trait TestDisk: Disk + Drop {
 
 /// A plan by which a test's disk fails.
 pub trait TestPlan: Plan {
-    /// A disk of so many zero bytes, of which this call fails.
-    fn disk(alloc: Global, len: u64, call: u64) -> Option<MemDisk<Self>>;
+    /// A disk of so many zero bytes, of which these calls fail behind the first ones.
+    fn disk(alloc: Global, len: u64, made: u64, fails: Fails) -> Option<MemDisk<Self>>;
 }
 
 impl TestPlan for Listed {
-    fn disk(alloc: Global, len: u64, call: u64) -> Option<MemDisk<Self>> {
-        MemDisk::failing(alloc, len, vec![in alloc; call].ok()?).ok()
+    fn disk(alloc: Global, len: u64, made: u64, fails: Fails) -> Option<MemDisk<Self>> {
+        MemDisk::failing(alloc, len, listed(alloc, made, fails)?).ok()
     }
 }
 
+/// How many calls a disk has at most in a test in which all fail from one on.
+const MOST: u64 = 200;
+
+/// The calls that fail behind the first ones, as a list.
+fn listed(alloc: Global, made: u64, fails: Fails) -> Option<Vec<u64>> {
+    let (first, count) = match fails {
+        Fails::Never => (0, 0),
+        Fails::At(call) => (call, 1),
+        Fails::From(call) => (call, MOST),
+    };
+    let mut calls = Vec::new(alloc);
+    for i in 0..count {
+        let call = made.checked_add(first)?.checked_add(i)?;
+        calls.push(call).ok()?;
+    }
+    Some(calls)
+}
+
 impl<P: TestPlan> TestDisk for MemDisk<P> {
-    fn failing(alloc: Global, len: u64, call: u64) -> Option<Self> {
-        P::disk(alloc, len, call)
+    fn failing(alloc: Global, len: u64, made: u64, fails: Fails) -> Option<Self> {
+        P::disk(alloc, len, made, fails)
     }
 
     fn crashed(self, mode: CrashMode) -> Self {
@@ -52,9 +79,6 @@ impl<P: TestPlan> TestDisk for MemDisk<P> {
 }
 
 pub type Mem = MemDisk<Listed>;
-
-/// No call fails.
-pub const NEVER: u64 = u64::MAX;
 
 /// The bytes of a small arena.
 pub const ARENA_LEN: u32 = 32_768;
@@ -69,11 +93,16 @@ pub fn put<D: Disk>(disk: &mut D, at: u64, bytes: &[u8]) -> Option<()> {
     disk.write_at(at, bytes).ok()
 }
 
-/// A partition of so many arenas without blocks. This call of it fails, counted from here on.
-pub fn partition<D: TestDisk>(alloc: Global, arenas: u32, arena_len: u32, call: u64) -> Option<D> {
+/// A partition of so many arenas without blocks. These calls of it fail, counted from here on.
+pub fn partition<D: TestDisk>(
+    alloc: Global,
+    arenas: u32,
+    arena_len: u32,
+    fails: Fails,
+) -> Option<D> {
     let made = u64::from(arenas) + 4;
     let len = u64::from(arenas).checked_mul(u64::from(arena_len))?;
-    let mut disk = D::failing(alloc, len.checked_add(8_192)?, call.saturating_add(made))?;
+    let mut disk = D::failing(alloc, len.checked_add(8_192)?, made, fails)?;
     put(&mut disk, 0, b"VPRT\0\x01arenas0")?;
     put(&mut disk, 70, &u64::from(arena_len).to_be_bytes())?;
     put(&mut disk, 78, &arenas.to_be_bytes())?;
@@ -88,18 +117,18 @@ pub fn partition<D: TestDisk>(alloc: Global, arenas: u32, arena_len: u32, call: 
     Some(disk)
 }
 
-/// A section in use, of so many empty buckets from this one on, of so many over all. This call of
-/// it fails, counted from here on.
+/// A section in use, of so many empty buckets from this one on, of so many over all. These calls of
+/// it fail, counted from here on.
 pub fn section<D: TestDisk>(
     alloc: Global,
     first: u32,
     count: u32,
     total: u32,
-    call: u64,
+    fails: Fails,
 ) -> Option<D> {
     let made = u64::from(count) + 5;
     let len = 24_576 + 16_896 * u64::from(count);
-    let mut disk = D::failing(alloc, len, call.saturating_add(made))?;
+    let mut disk = D::failing(alloc, len, made, fails)?;
     put(&mut disk, 0, b"VSEC\0\x01\x01isect")?;
     put(&mut disk, 71, &first.to_be_bytes())?;
     put(&mut disk, 75, &count.to_be_bytes())?;
@@ -114,8 +143,8 @@ pub fn section<D: TestDisk>(
 }
 
 /// A filter without bits, of which a score has four.
-pub fn filter<D: TestDisk>(alloc: Global, call: u64) -> Option<D> {
-    let mut disk = D::failing(alloc, FILTER_LEN, call.saturating_add(2))?;
+pub fn filter<D: TestDisk>(alloc: Global, fails: Fails) -> Option<D> {
+    let mut disk = D::failing(alloc, FILTER_LEN, 2, fails)?;
     put(&mut disk, 0, b"VBLM\0\x01\x10\x04")?;
     disk.sync().ok()?;
     Some(disk)
@@ -148,24 +177,23 @@ pub fn only<T: Drop>(alloc: Global, item: T) -> Option<Vec<T>>
 }
 
 /// Those of a store without blocks, with so many small arenas, two sections of one bucket, and a
-/// filter of 8 KiB. This call of this disk fails: of the partition, a section or the filter,
-/// counted from 0.
+/// filter of 8 KiB. These calls of this disk fail: of the partition, a section or the filter.
 pub fn small<D: TestDisk>(
     alloc: Global,
     arenas: u32,
     device: usize,
-    call: u64,
+    fails: Fails,
 ) -> Option<Disks<D>> {
-    let mut calls = [NEVER; 4];
+    let mut each = [Fails::Never; 4];
     if device < 4 {
-        calls[device] = call;
+        each[device] = fails;
     }
-    let mut sections = only(alloc, section(alloc, 0, 1, 2, calls[1])?)?;
-    sections.push(section(alloc, 1, 1, 2, calls[2])?).ok()?;
+    let mut sections = only(alloc, section(alloc, 0, 1, 2, each[1])?)?;
+    sections.push(section(alloc, 1, 1, 2, each[2])?).ok()?;
     Some(Disks {
-        arenas: partition(alloc, arenas, ARENA_LEN, calls[0])?,
+        arenas: partition(alloc, arenas, ARENA_LEN, each[0])?,
         sections,
-        filter: Some(filter(alloc, calls[3])?),
+        filter: Some(filter(alloc, each[3])?),
     })
 }
 

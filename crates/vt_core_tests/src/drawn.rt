@@ -2,7 +2,7 @@
 
 ghost use Rattle.std.specs.Prelude.{◌<◌};
 
-use crate::disks::{Mem, NEVER};
+use crate::disks::{Fails, Mem};
 use crate::stores::{Given, TestStore, again, ask, fresh, is, is_block, is_score, see, work};
 use std::alloc::Global;
 use std::test::Fail;
@@ -77,7 +77,7 @@ fn plain_of(alloc: Global, accepted: &[u32]) -> Option<PlainStore<ShortScorer>> 
 
 fn new_pair<T: TestStore>(alloc: Global) -> Result<Pair<T>, &'static str> {
     Ok(Pair {
-        store: fresh(alloc, 3, 0, NEVER)?,
+        store: fresh(alloc, 3, 0, Fails::Never)?,
         accepted: Vec::new(alloc),
         plain: plain_of(alloc, &[]).ok_or("no list")?,
     })

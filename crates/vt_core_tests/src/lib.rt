@@ -1,5 +1,5 @@
-//! Tests of stores on disks in memory. They stand in a crate of their own, so that `vt_core` is
-//! proved once.
+//! Tests of stores on disks in memory, and of what drives them. They stand in a crate of their own,
+//! so that `vt_core` and `vt_drive` are proved once.
 #![tactic(auto)]
 
 #[cfg(test)]
@@ -10,6 +10,8 @@ mod crashing;
 mod disks;
 #[cfg(test)]
 mod drawn;
+#[cfg(test)]
+mod driving;
 #[cfg(test)]
 mod mounting;
 #[cfg(test)]

@@ -2,7 +2,7 @@
 //! and a smaller index under an old log.
 
 use crate::disks::{
-    ARENA_LEN, Disks, Mem, NEVER, TestDisk, crashed, filter, nth, only, partition, put, section,
+    ARENA_LEN, Disks, Fails, Mem, TestDisk, crashed, filter, nth, only, partition, put, section,
 };
 use crate::stores::{Act, DATA, TestStore, ask, does, file, opened, see, work};
 use std::alloc::Global;
@@ -17,23 +17,23 @@ type TestCore = Core<Mem, ShortScorer>;
 /// The bytes of an arena with room for more blocks than a shard has for their entries.
 const LARGE: u32 = 131_072;
 
-/// One section, of so many empty buckets, of which this call fails.
-fn empty_section<D: TestDisk>(alloc: Global, buckets: u32, call: u64) -> Option<Vec<D>> {
-    only(alloc, section(alloc, 0, buckets, buckets, call)?)
+/// One section, of so many empty buckets, of which these calls fail.
+fn empty_section<D: TestDisk>(alloc: Global, buckets: u32, fails: Fails) -> Option<Vec<D>> {
+    only(alloc, section(alloc, 0, buckets, buckets, fails)?)
 }
 
-/// The disks of a store without blocks, with one arena and one section. This call of the arena's
-/// disk fails.
+/// The disks of a store without blocks, with one arena and one section. These calls of the arena's
+/// disk fail.
 fn devices<D: TestDisk>(
     alloc: Global,
     arena_len: u32,
     buckets: u32,
-    call: u64,
+    fails: Fails,
 ) -> Option<Disks<D>> {
     Some(Disks {
-        arenas: partition(alloc, 1, arena_len, call)?,
-        sections: empty_section(alloc, buckets, NEVER)?,
-        filter: Some(filter(alloc, NEVER)?),
+        arenas: partition(alloc, 1, arena_len, fails)?,
+        sections: empty_section(alloc, buckets, Fails::Never)?,
+        filter: Some(filter(alloc, Fails::Never)?),
     })
 }
 
@@ -126,7 +126,7 @@ fn refused<T: TestStore>(
 /// A store with three blocks is refused for this call of the arena's disk, and the next time it is
 /// found. It gives whether the call came while it was mounted.
 fn fails_once<T: TestStore>(alloc: Global, call: u64, settled: bool) -> Result<bool, &'static str> {
-    let disks = devices(alloc, ARENA_LEN, 1, call);
+    let disks = devices(alloc, ARENA_LEN, 1, Fails::At(call));
     let Ok(disks) = filled::<T>(alloc, disks.ok_or("no disks")?, 3, settled) else {
         return Ok(false);
     };
@@ -226,7 +226,7 @@ const DAMAGES: [Damage; 4] = [
 
 /// The disks of a store with three blocks, of which no entry is in the index.
 fn bare<T: TestStore>(alloc: Global) -> Result<Disks<T::Disk>, &'static str> {
-    let disks = devices(alloc, ARENA_LEN, 1, NEVER);
+    let disks = devices(alloc, ARENA_LEN, 1, Fails::Never);
     filled::<T>(alloc, disks.ok_or("no disks")?, 3, false)
 }
 
@@ -266,7 +266,7 @@ fn mount_twice<T: TestStore>(
     mut disks: Disks<T::Disk>,
     call: u64,
 ) -> Result<Disks<T::Disk>, &'static str> {
-    disks.sections = empty_section(alloc, BUCKETS, call).ok_or("no section")?;
+    disks.sections = empty_section(alloc, BUCKETS, Fails::At(call)).ok_or("no section")?;
     let (bad, disks) = refused::<T>(alloc, disks)?;
     see(bad == MountBad::Fault, "another refusal")?;
     let mode = CrashMode::ALL[call as usize % 4];
@@ -280,7 +280,7 @@ fn mount_twice<T: TestStore>(
 /// each bucket. It is stopped at calls of the section's disk, each fifth one of them while it
 /// writes, with a crash behind it.
 fn second_crashes<T: TestStore>(alloc: Global) -> Result<(), &'static str> {
-    let disks = devices(alloc, LARGE, BUCKETS, NEVER);
+    let disks = devices(alloc, LARGE, BUCKETS, Fails::Never);
     let mut disks = filled::<T>(alloc, disks.ok_or("no disks")?, BLOCKS, false)?;
     for call in [4, 14, 19, 24, 29, 34, 39] {
         disks = mount_twice::<T>(alloc, disks, call)?;
@@ -297,9 +297,9 @@ fn a_second_crash_loses_nothing(rt: HostRuntime) -> Result<(), Fail> {
 
 /// An index of one bucket is put under a log of 264 blocks, and one of two under it again.
 fn smaller_index<T: TestStore>(alloc: Global) -> Result<(), &'static str> {
-    let disks = devices(alloc, LARGE, 2, NEVER);
+    let disks = devices(alloc, LARGE, 2, Fails::Never);
     let mut old = filled::<T>(alloc, disks.ok_or("no disks")?, 264, false)?;
-    old.sections = empty_section(alloc, 1, NEVER).ok_or("no section")?;
+    old.sections = empty_section(alloc, 1, Fails::Never).ok_or("no section")?;
     let (bad, mut old) = refused::<T>(alloc, old)?;
     let wanted = MountBad::Disagree {
         part: 1,
@@ -308,7 +308,7 @@ fn smaller_index<T: TestStore>(alloc: Global) -> Result<(), &'static str> {
         want: 263,
     };
     see(bad == wanted, "another refusal")?;
-    old.sections = empty_section(alloc, 2, NEVER).ok_or("no section")?;
+    old.sections = empty_section(alloc, 2, Fails::Never).ok_or("no section")?;
     let mut store: T = opened(alloc, old)?;
     see_blocks(alloc, &mut store, 264)
 }

@@ -1,7 +1,7 @@
 //! Each test of mounting fails once, on disks in memory. That there are too many arenas or buckets
 //! is left out: the disks would have 128 MiB and 17 GiB.
 
-use crate::disks::{Disks, Mem, NEVER, TestDisk, nth, put, small};
+use crate::disks::{Disks, Fails, Mem, TestDisk, nth, put, small};
 use crate::stores::{TestStore, see};
 use std::alloc::Global;
 use std::test::Fail;
@@ -110,7 +110,7 @@ fn spoil<D: TestDisk>(disks: &mut Disks<D>, patch: &Patch) -> Option<()> {
 
 /// More and more is wrong, and each time what is tested first is told.
 fn order<T: TestStore>(alloc: Global) -> Result<(), &'static str> {
-    let mut disks: Disks<T::Disk> = small(alloc, 2, 0, NEVER).ok_or("no disks")?;
+    let mut disks: Disks<T::Disk> = small(alloc, 2, 0, Fails::Never).ok_or("no disks")?;
     for patch in PATCHES.iter().rev() {
         spoil(&mut disks, patch).ok_or("not written")?;
         disks = refused::<T>(alloc, disks, bad_of(patch.0, patch.3))?;
@@ -120,8 +120,8 @@ fn order<T: TestStore>(alloc: Global) -> Result<(), &'static str> {
 
 /// A disk that ends too early, in the place of a section or of the filter's.
 fn short<T: TestStore>(alloc: Global, part: u32, len: u64, need: u64) -> Result<(), &'static str> {
-    let mut disks: Disks<T::Disk> = small(alloc, 2, 0, NEVER).ok_or("no disks")?;
-    let disk = T::Disk::failing(alloc, len, NEVER).ok_or("no disk")?;
+    let mut disks: Disks<T::Disk> = small(alloc, 2, 0, Fails::Never).ok_or("no disks")?;
+    let disk = T::Disk::failing(alloc, len, 0, Fails::Never).ok_or("no disk")?;
     *nth(&mut disks, part).ok_or("no part")? = disk;
     refused::<T>(alloc, disks, MountBad::TooSmall { part, len, need })?;
     Ok(())

@@ -6,7 +6,7 @@ ghost use Rattle.vt_log.specs.Log.{has_next};
 ghost use Rattle.vt_shard.specs.Shard.{HasScore};
 ghost use Rattle.vt_core.specs.declared.writing.Verdict.TheVariants.{New};
 
-use crate::disks::{ARENA_LEN, Mem, NEVER, TestDisk, mounted_part, only, partition, section};
+use crate::disks::{ARENA_LEN, Fails, Mem, TestDisk, mounted_part, only, partition, section};
 use crate::stores::{SIZES, see};
 use std::alloc::Global;
 use std::marker::Brand;
@@ -20,20 +20,120 @@ use vt_log::Log;
 use vt_shard::Shard;
 use vt_steps::Steps;
 
-type TestLog<D> = Log<D, ShortScorer>;
+/// What the steps are handed, but for the filter. What a test asks is proved for any such parts, which
+/// is much less work than for those of a store, and runs on them.
+trait TestParts: Drop {
+    /// Those of a store without blocks.
+    fn made(alloc: Global) -> Option<Self>;
 
-/// A log without blocks, of one arena.
-fn log<D: TestDisk>(alloc: Global) -> Option<TestLog<D>> {
-    let part = mounted_part(partition(alloc, 1, ARENA_LEN, NEVER)?)?;
+    /// What a write finds. A block that is new is added.
+    fn write(
+        &mut self,
+        alloc: Global,
+        key: &Key,
+        block: &[u8],
+    ) -> Result<Result<Verdict, Why>, &'static str>;
+
+    /// The block of a key, where the filter may have it or not.
+    fn find(
+        &mut self,
+        alloc: Global,
+        may_have: bool,
+        key: &Key,
+    ) -> Result<Option<Bytes>, &'static str>;
+}
+
+/// A log of one arena, and the shard of the only section, which has one bucket.
+#[derive(Drop)]
+struct Parts<D: Disk> {
+    log: Log<D, ShortScorer>,
+    shard: Shard<D>,
+}
+
+impl<D: TestDisk> TestParts for Parts<D> {
+    fn made(alloc: Global) -> Option<Self> {
+        Some(Parts {
+            log: log(alloc)?,
+            shard: shard(alloc)?,
+        })
+    }
+
+    fn write(
+        &mut self,
+        alloc: Global,
+        key: &Key,
+        block: &[u8],
+    ) -> Result<Result<Verdict, Why>, &'static str> {
+        let Parts { log, shard } = self;
+        write_on::<D, Brand>(alloc, log, shard, key, block, Blank::new(1))
+    }
+
+    fn find(
+        &mut self,
+        alloc: Global,
+        may_have: bool,
+        key: &Key,
+    ) -> Result<Option<Bytes>, &'static str> {
+        let Parts { log, shard } = self;
+        find_on::<D, Brand>(alloc, log, shard, may_have, key, Blank::new(1))
+    }
+}
+
+fn write_on<D: Disk, L: Ledger>(
+    alloc: Global,
+    log: &mut Log<D, ShortScorer>,
+    shard: &mut Shard<D>,
+    key: &Key,
+    block: &[u8],
+    blank: Blank,
+) -> Result<Result<Verdict, Why>, &'static str>
+    requires name { blank.name ≡ L.name }
+    requires parts { blank.parts ≡ L.parts }
+    requires some { 0 < L.parts }
+{
+    if block.is_empty() || block.len() > MAX_BLOCK || !shard.has_key(key) {
+        return Err("no block of this shard");
+    }
+    let mut steps = Steps::<L>::new(blank);
+    let verdict = test_write(alloc, log, shard, true, key, block, &mut steps);
+    if let Ok(Verdict::New) = verdict {
+        add(alloc, log, shard, key, block)?;
+    }
+    Ok(verdict)
+}
+
+fn find_on<D: Disk, L: Ledger>(
+    alloc: Global,
+    log: &mut Log<D, ShortScorer>,
+    shard: &mut Shard<D>,
+    may_have: bool,
+    key: &Key,
+    blank: Blank,
+) -> Result<Option<Bytes>, &'static str>
+    requires name { blank.name ≡ L.name }
+    requires parts { blank.parts ≡ L.parts }
+    requires some { 0 < L.parts }
+{
+    if !shard.has_key(key) {
+        return Err("another shard's key");
+    }
+    let mut steps = Steps::<L>::new(blank);
+    match find_block(alloc, log, shard, may_have, key, &mut steps) {
+        Ok(found) => Ok(found),
+        Err(_) => Err("not looked for"),
+    }
+}
+
+fn log<D: TestDisk>(alloc: Global) -> Option<Log<D, ShortScorer>> {
+    let part = mounted_part(partition(alloc, 1, ARENA_LEN, Fails::Never)?)?;
     match vt_log::mount(alloc, only(alloc, part)?, ShortScorer) {
         Ok(log) => Some(log),
         Err(_) => None,
     }
 }
 
-/// A shard without blocks, of the only section of a store, with one bucket.
 fn shard<D: TestDisk>(alloc: Global) -> Option<Shard<D>> {
-    let Ok(section) = vt_isect::mount(alloc, section(alloc, 0, 1, 1, NEVER)?) else {
+    let Ok(section) = vt_isect::mount(alloc, section(alloc, 0, 1, 1, Fails::Never)?) else {
         return None;
     };
     if section.is_changing() {
@@ -42,6 +142,34 @@ fn shard<D: TestDisk>(alloc: Global) -> Option<Shard<D>> {
     match vt_shard::mount(alloc, section, SIZES) {
         Ok(shard) => Some(shard),
         Err(_) => None,
+    }
+}
+
+/// Adds a block that is new, where the queue and the shard have room.
+fn add<D: Disk>(
+    alloc: Global,
+    log: &mut Log<D, ShortScorer>,
+    shard: &mut Shard<D>,
+    key: &Key,
+    block: &[u8],
+) -> Result<(), &'static str>
+    requires some { 0 < length block.now }
+    requires most { length block.now ≤ MAX_BLOCK }
+    requires fits { IsTrue (has_next log.old (length block.now)) }
+    requires absent { dirty_info key.now shard.old.index ≡ None }
+{
+    if log.queue_full() || shard.spare() == 0 || shard.owed() > 0 || !shard.has_key(key) {
+        return Err("no room");
+    }
+    if log.front() == u64::MAX {
+        return Err("no number");
+    }
+    match pack(alloc, key.kind, block, key.score, 0) {
+        Ok(packed) => {
+            add_block(log, shard, packed);
+            Ok(())
+        }
+        Err(_) => Err("no memory"),
     }
 }
 
@@ -73,94 +201,15 @@ const ACTS: [Act<'static>; 11] = [
     Act::Write(Kind::DATA, &[1; 9_000], Err(Why::ArenasFull)),
 ];
 
-/// What a write finds. A block that is new is added.
-fn write<D: Disk, L: Ledger>(
-    alloc: Global,
-    log: &mut TestLog<D>,
-    shard: &mut Shard<D>,
-    key: &Key,
-    block: &[u8],
-    steps: &mut Steps<L>,
-) -> Result<Result<Verdict, Why>, &'static str> {
-    if block.is_empty() || block.len() > MAX_BLOCK || !shard.has_key(key) {
-        return Err("no block of this shard");
-    }
-    let verdict = test_write(alloc, log, shard, true, key, block, steps);
-    if let Ok(Verdict::New) = verdict {
-        add(alloc, log, shard, key, block)?;
-    }
-    Ok(verdict)
-}
-
-/// Adds a block that is new, where the queue and the shard have room.
-fn add<D: Disk>(
-    alloc: Global,
-    log: &mut TestLog<D>,
-    shard: &mut Shard<D>,
-    key: &Key,
-    block: &[u8],
-) -> Result<(), &'static str>
-    requires some { 0 < length block.now }
-    requires most { length block.now ≤ MAX_BLOCK }
-    requires fits { IsTrue (has_next log.old (length block.now)) }
-    requires absent { dirty_info key.now shard.old.index ≡ None }
-{
-    if log.queue_full() || shard.spare() == 0 || shard.owed() > 0 || !shard.has_key(key) {
-        return Err("no room");
-    }
-    if log.front() == u64::MAX {
-        return Err("no number");
-    }
-    match pack(alloc, key.kind, block, key.score, 0) {
-        Ok(packed) => {
-            add_block(log, shard, packed);
-            Ok(())
-        }
-        Err(_) => Err("no memory"),
-    }
-}
-
-/// The block of a key.
-fn find<D: Disk, L: Ledger>(
-    alloc: Global,
-    log: &mut TestLog<D>,
-    shard: &mut Shard<D>,
-    may_have: bool,
-    key: &Key,
-    steps: &mut Steps<L>,
-) -> Result<Option<Bytes>, &'static str> {
-    if !shard.has_key(key) {
-        return Err("another shard's key");
-    }
-    match find_block(alloc, log, shard, may_have, key, steps) {
-        Ok(found) => Ok(found),
-        Err(_) => Err("not looked for"),
-    }
-}
-
 /// Sees that one act gives what it says.
-fn does<D: Disk, L: Ledger>(
-    alloc: Global,
-    log: &mut TestLog<D>,
-    shard: &mut Shard<D>,
-    act: &Act<'_>,
-    steps: &mut Steps<L>,
-) -> Result<(), &'static str> {
+fn does<T: TestParts>(alloc: Global, parts: &mut T, act: &Act<'_>) -> Result<(), &'static str> {
     match act {
         Act::Write(kind, block, wanted) => {
-            let key = Key {
-                score: ShortScorer.score(block),
-                kind: *kind,
-            };
-            let verdict = write(alloc, log, shard, &key, block, steps)?;
+            let verdict = parts.write(alloc, &key(*kind, block), block)?;
             see(verdict == *wanted, "another verdict")
         }
         Act::Find(kind, block, may_have, wanted) => {
-            let key = Key {
-                score: ShortScorer.score(block),
-                kind: *kind,
-            };
-            match find(alloc, log, shard, *may_have, &key, steps)? {
+            match parts.find(alloc, *may_have, &key(*kind, block))? {
                 Some(found) => see(*wanted && found.as_slice() == *block, "another block"),
                 None => see(!*wanted, "no block"),
             }
@@ -168,27 +217,23 @@ fn does<D: Disk, L: Ledger>(
     }
 }
 
-fn do_all<D: Disk, L: Ledger>(
-    alloc: Global,
-    log: &mut TestLog<D>,
-    shard: &mut Shard<D>,
-    blank: Blank,
-) -> Result<(), &'static str>
-    requires name { blank.name ≡ L.name }
-    requires parts { blank.parts ≡ L.parts }
-    requires some { 0 < L.parts }
-{
-    let mut steps = Steps::<L>::new(blank);
+/// The key of a block.
+fn key(kind: Kind, block: &[u8]) -> Key {
+    Key {
+        score: ShortScorer.score(block),
+        kind,
+    }
+}
+
+fn do_all<T: TestParts>(alloc: Global) -> Result<(), &'static str> {
+    let mut parts = T::made(alloc).ok_or("no parts")?;
     for act in &ACTS {
-        does(alloc, log, shard, act, &mut steps)?;
+        does(alloc, &mut parts, act)?;
     }
     Ok(())
 }
 
 #[test]
 fn a_block_is_tested_added_and_found(rt: HostRuntime) -> Result<(), Fail> {
-    let mut log = log::<Mem>(rt.alloc()).ok_or("no log")?;
-    let mut shard = shard::<Mem>(rt.alloc()).ok_or("no shard")?;
-    do_all::<Mem, Brand>(rt.alloc(), &mut log, &mut shard, Blank::new(1))?;
-    Ok(())
+    Ok(do_all::<Parts<Mem>>(rt.alloc())?)
 }

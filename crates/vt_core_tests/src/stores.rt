@@ -3,7 +3,7 @@
 ghost use Rattle.std.specs.Prelude.{◌<◌, IsTrue, length};
 ghost use Rattle.vt_core.specs.Events.{IsFor};
 
-use crate::disks::{Disks, TestDisk, closed, crashed, mounted_part, only, small};
+use crate::disks::{Disks, Fails, TestDisk, closed, crashed, mounted_part, only, small};
 use std::alloc::Global;
 use vt_base::{MountBad, Said, Score, Scorer, Sha1Scorer, ShortScorer, Why};
 use vt_core::{Core, Devices, Event, Out};
@@ -143,14 +143,14 @@ pub fn opened<T: TestStore>(alloc: Global, disks: Disks<T::Disk>) -> Result<T, &
     }
 }
 
-/// A store without blocks, with so many small arenas. This call of this disk fails.
+/// A store without blocks, with so many small arenas. These calls of this disk fail.
 pub fn fresh<T: TestStore>(
     alloc: Global,
     arenas: u32,
     device: usize,
-    call: u64,
+    fails: Fails,
 ) -> Result<T, &'static str> {
-    match small(alloc, arenas, device, call) {
+    match small(alloc, arenas, device, fails) {
         Some(disks) => opened(alloc, disks),
         None => Err("no disks"),
     }
