@@ -28,7 +28,8 @@ use Rattle.vac_read.specs.Reading.{refused_by}
 
 fitting_trouble : (fits : Bool) (x y : ℕ) (other t : Trouble)
     → (if fits then Ok x else Err other) ≡ Err t → (if fits then Ok y else Err other) ≡ Err t
-fitting_trouble true x y other t is = let never : ◌≡◌ {A = Result ℕ Trouble} (Ok x) (Err t) = is in cc
+fitting_trouble true x y other t is =
+    let never : ◌≡◌ {A = Result ℕ Trouble} (Ok x) (Err t) = is in cc
 fitting_trouble false x y other t is = is
 
 leaf_trouble : (e : Entry) (block : Option (List ℕ)) (a b : ℕ) (t : Trouble)
@@ -42,7 +43,8 @@ through_trouble : (r : Result (Option (List ℕ)) Trouble) (f g : List ℕ → R
     (t : Trouble) → ((s : List ℕ) → f s ≡ Err t → g s ≡ Err t)
     → through r f ≡ Err t → through r g ≡ Err t
 through_trouble (Err trouble) f g t same is = is
-through_trouble (Ok None) f g t same is = let never : ◌≡◌ {A = Result ℕ Trouble} (Ok 0) (Err t) = is in cc
+through_trouble (Ok None) f g t same is =
+    let never : ◌≡◌ {A = Result ℕ Trouble} (Ok 0) (Err t) = is in cc
 through_trouble (Ok (Some s)) f g t same is = same s is
 
 below_trouble : (map : BlockMap) (e : Entry) (depth : ℕ) (score : List ℕ) (leaf a b : ℕ)

@@ -211,15 +211,16 @@ module _ (one_entry : (a b : Entry) (bytes : List ℕ) → IsEntry a → IsEntry
             }))
         records_never entries metadata records bad is are (inr (short, inl unread)) =
             let most : size_of metadata ≤ 16777216 = short.short_metadata in
-            unread_never metadata 0 (size_of metadata) are.bytes bad are.content.all are.content.each
-            (fit metadata is.allowed (omega arith)) unread
+            unread_never metadata 0 (size_of metadata) are.bytes bad are.content.all
+            are.content.each (fit metadata is.allowed (omega arith)) unread
         records_never entries metadata records bad is are (inr (short, inr flaw)) =
             let bytes = one_content map metadata are.bytes flaw.0 are.content flaw.1 in
             absurd (no_flaw records flaw.0 _ (subst (Spells records) bytes are.spelled) flaw.5)
 
         there : (entries metadata : Entry) (a b : List Record) (before : List Record) (r : Record)
             (rest : List Record) (items : Items Numbered) → AreFolder map entries metadata a
-            → AreFolder map entries metadata b → a ≡ before ++ r ∷ rest → StandFor map entries b items
+            → AreFolder map entries metadata b → a ≡ before ++ r ∷ rest
+            → StandFor map entries b items
             → StandFor map entries (before ++ r ∷ rest) items
         there entries metadata a b before r rest items x y among stand =
             subst (λ (l : List Record). StandFor map entries l items)
@@ -313,8 +314,9 @@ module _ (one_entry : (a b : Entry) (bytes : List ℕ) → IsEntry a → IsEntry
         let t = tree.are_there in
         let bytes = some_is_some t.bytes is.0.bytes
         (sym t.block ∙ ap (λ (s : List ℕ). map s 2) same ∙ is.0.block) in
-        let first = one_entry tree.entries entries (take 40 t.bytes) t.first_allowed is.0.first_allowed
-        t.first (subst (λ (l : List ℕ). SpellsEntry entries (take 40 l)) (sym bytes) is.0.first) in
+        let first = one_entry tree.entries entries (take 40 t.bytes) t.first_allowed
+        is.0.first_allowed t.first
+        (subst (λ (l : List ℕ). SpellsEntry entries (take 40 l)) (sym bytes) is.0.first) in
         let second = one_entry tree.metadata metadata (take 40 (drop 40 t.bytes))
         t.second_allowed is.0.second_allowed t.second
         (subst (λ (l : List ℕ). SpellsEntry metadata (take 40 (drop 40 l))) (sym bytes)

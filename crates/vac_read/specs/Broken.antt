@@ -32,8 +32,8 @@ use Rattle.vac_read.specs.declared.node.Stored.{Stored}
 use Rattle.vac_read.specs.declared.node.Stored.TheVariants as stored
 use Rattle.vac_read.specs.Nodes.{AreNodes, named}
 
--- so many bytes of a stream from a place on aren't given, for this reason; a failed call and want of
--- memory may come of any
+-- so many bytes of a stream from a place on aren't given, for this reason; a failed call and want
+-- of memory may come of any
 abbrev pub IsUnread : BlockMap → Entry → (at len : ℕ) → VacBad → Type 0
 IsUnread map e at len (Tree err) =
     Gives (byte_of map e) at len (Err err) × (IsOfEntry err → unfit e ≡ Some err)

@@ -19,8 +19,8 @@ use Rattle.vac_read.specs.declared.err.VacBad.TheVariants.{Root}
 use Rattle.vac_read.specs.declared.node.Node.{Node}
 use Rattle.vac_read.specs.declared.node.Stored.{Stored}
 use Rattle.vac_read.specs.declared.node.Stored.TheVariants as stored
-use Rattle.vac_read.specs.Broken.{IsUnread, IsNoEntry, LacksEntry, LacksEntries, LacksNode, LacksRecords, IsUnfound, root_flaw}
-use Rattle.vac_read.specs.Nodes.{AreNodes, IsNode, IsStored, Finds, named}
+use Rattle.vac_read.specs.Broken.{IsUnread, IsNoEntry, LacksEntry, LacksEntries, LacksNode, LacksRecords, root_flaw}
+use Rattle.vac_read.specs.Nodes.{AreNodes, IsNode, IsStored, named}
 use Rattle.vac_read.specs.Reading.{Answers}
 
 -- ---- entries
@@ -101,13 +101,6 @@ pub record IsNamed (records : List Record) (name : List ℕ) (r : Record) (place
     pub among : records ≡ before ++ r ∷ rest
     pub is : named name records ≡ Some r
     pub place_is : place ≡ length (all_spelled before)
-
--- ---- names
-
--- the item of this name
-abbrev pub TellsFound : Stored → (name : List ℕ) → Result (Option Node) VacBad → BlockMap → Type 0
-TellsFound stored name result map =
-    Answers result (Finds map stored name) (IsUnfound map stored name)
 
 -- ---- roots
 

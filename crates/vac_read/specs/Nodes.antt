@@ -1,5 +1,5 @@
 -- The items of an archive, as a reader hands them out (vacfs(4)).
-use Rattle.std.specs.Prelude.{ℕ, ◌≡◌, ◌+◌, ⊤, true, false, Option, Some, None, List, [], ◌∷◌, find, codes}
+use Rattle.std.specs.Prelude.{ℕ, ◌≡◌, ◌+◌, ◌<◌, ◌≤◌, ◌^◌, ⊤, true, false, Option, Some, None, List, [], ◌∷◌, find, codes, length}
 use Rattle.std.specs.Str.{bytes_eq}
 use Rattle.vt_folder.specs.declared.item.Item.{Item}
 use Rattle.vt_folder.specs.declared.item.ItemKind.{ItemKind}
@@ -9,6 +9,7 @@ use Rattle.vt_tree.specs.declared.entry.Entry.{Entry}
 use Rattle.vt_tree.specs.Content.{size_of}
 use Rattle.vt_tree.specs.Entries.{IsEntry}
 use Rattle.vt_tree.specs.Maps.{BlockMap}
+use Rattle.vac_meta.specs.declared.TheConstants.{MAX_NAME}
 use Rattle.vac_meta.specs.declared.record.Record.{Record}
 use Rattle.vac_meta.specs.declared.record.RecordKind.{RecordKind}
 use Rattle.vac_meta.specs.declared.record.RecordKind.TheVariants.{File, Folder}
@@ -26,6 +27,13 @@ kind_of Folder = kinds.Folder
 -- what a record says of an item, with the low nine bits of its mode
 abbrev pub item_of : Record → Item
 item_of r = listed_as (described r).facts (kind_of r.kind)
+
+-- what is told of an item: texts of at most 255 bytes, and nine bits of its mode
+pub record FitsItem (item : Item) : Type 0 where
+  pub name : length item.name ≤ MAX_NAME
+  pub uid : length item.uid ≤ MAX_NAME
+  pub gid : length item.gid ≤ MAX_NAME
+  pub mode : item.mode < 2 ^ 9
 
 -- it may stand in a directory, and is a directory's itself, or not
 abbrev pub IsDirectory : Entry → Type 0

@@ -60,6 +60,11 @@ Answers (Err bad) is why = bad ≢ NoMemory → why bad
 abbrev pub ListsFolder : Stored → Result (List Node) VacBad → BlockMap → Type 0
 ListsFolder stored result map = Answers result (Lists map stored) (IsBroken map stored)
 
+-- the item of this name in a folder
+abbrev pub FindsItem : Stored → (name : List ℕ) → Result (Option Node) VacBad → BlockMap → Type 0
+FindsItem stored name result map =
+    Answers result (Finds map stored name) (IsUnfound map stored name)
+
 -- why names lead nowhere that can be told
 abbrev pub IsLost : BlockMap → Node → (names : List (List ℕ)) → VacBad → Type 0
 IsLost map node [] bad = ⊥
@@ -80,8 +85,8 @@ of_tree (Ok x) = Ok x
 of_tree (Err err) = Err (Tree err)
 
 -- So many bytes of a file from a place on were read: just the blocks on the way to them were asked
--- for, or none where its entry says that nothing is read. A store that tells what it holds holds the
--- same afterwards, and the bytes are right by it.
+-- for, or none where its entry says that nothing is read. A store that tells what it holds holds
+-- the same afterwards, and the bytes are right by it.
 pub record ReadsFile {S : Type 0} (does : S → Call → S → Type 0) (holds : S → Maps → Type 0)
     (score_of : List ℕ → List ℕ) (s s' : S) (e : Entry) (at len : ℕ)
     (result : Result (List ℕ) VacBad) : Type 0 where

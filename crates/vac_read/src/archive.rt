@@ -3,7 +3,7 @@
 ghost use Rattle.std.specs.Prelude.{◌≡◌, IfOk, MatchResult};
 ghost use Rattle.vac_read.specs.Broken.{AreNoEntries};
 ghost use Rattle.vac_read.specs.Folders.{IsArchiveRoot, IsNoRoot, BeginsWith};
-ghost use Rattle.vac_read.specs.Nodes.{AreEntries, top_item};
+ghost use Rattle.vac_read.specs.Nodes.{AreEntries, FitsItem, top_item};
 ghost use Rattle.vac_read.specs.Reading.{Reads, OpensArchive};
 
 use crate::directory::entry_in;
@@ -29,6 +29,7 @@ impl Archive {
         ensures opens { Reads B.does B.holds B.score_of blocks.old blocks.new result
             (OpensArchive score.now.0 result) }
         ensures entries { IfOk result (λ a. AreEntries a.top.stored) }
+        ensures item { IfOk result (λ a. FitsItem a.top.item) }
     {
         let block = blocks.get(alloc, Kind::ROOT, score)?;
         let root = root_in(block.as_slice())?;

@@ -2,9 +2,8 @@
 
 ghost use Rattle.std.specs.Prelude.{IfOk, IfSome};
 ghost use Rattle.std.specs.List.{All};
-ghost use Rattle.vac_read.specs.Folders.{TellsFound};
-ghost use Rattle.vac_read.specs.Nodes.{AreEntries};
-ghost use Rattle.vac_read.specs.Reading.{Reads, ListsFolder, WalksTo, ReadsNode};
+ghost use Rattle.vac_read.specs.Nodes.{AreEntries, FitsItem};
+ghost use Rattle.vac_read.specs.Reading.{Reads, ListsFolder, FindsItem, WalksTo, ReadsNode};
 
 use crate::directory::Directory;
 use crate::items::{node_of, nodes_of};
@@ -21,6 +20,7 @@ pub fn list<B: Blocks>(alloc: Global, blocks: &mut B, node: &Node) -> Result<Nod
     ensures lists { Reads B.does B.holds B.score_of blocks.old blocks.new result
         (ListsFolder node.now.stored result) }
     ensures entries { IfOk result (All (λ n. AreEntries n.stored)) }
+    ensures items { IfOk result (All (λ n. FitsItem n.item)) }
 {
     let Stored::Folder { entries, metadata } = node.stored else {
         return Ok(Nodes::from_vec(Vec::new(alloc)));
@@ -45,11 +45,37 @@ pub fn walk<B: Blocks>(
 {
     let mut found = node.copied(alloc)?;
     for name in names {
-        match step(alloc, blocks, &found, name)? {
+        match find_item(alloc, blocks, &found, name.as_slice())? {
             Some(next) => found = next,
             None => return Ok(None),
         }
     }
+    Ok(Some(found))
+}
+
+/// The item of this name in a folder; None exactly where it is absent, and below a file. The
+/// folder's records have to stand, and of these only the one of this name has to have its entries.
+pub fn find_item<B: Blocks>(
+    alloc: Global,
+    blocks: &mut B,
+    node: &Node,
+    name: &[u8],
+) -> Result<Option<Node>, VacBad>
+    requires { AreEntries node.now.stored }
+    ensures finds { Reads B.does B.holds B.score_of blocks.old blocks.new result
+        (FindsItem node.now.stored name.now result) }
+    ensures entries { IfOk result (λ found. IfSome found (λ n. AreEntries n.stored)) }
+    ensures item { IfOk result (λ found. IfSome found (λ n. FitsItem n.item)) }
+{
+    let Stored::Folder { entries, metadata } = node.stored else {
+        return Ok(None);
+    };
+    let records = records_of(alloc, blocks, &entries, &metadata)?;
+    let Some((record, at)) = find_named(records, name) else {
+        return Ok(None);
+    };
+    let mut directory = Directory::new(alloc, entries);
+    let found = node_of(blocks, &mut directory, record, at)?;
     Ok(Some(found))
 }
 
@@ -69,28 +95,4 @@ pub fn read<B: Blocks>(
         Stored::File(entry) => Ok(read_range(alloc, blocks, &entry, at, n)?),
         Stored::Folder { .. } => Ok(Bytes::from_vec(Vec::new(alloc))),
     }
-}
-
-/// The item of this name in a folder.
-fn step<B: Blocks>(
-    alloc: Global,
-    blocks: &mut B,
-    node: &Node,
-    name: &Text,
-) -> Result<Option<Node>, VacBad>
-    requires { AreEntries node.now.stored }
-    ensures reads { Reads B.does B.holds B.score_of blocks.old blocks.new result
-        (TellsFound node.now.stored name.now result) }
-    ensures entries { IfOk result (λ found. IfSome found (λ n. AreEntries n.stored)) }
-{
-    let Stored::Folder { entries, metadata } = node.stored else {
-        return Ok(None);
-    };
-    let records = records_of(alloc, blocks, &entries, &metadata)?;
-    let Some((record, at)) = find_named(records, name.as_slice()) else {
-        return Ok(None);
-    };
-    let mut directory = Directory::new(alloc, entries);
-    let found = node_of(blocks, &mut directory, record, at)?;
-    Ok(Some(found))
 }

@@ -4,7 +4,7 @@ ghost use Rattle.std.specs.Prelude.{◌≡◌, ◌+◌, ◌<◌, ◌^◌, IfOk, 
 ghost use Rattle.std.specs.List.{All, AllByRecursion};
 ghost use Rattle.vac_meta.specs.Records.{IsRecord, all_spelled, spelled, string};
 ghost use Rattle.vac_read.specs.Folders.{Keeps, TellsNode, TellsNodes, TellsStored};
-ghost use Rattle.vac_read.specs.Nodes.{AreEntries, IsDirectory, item_of};
+ghost use Rattle.vac_read.specs.Nodes.{AreEntries, FitsItem, IsDirectory, item_of};
 ghost use Rattle.vac_read.specs.Reading.{Reads};
 
 use crate::directory::Directory;
@@ -26,6 +26,7 @@ pub(crate) fn nodes_of<B: Blocks>(
     requires each { AllByRecursion IsRecord records }
     requires short { length (all_spelled records) < 2 ^ 63 }
     ensures entries { IfOk result (All (λ n. AreEntries n.stored)) }
+    ensures items { IfOk result (All (λ n. FitsItem n.item)) }
     ensures reads { Reads B.does B.holds B.score_of blocks.old blocks.new result
         (TellsNodes entries records result) }
 {
@@ -53,6 +54,7 @@ pub(crate) fn node_of<B: Blocks>(
     requires place { at + length (spelled item) < 2 ^ 63 }
     ensures stream { directory.new.stream ≡ directory.old.stream }
     ensures entries { IfOk result (λ n. AreEntries n.stored) }
+    ensures item { IfOk result (λ n. FitsItem n.item) }
     ensures reads { Reads B.does B.holds B.score_of blocks.old blocks.new result
         (λ map. Keeps map directory.old → Keeps map directory.new
         × TellsNode directory.old.stream item (at + length (string item.name) + 1) result map) }

@@ -12,5 +12,5 @@ mod records;
 
 pub use archive::Archive;
 pub use err::{RootField, VacBad};
-pub use folders::{list, read, walk};
+pub use folders::{find_item, list, read, walk};
 pub use node::{Node, Nodes, Stored};

@@ -3,6 +3,7 @@ use Rattle.std.specs.Prelude.{IfSome}
 use Rattle.std.proofs.lemmas.List.{take_all}
 use Rattle.std.proofs.lemmas.Result.{err_from_is_err_and}
 use Rattle.vac_read.specs.declared.node.Node.{Node}
+use Rattle.vac_read.specs.Broken.{IsUnfound}
 use Rattle.vac_read.specs.Nodes.{AreEntries, Finds, Leads}
 use Rattle.vac_read.specs.Reading.{IsLost}
 use Rattle.vac_read.proofs.Lists.{split_at, take_more}
@@ -21,11 +22,12 @@ returns-in_err-next-clause-walks g c =
     let name : List ℕ = c.name-item.result in
     let split = split_at names i name c.loop-name-test.true c.name-item.is in
     rw (p.1, p.2) (reads_then g.B.Blocks.does g.B.Blocks.holds g.B.Scorer.score_of
-    c.args.blocks.now c.loop-name.blocks c.step.new.blocks (tt {0}) (Err bad) (Err bad) _ _ _ refl
-    c.loop-name.invariant.reads c.in_err-next.ensures.reads
+    c.args.blocks.now c.loop-name.blocks c.find_item.new.blocks (tt {0}) (Err bad) (Err bad) _ _ _ refl
+    c.loop-name.invariant.reads c.in_err-next.ensures.finds
     (λ map leads told some. subst (λ (l : List (List ℕ)). IsLost map node l bad) (sym split)
     (lost_on map name (drop (suc i) names) c.loop-name.found bad node (take i names) leads
-    (told some))))
+    (subst (λ (l : List ℕ). IsUnfound map c.loop-name.found.stored l bad) c.as_slice.ensures
+    (told some)))))
 
 pub returns-in-None-clause-walks : goal.returns-in-None-clause-walks
 returns-in-None-clause-walks g c =
@@ -36,11 +38,13 @@ returns-in-None-clause-walks g c =
     let name : List ℕ = c.name-item.result in
     let split = split_at names i name c.loop-name-test.true c.name-item.is in
     reads_then g.B.Blocks.does g.B.Blocks.holds g.B.Scorer.score_of
-    c.args.blocks.now c.loop-name.blocks c.step.new.blocks (tt {0}) (Ok c.in_ok-next.field-0)
-    (Ok None) _ _ _ refl c.loop-name.invariant.reads c.in_ok-next.ensures.reads
+    c.args.blocks.now c.loop-name.blocks c.find_item.new.blocks (tt {0}) (Ok c.in_ok-next.field-0)
+    (Ok None) _ _ _ refl c.loop-name.invariant.reads c.in_ok-next.ensures.finds
     (λ map leads finds. subst (λ (l : List (List ℕ)). Leads map (Some node) l None) (sym split)
     (leads_nowhere map name (drop (suc i) names) node found (take i names) leads
-    (subst (λ (o : Option Node). Finds map found.stored name o) c.in-None.is finds)))
+    (subst (λ (l : List ℕ). Finds map found.stored l None) c.as_slice.ensures
+    (subst (λ (o : Option Node). Finds map found.stored c.as_slice.result.now o) c.in-None.is
+    finds))))
 
 pub loop-name-preserved : goal.loop-name-preserved
 loop-name-preserved g c =
@@ -55,13 +59,15 @@ loop-name-preserved g c =
       entries = subst (λ (o : Option Node). IfSome o (λ (n : Node). AreEntries n.stored))
           c.in-Some.is c.in_ok-next.ensures.entries;
       reads = reads_then g.B.Blocks.does g.B.Blocks.holds g.B.Scorer.score_of
-          c.args.blocks.now c.loop-name.blocks c.step.new.blocks (tt {0})
+          c.args.blocks.now c.loop-name.blocks c.find_item.new.blocks (tt {0})
           (Ok c.in_ok-next.field-0) (Ok (tt {0})) _ _ _ refl c.loop-name.invariant.reads
-          c.in_ok-next.ensures.reads
+          c.in_ok-next.ensures.finds
           (λ map leads finds.
           subst (λ (l : List (List ℕ)). Leads map (Some node) l (Some next)) (sym more)
           (leads_one_more map name node found (Some next) (take i names) leads
-          (subst (λ (o : Option Node). Finds map found.stored name o) c.in-Some.is finds)));
+          (subst (λ (l : List ℕ). Finds map found.stored l (Some next)) c.as_slice.ensures
+          (subst (λ (o : Option Node). Finds map found.stored c.as_slice.result.now o) c.in-Some.is
+          finds))));
     }
 
 pub returns-clause-walks : goal.returns-clause-walks

@@ -7,7 +7,7 @@ use Rattle.vt_tree.specs.declared.entry.Entry.{Entry}
 use Rattle.vac_meta.specs.declared.record.Record.{Record}
 use Rattle.vac_read.specs.declared.err.VacBad.TheVariants.{NoMemory}
 use Rattle.vac_read.specs.declared.node.Node.{Node}
-use Rattle.vac_read.specs.Nodes.{AreEntries, AreNodes, IsDirectory, IsNode}
+use Rattle.vac_read.specs.Nodes.{AreEntries, AreNodes, FitsItem, IsDirectory, IsNode}
 use Rattle.vac_read.proofs.Lists.{all_of_it, is_record_there, nodes_more, place_more, place_within}
 use Rattle.vac_read.proofs.Readings.{reads_nothing, reads_as, reads_then}
 use Rattle.vac_read.proofs.Steps.{node_lacks}
@@ -20,11 +20,13 @@ loop-record-init g c = record {
   among = search rules;
   len = search rules;
   entries = search rules;
+  items = search rules;
   reads = reads_nothing g.B.Blocks.does g.B.Blocks.holds g.B.Scorer.score_of c.args.blocks.now
       (Ok (tt {0})) _ refl
       (λ map. (
         inl c.new-directory.ensures.leaf,
-        subst (λ (l : List Node). AreNodes map c.args.entries [] l) (sym c.in_ok-nodes.ensures.items) tt,
+        subst (λ (l : List Node). AreNodes map c.args.entries [] l)
+            (sym c.in_ok-nodes.ensures.items) tt,
       ));
 }
 
@@ -108,6 +110,9 @@ loop-record-preserved g c =
       entries = subst (λ (l : List Node). All (λ (n : Node). AreEntries n.stored) l) (sym more)
           (All-push (λ (n : Node). AreEntries n.stored) nodes node inv.entries
           c.in_ok-node.ensures.entries);
+      items = subst (λ (l : List Node). All (λ (n : Node). FitsItem n.item) l) (sym more)
+          (All-push (λ (n : Node). FitsItem n.item) nodes node inv.items
+          c.in_ok-node.ensures.item);
       reads = reads_then g.B.Blocks.does g.B.Blocks.holds g.B.Scorer.score_of
           c.args.blocks.now c.loop-record.blocks c.node_of.new.blocks (tt {0}) (Ok node)
           (Ok (tt {0})) _ _ _ refl inv.reads c.in_ok-node.ensures.reads

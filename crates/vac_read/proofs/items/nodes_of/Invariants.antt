@@ -4,7 +4,7 @@ use Rattle.std.specs.Vec.Iter.{into_iter_items, into_iter_len}
 use Rattle.vac_meta.specs.Records.{all_spelled}
 use Rattle.vac_read.specs.declared.node.Node.{Node}
 use Rattle.vac_read.specs.Folders.{Keeps}
-use Rattle.vac_read.specs.Nodes.{AreEntries, AreNodes}
+use Rattle.vac_read.specs.Nodes.{AreEntries, AreNodes, FitsItem}
 use Rattle.vac_read.specs.Reading.{Reads}
 use Rattle.vac_read.proofs.items.nodes_of.Given as goal
 
@@ -15,6 +15,7 @@ invariant-loop-record g l = record {
   among : l.fn.records ≡ l.yielded ++ into_iter_items l.record-iterator;
   len : into_iter_len l.record-iterator ≡ length (into_iter_items l.record-iterator);
   entries : All (λ (n : Node). AreEntries n.stored) l.nodes.items;
+  items : All (λ (n : Node). FitsItem n.item) l.nodes.items;
   reads : Reads g.B.Blocks.does g.B.Blocks.holds g.B.Scorer.score_of l.fn.blocks l.blocks
       (Ok (tt {0}))
       (λ map. Keeps map l.directory × AreNodes map l.fn.entries l.yielded l.nodes.items);
