@@ -1,0 +1,16 @@
+pub mod Causes
+pub mod Ends
+pub mod Filed
+pub mod Fits
+pub mod Followed
+pub mod Found
+pub mod Listed
+pub mod OneItem
+pub mod Ordered
+pub mod Parts
+pub mod Pieces
+pub mod Puts
+pub mod Shapes
+pub mod Sorting
+pub mod Wholes
+pub mod Wholly

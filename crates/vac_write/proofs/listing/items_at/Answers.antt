@@ -1,0 +1,82 @@
+use Rattle.std.proofs.Common.{◌≡◌, ◌<◌, ◌≤◌, ℕ, Bool, cond, IsTrue, Option, Some, None, List, refl, sym, ◌∙◌, ap, arith, rules}
+use Rattle.std.proofs.lemmas.Bool.{le-ltb, lt-ltb}
+use Rattle.std.proofs.lemmas.List.Sorted.{answers_always}
+use Rattle.vt_folder.specs.declared.item.Facts.{Facts}
+use Rattle.vt_folder.specs.Items.{Items, listing_of, folder_at}
+use Rattle.vac_model.specs.declared.TheConstants.{MAX_METADATA}
+use Rattle.vac_model.specs.Kept.{in_order}
+use Rattle.vac_model.specs.Limits.{Unfit, bad_name, too_long, first_bad, unfit_name}
+use Rattle.vac_write.specs.Listing.{joined, metadata_len}
+use Rattle.vac_write.proofs.Listed.{below, below_orders}
+use Rattle.vac_write.proofs.Ordered.{ordered_of}
+use Rattle.vac_write.proofs.listing.items_at.Goals as goal
+
+pub returns-in-Some-clause-refused : goal.returns-in-Some-clause-refused
+returns-in-Some-clause-refused g c =
+    let held = g.F.Folder.holds c.args.folder.now in
+    let path = c.args.path.now in
+    let sort = c.in_ok-sort_by.ensures in
+    let o = ordered_of g.F.Folder.tells held path c.into_vec-items.result.items
+    c.sort_by.new.self.items
+    (λ told. let l = c.in_ok-list.ensures.listed told in
+    (l.0, l.1, c.into_vec-items.ensures ∙ l.2))
+    (sort.sorted below below_orders (answers_always _ _ _ (λ f a r h q. search rules)))
+    (sort.stable below below_orders (answers_always _ _ _ (λ f a r h q. search rules))) in
+    let s : Items Facts = in_order o.seen in
+    let bad : Some c.in-Some.name.now ≡ first_bad None s =
+    c.in-Some.ensures s (c.deref.ensures.value ∙ o.ordered) in
+    record {
+      seen = o.seen;
+      is = o.is;
+      unfit = (λ i. unfit_name (joined path) (sym bad i) (metadata_len s))
+          ∙ ap (λ (t : List ℕ). Some (bad_name t)) (sym c.in_ok-path_to.ensures);
+    }
+
+pub returns-then-metadata_len-gt-MAX_METADATA-clause-refused : goal.returns-then-metadata_len-gt-MAX_METADATA-clause-refused
+returns-then-metadata_len-gt-MAX_METADATA-clause-refused g c =
+    let held = g.F.Folder.holds c.args.folder.now in
+    let path = c.args.path.now in
+    let sort = c.in_ok-sort_by.ensures in
+    let o = ordered_of g.F.Folder.tells held path c.into_vec-items.result.items
+    c.sort_by.new.self.items
+    (λ told. let l = c.in_ok-list.ensures.listed told in
+    (l.0, l.1, c.into_vec-items.ensures ∙ l.2))
+    (sort.sorted below below_orders (answers_always _ _ _ (λ f a r h q. search rules)))
+    (sort.stable below below_orders (answers_always _ _ _ (λ f a r h q. search rules))) in
+    let s : Items Facts = in_order o.seen in
+    let fine : first_bad None s ≡ None =
+    sym (c.in_default.ensures s (c.deref.ensures.value ∙ o.ordered)) in
+    let len = c.metadata_len.ensures s (c.deref-2.ensures.value ∙ o.ordered) in
+    record {
+      seen = o.seen;
+      is = o.is;
+      unfit = (λ i. unfit_name (joined path) (fine i) (metadata_len s))
+          ∙ ap (λ (t : Bool). cond t (Some too_long) None)
+          (lt-ltb MAX_METADATA (metadata_len s)
+          (omega (arith, len, c.if-metadata_len-gt-MAX_METADATA.true)));
+    }
+
+pub returns-clause-listed : goal.returns-clause-listed
+returns-clause-listed g c =
+    let held = g.F.Folder.holds c.args.folder.now in
+    let path = c.args.path.now in
+    let sort = c.in_ok-sort_by.ensures in
+    let o = ordered_of g.F.Folder.tells held path c.into_vec-items.result.items
+    c.sort_by.new.self.items
+    (λ told. let l = c.in_ok-list.ensures.listed told in
+    (l.0, l.1, c.into_vec-items.ensures ∙ l.2))
+    (sort.sorted below below_orders (answers_always _ _ _ (λ f a r h q. search rules)))
+    (sort.stable below below_orders (answers_always _ _ _ (λ f a r h q. search rules))) in
+    let s : Items Facts = in_order o.seen in
+    let fine : first_bad None s ≡ None =
+    sym (c.in_default.ensures s (c.deref.ensures.value ∙ o.ordered)) in
+    let len = c.metadata_len.ensures s (c.deref-2.ensures.value ∙ o.ordered) in
+    record {
+      seen = o.seen;
+      is = o.is;
+      ordered = o.ordered;
+      fit = (λ i. unfit_name (joined path) (fine i) (metadata_len s))
+          ∙ ap (λ (t : Bool). cond t (Some too_long) None)
+          (le-ltb MAX_METADATA (metadata_len s)
+          (omega (arith, len, c.if-metadata_len-gt-MAX_METADATA.false)));
+    }

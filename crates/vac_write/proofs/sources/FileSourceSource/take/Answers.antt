@@ -1,0 +1,57 @@
+use Rattle.std.proofs.Common.{◌≡◌, ◌≤◌, ◌<◌, ◌-◌, ◌+◌, ℕ, inl, inr, List, [], ◌++◌, length, take, drop, sym, ap, ◌∙◌, arith}
+use Rattle.std.proofs.lemmas.Bool.{cases_lt}
+use Rattle.std.proofs.lemmas.Grind.{common_steps}
+use Rattle.std.proofs.lemmas.List.{drop_all, length-take-le}
+use Rattle.vac_write.specs.Sources.{file_of, file_is, or_none}
+use Rattle.vac_write.proofs.Pieces.{moved, came, rest_of}
+use Rattle.vac_write.proofs.sources.FileSourceSource.take.Goals as goal
+
+pub returns-clause-moved : goal.returns-clause-moved
+returns-clause-moved g c told =
+    let self = c.args.self.now in
+    let path = self.path.now in
+    let m = c.in_ok-n.ensures.moved told in
+    let file : file_of path (g.F.Folder.holds self.folder.now) ≡ m.0 = ap or_none m.1 in
+    let after : file_of path (g.F.Folder.holds c.read.new.self) ≡ m.0 =
+    ap (file_of path) (c.in_ok-n.ensures.stays told) ∙ file in
+    let n = c.in_ok-n.n in
+    let behind = drop c.min-room.result c.args.buf.now in
+    ap (drop self.at) file
+    ∙ moved m.0 c.read.new.buf behind self.at n
+    (omega (arith, c.in_ok-n.ensures.fits, c.read.auto.buf)) m.2
+    ∙ ap (λ (l : List ℕ). take n (c.read.new.buf ++ behind) ++ drop (self.at + n) l) (sym after)
+
+pub returns-clause-came : goal.returns-clause-came
+returns-clause-came g c told =
+    let self = c.args.self.now in
+    let path = self.path.now in
+    let m = c.in_ok-n.ensures.moved told in
+    let file : file_of path (g.F.Folder.holds self.folder.now) ≡ m.0 = ap or_none m.1 in
+    let after : file_of path (g.F.Folder.holds c.read.new.self) ≡ m.0 =
+    ap (file_of path) (c.in_ok-n.ensures.stays told) ∙ file in
+    let n = c.in_ok-n.n in
+    let behind = drop c.min-room.result c.args.buf.now in
+    ap (take (self.at + n)) after
+    ∙ came m.0 c.read.new.buf behind self.at n
+    (omega (arith, c.in_ok-n.ensures.fits, c.read.auto.buf)) m.2
+    ∙ ap (λ (l : List ℕ). take self.at l ++ take n (c.read.new.buf ++ behind)) (sym file)
+
+pub returns-clause-end : goal.returns-clause-end
+returns-clause-end g c told none room =
+    let self = c.args.self.now in
+    let path = self.path.now in
+    let m = c.in_ok-n.ensures.moved told in
+    let file : file_of path (g.F.Folder.holds self.folder.now) ≡ m.0 = ap or_none m.1 in
+    let few = (file_is path (g.F.Folder.holds self.folder.now)
+    (g.met.F.Folder.holds_bytes self.folder.now)).few in
+    let over : length m.0 ≤ self.at = elim (cases_lt 0 c.min-room.result) [
+      | inl some ↦ m.3 none (grind (arith, common_steps, c.min-room.ensures))
+      | inr no_room ↦ omega (arith, ap length file, few, c.min-room.ensures, room)
+    ] in
+    ap (drop self.at) file ∙ drop_all self.at m.0 over
+
+pub returns-clause-rest : goal.returns-clause-rest
+returns-clause-rest g c told =
+    rest_of c.read.new.buf c.args.buf.now c.in_ok-n.n c.min-room.result
+    (omega (arith, c.in_ok-n.ensures.fits, c.read.auto.buf)) c.in_ok-n.ensures.fits
+    (c.in_ok-n.ensures.rest told)

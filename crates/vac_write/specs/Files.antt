@@ -1,0 +1,39 @@
+-- What writing a file of a folder leaves.
+use Rattle.std.specs.Prelude.{ℕ, ◌≡◌, ◌<◌, ◌^◌, ⊤, Bool, IsTrue, Some, List, length}
+use Rattle.vt_base.specs.Bytes.{AreBytes}
+use Rattle.vt_folder.specs.declared.item.Facts.{Facts}
+use Rattle.vt_folder.specs.Items.{Items, file_at}
+use Rattle.vt_tree.specs.declared.err.TreeErr.TheVariants as trees
+use Rattle.vt_tree.specs.Calls.{Call}
+use Rattle.vt_tree.specs.Streams.{Shape, stream_of}
+use Rattle.vac_write.specs.declared.err.VacErr.{VacErr}
+use Rattle.vac_write.specs.declared.err.VacErr.TheVariants.{FolderFault, Tree, BadName, TooDeep, NoMemory}
+use Rattle.vac_write.specs.Puts.{GivesUpBlocks}
+
+-- bytes are the file at this path, if the folder tells it and there is one
+pub record IsWholeFile (tells : Bool) (held : Items Facts) (path : List (List ℕ)) (bytes : List ℕ)
+    : Type 0 where
+  pub are : AreBytes bytes
+  pub is : IsTrue tells → (whole : List ℕ) → file_at path held ≡ Some whole → whole ≡ bytes
+
+-- when a stream of so many bytes is given up
+abbrev pub IsStreamGivenUpFor : VacErr → (len : ℕ) → Type 0
+IsStreamGivenUpFor FolderFault len = ⊤
+IsStreamGivenUpFor (Tree (trees.Block err)) len = ⊤
+IsStreamGivenUpFor (Tree trees.SourceFault) len = ⊥
+IsStreamGivenUpFor (Tree (trees.BadEntry bad)) len = ⊥
+IsStreamGivenUpFor (Tree (trees.BadBlock depth bytes)) len = ⊥
+IsStreamGivenUpFor (Tree trees.TooLong) len = 2 ^ 40 < len
+IsStreamGivenUpFor (Tree trees.NoMemory) len = ⊤
+IsStreamGivenUpFor (BadName path) len = ⊥
+IsStreamGivenUpFor (TooDeep path) len = ⊥
+IsStreamGivenUpFor NoMemory len = ⊤
+
+-- A stream was given up: of its tree the first blocks were put, and nothing else was asked for.
+pub record GivesUpTree {S : Type 0} (does : S → Call → S → Type 0)
+    (score_of : List ℕ → List ℕ) (s s' : S) (shape : Shape) (stream : List ℕ → Type 0)
+    (err : VacErr) : Type 0 where
+  pub bytes : List ℕ
+  pub is : stream bytes
+  pub cause : IsStreamGivenUpFor err (length bytes)
+  pub given_up : GivesUpBlocks does s s' (stream_of score_of shape bytes).blocks err

@@ -1,0 +1,6 @@
+pub mod Archiving
+pub mod Files
+pub mod Listing
+pub mod Puts
+pub mod Sources
+pub mod Walking

@@ -1,0 +1,87 @@
+-- What is read of a file as a stream.
+use Rattle.std.specs.Prelude.{ℕ, ◌+◌, ◌<◌, ◌^◌, ⊤, Bool, cond, true, false, Option, Some, None, List, [], ◌∷◌, length, drop}
+use Rattle.std.proofs.Common.{arith}
+use Rattle.std.proofs.lemmas.List.{get_or-drop}
+use Rattle.std.specs.Option.{option_and_then}
+use Rattle.std.specs.Str.{bytes_eq}
+use Rattle.vt_base.specs.Bytes.{AreBytes, AreBytes-none}
+use Rattle.vt_folder.specs.declared.item.Facts.{Facts}
+use Rattle.vt_folder.specs.Items.{Items, none, file, folder, other, IsFile, HaveBytes, inside_of, bytes_of, file_at}
+
+abbrev pub or_none : Option (List ℕ) → List ℕ
+or_none None = []
+or_none (Some bytes) = bytes
+
+-- the bytes of the file at this path; none where there is no file
+abbrev pub file_of : (path : List (List ℕ)) → Items Facts → List ℕ
+file_of path items = or_none (file_at path items)
+
+-- what a folder holds, where it tells it
+abbrev pub told : (tells : Bool) → (held : Items Facts) → Option (Items Facts)
+told true held = Some held
+told false held = None
+
+-- ---- it has bytes
+
+abbrev IfFile : Option (List ℕ) → Type 0
+IfFile None = ⊤
+IfFile (Some bytes) = IsFile bytes
+
+abbrev IfHave : Option (Items Facts) → Type 0
+IfHave None = ⊤
+IfHave (Some items) = HaveBytes items
+
+file_bytes : (name : List ℕ) (items : Items Facts) → HaveBytes items
+    → IfFile (bytes_of name items)
+file_bytes name none have = tt
+file_bytes name (file about bytes others) have =
+    elim (bytes_eq about.name name) as (λ t. IfFile (cond t (Some bytes) (bytes_of name others))) [
+      | true ↦ have.0
+      | false ↦ file_bytes name others have.1
+    ]
+file_bytes name (folder about inside others) have = file_bytes name others have.1
+file_bytes name (other about others) have = file_bytes name others have
+
+folder_bytes : (name : List ℕ) (items : Items Facts) → HaveBytes items
+    → IfHave (inside_of name items)
+folder_bytes name none have = tt
+folder_bytes name (file about bytes others) have = folder_bytes name others have.1
+folder_bytes name (folder about inside others) have =
+    elim (bytes_eq about.name name)
+    as (λ t. IfHave (cond t (Some inside) (inside_of name others))) [
+      | true ↦ have.0
+      | false ↦ folder_bytes name others have.1
+    ]
+folder_bytes name (other about others) have = folder_bytes name others have
+
+-- what is below a folder has bytes, if what is at each of its paths has
+bytes_below : (at : Items Facts → Option (List ℕ))
+    → ((items : Items Facts) → HaveBytes items → IfFile (at items))
+    → (found : Option (Items Facts)) → IfHave found → IfFile (option_and_then at found)
+bytes_below at each None have = tt
+bytes_below at each (Some inside) have = each inside have
+
+bytes_at : (path : List (List ℕ)) (items : Items Facts) → HaveBytes items
+    → IfFile (file_at path items)
+bytes_at [] items have = tt
+bytes_at (name ∷ []) items have = file_bytes name items have
+bytes_at (name ∷ (next ∷ path)) items have =
+    bytes_below (file_at (next ∷ path)) (bytes_at (next ∷ path))
+    (inside_of name items) (folder_bytes name items have)
+
+pub file_is : (path : List (List ℕ)) (items : Items Facts) → HaveBytes items
+    → IsFile (file_of path items)
+file_is path items have = of (file_at path items) (bytes_at path items have)
+  where
+    of : (found : Option (List ℕ)) → IfFile found → IsFile (or_none found)
+    of None is = record {
+      are = AreBytes-none;
+      few = omega arith;
+    }
+    of (Some bytes) is = is
+
+pub left_bytes : (path : List (List ℕ)) (items : Items Facts) → HaveBytes items
+    → (at : ℕ) → AreBytes (drop at (file_of path items))
+left_bytes path items have at i =
+    let is = file_is path items have in
+    omega (arith, get_or-drop at (file_of path items) i 0, is.are (at + i))

@@ -1,0 +1,308 @@
+//! A folder becomes the blocks of its archive, and a score.
+
+ghost use Rattle.std.specs.Prelude.{◌≡◌, ◌+◌, ◌/◌, ◌≤◌, ◌<◌, ◌^◌, ◌++◌, ◌∷◌, [], length, IsTrue};
+ghost use Rattle.std.specs.Prelude.{IfOk, IfErr, OnOk, MatchResult};
+ghost use Rattle.vt_base.specs.Faults.{CountsFault};
+ghost use Rattle.vac_model.specs.declared.TheConstants.{MIN_BLOCK_SIZE, MAX_BLOCK_SIZE, MAX_NESTING};
+ghost use Rattle.vac_write.specs.Archiving.{IsSeen, WritesArchive, GivesUpArchive};
+ghost use Rattle.vac_write.specs.Archiving.{is_folder_fault};
+ghost use Rattle.vac_write.specs.Puts.{PutsBlocks, GivesUpBlocks, IsOfStore};
+ghost use Rattle.vac_write.specs.Walking.{top_of, root_blocks};
+ghost use Rattle.vac_write.specs.Walking.{ArchivesItems, GivesUpItems, ArchivesItem, GivesUpItem};
+ghost use Rattle.vac_write.specs.Files.{IsWholeFile, GivesUpTree};
+ghost use Rattle.vac_write.specs.Listing.{joined, IfKept, FitsItem};
+ghost use Rattle.vac_model.specs.Archives.{file_shape, root_of};
+ghost use Rattle.vac_model.specs.Kept.{path_to};
+ghost use Rattle.vt_tree.specs.Entries.{IsEntry};
+ghost use Rattle.vt_tree.specs.Roots.{spelled as root_bytes};
+ghost use Rattle.vt_tree.specs.Writing.{WritesStream};
+
+use crate::listing::{items_at, path_to};
+use crate::sources::FileSource;
+use crate::streams::{FolderEntries, Streams, pointer_len};
+use crate::{Archived, Paths, VacErr};
+use std::alloc::Global;
+use vac_meta::RecordKind;
+use vac_model::MAX_NESTING;
+use vt_base::{Kind, Score, Text};
+use vt_fields::{filled, put};
+use vt_folder::{Folder, Item, ItemKind};
+use vt_tree::{Blocks, Entry, Root, write_stream};
+
+/// Archives a folder (vac(1)) in blocks of at most so many bytes, 512 to 53,248: puts the blocks of
+/// its archive, each behind those that it names, and commits them. Each folder is listed once, and
+/// each file read once, front to back, to its first empty read; what is in memory grows with the
+/// folders on the way to one, and not with files. What is neither a file nor a folder is skipped.
+/// It ends at the first call that fails, the first refusal of the store, or the first item that
+/// can't be archived, in the order of names; a folder is listed, and its items are tested, before
+/// what is in them.
+pub fn archive<F: Folder, B: Blocks>(
+    alloc: Global,
+    folder: &mut F,
+    blocks: &mut B,
+    bsize: u16,
+) -> Result<Archived, VacErr>
+    requires least { MIN_BLOCK_SIZE ≤ bsize }
+    requires most { bsize ≤ MAX_BLOCK_SIZE }
+    ensures archived { IfOk result (WritesArchive B.does B.holds B.score_of blocks.old blocks.new
+        bsize (IsSeen F.tells (F.holds folder.old))) }
+    ensures refused { IfErr result (GivesUpArchive B.does B.holds B.score_of blocks.old blocks.new
+        bsize (IsSeen F.tells (F.holds folder.old))) }
+    ensures cause { CountsFault is_folder_fault result
+        (F.faults folder.old) (F.faults folder.new) }
+    ensures stays { IsTrue F.tells → F.holds folder.new ≡ F.holds folder.old }
+{
+    let mut walk = Walk {
+        alloc,
+        bsize,
+        path: Vec::new(alloc),
+        qid: 1,
+        skipped: Vec::new(alloc),
+    };
+    let top = walk.archive_items(folder, blocks)?;
+    let score = put_root(alloc, blocks, bsize, &top)?;
+    blocks.sync(alloc)?;
+    Ok(Archived {
+        score,
+        skipped: walk.into_skipped(),
+    })
+}
+
+/// What an archiving goes by, and what it has noted on its way.
+#[derive(Drop)]
+struct Walk {
+    alloc: Global,
+    bsize: u16,
+    /// The names on the way to the folder that is archived.
+    path: Vec<Text>,
+    /// The number of the next file or folder.
+    qid: u64,
+    skipped: Vec<Text>,
+}
+
+impl Walk {
+    /// Archives the items of the folder at the path, and writes its two streams.
+    #[cycle(walk)]
+    fn archive_items<F: Folder, B: Blocks>(
+        &mut self,
+        folder: &mut F,
+        blocks: &mut B,
+    ) -> Result<FolderEntries, VacErr>
+        requires least { MIN_BLOCK_SIZE ≤ self.old.bsize }
+        requires most { self.old.bsize ≤ MAX_BLOCK_SIZE }
+        requires deep { length self.old.path.items ≤ MAX_NESTING }
+        ensures archived { IfOk result (ArchivesItems B.does B.score_of blocks.old blocks.new
+            F.tells (F.holds folder.old) self.old self.new) }
+        ensures allowed { IfOk result (λ e. IsEntry e.entries × IsEntry e.metadata) }
+        ensures refused { IfErr result (GivesUpItems B.does B.score_of blocks.old blocks.new
+            F.tells (F.holds folder.old) self.old) }
+        ensures cause { CountsFault is_folder_fault result
+            (F.faults folder.old) (F.faults folder.new) }
+        ensures stays { IsTrue F.tells → F.holds folder.new ≡ F.holds folder.old }
+    {
+        let items = items_at(self.alloc, folder, &self.path)?;
+        let mut streams = Streams::new(self.alloc);
+        for item in items {
+            self.archive_item(folder, blocks, item, &mut streams)?;
+        }
+        streams.write(self.alloc, blocks, self.bsize)
+    }
+
+    /// Archives an item of the folder at the path, whose streams these are.
+    #[cycle(walk)]
+    fn archive_item<F: Folder, B: Blocks>(
+        &mut self,
+        folder: &mut F,
+        blocks: &mut B,
+        item: Item,
+        streams: &mut Streams,
+    ) -> Result<(), VacErr>
+        requires least { MIN_BLOCK_SIZE ≤ self.old.bsize }
+        requires most { self.old.bsize ≤ MAX_BLOCK_SIZE }
+        requires deep { length self.old.path.items ≤ MAX_NESTING }
+        requires fits { IfKept item.kind (FitsItem item) }
+        requires few { length streams.old.entries.items / 40 < 2 ^ 32 }
+        ensures archived { OnOk result (ArchivesItem B.does B.score_of blocks.old blocks.new
+            F.tells (F.holds folder.old) self.old self.new streams.old streams.new item) }
+        ensures refused { IfErr result (GivesUpItem B.does B.score_of blocks.old blocks.new
+            F.tells (F.holds folder.old) self.old item) }
+        ensures cause { CountsFault is_folder_fault result
+            (F.faults folder.old) (F.faults folder.new) }
+        ensures stays { IsTrue F.tells → F.holds folder.new ≡ F.holds folder.old }
+    {
+        match item.kind {
+            ItemKind::File => self.archive_file(folder, blocks, item, streams),
+            ItemKind::Folder => self.archive_folder(folder, blocks, item, streams),
+            ItemKind::Other => self.skip(&item),
+        }
+    }
+
+    /// Archives a folder in the folder at the path.
+    #[cycle(walk)]
+    fn archive_folder<F: Folder, B: Blocks>(
+        &mut self,
+        folder: &mut F,
+        blocks: &mut B,
+        item: Item,
+        streams: &mut Streams,
+    ) -> Result<(), VacErr>
+        requires least { MIN_BLOCK_SIZE ≤ self.old.bsize }
+        requires most { self.old.bsize ≤ MAX_BLOCK_SIZE }
+        requires deep { length self.old.path.items ≤ MAX_NESTING }
+        requires kind { item.kind ≡ ItemKind.Folder }
+        requires fits { FitsItem item }
+        requires few { length streams.old.entries.items / 40 < 2 ^ 32 }
+        ensures archived { OnOk result (ArchivesItem B.does B.score_of blocks.old blocks.new
+            F.tells (F.holds folder.old) self.old self.new streams.old streams.new item) }
+        ensures refused { IfErr result (GivesUpItem B.does B.score_of blocks.old blocks.new
+            F.tells (F.holds folder.old) self.old item) }
+        ensures cause { CountsFault is_folder_fault result
+            (F.faults folder.old) (F.faults folder.new) }
+        ensures stays { IsTrue F.tells → F.holds folder.new ≡ F.holds folder.old }
+    {
+        if self.path.len() >= MAX_NESTING {
+            return Err(VacErr::TooDeep(self.path_to(&item)?));
+        }
+        let qid = self.enter(&item)?;
+        let inside = self.archive_items(folder, blocks)?;
+        self.path.pop();
+        streams.add_record(item, RecordKind::Folder, qid)?;
+        streams.add_entry(&inside.entries)?;
+        streams.add_entry(&inside.metadata)
+    }
+
+    /// Archives a file of the folder at the path.
+    fn archive_file<F: Folder, B: Blocks>(
+        &mut self,
+        folder: &mut F,
+        blocks: &mut B,
+        item: Item,
+        streams: &mut Streams,
+    ) -> Result<(), VacErr>
+        requires least { MIN_BLOCK_SIZE ≤ self.old.bsize }
+        requires most { self.old.bsize ≤ MAX_BLOCK_SIZE }
+        requires kind { item.kind ≡ ItemKind.File }
+        requires fits { FitsItem item }
+        requires few { length streams.old.entries.items / 40 < 2 ^ 32 }
+        ensures archived { OnOk result (ArchivesItem B.does B.score_of blocks.old blocks.new
+            F.tells (F.holds folder.old) self.old self.new streams.old streams.new item) }
+        ensures refused { IfErr result (GivesUpItem B.does B.score_of blocks.old blocks.new
+            F.tells (F.holds folder.old) self.old item) }
+        ensures cause { CountsFault is_folder_fault result
+            (F.faults folder.old) (F.faults folder.new) }
+        ensures stays { IsTrue F.tells → F.holds folder.new ≡ F.holds folder.old }
+    {
+        let qid = self.enter(&item)?;
+        let entry = write_file(self.alloc, folder, &self.path, blocks, self.bsize)?;
+        self.path.pop();
+        streams.add_record(item, RecordKind::File, qid)?;
+        streams.add_entry(&entry)
+    }
+
+    /// The paths of what was left out. The next number fits eight bytes.
+    fn into_skipped(self) -> Paths
+        ensures skipped { result ≡ self.skipped.items }
+        ensures few { self.qid < 2 ^ 64 }
+    {
+        Paths::from_vec(self.skipped)
+    }
+
+    /// Notes an item that isn't archived.
+    fn skip(&mut self, item: &Item) -> Result<(), VacErr>
+        ensures noted { OnOk result (self.new.skipped.items ≡ self.old.skipped.items
+            ++ path_to (joined self.old.path.items) item.now.name ∷ []) }
+        ensures qid { self.new.qid ≡ self.old.qid }
+        ensures path { self.new.path.items ≡ self.old.path.items }
+        ensures bsize { self.new.bsize ≡ self.old.bsize }
+        ensures err { IfErr result (λ err. err ≡ VacErr.NoMemory) }
+    {
+        let path = self.path_to(item)?;
+        self.skipped.push(path)?;
+        Ok(())
+    }
+
+    /// Goes on to a file or a folder of the folder at the path, and gives its number.
+    fn enter(&mut self, item: &Item) -> Result<u64, VacErr>
+        ensures qid { IfOk result (λ qid. (qid ≡ self.old.qid) × (self.new.qid ≡ qid + 1)) }
+        ensures path { OnOk result (self.new.path.items
+            ≡ self.old.path.items ++ item.now.name ∷ []) }
+        ensures left { OnOk result ((self.new.bsize ≡ self.old.bsize)
+            × (self.new.skipped.items ≡ self.old.skipped.items)) }
+        ensures err { IfErr result (λ err. err ≡ VacErr.NoMemory) }
+    {
+        let qid = self.qid;
+        self.qid = qid.checked_add(1).ok_or(VacErr::NoMemory)?;
+        let name = Text::copy_of(self.alloc, item.name.as_slice())?;
+        self.path.push(name)?;
+        Ok(qid)
+    }
+
+    /// The path of an item of the folder at the path.
+    fn path_to(&self, item: &Item) -> Result<Text, VacErr>
+        ensures { MatchResult result
+            (λ text. text ≡ path_to (joined self.now.path.items) item.now.name)
+            (λ err. err ≡ VacErr.NoMemory) }
+    {
+        Ok(path_to(self.alloc, &self.path, item.name.as_slice())?)
+    }
+}
+
+/// Writes the file at a path as a stream.
+fn write_file<F: Folder, B: Blocks>(
+    alloc: Global,
+    folder: &mut F,
+    path: &[Text],
+    blocks: &mut B,
+    bsize: u16,
+) -> Result<Entry, VacErr>
+    requires least { MIN_BLOCK_SIZE ≤ bsize }
+    requires most { bsize ≤ MAX_BLOCK_SIZE }
+    ensures written { IfOk result (WritesStream B.does B.holds B.score_of blocks.old blocks.new
+        (file_shape bsize) (IsWholeFile F.tells (F.holds folder.old) path.now)) }
+    ensures entry { IfOk result IsEntry }
+    ensures refused { IfErr result (GivesUpTree B.does B.score_of blocks.old blocks.new
+        (file_shape bsize) (IsWholeFile F.tells (F.holds folder.old) path.now)) }
+    ensures cause { CountsFault is_folder_fault result
+        (F.faults folder.old) (F.faults folder.new) }
+    ensures stays { IsTrue F.tells → F.holds folder.new ≡ F.holds folder.old }
+{
+    let mut source = FileSource {
+        folder,
+        path,
+        at: 0,
+    };
+    let dsize = bsize;
+    let psize = pointer_len(bsize);
+    Ok(write_stream(alloc, blocks, &mut source, dsize, psize, false)?)
+}
+
+/// Puts the block of the top folder's two entries, and the root that names it.
+fn put_root<B: Blocks>(
+    alloc: Global,
+    blocks: &mut B,
+    bsize: u16,
+    top: &FolderEntries,
+) -> Result<Score, VacErr>
+    requires entries { IsEntry top.now.entries }
+    requires metadata { IsEntry top.now.metadata }
+    ensures put { OnOk result (PutsBlocks B.does blocks.old blocks.new
+        (root_blocks B.score_of bsize (top_of top.now))) }
+    ensures scored { IfOk result (λ score. score.0
+        ≡ B.score_of (root_bytes (root_of B.score_of bsize (top_of top.now)))) }
+    ensures refused { IfErr result (GivesUpBlocks B.does blocks.old blocks.new
+        (root_blocks B.score_of bsize (top_of top.now))) }
+    ensures plain { IfErr result IsOfStore }
+{
+    let mut bytes = [0; 80];
+    let at = put(&mut bytes, 0, &top.entries.encode());
+    put(&mut bytes, at, &top.metadata.encode());
+    let score = blocks.put(alloc, Kind::DIRECTORY, &bytes)?;
+    let root = Root {
+        name: filled(b"vac"),
+        kind: filled(b"rvac"),
+        score,
+        block_size: bsize,
+        prev: blocks.score(&[]),
+    };
+    Ok(blocks.put(alloc, Kind::ROOT, &root.encode())?)
+}
