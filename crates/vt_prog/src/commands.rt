@@ -5,6 +5,8 @@ pub mod fmtbloom;
 pub mod fmtindex;
 pub mod fmtisect;
 #[cfg(test)]
+mod messages;
+#[cfg(test)]
 mod runs;
 pub mod session;
 pub mod session_conf;

@@ -1,4 +1,4 @@
--- The command `session :memory:`: one session over a store in memory, which begins empty (venti(8)).
+-- The command `session :memory:`: one session over a store in memory that begins empty (venti(8)).
 use Rattle.std.specs.Prelude.{ℕ, ◌≡◌, ◌++◌, ◌&&◌, IsTrue, List, [], ◌∷◌}
 use Rattle.vt_model.specs.History.{History}
 use Rattle.vt_model.specs.Places.{Setup}

@@ -1,11 +1,11 @@
 //! Commands that format: words, what is printed, the status and the line on the fault sink.
 
-use crate::commands::runs::{run_over, run_words, see, see_ran};
+use crate::commands::runs::{
+    FILTERED, INDEX, InMemory, TestParts, all_but, confs, make, run_conf, run_over, see, see_ran,
+};
 use std::alloc::Global;
 use std::test::Fail;
 use vt_base::{Bytes, Sha1Scorer, Text};
-use vt_memdisk::{Listed, MemDisk};
-use vt_memparts::{Failing, MemParts};
 use vt_out::{MemFiles, MemSink, MemSource};
 use vt_parts::Parts;
 
@@ -13,7 +13,7 @@ use vt_parts::Parts;
 type Row = (&'static [&'static str], u8, &'static str, &'static str);
 
 /// Each over what those before it left.
-const ROWS: [Row; 32] = [
+const ROWS: [Row; 31] = [
     // What is made.
     (
         &["fmtarenas", "a.part", "a0", "40960", "32768"],
@@ -165,12 +165,6 @@ const ROWS: [Row; 32] = [
         "",
         "venti: config line 0: no arenas\n",
     ),
-    (
-        &["fmtindex", "long.conf"],
-        2,
-        "",
-        "venti: config line 0: too long\n",
-    ),
     (&["fmtindex", "none.conf"], 4, "", "venti: disk fault\n"),
     (
         &["fmtindex", "other.conf"],
@@ -199,45 +193,10 @@ const ROWS: [Row; 32] = [
     ),
 ];
 
-/// Configurations, and a file that is one byte longer than one may be.
-const CONFS: [(&str, &str); 5] = [
-    (
-        "v.conf",
-        "index main\narenas a.part\nisect i.part\nbloom b.part\nmem 1m\n",
-    ),
-    (
-        "size.conf",
-        "index main\narenas a.part\nisect i.part\nmem 1x\n",
-    ),
-    ("empty.conf", ""),
-    ("none.conf", "arenas a.part\nisect none.part\n"),
-    ("other.conf", "arenas a.part\nisect b.part\n"),
-];
-
-const TWICE: &str = "arenas a.part\narenas c.part\nisect i.part\n";
-
-fn files(alloc: Global) -> Result<MemFiles, Fail> {
-    let long = Bytes::from_vec(vec![in alloc; b'#'; 65_537]?);
-    let mut files = MemFiles::new(alloc)
-        .with(Text::copy_of(alloc, b"long.conf")?, long)?
-        .with(
-            Text::copy_of(alloc, b"twice.conf")?,
-            Bytes::copy_of(alloc, TWICE.as_bytes())?,
-        )?;
-    for (name, text) in CONFS {
-        let name = Text::copy_of(alloc, name.as_bytes())?;
-        files = files.with(name, Bytes::copy_of(alloc, text.as_bytes())?)?;
-    }
-    Ok(files)
-}
-
 /// Runs the program without input, and sees that it leaves this. Gives the partitions back.
 fn see_row<P: Parts + Drop>(alloc: Global, parts: P, row: Row) -> Result<P, Fail> {
     let (words, status, output, complaint) = row;
-    let source = MemSource::new(alloc, Vec::new(alloc));
-    let sink = MemSink::new(alloc, 100)?;
-    let files = files(alloc)?;
-    let (ran, parts) = run_over(alloc, words, source, sink, files, parts, &Sha1Scorer)?;
+    let (ran, parts) = run_conf(alloc, words, b"", parts, &Sha1Scorer)?;
     see_ran(&ran, output.as_bytes(), status, complaint)?;
     Ok(parts)
 }
@@ -253,131 +212,73 @@ fn see_rows<P: Parts + Drop>(alloc: Global, parts: P) -> Result<(), Fail> {
     Ok(())
 }
 
+/// A configuration has one byte more than it may have.
+fn see_long<P: Parts + Drop>(alloc: Global, parts: P) -> Result<(), Fail> {
+    let words = ["fmtindex", "long.conf"];
+    let source = MemSource::new(alloc, Vec::new(alloc));
+    let sink = MemSink::new(alloc, 10)?;
+    let long = Bytes::from_vec(vec![in alloc; b'#'; 65_537]?);
+    let files = MemFiles::new(alloc).with(Text::copy_of(alloc, b"long.conf")?, long)?;
+    let (ran, _) = run_over(alloc, &words, source, sink, files, parts, &Sha1Scorer)?;
+    see_ran(&ran, b"", 2, "venti: config line 0: too long\n")
+}
+
 /// The sink takes ten bytes, and the file is formatted.
 fn see_full_sink<P: Parts + Drop>(alloc: Global, parts: P) -> Result<(), Fail> {
     let words = ["fmtisect", "i.part", "i0", "92160"];
     let source = MemSource::new(alloc, Vec::new(alloc));
     let sink = MemSink::new(alloc, 10)?;
-    let (ran, _) = run_words(alloc, &words, source, sink, parts, &Sha1Scorer)?;
+    let files = confs(alloc)?;
+    let (ran, _) = run_over(alloc, &words, source, sink, files, parts, &Sha1Scorer)?;
     see_ran(&ran, b"fmtisect i", 7, "venti: write fault\n")
 }
 
 #[test]
 fn files_are_formatted(rt: HostRuntime) -> Result<(), Fail> {
     let alloc = rt.alloc();
-    see_rows(alloc, MemParts::new(alloc, Failing::new(Vec::new(alloc))))?;
-    see_full_sink(alloc, MemParts::new(alloc, Failing::new(Vec::new(alloc))))
+    see_rows::<InMemory>(alloc, TestParts::failing(alloc, Vec::new(alloc)))?;
+    see_long::<InMemory>(alloc, TestParts::failing(alloc, Vec::new(alloc)))?;
+    see_full_sink::<InMemory>(alloc, TestParts::failing(alloc, Vec::new(alloc)))
 }
 
-/// Whether the words' command ends with a disk fault. Then the same words end well.
-fn is_stopped<P: Parts + Drop>(alloc: Global, parts: P, row: Row) -> Result<bool, Fail> {
-    let source = MemSource::new(alloc, Vec::new(alloc));
-    let sink = MemSink::new(alloc, 100)?;
-    let (ran, parts) = run_words(alloc, row.0, source, sink, parts, &Sha1Scorer)?;
-    if ran.status != 4 {
-        see_ran(&ran, row.2.as_bytes(), row.1, row.3)?;
-        return Ok(false);
+/// What is said where this call of the command that makes a partition fails: `w` that the partition
+/// was made; else, by `fmtindex` behind it, `n` that the file isn't formatted, or `f` that the
+/// index is. Done again, the command ends well.
+fn letter<P: TestParts>(alloc: Global, number: usize, call: u64) -> Result<char, Fail> {
+    let parts = all_but::<P>(alloc, number, call, 1)?;
+    let words = FILTERED.get(number).ok_or("no such partition")?;
+    let (stopped, parts) = run_conf(alloc, words, b"", parts, &Sha1Scorer)?;
+    if stopped.status == 0 {
+        return Ok('w');
     }
-    see_ran(&ran, b"", 4, "venti: disk fault\n")?;
-    see_row(alloc, parts, row)?;
-    Ok(true)
-}
-
-/// The command stops at each of so many calls, and at no other.
-fn see_stops(alloc: Global, row: Row, calls: u64) -> Result<(), Fail> {
-    for call in 0..=calls {
-        let parts = MemParts::new(alloc, Failing::new(vec![in alloc; call]?));
-        see(
-            is_stopped(alloc, parts, row)? == (call < calls),
-            "another count of calls",
-        )?;
-    }
-    Ok(())
-}
-
-/// What the command of the words says: its line, or why it isn't done.
-fn says<P: Parts + Drop>(alloc: Global, words: &[&str], parts: P) -> Result<(Vec<u8>, P), Fail> {
-    let source = MemSource::new(alloc, Vec::new(alloc));
-    let sink = MemSink::new(alloc, 100)?;
-    let files = files(alloc)?;
-    let (ran, parts) = run_over(alloc, words, source, sink, files, parts, &Sha1Scorer)?;
-    let said = if ran.status == 0 {
-        ran.output
-    } else {
-        ran.complaint
-    };
-    Ok((said, parts))
-}
-
-/// Partitions in memory, of which calls fail.
-type Failed = MemParts<MemDisk<Listed>, Failing<Global>>;
-
-/// The partitions of the first three rows.
-fn store(alloc: Global) -> Result<Failed, Fail> {
-    let parts = MemParts::new(alloc, Failing::new(Vec::new(alloc)));
-    let parts = see_row(alloc, parts, ROWS[0])?;
-    let parts = see_row(alloc, parts, ROWS[1])?;
-    see_row(alloc, parts, ROWS[2])
-}
-
-/// These partitions, and that of this name, which the store has.
-fn with_part(alloc: Global, store: &mut Failed, name: &str, parts: Failed) -> Result<Failed, Fail> {
-    let name = Text::copy_of(alloc, name.as_bytes())?;
-    let disk = store.part(alloc, &name, None)?;
-    Ok(parts.with(name, disk)?)
-}
-
-/// Of the store the partitions of these two files; the others are made of disks of which this call
-/// fails.
-fn part_of_store(alloc: Global, files: (&str, &str), call: u64) -> Result<Failed, Fail> {
-    let mut store = store(alloc)?;
-    let parts = MemParts::new(alloc, Failing::new(vec![in alloc; call; 1]?));
-    let parts = with_part(alloc, &mut store, files.0, parts)?;
-    with_part(alloc, &mut store, files.1, parts)
-}
-
-/// What `fmtindex` says of the store where a command was stopped at this call: `n` that the file isn't
-/// formatted, or `f` that the index is.
-fn letter(alloc: Global, row: Row, others: (&str, &str), call: u64) -> Result<char, Fail> {
-    let parts = part_of_store(alloc, others, call)?;
-    let (said, parts) = says(alloc, row.0, parts)?;
-    see(
-        said.as_slice() == b"venti: disk fault\n".as_slice(),
-        "not stopped",
-    )?;
-    let (said, _) = says(alloc, &["fmtindex", "v.conf"], parts)?;
-    Ok(if said.ends_with(b": not formatted\n") {
+    see_ran(&stopped, b"", 4, "venti: disk fault\n")?;
+    let (index, parts) = run_conf(alloc, INDEX, b"", parts, &Sha1Scorer)?;
+    make(alloc, parts, &[words])?;
+    Ok(if index.complaint.ends_with(b": not formatted\n") {
         'n'
-    } else if said.as_slice() == b"fmtindex main: 4 buckets in 1 sections\n".as_slice() {
+    } else if index.status == 0 {
         'f'
     } else {
         '?'
     })
 }
 
-/// Where each call of the command that formats a file beside these others fails, in turn, this is
-/// said behind it.
-fn see_letters(alloc: Global, row: Row, others: (&str, &str), letters: &str) -> Result<(), Fail> {
+/// Where each call of the command that makes this partition fails, in turn, this is said.
+fn see_letters<P: TestParts>(alloc: Global, number: usize, letters: &str) -> Result<(), Fail> {
     let mut found = String::new(alloc);
     for call in 0..letters.len() {
-        found.push(letter(alloc, row, others, call as u64)?)?;
+        found.push(letter::<P>(alloc, number, call as u64)?)?;
     }
     see(found.as_str() == letters, "something else is said")
 }
 
-/// Behind its last write a file is formatted, also where the sync fails that follows, or a read.
+/// The command stops at each of its calls. Behind its last write a file is formatted, also where
+/// the sync fails that follows, or a read.
 #[test]
 fn a_file_is_formatted_by_its_last_write(rt: HostRuntime) -> Result<(), Fail> {
     let alloc = rt.alloc();
-    see_letters(alloc, ROWS[0], ("i.part", "b.part"), "nnnnff")?;
-    see_letters(alloc, ROWS[1], ("a.part", "b.part"), "nff")?;
-    see_letters(alloc, ROWS[2], ("a.part", "i.part"), "nff")
-}
-
-#[test]
-fn a_command_stops_at_each_call_that_fails(rt: HostRuntime) -> Result<(), Fail> {
-    let alloc = rt.alloc();
-    see_stops(alloc, ROWS[0], 6)?;
-    see_stops(alloc, ROWS[1], 3)?;
-    see_stops(alloc, ROWS[2], 3)
+    for (number, letters) in ["nnnnffw", "nffw", "nffw"].iter().enumerate() {
+        see_letters::<InMemory>(alloc, number, letters)?;
+    }
+    Ok(())
 }

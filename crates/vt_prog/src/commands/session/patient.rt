@@ -2,15 +2,15 @@
 
 ghost use Rattle.std.specs.Prelude.{◌<◌, ◌^◌};
 
-use crate::commands::runs::see;
+use crate::commands::messages::OUR_LINE;
+use crate::commands::runs::{Ran, TestParts, confs};
 use crate::{Outside, run_with};
 use std::alloc::Global;
 use std::cell::Cell;
 use std::test::Fail;
 use vt_answer::StreamsClient;
 use vt_base::{Failed, Sha1Scorer};
-use vt_memparts::{Failing, MemParts};
-use vt_out::{MemClock, MemFiles, MemSink, Sink, Source};
+use vt_out::{MemClock, MemSink, Sink, Source};
 
 /// What is sent, and how many bytes are said to it.
 pub type Part = (&'static [u8], usize);
@@ -101,14 +101,21 @@ impl Sink for PatientSink<'_> {
     }
 }
 
-/// A session with this client, whose pieces have so many bytes at most, ends well and says this.
-pub fn see_patient(alloc: Global, parts: &[Part], cut: usize, output: &[u8]) -> Result<(), Fail> {
+/// Runs the program with these words over these partitions for this client, whose pieces have so
+/// many bytes at most. Gives the partitions back.
+pub fn run_patient<P: TestParts>(
+    alloc: Global,
+    words: &[&str],
+    sent: &[Part],
+    cut: usize,
+    parts: P,
+) -> Result<(Ran, P), Fail> {
     let said = Cell::new(0);
     let source = PatientSource {
-        parts,
+        parts: sent,
         cut,
         given: 0,
-        owed: 16,
+        owed: OUR_LINE.len(),
         said: &said,
         failed: 0,
     };
@@ -120,14 +127,16 @@ pub fn see_patient(alloc: Global, parts: &[Part], cut: usize, output: &[u8]) -> 
     let mut host = Outside {
         streams: StreamsClient { source, sink },
         fault_sink: MemSink::new(alloc, 100)?,
-        files: MemFiles::new(alloc),
-        parts: MemParts::new(alloc, Failing::new(Vec::new(alloc))),
+        files: confs(alloc)?,
+        parts,
         clock: MemClock::new(0),
         terminal: None::<MemSink>,
     };
-    let words = ["session", ":memory:"];
-    let status = run_with(&(), alloc, &words, &mut host, &Sha1Scorer);
-    see(status == 0, "another status")?;
-    let written = host.streams.sink.written.as_slice();
-    see(written == output, "another output")
+    let status = run_with(&(), alloc, words, &mut host, &Sha1Scorer);
+    let ran = Ran {
+        status,
+        output: host.streams.sink.written,
+        complaint: Vec::from_slice(alloc, host.fault_sink.written())?,
+    };
+    Ok((ran, host.parts))
 }

@@ -1,25 +1,19 @@
 //! Sessions from outside: what goes in, what comes out, the status and the line on the fault sink.
 
-use crate::commands::runs::{Ran, run_words, see, see_ran};
-use crate::commands::session::patient::see_patient;
+use crate::commands::messages::{
+    GAVE_ABC, GOODBYE, HELLO, LINE, OUR_LINE, READ_ABC, SYNC, SYNCED, WELCOME, WRITE_ABC, WROTE_ABC,
+};
+use crate::commands::runs::{
+    InMemory, TestParts, confs, joined, run_conf, run_over, see, see_ran, store, write_of,
+};
+use crate::commands::session::patient::{Part, run_patient};
 use std::alloc::Global;
 use std::test::Fail;
 use vt_base::{Scorer, Sha1Scorer, ShortScorer};
-use vt_memparts::{Failing, MemParts};
 use vt_out::{MemSink, MemSource};
 
 /// What comes in, or goes out, in parts.
-type Parts = &'static [&'static [u8]];
-
-const LINE: &[u8] = b"venti-02-test\n";
-
-const HELLO: &[u8] = b"\x00\x0b\x04\x00\x00\x0202\x00\x00\x00\x00\x00";
-
-const OUR_LINE: &[u8] = b"venti-02-rattle\n";
-
-const WELCOME: &[u8] = b"\x00\x0f\x05\x00\x00\x09anonymous\x00\x00";
-
-const WRITE_ABC: &[u8] = b"\x00\x09\x0e\x01\x0d\x00\x00\x00abc";
+type Parts<'a> = &'a [&'a [u8]];
 
 const SCORE_ABC: &[u8] =
     b"\xa9\x99\x3e\x36\x47\x06\x81\x6a\xba\x3e\x25\x71\x78\x50\xc2\x6c\x9c\xd0\xd8\x9d";
@@ -31,315 +25,343 @@ const WROTE: &[u8] = b"\x00\x16\x0f\x01";
 
 const READ: &[u8] = b"\x00\x1a\x0c\x02";
 
-const READ_ABC: &[u8] = b"\x00\x1a\x0c\x02\
-\xa9\x99\x3e\x36\x47\x06\x81\x6a\xba\x3e\x25\x71\x78\x50\xc2\x6c\x9c\xd0\xd8\x9d\
-\x0d\x00\x00\x03";
-
-const GAVE_ABC: &[u8] = b"\x00\x05\x0d\x02abc";
-
-const SYNC: &[u8] = b"\x00\x02\x10\x03";
-
-const SYNCED: &[u8] = b"\x00\x02\x11\x03";
-
 const PING: &[u8] = b"\x00\x02\x02\x05";
 
 const PONG: &[u8] = b"\x00\x02\x03\x05";
 
-const GOODBYE: &[u8] = b"\x00\x02\x06\x04";
+/// A hello of version 03, and what is said to it and where there was no hello.
+const THIRD: &[u8] = b"\x00\x0b\x04\x00\x00\x0203\x00\x00\x00\x00\x00";
+
+const NOT_AGREED: &[u8] = b"\x00\x16\x01\x00\x00\x12version not agreed";
+
+const EXPECTED: &[u8] = b"\x00\x12\x01\x05\x00\x0ehello expected";
 
 const COLLISION: &[u8] = b"\x00\x13\x01\x01\x00\x0fscore collision";
 
-fn joined(alloc: Global, parts: &[&[u8]]) -> Result<Vec<u8>, Fail> {
-    let mut all = Vec::new(alloc);
-    for part in parts {
-        all.extend_from_slice(part)?;
-    }
-    Ok(all)
-}
+/// What comes in, what goes out behind our line, the status, and the line on the fault sink.
+type Row<'a> = (Parts<'a>, Parts<'a>, u8, &'a str);
 
-/// Runs a session over these streams.
-fn session<S: Scorer>(
-    alloc: Global,
-    source: MemSource,
-    sink: MemSink,
-    scorer: &S,
-) -> Result<Ran, Fail> {
-    run_alone(alloc, &["session", ":memory:"], source, sink, scorer)
-}
-
-/// Runs the program over these streams, where there are no partitions.
-fn run_alone<S: Scorer>(
-    alloc: Global,
-    words: &[&str],
-    source: MemSource,
-    sink: MemSink,
-    scorer: &S,
-) -> Result<Ran, Fail> {
-    let parts = MemParts::new(alloc, Failing::new(Vec::new(alloc)));
-    let (ran, _) = run_words(alloc, words, source, sink, parts, scorer)?;
-    Ok(ran)
-}
-
-/// Runs a session on this input, and sees that it leaves this.
-fn see_session<S: Scorer>(
-    alloc: Global,
-    scorer: &S,
-    input: &[u8],
-    output: &[u8],
-    status: u8,
-    complaint: &str,
-) -> Result<(), Fail> {
-    let source = MemSource::new(alloc, Vec::from_slice(alloc, input)?);
-    let ran = session(alloc, source, MemSink::new(alloc, 1 << 21)?, scorer)?;
-    see_ran(&ran, output, status, complaint)
-}
-
-/// This input is answered so behind the server's line, and the session ends well.
-fn see_answers(alloc: Global, input: &[&[u8]], output: &[&[u8]]) -> Result<(), Fail> {
-    let input = joined(alloc, input)?;
-    let output = joined(alloc, output)?;
-    let output = joined(alloc, &[OUR_LINE, &output])?;
-    see_session(alloc, &Sha1Scorer, &input, &output, 0, "")
-}
-
-/// The same behind a line and a hello, and the welcome.
-fn see_greeted(alloc: Global, input: &[&[u8]], output: &[&[u8]]) -> Result<(), Fail> {
-    let input = joined(alloc, input)?;
-    let output = joined(alloc, output)?;
-    see_answers(alloc, &[LINE, HELLO, &input], &[WELCOME, &output])
-}
-
-/// Blocks are written and read.
-fn see_blocks(alloc: Global) -> Result<(), Fail> {
-    let cases: [(Parts, Parts); 7] = [
-        (&[], &[]),
-        (
-            &[WRITE_ABC, WRITE_ABC],
-            &[WROTE, SCORE_ABC, WROTE, SCORE_ABC],
-        ),
-        (
-            &[WRITE_ABC, READ, SCORE_ABC, b"\x0d\x00\x00\x03"],
-            &[WROTE, SCORE_ABC, GAVE_ABC],
-        ),
-        (
-            &[WRITE_ABC, READ, SCORE_ABC, b"\x0d\x00\x00\x02"],
-            &[WROTE, SCORE_ABC, b"\x00\x13\x01\x02\x00\x0fcount too small"],
-        ),
-        (
-            &[WRITE_ABC, READ, SCORE_ABC, b"\x02\x00\x00\x03"],
-            &[WROTE, SCORE_ABC, b"\x00\x11\x01\x02\x00\x0dno such block"],
-        ),
-        (&[b"\x00\x06\x0e\x01\x0d\x00\x00\x00"], &[WROTE, ZERO_SCORE]),
-        (
-            &[READ, ZERO_SCORE, b"\x0d\x00\x00\x00"],
-            &[b"\x00\x02\x0d\x02"],
-        ),
-    ];
-    for (input, output) in cases {
-        see_greeted(alloc, input, output)?;
-    }
-    Ok(())
-}
-
-/// Other messages, and some that are refused.
-fn see_messages(alloc: Global) -> Result<(), Fail> {
-    let cases: [(Parts, Parts); 6] = [
-        (&[SYNC, PING, GOODBYE, PING], &[SYNCED, PONG]),
-        (
-            &[b"\x00\x06\x0e\x01\x0a\x00\x00\x00"],
-            &[b"\x00\x0c\x01\x01\x00\x08bad type"],
-        ),
-        (&[HELLO], &[b"\x00\x12\x01\x00\x00\x0ehello repeated"]),
-        (
-            &[b"\x00\x1b\x0c\x02", SCORE_ABC, b"\x0d\x00\x00\x03\x00"],
-            &[b"\x00\x0f\x01\x02\x00\x0bbad message"],
-        ),
-        (
-            &[b"\x00\x02\x63\x07", PING],
-            &[b"\x00\x13\x01\x07\x00\x0funknown message", PONG],
-        ),
-        (
-            &[b"\x00\x03\x06\x07x", PING],
-            &[b"\x00\x0f\x01\x07\x00\x0bbad message", PONG],
-        ),
-    ];
-    for (input, output) in cases {
-        see_greeted(alloc, input, output)?;
-    }
-    Ok(())
-}
-
-/// Where there was no hello, or none that can be accepted.
-fn see_no_hello(alloc: Global) -> Result<(), Fail> {
-    let third = b"\x00\x0b\x04\x00\x00\x0203\x00\x00\x00\x00\x00".as_slice();
-    let expected = b"\x00\x12\x01\x05\x00\x0ehello expected".as_slice();
-    let not_agreed = b"\x00\x16\x01\x00\x00\x12version not agreed".as_slice();
-    see_answers(alloc, &[LINE, PING, HELLO], &[expected, WELCOME])?;
-    see_answers(alloc, &[LINE, third, HELLO], &[not_agreed, WELCOME])?;
-    see_answers(
-        alloc,
-        &[b"venti-04:03-test\n", HELLO, PING],
-        &[not_agreed, expected],
-    )?;
-    see_answers(alloc, &[LINE, GOODBYE, HELLO], &[])
-}
-
-/// Inputs that end badly.
-fn see_bad_ends(alloc: Global) -> Result<(), Fail> {
-    let cases: [(Parts, &str); 5] = [
-        (&[b"v"], "venti: cut at 1\n"),
-        (&[b"xyz\n"], "venti: malformed at 0\n"),
-        (&[b"venti-02\n"], "venti: malformed at 8\n"),
-        (&[LINE, b"\x00"], "venti: cut at 15\n"),
-        (&[LINE, b"\x00\x01\x02\x00"], "venti: malformed at 14\n"),
-    ];
-    for (input, complaint) in cases {
-        let input = joined(alloc, input)?;
-        see_session(alloc, &Sha1Scorer, &input, OUR_LINE, 5, complaint)?;
-    }
-    Ok(())
-}
-
-/// Blocks with one score, and no other bytes under it.
-fn see_collisions(alloc: Global) -> Result<(), Fail> {
-    let zeros = [0; 19].as_slice();
-    let input = joined(
-        alloc,
+/// Sessions one behind another, over the same store.
+const ROWS: [Row<'static>; 22] = [
+    // Blocks are written and read.
+    (&[LINE, HELLO], &[WELCOME], 0, ""),
+    (
+        &[LINE, HELLO, WRITE_ABC, WRITE_ABC],
+        &[WELCOME, WROTE_ABC, WROTE_ABC],
+        0,
+        "",
+    ),
+    (
+        &[LINE, HELLO, WRITE_ABC, READ_ABC],
+        &[WELCOME, WROTE_ABC, GAVE_ABC],
+        0,
+        "",
+    ),
+    (
+        &[LINE, HELLO, WRITE_ABC, READ, SCORE_ABC, b"\x0d\x00\x00\x02"],
+        &[
+            WELCOME,
+            WROTE_ABC,
+            b"\x00\x13\x01\x02\x00\x0fcount too small",
+        ],
+        0,
+        "",
+    ),
+    (
+        &[LINE, HELLO, WRITE_ABC, READ, SCORE_ABC, b"\x02\x00\x00\x03"],
+        &[WELCOME, WROTE_ABC, b"\x00\x11\x01\x02\x00\x0dno such block"],
+        0,
+        "",
+    ),
+    (
+        &[LINE, HELLO, b"\x00\x06\x0e\x01\x0d\x00\x00\x00"],
+        &[WELCOME, WROTE, ZERO_SCORE],
+        0,
+        "",
+    ),
+    (
+        &[LINE, HELLO, READ, ZERO_SCORE, b"\x0d\x00\x00\x00"],
+        &[WELCOME, b"\x00\x02\x0d\x02"],
+        0,
+        "",
+    ),
+    // Other messages, and some that are refused.
+    (
+        &[LINE, HELLO, SYNC, PING, GOODBYE, PING],
+        &[WELCOME, SYNCED, PONG],
+        0,
+        "",
+    ),
+    (
+        &[LINE, HELLO, b"\x00\x06\x0e\x01\x0a\x00\x00\x00"],
+        &[WELCOME, b"\x00\x0c\x01\x01\x00\x08bad type"],
+        0,
+        "",
+    ),
+    (
+        &[LINE, HELLO, HELLO],
+        &[WELCOME, b"\x00\x12\x01\x00\x00\x0ehello repeated"],
+        0,
+        "",
+    ),
+    (
         &[
             LINE,
             HELLO,
-            WRITE_ABC,
-            b"\x00\x09\x0e\x01\x0d\x00\x00\x00abd",
-            b"\x00\x09\x0e\x01\x02\x00\x00\x00abd",
-            b"\x00\x09\x0e\x01\x02\x00\x00\x00abc",
-            b"\x00\x07\x0e\x01\x0d\x00\x00\x00\x00",
+            b"\x00\x1b\x0c\x02",
+            SCORE_ABC,
+            b"\x0d\x00\x00\x03\x00",
         ],
-    )?;
-    let output = joined(
-        alloc,
-        &[
-            OUR_LINE, WELCOME, WROTE, b"a", zeros, COLLISION, COLLISION, WROTE, b"a", zeros,
-            COLLISION,
-        ],
-    )?;
-    see_session(alloc, &ShortScorer, &input, &output, 0, "")
+        &[WELCOME, b"\x00\x0f\x01\x02\x00\x0bbad message"],
+        0,
+        "",
+    ),
+    (
+        &[LINE, HELLO, b"\x00\x02\x63\x07", PING],
+        &[WELCOME, b"\x00\x13\x01\x07\x00\x0funknown message", PONG],
+        0,
+        "",
+    ),
+    (
+        &[LINE, HELLO, b"\x00\x03\x06\x07x", PING],
+        &[WELCOME, b"\x00\x0f\x01\x07\x00\x0bbad message", PONG],
+        0,
+        "",
+    ),
+    // There is no hello, or none that can be accepted.
+    (&[LINE, PING, HELLO], &[EXPECTED, WELCOME], 0, ""),
+    (&[LINE, THIRD, HELLO], &[NOT_AGREED, WELCOME], 0, ""),
+    (
+        &[b"venti-04:03-test\n", HELLO, PING],
+        &[NOT_AGREED, EXPECTED],
+        0,
+        "",
+    ),
+    (&[LINE, GOODBYE, HELLO], &[], 0, ""),
+    // The input ends badly.
+    (&[b"v"], &[], 5, "venti: cut at 1\n"),
+    (&[b"xyz\n"], &[], 5, "venti: malformed at 0\n"),
+    (&[b"venti-02\n"], &[], 5, "venti: malformed at 8\n"),
+    (&[LINE, b"\x00"], &[], 5, "venti: cut at 15\n"),
+    (
+        &[LINE, b"\x00\x01\x02\x00"],
+        &[],
+        5,
+        "venti: malformed at 14\n",
+    ),
+];
+
+/// Blocks with one score, and no other bytes under it.
+const COLLISIONS: Row<'static> = (
+    &[
+        LINE,
+        HELLO,
+        WRITE_ABC,
+        b"\x00\x09\x0e\x01\x0d\x00\x00\x00abd",
+        b"\x00\x09\x0e\x01\x02\x00\x00\x00abd",
+        b"\x00\x09\x0e\x01\x02\x00\x00\x00abc",
+        b"\x00\x07\x0e\x01\x0d\x00\x00\x00\x00",
+    ],
+    &[
+        WELCOME, WROTE, b"a", &[0; 19], COLLISION, COLLISION, WROTE, b"a", &[0; 19], COLLISION,
+    ],
+    0,
+    "",
+);
+
+/// The stores of which sessions are held: one in memory, and that of a configuration.
+const STORES: [&str; 2] = [":memory:", "v.conf"];
+
+/// Holds a session over a store of each kind, and sees that both leave what the row says. Gives the
+/// partitions back.
+fn see_row<S: Scorer, P: TestParts>(
+    alloc: Global,
+    parts: P,
+    scorer: &S,
+    row: Row<'_>,
+) -> Result<P, Fail> {
+    let (input, output, status, complaint) = row;
+    let input = joined(alloc, input)?;
+    let output = joined(alloc, output)?;
+    let output = joined(alloc, &[OUR_LINE, &output])?;
+    let mut parts = parts;
+    for store in STORES {
+        let (ran, back) = run_conf(alloc, &["session", store], &input, parts, scorer)?;
+        see_ran(&ran, &output, status, complaint)?;
+        parts = back;
+    }
+    Ok(parts)
 }
 
-/// A write of a block of so many bytes.
-fn write_of(alloc: Global, len: u16) -> Result<Vec<u8>, Fail> {
-    let size = len.saturating_add(6).to_be_bytes();
-    let block = vec![in alloc; 7; usize::from(len)]?;
-    joined(alloc, &[&size, b"\x0e\x01\x0d\x00\x00\x00", &block])
+fn see_rows<P: TestParts>(alloc: Global, parts: P) -> Result<P, Fail> {
+    let mut parts = parts;
+    for row in ROWS {
+        parts = see_row(alloc, parts, &Sha1Scorer, row)?;
+    }
+    Ok(parts)
+}
+
+/// A write of a block of so many bytes, behind a line and a hello, is answered so.
+fn see_block<P: TestParts>(
+    alloc: Global,
+    parts: P,
+    block: &[u8],
+    answer: &[&[u8]],
+) -> Result<P, Fail> {
+    let write = write_of(alloc, block)?;
+    let answer = joined(alloc, answer)?;
+    let row: Row<'_> = (&[LINE, HELLO, &write], &[WELCOME, &answer], 0, "");
+    see_row(alloc, parts, &Sha1Scorer, row)
 }
 
 /// The largest block is taken, and a larger one isn't.
-fn see_large_blocks(alloc: Global) -> Result<(), Fail> {
-    let block = vec![in alloc; 7; 57_344]?;
-    let score = Sha1Scorer.score(&block);
-    see_greeted(alloc, &[&write_of(alloc, 57_344)?], &[WROTE, &score.0])?;
-    see_greeted(
+fn see_large_blocks<P: TestParts>(alloc: Global, parts: P) -> Result<P, Fail> {
+    let block = vec![in alloc; 7; 57_345]?;
+    let largest = block.get(1..).unwrap_or(&[]);
+    let score = Sha1Scorer.score(largest);
+    let parts = see_block(alloc, parts, largest, &[WROTE, &score.0])?;
+    see_block(
         alloc,
-        &[&write_of(alloc, 57_345)?],
+        parts,
+        &block,
         &[b"\x00\x11\x01\x01\x00\x0dblock too big"],
     )
 }
 
+fn see_all<P: TestParts>(alloc: Global) -> Result<(), Fail> {
+    let parts = see_rows(alloc, store::<P>(alloc)?)?;
+    see_large_blocks(alloc, parts)?;
+    see_row(alloc, store::<P>(alloc)?, &ShortScorer, COLLISIONS)?;
+    Ok(())
+}
+
 #[test]
 fn sessions_are_answered(rt: HostRuntime) -> Result<(), Fail> {
-    let alloc = rt.alloc();
-    see_blocks(alloc)?;
-    see_messages(alloc)?;
-    see_no_hello(alloc)?;
-    see_bad_ends(alloc)?;
-    see_collisions(alloc)?;
-    see_large_blocks(alloc)
+    see_all::<InMemory>(rt.alloc())
 }
 
 /// A session of a write, a read, a sync and a goodbye.
-fn sample(alloc: Global) -> Result<Vec<u8>, Fail> {
-    let read = joined(alloc, &[READ, SCORE_ABC, b"\x0d\x00\x00\x03"])?;
-    joined(alloc, &[LINE, HELLO, WRITE_ABC, &read, SYNC, GOODBYE])
-}
+const SAMPLE: Parts<'static> = &[LINE, HELLO, WRITE_ABC, READ_ABC, SYNC, GOODBYE];
 
 /// What it gives.
-fn sample_output(alloc: Global) -> Result<Vec<u8>, Fail> {
-    joined(
-        alloc,
-        &[OUR_LINE, WELCOME, WROTE, SCORE_ABC, GAVE_ABC, SYNCED],
-    )
+const SAMPLE_OUTPUT: Parts<'static> = &[OUR_LINE, WELCOME, WROTE_ABC, GAVE_ABC, SYNCED];
+
+/// Input in pieces of so many bytes gives the same output, over a store of either kind.
+fn see_pieces<P: TestParts>(alloc: Global, parts: P, cut: usize) -> Result<P, Fail> {
+    let mut parts = parts;
+    for store in STORES {
+        let input = joined(alloc, SAMPLE)?;
+        let source = MemSource::new(alloc, input).in_pieces(vec![in alloc; cut]?);
+        let sink = MemSink::new(alloc, 1000)?;
+        let words = ["session", store];
+        let files = confs(alloc)?;
+        let (ran, back) = run_over(alloc, &words, source, sink, files, parts, &Sha1Scorer)?;
+        see_ran(&ran, &joined(alloc, SAMPLE_OUTPUT)?, 0, "")?;
+        parts = back;
+    }
+    Ok(parts)
 }
 
-/// Input in single bytes gives the same output.
-fn see_pieces(alloc: Global) -> Result<(), Fail> {
-    let source = MemSource::new(alloc, sample(alloc)?).in_pieces(vec![in alloc; 1]?);
-    let ran = session(alloc, source, MemSink::new(alloc, 1000)?, &Sha1Scorer)?;
-    see_ran(&ran, &sample_output(alloc)?, 0, "")
+/// How many bytes come in at a time.
+const CUTS: [usize; 5] = [1, 2, 3, 5, 65_537];
+
+fn see_all_pieces<P: TestParts>(alloc: Global, parts: P) -> Result<P, Fail> {
+    let mut parts = parts;
+    for cut in CUTS {
+        parts = see_pieces(alloc, parts, cut)?;
+    }
+    Ok(parts)
 }
 
 /// A read that fails: what was taken is answered.
-fn see_failed_read(alloc: Global) -> Result<(), Fail> {
-    let source = MemSource::new(alloc, sample(alloc)?)
+fn see_failed_read<P: TestParts>(alloc: Global, parts: P, store: &str) -> Result<P, Fail> {
+    let source = MemSource::new(alloc, joined(alloc, SAMPLE)?)
         .in_pieces(vec![in alloc; 40]?)
         .failing(vec![in alloc; 1]?);
-    let ran = session(alloc, source, MemSink::new(alloc, 1000)?, &Sha1Scorer)?;
-    let output = joined(alloc, &[OUR_LINE, WELCOME, WROTE, SCORE_ABC])?;
-    see_ran(&ran, &output, 6, "venti: read fault\n")
+    let sink = MemSink::new(alloc, 1000)?;
+    let files = confs(alloc)?;
+    let words = ["session", store];
+    let (ran, parts) = run_over(alloc, &words, source, sink, files, parts, &Sha1Scorer)?;
+    let output = joined(alloc, &[OUR_LINE, WELCOME, WROTE_ABC])?;
+    see_ran(&ran, &output, 6, "venti: read fault\n")?;
+    Ok(parts)
 }
 
 /// A write that fails: a front of the output stands.
-fn see_full_sink(alloc: Global) -> Result<(), Fail> {
-    let source = MemSource::new(alloc, sample(alloc)?);
-    let ran = session(alloc, source, MemSink::new(alloc, 20)?, &Sha1Scorer)?;
-    let output = sample_output(alloc)?;
+fn see_full_sink<P: TestParts>(alloc: Global, parts: P, store: &str) -> Result<P, Fail> {
+    let source = MemSource::new(alloc, joined(alloc, SAMPLE)?);
+    let sink = MemSink::new(alloc, 20)?;
+    let files = confs(alloc)?;
+    let words = ["session", store];
+    let (ran, parts) = run_over(alloc, &words, source, sink, files, parts, &Sha1Scorer)?;
+    let output = joined(alloc, SAMPLE_OUTPUT)?;
     see(output.starts_with(ran.output.as_slice()), "another front")?;
-    see_ran(&ran, ran.output.as_slice(), 7, "venti: write fault\n")
+    see_ran(&ran, ran.output.as_slice(), 7, "venti: write fault\n")?;
+    Ok(parts)
 }
 
 /// Words that are no command.
-fn see_bad_words(alloc: Global) -> Result<(), Fail> {
+fn see_bad_words<P: TestParts>(alloc: Global, parts: P) -> Result<(), Fail> {
     let cases: [&[&str]; 3] = [
         &["session"],
         &["serve", ":memory:"],
         &["session", ":memory:", "more"],
     ];
+    let mut parts = parts;
     for words in cases {
-        let source = MemSource::new(alloc, sample(alloc)?);
-        let ran = run_alone(
-            alloc,
-            words,
-            source,
-            MemSink::new(alloc, 1000)?,
-            &Sha1Scorer,
-        )?;
+        let input = joined(alloc, SAMPLE)?;
+        let (ran, back) = run_conf(alloc, words, &input, parts, &Sha1Scorer)?;
         see_ran(&ran, b"", 1, "venti: bad command line\n")?;
+        parts = back;
     }
     Ok(())
+}
+
+fn see_streams<P: TestParts>(alloc: Global) -> Result<(), Fail> {
+    let mut parts = see_all_pieces(alloc, store::<P>(alloc)?)?;
+    for store in STORES {
+        parts = see_failed_read(alloc, parts, store)?;
+        parts = see_full_sink(alloc, parts, store)?;
+    }
+    see_bad_words(alloc, parts)
 }
 
 #[test]
 fn pieces_and_faults_leave_a_front(rt: HostRuntime) -> Result<(), Fail> {
-    let alloc = rt.alloc();
-    see_pieces(alloc)?;
-    see_failed_read(alloc)?;
-    see_full_sink(alloc)?;
-    see_bad_words(alloc)
+    see_streams::<InMemory>(rt.alloc())
 }
 
-/// A client that waits for each reply gets it, however its bytes come in.
-#[test]
-fn no_reply_waits(rt: HostRuntime) -> Result<(), Fail> {
-    let alloc = rt.alloc();
-    let parts = [
-        (LINE, 0),
-        (HELLO, WELCOME.len()),
-        (WRITE_ABC, WROTE.len() + SCORE_ABC.len()),
-        (READ_ABC, GAVE_ABC.len()),
-        (SYNC, SYNCED.len()),
-        (GOODBYE, 0),
-    ];
-    let output = sample_output(alloc)?;
-    for cut in [1, 2, 3, 5, 65_537] {
-        see_patient(alloc, &parts, cut, &output)?;
+/// What a patient client sends, and how many bytes it is told before it sends more.
+const PATIENT: [Part; 6] = [
+    (LINE, 0),
+    (HELLO, WELCOME.len()),
+    (WRITE_ABC, WROTE_ABC.len()),
+    (READ_ABC, GAVE_ABC.len()),
+    (SYNC, SYNCED.len()),
+    (GOODBYE, 0),
+];
+
+/// A client that waits for each reply gets it, over a store of either kind.
+fn see_waits<P: TestParts>(alloc: Global, parts: P, cut: usize) -> Result<P, Fail> {
+    let mut parts = parts;
+    for store in STORES {
+        let (ran, back) = run_patient(alloc, &["session", store], &PATIENT, cut, parts)?;
+        see_ran(&ran, &joined(alloc, SAMPLE_OUTPUT)?, 0, "")?;
+        parts = back;
+    }
+    Ok(parts)
+}
+
+/// However its bytes come in.
+fn see_patience<P: TestParts>(alloc: Global) -> Result<(), Fail> {
+    let mut parts = store::<P>(alloc)?;
+    for cut in CUTS {
+        parts = see_waits(alloc, parts, cut)?;
     }
     Ok(())
+}
+
+#[test]
+fn no_reply_waits(rt: HostRuntime) -> Result<(), Fail> {
+    see_patience::<InMemory>(rt.alloc())
 }
