@@ -1,0 +1,16 @@
+pub mod Listed
+pub mod Stepping
+pub mod Judging
+pub mod Asking
+pub mod Recovering
+pub mod Sums
+pub mod Scores
+pub mod Restarting
+pub mod Staged
+pub mod Limits
+pub mod Synced
+pub mod Noting
+pub mod Starting
+pub mod Turns
+pub mod Cutting
+pub mod Lived

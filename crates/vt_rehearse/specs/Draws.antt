@@ -1,0 +1,10 @@
+-- Numbers that follow from a number: a linear congruence modulo 2^64 (Knuth's MMIX), of which the
+-- high bits are taken.
+use Rattle.std.specs.Prelude.{ℕ, ◌+◌, ◌*◌, ◌/◌, ◌%◌, ◌^◌}
+
+abbrev pub next_of : ℕ → ℕ
+next_of x = (x * 6364136223846793005 + 1442695040888963407) % 2 ^ 64
+
+-- what is drawn at x
+abbrev pub drawn : (x below : ℕ) → ℕ
+drawn x below = next_of x / 2 ^ 33 % below

@@ -1,0 +1,11 @@
+pub mod Counts
+pub mod Crashed
+pub mod Draws
+pub mod Limits
+pub mod Memory
+pub mod Rehearsal
+pub mod Rounds
+pub mod Shape
+pub mod Stage
+pub mod Summary
+pub mod Words

@@ -1,0 +1,241 @@
+-- A rehearsal: what becomes of a store and of the plain list beside it, round by round.
+use Rattle.std.specs.Prelude.{◌≡◌, ◌⊎◌, ◌↔◌, ℕ, zero, suc, ◌+◌, ◌*◌, ◌-◌, ◌<◌, ◌≤◌, Bool, true, false, IsTrue, Option, MatchOption, List, [], ◌∷◌, ◌++◌, length, take}
+use Rattle.std.specs.List.{AllZip, Contains}
+use Rattle.vt_base.specs.declared.answer.Said.{Said}
+use Rattle.vt_base.specs.declared.answer.Said.TheVariants.{Score, Block, Synced, Refused}
+use Rattle.vt_base.specs.declared.why.Why.TheVariants.{Absent, ArenasFull}
+use Rattle.vt_base.specs.Protocol.{Operation, read, write, sync, t_ask}
+use Rattle.vt_base.specs.declared.TheConstants.{MAX_BLOCK}
+use Rattle.vt_disk.specs.Members.{DiskOf}
+use Rattle.vt_memdisk.specs.declared.crash.CrashMode.{CrashMode}
+use Rattle.vt_wire.specs.Views.{message_of}
+use Rattle.vt_wire.specs.declared.message.Request.{Request}
+use Rattle.vt_core.specs.declared.event.Event.{Event}
+use Rattle.vt_core.specs.declared.event.Event.TheVariants.{Ask, Answer as AskAnswer, LogAdvance, FileBegin, FileAdvance, EvictLump, EvictIndex}
+use Rattle.vt_core.specs.declared.event.Out.{Out}
+use Rattle.vt_core.specs.declared.event.Out.TheVariants.{Said as SaidOut, Waits, NotYet, Moved, Nothing}
+use Rattle.vt_core.specs.Core.{CoreState, devices_of, history_len}
+use Rattle.vt_core.specs.Crashing.{Recovers}
+use Rattle.vt_core.specs.Files.{all_of}
+use Rattle.vt_core.specs.Steps.{Runs, Steps}
+use Rattle.vt_rehearse.specs.declared.TheConstants.{SESSIONS}
+use Rattle.vt_rehearse.specs.declared.rounds.Round.{Round}
+use Rattle.vt_rehearse.specs.declared.rounds.Round.TheVariants.{Write, Read, Sync, Commit, Begin, Advance, Evict, Crash}
+use Rattle.vt_rehearse.specs.declared.summary.Summary.{Summary}
+use Rattle.vt_rehearse.specs.Crashed.{Restarts}
+use Rattle.vt_rehearse.specs.Counts.{with_accepted, with_compared, with_crash, with_events, with_held, with_read, with_refused, with_synced}
+use Rattle.vt_rehearse.specs.Shape.{the_sizes}
+use Rattle.vt_rehearse.specs.Stage.{StageState}
+use Rattle.vt_rehearse.specs.Words.{word_of}
+
+-- ---- requests
+
+-- a request for this operation
+abbrev pub AsksFor : Operation → Request → Type 0
+AsksFor m request = message_of request ≡ t_ask m
+
+-- a session asks for something, at time 0
+abbrev pub asked_by : (session : ℕ) → Request → Event
+asked_by session request = Ask session request 0
+
+-- it is compared whether this is so, and nothing else changes
+abbrev pub Judges : {D : Type 0} → (right : Type 0) → (old new : StageState D) → Type 0
+Judges right old new = (is_right : Bool) × (IsTrue is_right ↔ right)
+    × (new ≡ record old { summary = with_compared is_right old.summary })
+
+-- the store says this
+pub record Tells {D : Type 0} (score : List ℕ → List ℕ) (disk : DiskOf D) (event : Event)
+    (said : Said) (old new : CoreState D) : Type 0 where
+  pub at : ℕ
+  pub steps : Steps score disk event (SaidOut (record { said = said; at = at })) old new
+
+-- ---- a write
+
+-- the store told a session so many times to come again, and each time the log made a device call
+abbrev pub PutsOff : {D : Type 0} → (List ℕ → List ℕ) → DiskOf D → Event → (times : ℕ)
+    → (old new : CoreState D) → Type 0
+PutsOff score disk event zero old new = new ≡ old
+PutsOff {D} score disk event (suc times) old new = (asked : CoreState D) × (moved : CoreState D)
+    × Steps score disk event NotYet old asked × Steps score disk LogAdvance Moved asked moved
+    × PutsOff score disk event times moved new
+
+-- it tells it to come again, and the log has nothing to do
+pub record LeavesOff {D : Type 0} (score : List ℕ → List ℕ) (disk : DiskOf D) (event : Event)
+    (old new : CoreState D) : Type 0 where
+  pub asked : CoreState D
+  pub again : Steps score disk event NotYet old asked
+  pub idle : Steps score disk LogAdvance Nothing asked new
+
+-- A session asks for a word to be written until that is answered, which takes so many events. Where
+-- the log has nothing to do, there is no answer.
+pub record AsksWrite {D : Type 0} (score : List ℕ → List ℕ) (disk : DiskOf D) (session word : ℕ)
+    (answer : Option Said) (events : ℕ) (old new : CoreState D) : Type 0 where
+  pub request : Request
+  pub is_for : AsksFor (write 13 (word_of word)) request
+  pub times : ℕ
+  pub ready : CoreState D
+  pub puts_off : PutsOff score disk (asked_by session request) times old ready
+  pub ends : MatchOption answer
+      ((events ≡ 2 * times + 2) × LeavesOff score disk (asked_by session request) ready new)
+      (λ said. (events ≡ 2 * times + 1)
+      × Tells score disk (asked_by session request) said ready new)
+
+-- what becomes of a word: the store held it, or takes it in, or has no room for it
+pub data Fate : Type 0 where
+  was_held : Fate
+  was_accepted : Fate
+  was_refused : Fate
+
+-- The store says this to a write of a word that has this score, before which it had so many blocks,
+-- and behind which so many. It holds a word exactly where the list has it.
+abbrev pub IsWritten : (own : List ℕ) → (word : ℕ) → (listed : List ℕ) → Fate → Said
+    → (before after : ℕ) → Type 0
+IsWritten own word listed was_held said before after = Contains listed word
+    × (said ≡ Score (record { 0 = own })) × (after ≡ before)
+IsWritten own word listed was_accepted said before after = (¬ Contains listed word)
+    × (said ≡ Score (record { 0 = own })) × (after ≡ before + 1)
+IsWritten own word listed was_refused said before after = (¬ Contains listed word)
+    × (said ≡ Refused ArenasFull) × (after ≡ before)
+
+-- a word that was taken in goes to the end of the list
+abbrev pub listed_after : Fate → (word : ℕ) → List ℕ → List ℕ
+listed_after was_held word listed = listed
+listed_after was_accepted word listed = listed ++ word ∷ []
+listed_after was_refused word listed = listed
+
+abbrev pub with_written : Fate → Summary → Summary
+with_written was_held s = with_held s
+with_written was_accepted s = with_accepted s
+with_written was_refused s = with_refused s
+
+-- what is counted and listed of an answer to a write, which was compared
+pub record NotesWrite {D : Type 0} (score : List ℕ → List ℕ) (word : ℕ) (said : Said)
+    (before : ℕ) (old new : StageState D) : Type 0 where
+  pub it : Fate
+  pub is : IsWritten (score (word_of word)) word old.listed it said before (history_len new.core)
+  pub listed : new.listed ≡ listed_after it word old.listed
+  pub counts : new.summary ≡ with_written it (with_compared true old.summary)
+
+-- a write, in all
+pub record WritesWord {D : Type 0} (score : List ℕ → List ℕ) (disk : DiskOf D)
+    (session word : ℕ) (old new : StageState D) : Type 0 where
+  pub answer : Option Said
+  pub events : ℕ
+  pub asks : AsksWrite score disk session word answer events old.core new.core
+  pub notes : let made = record old { summary = with_events events old.summary } in
+      MatchOption answer (new ≡ record made { core = new.core })
+      (λ said. NotesWrite score word said (history_len old.core) made new)
+
+-- ---- a read
+
+-- A word is found exactly where the list has it.
+abbrev pub IsRead : (word : ℕ) → (listed : List ℕ) → (is_found : Bool) → Said → Type 0
+IsRead word listed is_found said =
+    (Contains listed word × (is_found ≡ true) × (said ≡ Block (word_of word)))
+    ⊎ ((¬ Contains listed word) × (is_found ≡ false) × (said ≡ Refused Absent))
+
+pub record ReadsWord {D : Type 0} (score : List ℕ → List ℕ) (disk : DiskOf D)
+    (session word : ℕ) (listed : List ℕ) (is_found : Bool) (old new : CoreState D) : Type 0 where
+  pub request : Request
+  pub is_for : AsksFor (read (score (word_of word)) 13 MAX_BLOCK) request
+  pub said : Said
+  pub tells : Tells score disk (asked_by session request) said old new
+  pub as_listed : IsRead word listed is_found said
+
+-- what is said is compared
+pub record LooksUp {D : Type 0} (score : List ℕ → List ℕ) (disk : DiskOf D)
+    (session word : ℕ) (is_found : Bool) (old new : StageState D) : Type 0 where
+  pub reads : ReadsWord score disk session word old.listed is_found old.core new.core
+  pub same : new ≡ record old { core = new.core; summary = with_compared true old.summary }
+
+-- in a round it is counted, too
+pub record CountsRead {D : Type 0} (score : List ℕ → List ℕ) (disk : DiskOf D)
+    (session word : ℕ) (old new : StageState D) : Type 0 where
+  pub is_found : Bool
+  pub reads : ReadsWord score disk session word old.listed is_found old.core new.core
+  pub same : new ≡ record old {
+    core = new.core;
+    summary = with_read is_found (with_compared true old.summary);
+  }
+
+-- ---- a sync
+
+-- the log made so many device calls, each while not all blocks were durable
+abbrev pub CommitsAll : {D : Type 0} → (List ℕ → List ℕ) → DiskOf D → (calls : ℕ)
+    → (old new : CoreState D) → Type 0
+CommitsAll score disk zero old new = new ≡ old
+CommitsAll {D} score disk (suc calls) old new = (moved : CoreState D)
+    × (old.log.durable < history_len old) × Steps score disk LogAdvance Moved old moved
+    × CommitsAll score disk calls moved new
+
+-- a session waits, the log makes all blocks durable, and the session is told so
+pub record SyncsAll {D : Type 0} (score : List ℕ → List ℕ) (disk : DiskOf D) (session : ℕ)
+    (old new : StageState D) : Type 0 where
+  pub request : Request
+  pub is_for : AsksFor sync request
+  pub waiting : CoreState D
+  pub waits : Steps score disk (asked_by session request) Waits old.core waiting
+  pub calls : ℕ
+  pub durable : CoreState D
+  pub commits : CommitsAll score disk calls waiting durable
+  pub all : durable.log.durable ≡ history_len durable
+  pub tells : Steps score disk (AskAnswer session)
+      (SaidOut (record { said = Synced; at = length old.listed })) durable new.core
+  pub same : new ≡ record old {
+    core = new.core;
+    summary = with_synced (with_compared true (with_events (calls + 2) old.summary));
+  }
+
+-- ---- the store's own work, and crashes
+
+-- these events, whatever they give
+pub record Works {D : Type 0} (score : List ℕ → List ℕ) (disk : DiskOf D) (events : List Event)
+    (old new : StageState D) : Type 0 where
+  pub outs : List Out
+  pub runs : Runs score disk events outs old.core new.core
+  pub same : new ≡ record old {
+    core = new.core;
+    summary = with_events (length events) old.summary;
+  }
+
+-- All devices crash at once, and what is left of each is of this mode. The store that is mounted on
+-- that has each synced block, and the list is cut to the blocks that it has.
+pub record CrashesIn {D : Type 0} (score : List ℕ → List ℕ) (disk : DiskOf D)
+    (Leaves : CrashMode → D → List ℕ → Type 0) (mode : CrashMode) (old new : StageState D)
+    : Type 0 where
+  pub restarts : Restarts score disk Leaves mode old.core new.core
+  pub keeps : old.core.synced ≤ history_len new.core
+  pub within : history_len new.core ≤ length old.listed
+  pub listed : new.listed ≡ take (history_len new.core) old.listed
+  pub counts : new.summary ≡ with_crash (length old.listed - history_len new.core)
+      (with_compared true old.summary)
+
+-- ---- rounds
+
+-- what a round does
+abbrev pub Makes : {D : Type 0} → (List ℕ → List ℕ) → DiskOf D
+    → (Leaves : CrashMode → D → List ℕ → Type 0) → Round → (old new : StageState D) → Type 0
+Makes score disk Leaves (Write session word) old new = WritesWord score disk session word old new
+Makes score disk Leaves (Read session word) old new = CountsRead score disk session word old new
+Makes score disk Leaves (Sync session) old new = SyncsAll score disk session old new
+Makes score disk Leaves Commit old new = Works score disk (LogAdvance ∷ []) old new
+Makes score disk Leaves (Begin shard) old new = Works score disk (FileBegin shard ∷ []) old new
+Makes score disk Leaves (Advance shard) old new =
+    Works score disk (FileAdvance shard ∷ []) old new
+Makes score disk Leaves (Evict shard) old new =
+    Works score disk (EvictLump shard ∷ EvictIndex shard ∷ []) old new
+Makes score disk Leaves (Crash mode) old new = CrashesIn score disk Leaves mode old new
+
+-- rounds one after another
+abbrev pub MakesAll : {D : Type 0} → (List ℕ → List ℕ) → DiskOf D
+    → (Leaves : CrashMode → D → List ℕ → Type 0) → List Round → (old new : StageState D) → Type 0
+MakesAll score disk Leaves [] old new = new ≡ old
+MakesAll {D} score disk Leaves (round ∷ rounds) old new = (mid : StageState D)
+    × Makes score disk Leaves round old mid × MakesAll score disk Leaves rounds mid new
+
+-- words looked up one after another
+abbrev pub LooksUpAll : {D : Type 0} → (List ℕ → List ℕ) → DiskOf D → (words : List ℕ)
+    → (old new : StageState D) → Type 0
+LooksUpAll score disk [] old new = new ≡ old
+LooksUpAll {D} score disk (word ∷ words) old new = (mid : StageState D)
+    × ((is_found : Bool) × LooksUp score disk 0 word is_found old mid) × LooksUpAll score disk words mid new

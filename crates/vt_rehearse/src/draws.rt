@@ -1,0 +1,44 @@
+//! Numbers that follow from a number.
+
+ghost use Rattle.std.specs.Prelude.{◌≡◌, ◌<◌, ℕ};
+ghost use Rattle.vt_rehearse.specs.Draws.{drawn, next_of};
+
+use std::marker::Model;
+
+/// A sequence of numbers that its first one determines (a linear congruence modulo 2^64, with
+/// Knuth's multiplier of MMIX).
+#[derive(Drop)]
+pub struct Draws {
+    x: u64,
+}
+
+impl Model for Draws {
+    ghost use Rattle.std.specs.Prelude.{ℕ};
+
+    ghost Value = { ℕ };
+
+    ghost view = { λ d. d.x };
+}
+
+impl Draws {
+    /// Those that follow from this number.
+    pub fn new(seed: u64) -> Self
+        ensures { result ≡ seed }
+    {
+        Draws { x: seed }
+    }
+
+    /// The next number, of its high bits, modulo this.
+    pub fn draw(&mut self, below: u32) -> u32
+        requires { 0 < below }
+        ensures drawn { result ≡ drawn self.old below }
+        ensures within { result < below }
+        ensures next { self.new ≡ next_of self.old }
+    {
+        self.x = self
+            .x
+            .wrapping_mul(6_364_136_223_846_793_005)
+            .wrapping_add(1_442_695_040_888_963_407);
+        (self.x >> 33) as u32 % below
+    }
+}

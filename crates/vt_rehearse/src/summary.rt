@@ -1,0 +1,56 @@
+//! What is counted.
+
+ghost use Rattle.std.specs.Prelude.{◌≡◌};
+ghost use Rattle.vt_rehearse.specs.Counts.{nothing_done};
+
+/// What a rehearsal did, and what came of it.
+#[derive(Clone, Copy, Debug, PartialEq, Eq)]
+pub struct Summary {
+    /// Events of the store that the rounds took.
+    pub events: u64,
+    /// Writes that were answered.
+    pub writes: u64,
+    /// Those that added a block.
+    pub accepted: u64,
+    /// Those of a block that the store held.
+    pub held: u64,
+    /// Reads.
+    pub reads: u64,
+    /// Those that gave a block.
+    pub found: u64,
+    /// Those for which there was none.
+    pub missing: u64,
+    pub syncs: u64,
+    pub crashes: u64,
+    /// Blocks that crashes cut off.
+    pub lost: u64,
+    /// Blocks that the store has at the end.
+    pub blocks: u64,
+    /// Answers and recovered lengths that were compared with the plain list.
+    pub compared: u64,
+    /// Whether all of these were those of the list.
+    pub ok: bool,
+}
+
+impl Summary {
+    /// Nothing was done yet.
+    pub(crate) fn new() -> Self
+        ensures { result ≡ nothing_done }
+    {
+        Summary {
+            events: 0,
+            writes: 0,
+            accepted: 0,
+            held: 0,
+            reads: 0,
+            found: 0,
+            missing: 0,
+            syncs: 0,
+            crashes: 0,
+            lost: 0,
+            blocks: 0,
+            compared: 0,
+            ok: true,
+        }
+    }
+}

@@ -1,0 +1,123 @@
+//! Rehearsals of some seeds.
+
+use super::*;
+use crate::draws::Draws;
+use std::alloc::Global;
+use std::test::Fail;
+use vt_out::Silent;
+
+/// What a rehearsal without rounds comes to: the 64 words are looked up.
+const NOTHING: Summary = Summary {
+    events: 0,
+    writes: 0,
+    accepted: 0,
+    held: 0,
+    reads: 0,
+    found: 0,
+    missing: 0,
+    syncs: 0,
+    crashes: 0,
+    lost: 0,
+    blocks: 0,
+    compared: 64,
+    ok: true,
+};
+
+/// Seeds, counts of rounds, and what they come to: a read of an empty store, a crash of one, the
+/// beginning of a writeback that has nothing to do, and many rounds.
+const ROUNDS: [(u64, u32, Summary); 5] = [
+    (1, 0, NOTHING),
+    (
+        1,
+        1,
+        Summary {
+            events: 1,
+            reads: 1,
+            missing: 1,
+            compared: 65,
+            ..NOTHING
+        },
+    ),
+    (
+        0,
+        1,
+        Summary {
+            crashes: 1,
+            compared: 65,
+            ..NOTHING
+        },
+    ),
+    (
+        2,
+        1,
+        Summary {
+            events: 1,
+            ..NOTHING
+        },
+    ),
+    (
+        7,
+        2_000,
+        Summary {
+            events: 2_382,
+            writes: 772,
+            accepted: 119,
+            held: 653,
+            reads: 363,
+            found: 304,
+            missing: 59,
+            syncs: 130,
+            crashes: 112,
+            lost: 55,
+            blocks: 64,
+            compared: 1_441,
+            ok: true,
+        },
+    ),
+];
+
+#[test]
+fn rehearsals_are_those_of_the_seed(rt: HostRuntime) -> Result<(), Fail> {
+    for (seed, count, wanted) in ROUNDS {
+        let summary = rehearse(rt.alloc(), &mut Silent, seed, count)?;
+        assert_eq!(rt; summary, wanted, "seed {seed}, {count} rounds");
+    }
+    Ok(())
+}
+
+/// How many of the rounds that a seed draws are writes.
+fn writes_drawn(seed: u64, count: u32) -> u64 {
+    let mut draws = Draws::new(seed);
+    let mut writes: u64 = 0;
+    for _ in 0..count {
+        if let Round::Write { .. } = Round::draw(&mut draws) {
+            writes = writes.saturating_add(1);
+        }
+    }
+    writes
+}
+
+/// Each write that is drawn is answered, and each that is answered is accepted or held: the store
+/// has room for all words.
+fn is_whole(alloc: Global, seed: u64, count: u32) -> Result<bool, Fail> {
+    let summary = rehearse(alloc, &mut Silent, seed, count)?;
+    let answered = summary.accepted + summary.held == summary.writes;
+    Ok(answered && summary.writes == writes_drawn(seed, count) && summary.ok)
+}
+
+#[test]
+fn each_write_is_answered(rt: HostRuntime) -> Result<(), Fail> {
+    for seed in 100..110 {
+        assert!(rt; is_whole(rt.alloc(), seed, 500)?, "seed {seed}");
+    }
+    Ok(())
+}
+
+#[test]
+fn a_long_rehearsal_ends_well_and_alike(rt: HostRuntime) -> Result<(), Fail> {
+    let first = rehearse(rt.alloc(), &mut Silent, 7, 20_000)?;
+    let second = rehearse(rt.alloc(), &mut Silent, 7, 20_000)?;
+    assert!(rt; first.ok);
+    assert_eq!(rt; first, second);
+    Ok(())
+}
