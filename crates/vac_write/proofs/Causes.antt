@@ -2,7 +2,6 @@
 use Rattle.std.proofs.Common.{◌≡◌, ℕ, IfErr, Result, Ok, Err, sym, subst}
 use Rattle.std.specs.Prelude.{MatchBool}
 use Rattle.vt_base.specs.Faults.{CountsFault, HasRisen}
-use Rattle.vt_tree.specs.declared.err.TreeErr.TheVariants as trees
 use Rattle.vac_write.specs.declared.err.VacErr.{VacErr}
 use Rattle.vac_write.specs.declared.err.VacErr.TheVariants.{FolderFault, Tree, BadName, TooDeep, NoMemory}
 use Rattle.vac_write.specs.Archiving.{is_folder_fault}

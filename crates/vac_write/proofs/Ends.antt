@@ -1,5 +1,5 @@
 -- A folder's archive, written or given up.
-use Rattle.std.proofs.Common.{◌≡◌, ℕ, ◌+◌, ◌<◌, ◌≤◌, ◌^◌, Bool, true, false, IsTrue, Option, Some, None, Ok, Err, List, [], ◌∷◌, ◌++◌, length, map, refl, sym, ◌∙◌, ap, subst, inl, inr, nat_cmp, is_lt, arith, append_assoc, append-nil}
+use Rattle.std.proofs.Common.{◌≡◌, ℕ, ◌<◌, ◌≤◌, ◌^◌, Bool, Some, None, Ok, Err, List, [], ◌∷◌, ◌++◌, length, map, refl, sym, ◌∙◌, ap, subst, inl, inr, nat_cmp, is_lt, arith, append_assoc, append-nil}
 use Rattle.std.specs.Cmp.Lexicographic.{slice_cmp}
 use Rattle.std.proofs.lemmas.Bool.{cases_Bool}
 use Rattle.std.proofs.lemmas.List.{map-append}
@@ -9,19 +9,19 @@ use Rattle.vt_folder.specs.Items.{Items, none, file, folder, other, folder_at}
 use Rattle.vt_model.specs.History.{Block}
 use Rattle.vt_tree.specs.declared.err.BlockErr.{BlockErr}
 use Rattle.vt_tree.specs.declared.err.TreeErr.TheVariants as trees
-use Rattle.vt_tree.specs.Calls.{Call, sync, asked_of, write_of, refusals_of, Tells, after}
+use Rattle.vt_tree.specs.Calls.{Call, sync, asked_of, write_of, Tells, after}
 use Rattle.vt_tree.specs.Making.{Makes}
 use Rattle.vt_tree.specs.Maps.{Maps, with_blocks, IsWriteOnce}
 use Rattle.vt_tree.specs.Entries.{spelled as entry_bytes}
 use Rattle.vt_tree.specs.Roots.{spelled as root_bytes}
-use Rattle.vt_tree.proofs.Appending.{accepted_join, ends_more}
+use Rattle.vt_tree.proofs.Appending.{accepted_join}
 use Rattle.vt_tree.proofs.Making.{makes_more, makes_one, puts_are_there, puts_leave, told}
 use Rattle.vt_tree.proofs.ReadBack.{depth_below_8, depth_reaches, stream_reads_back}
 use Rattle.vac_model.specs.declared.TheConstants.{MIN_BLOCK_SIZE, MAX_BLOCK_SIZE}
 use Rattle.vac_model.specs.Archives.{archive_of, top_bytes, root_of, directory_entry, metadata_entry, entries_of}
 use Rattle.vac_model.specs.Kept.{placed, in_order, archived, count, left_out}
 use Rattle.vac_model.specs.Laws.{ArchivesReadBack}
-use Rattle.vac_model.specs.Limits.{first_unfit, HaveTimes, IsArchivable}
+use Rattle.vac_model.specs.Limits.{first_unfit, HaveTimes}
 use Rattle.vac_model.proofs.Archivable.{fit_is_good}
 use Rattle.vac_model.proofs.ReadsBack.{good_tree}
 use Rattle.vac_write.specs.declared.archived.Archived.{Archived}
@@ -29,7 +29,7 @@ use Rattle.vac_write.specs.declared.archiving.Walk.{Walk}
 use Rattle.vac_write.specs.declared.err.VacErr.{VacErr}
 use Rattle.vac_write.specs.declared.err.VacErr.TheVariants.{Tree}
 use Rattle.vac_write.specs.declared.streams.FolderEntries.{FolderEntries}
-use Rattle.vac_write.specs.Archiving.{IsSeen, asked_for, IsGivenUpAs, KeepsArchive, WritesArchive, GivesUpArchive}
+use Rattle.vac_write.specs.Archiving.{IsSeen, IsGivenUpAs, KeepsArchive, WritesArchive, GivesUpArchive}
 use Rattle.vac_write.specs.Listing.{joined}
 use Rattle.vac_write.specs.Puts.{PutsBlocks, GivesUpBlocks, IsOfStore}
 use Rattle.vac_write.specs.Walking.{all_blocks, archived_from, top_of, root_blocks, unfit_at, ArchivesItems, GivesUpItems}

@@ -1,7 +1,7 @@
 -- A file that was written as a stream, and bytes in memory.
-use Rattle.std.proofs.Common.{◌≡◌, ℕ, ◌≤◌, ◌<◌, ◌^◌, Bool, true, false, IsTrue, Option, Some, None, List, [], ◌++◌, length, drop, map, refl, sym, ◌∙◌, ap, subst, arith, append-nil}
+use Rattle.std.proofs.Common.{◌≡◌, ℕ, ◌≤◌, ◌^◌, Bool, true, false, List, ◌++◌, length, drop, refl, sym, ◌∙◌, ap, subst, arith, append-nil}
 use Rattle.vt_folder.specs.declared.item.Facts.{Facts}
-use Rattle.vt_folder.specs.Items.{Items, file_at}
+use Rattle.vt_folder.specs.Items.{Items}
 use Rattle.vt_tree.specs.declared.entry.Entry.{Entry}
 use Rattle.vt_tree.specs.declared.err.TreeErr.{TreeErr}
 use Rattle.vt_tree.specs.declared.err.TreeErr.TheVariants as trees
@@ -11,8 +11,6 @@ use Rattle.vt_tree.specs.Maps.{Maps}
 use Rattle.vt_tree.specs.Reading.{refusal_in}
 use Rattle.vt_tree.specs.Streams.{Shape, stream_of, entry_of}
 use Rattle.vt_tree.specs.Writing.{IsTakenWhole, IsAll, IsGivenUpFor, WritesStream, GivesUpStream, is_source_fault}
-use Rattle.vac_write.specs.declared.err.VacErr.{VacErr}
-use Rattle.vac_write.specs.declared.err.VacErr.TheVariants.{FolderFault, Tree}
 use Rattle.vac_write.specs.Archiving.{of_stream, refusal_of, is_folder_fault}
 use Rattle.vac_write.specs.Files.{IsWholeFile, IsStreamGivenUpFor, GivesUpTree}
 use Rattle.vac_write.specs.Puts.{PutsBlocks, GivesUpBlocks, IsOfStore}

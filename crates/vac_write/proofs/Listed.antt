@@ -1,5 +1,5 @@
 -- Listings of items: their order, and the tests of them.
-use Rattle.std.proofs.Common.{◌≡◌, ℕ, ◌+◌, ◌<◌, ◌≤◌, ◌||◌, Bool, true, false, cond, Option, Some, None, List, [], ◌∷◌, ◌++◌, length, filter, refl, sym, ◌∙◌, ap, arith, inl, inr, nat_cmp, is_lt, length-append}
+use Rattle.std.proofs.Common.{◌≡◌, ℕ, ◌+◌, ◌||◌, Bool, true, false, cond, Option, Some, None, List, [], ◌∷◌, ◌++◌, length, filter, refl, sym, ◌∙◌, ap, arith, inl, inr, nat_cmp, is_lt, length-append}
 use Rattle.std.specs.Prelude.{⊤, nat_lt, sum_by}
 use Rattle.std.specs.Cmp.{IsStrictWeakOrder}
 use Rattle.std.specs.Cmp.Lexicographic.{slice_cmp}
@@ -18,10 +18,10 @@ use Rattle.vac_meta.specs.declared.record.RecordKind.TheVariants.{File, Folder}
 use Rattle.vac_meta.specs.Records.{all_spelled, spelled, string, numbers}
 use Rattle.vac_model.specs.Archives.{record_of, records_of}
 use Rattle.vac_model.specs.Kept.{placed, in_order, kept, cut_mode, numbered, count}
-use Rattle.vac_model.specs.Limits.{is_bad_behind, is_bad, first_bad, unfit_name, unfit_listing}
+use Rattle.vac_model.specs.Limits.{is_bad_behind, first_bad, unfit_name, unfit_listing}
 use Rattle.vac_model.proofs.InOrder.{NotBefore, AreOrdered, are_ordered}
 use Rattle.vac_write.specs.Listing.{has_bad_owner, record_len, metadata_len}
-use Rattle.vac_write.proofs.Sorting.{filter-kept, filter-dropped, NoneBelow, Rises, rises_sorted, none_lower, no_third, same_sorted}
+use Rattle.vac_write.proofs.Sorting.{filter-kept, filter-dropped, NoneBelow, Rises, rises_sorted, no_third, same_sorted}
 
 -- ---- their order
 

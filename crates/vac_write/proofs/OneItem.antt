@@ -1,7 +1,6 @@
 -- One item of a folder that was archived, or given up.
-use Rattle.std.proofs.Common.{◌≡◌, ℕ, ◌+◌, ◌-◌, ◌*◌, ◌/◌, ◌<◌, ◌≤◌, ◌^◌, Bool, true, false, cond, IsTrue, Option, Some, None, List, [], ◌∷◌, ◌++◌, length, take, refl, sym, ◌∙◌, ap, subst, arith, append_assoc, append-nil, length-append}
+use Rattle.std.proofs.Common.{◌≡◌, ℕ, ◌+◌, ◌-◌, ◌*◌, ◌/◌, ◌<◌, ◌≤◌, ◌^◌, Bool, false, cond, Option, Some, None, List, [], ◌∷◌, ◌++◌, length, take, refl, sym, ◌∙◌, ap, subst, arith, append_assoc, append-nil, length-append}
 use Rattle.std.specs.Prelude.{nat_lt, nat_le, bit_and}
-use Rattle.std.specs.List.{flat_map}
 use Rattle.std.specs.Option.{option_or}
 use Rattle.std.proofs.lemmas.Bool.{le-leb, le-ltb, lt-leb, lt-ltb}
 use Rattle.std.proofs.lemmas.List.{take_at}
@@ -13,19 +12,19 @@ use Rattle.vt_folder.specs.Items.{Items, none, file, folder, other, item_of, lis
 use Rattle.vt_model.specs.History.{Block}
 use Rattle.vt_tree.specs.declared.entry.Entry.{Entry}
 use Rattle.vt_tree.specs.declared.err.TreeErr.TheVariants as trees
-use Rattle.vt_tree.specs.Calls.{Call, asked_of, write_of}
+use Rattle.vt_tree.specs.Calls.{Call}
 use Rattle.vt_tree.specs.Entries.{IsEntry, spelled as entry_bytes}
 use Rattle.vt_tree.specs.Making.{EndsBy}
 use Rattle.vt_tree.specs.Maps.{Maps}
-use Rattle.vt_tree.specs.Streams.{stream_of, entry_of}
+use Rattle.vt_tree.specs.Streams.{stream_of}
 use Rattle.vt_tree.specs.Writing.{WritesStream}
 use Rattle.vac_meta.specs.declared.record.Record.{Record}
 use Rattle.vac_meta.specs.declared.record.RecordKind.{RecordKind}
 use Rattle.vac_meta.specs.declared.record.RecordKind.TheVariants as records
 use Rattle.vac_meta.specs.Records.{spelled as record_bytes}
 use Rattle.vac_model.specs.declared.TheConstants.{MAX_FILE, MAX_NESTING}
-use Rattle.vac_model.specs.Archives.{file_shape, record_of, blocks_of, folder_blocks, entries_of, directory_entry, metadata_entry}
-use Rattle.vac_model.specs.Kept.{Numbered, in_order, kept, cut_mode, numbered, count, path_to, left_out}
+use Rattle.vac_model.specs.Archives.{file_shape, blocks_of, entries_of, directory_entry, metadata_entry}
+use Rattle.vac_model.specs.Kept.{in_order, kept, numbered, count, path_to, left_out}
 use Rattle.vac_model.specs.Limits.{Unfit, too_long, too_deep, unfit_listing, unfit_inside}
 use Rattle.vac_model.proofs.Stands.{entry_len}
 use Rattle.vac_write.specs.declared.archiving.Walk.{Walk}
@@ -38,7 +37,7 @@ use Rattle.vac_write.specs.Files.{IsWholeFile, IsStreamGivenUpFor, GivesUpTree}
 use Rattle.vac_write.specs.Listing.{IsSeenAt, joined, joined_behind}
 use Rattle.vac_write.specs.Puts.{PutsBlocks, GivesUpBlocks}
 use Rattle.vac_write.specs.Sources.{file_of, file_is, or_none}
-use Rattle.vac_write.specs.Walking.{unfit_at, archived_from, all_blocks, IsWholeFolder, AreItems, ArchivesPart, GivesUpPart, ArchivesItem, GivesUpItem, ArchivesItems, GivesUpItems}
+use Rattle.vac_write.specs.Walking.{unfit_at, archived_from, all_blocks, IsWholeFolder, AreItems, ArchivesItem, GivesUpItem, ArchivesItems, GivesUpItems}
 use Rattle.vac_write.proofs.Filed.{wrote_blocks}
 use Rattle.vac_write.proofs.Puts.{puts_none, gives_none, gives_front}
 use Rattle.vac_write.proofs.Wholes.{facts_of}

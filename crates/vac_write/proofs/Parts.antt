@@ -1,5 +1,5 @@
 -- Items of a folder that were archived, some behind others.
-use Rattle.std.proofs.Common.{◌≡◌, ℕ, ◌+◌, ◌*◌, ◌/◌, ◌<◌, ◌^◌, Option, Some, None, List, [], ◌∷◌, ◌++◌, length, refl, sym, ◌∙◌, ap, subst, arith, append_assoc, append-nil, length-append}
+use Rattle.std.proofs.Common.{◌≡◌, ℕ, ◌+◌, ◌*◌, ◌/◌, Option, Some, None, List, ◌++◌, length, refl, sym, ◌∙◌, ap, subst, arith, append_assoc, append-nil, length-append}
 use Rattle.std.specs.List.{flat_map}
 use Rattle.std.specs.Option.{option_or}
 use Rattle.std.proofs.lemmas.List.Concat.{flat_map-append}
@@ -9,7 +9,6 @@ use Rattle.vt_model.specs.History.{Block}
 use Rattle.vt_tree.specs.declared.err.TreeErr.TheVariants as trees
 use Rattle.vt_tree.specs.Calls.{Call}
 use Rattle.vt_tree.specs.Entries.{spelled as entry_bytes}
-use Rattle.vac_meta.specs.declared.record.Record.{Record}
 use Rattle.vac_meta.specs.Records.{all_spelled, spelled as record_bytes}
 use Rattle.vac_model.specs.Archives.{records_of, entries_of, blocks_of}
 use Rattle.vac_model.specs.Kept.{Numbered, kept, numbered, count, left_out}
@@ -18,12 +17,12 @@ use Rattle.vac_write.specs.declared.archiving.Walk.{Walk}
 use Rattle.vac_write.specs.declared.err.VacErr.{VacErr}
 use Rattle.vac_write.specs.declared.err.VacErr.TheVariants.{FolderFault, Tree, BadName, TooDeep, NoMemory}
 use Rattle.vac_write.specs.declared.streams.Streams.{Streams}
-use Rattle.vac_write.specs.Archiving.{IsGivenUpAs, refusal_of}
+use Rattle.vac_write.specs.Archiving.{IsGivenUpAs}
 use Rattle.vac_write.specs.Listing.{joined}
 use Rattle.vac_write.specs.Puts.{PutsBlocks, GivesUpBlocks, IsOfStore}
 use Rattle.vac_write.specs.Walking.{ArchivesPart, GivesUpPart}
 use Rattle.vac_write.proofs.Followed.{followed, archived_followed, count_followed, entries_followed, records_followed, blocks_followed, left_followed, unfit_followed, times_followed}
-use Rattle.vac_write.proofs.Puts.{puts_none, puts_join, gives_front, gives_later, gives_none}
+use Rattle.vac_write.proofs.Puts.{puts_none, puts_join, gives_front, gives_later}
 
 -- ---- causes
 

@@ -1,5 +1,5 @@
 -- How an archive's streams are cut.
-use Rattle.std.proofs.Common.{◌≡◌, ℕ, ◌*◌, ◌/◌, Bool, true, false, refl}
+use Rattle.std.proofs.Common.{◌≡◌, ℕ, ◌*◌, ◌/◌, Bool, true, false}
 use Rattle.vt_tree.specs.Streams.{Shape}
 use Rattle.vac_write.specs.Walking.{shape_of}
 

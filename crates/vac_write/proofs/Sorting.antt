@@ -1,8 +1,8 @@
 -- A stable sort of a list has one outcome.
-use Rattle.std.proofs.Common.{◌≡◌, ℕ, zero, suc, ◌<◌, ◌≤◌, Bool, true, false, cond, List, [], ◌∷◌, length, get_or, filter, refl, sym, ◌∙◌, ap, arith, inl, inr, suc-le-suc, zero-le}
+use Rattle.std.proofs.Common.{◌≡◌, ℕ, zero, suc, ◌<◌, ◌≤◌, Bool, true, false, List, [], ◌∷◌, length, get_or, filter, refl, sym, ◌∙◌, ap, inl, inr, suc-le-suc, zero-le}
 use Rattle.std.specs.Prelude.{⊤, not, ◌&&◌}
 use Rattle.std.specs.Cmp.{IsStrictWeakOrder}
-use Rattle.std.specs.List.Sorted.{ties, IsSortedBy, IsStableBy}
+use Rattle.std.specs.List.Sorted.{ties, IsSortedBy}
 use Rattle.std.proofs.lemmas.Bool.{cond-true, cond-false, cases_Bool, and_parts, not-true, true≢false}
 use Rattle.std.proofs.lemmas.List.Sorted.{sorted_far}
 

@@ -1,7 +1,6 @@
 -- Items of a folder that were archived, and the folder whose items in order they are.
-use Rattle.std.proofs.Common.{◌≡◌, ℕ, ◌<◌, ◌||◌, Bool, true, false, cond, IsTrue, Option, Some, None, List, [], ◌∷◌, ◌++◌, length, refl, sym, ◌∙◌, ap, subst, arith, inl, inr, nat_cmp, is_lt, append_assoc}
+use Rattle.std.proofs.Common.{◌≡◌, ℕ, ◌||◌, Bool, true, false, cond, IsTrue, Option, Some, None, List, [], ◌∷◌, ◌++◌, refl, sym, ◌∙◌, ap, subst, inl, inr}
 use Rattle.std.specs.Prelude.{⊤}
-use Rattle.std.specs.Cmp.Lexicographic.{slice_cmp}
 use Rattle.std.specs.Option.{option_map}
 use Rattle.std.specs.Str.{bytes_eq}
 use Rattle.std.proofs.lemmas.Bool.{cases_Bool, false≢true}
@@ -15,12 +14,12 @@ use Rattle.vt_folder.specs.Items.{Items, none, file, folder, other, item_of, lis
 use Rattle.vac_model.specs.Kept.{placed, in_order}
 use Rattle.vac_model.specs.Limits.{is_bad_name, is_bad_behind, first_bad, unfit_name, unfit_listing}
 use Rattle.vac_model.proofs.InOrder.{NotBefore, AreOrdered, are_ordered}
-use Rattle.vac_model.proofs.Names.{Below, NotBelow, below_below, not_both, above_other}
+use Rattle.vac_model.proofs.Names.{Below, below_below, not_both, above_other}
 use Rattle.vac_write.specs.Files.{IsWholeFile}
 use Rattle.vac_write.specs.Listing.{IsSeenAt, AreListed, has_bad_owner, metadata_len, joined}
 use Rattle.vac_write.specs.Walking.{IsWholeFolder, AreItems}
 use Rattle.vac_write.proofs.Followed.{followed, listing_followed}
-use Rattle.vac_write.proofs.Found.{folder_found, file_found, other_name, bytes_in_order, inside_in_order}
+use Rattle.vac_write.proofs.Found.{folder_found, file_found, bytes_in_order, inside_in_order}
 use Rattle.vac_write.proofs.Listed.{bad_listed, first_bad_in, same_listing}
 
 -- ---- names that rise

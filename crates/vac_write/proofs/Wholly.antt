@@ -23,7 +23,7 @@ use Rattle.vac_write.specs.declared.streams.Streams.{Streams}
 use Rattle.vac_write.specs.Archiving.{IsGivenUpAs, refusal_of}
 use Rattle.vac_write.specs.Listing.{IsSeenAt, IsNotListed, IsUnfitAt, AreListed, joined}
 use Rattle.vac_write.specs.Puts.{PutsBlocks, GivesUpBlocks, IsOfStore}
-use Rattle.vac_write.specs.Walking.{unfit_at, archived_from, all_blocks, streams_blocks, AreItems, ArchivesPart, GivesUpPart, GivesUpItem, WritesStreams, ArchivesItems, GivesUpItems}
+use Rattle.vac_write.specs.Walking.{unfit_at, archived_from, all_blocks, streams_blocks, AreItems, ArchivesPart, GivesUpItem, WritesStreams, ArchivesItems, GivesUpItems}
 use Rattle.vac_write.proofs.Followed.{followed, followed_none, listing_followed}
 use Rattle.vac_write.proofs.Parts.{as_unfit, of_store_as, or_behind, part_then_given_up, part_given_up}
 use Rattle.vac_write.proofs.Puts.{puts_join, gives_front, gives_later, gives_none}

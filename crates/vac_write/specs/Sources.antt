@@ -1,5 +1,5 @@
 -- What is read of a file as a stream.
-use Rattle.std.specs.Prelude.{ℕ, ◌+◌, ◌<◌, ◌^◌, ⊤, Bool, cond, true, false, Option, Some, None, List, [], ◌∷◌, length, drop}
+use Rattle.std.specs.Prelude.{ℕ, ◌+◌, ⊤, Bool, cond, true, false, Option, Some, None, List, [], ◌∷◌, drop}
 use Rattle.std.proofs.Common.{arith}
 use Rattle.std.proofs.lemmas.List.{get_or-drop}
 use Rattle.std.specs.Option.{option_and_then}

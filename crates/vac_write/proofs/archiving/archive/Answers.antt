@@ -1,4 +1,4 @@
-use Rattle.std.proofs.Common.{◌≡◌, List, refl, arith}
+use Rattle.std.proofs.Common.{refl}
 use Rattle.std.proofs.lemmas.Result.{err_from_is_err_and}
 use Rattle.vac_write.specs.declared.archiving.Walk.{Walk}
 use Rattle.vac_write.proofs.Ends.{archive_written, root_given_up, sync_refused, walk_given_up}

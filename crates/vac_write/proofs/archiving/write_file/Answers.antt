@@ -1,4 +1,4 @@
-use Rattle.std.proofs.Common.{◌≡◌, ℕ, false, List, drop, refl, subst}
+use Rattle.std.proofs.Common.{ℕ, false, List, drop, refl, subst}
 use Rattle.std.proofs.lemmas.Result.{err_from_is_err_and}
 use Rattle.vt_tree.specs.Streams.{Shape}
 use Rattle.vt_tree.specs.Writing.{IsAll, IsTakenWhole, WritesStream, GivesUpStream}

@@ -1,11 +1,11 @@
-use Rattle.std.proofs.Common.{◌≡◌, ◌<◌, ◌≤◌, ℕ, Bool, cond, IsTrue, Option, Some, None, List, refl, sym, ◌∙◌, ap, arith, rules}
+use Rattle.std.proofs.Common.{◌≡◌, ℕ, Bool, cond, Some, None, List, sym, ◌∙◌, ap, arith, rules}
 use Rattle.std.proofs.lemmas.Bool.{le-ltb, lt-ltb}
 use Rattle.std.proofs.lemmas.List.Sorted.{answers_always}
 use Rattle.vt_folder.specs.declared.item.Facts.{Facts}
-use Rattle.vt_folder.specs.Items.{Items, listing_of, folder_at}
+use Rattle.vt_folder.specs.Items.{Items}
 use Rattle.vac_model.specs.declared.TheConstants.{MAX_METADATA}
 use Rattle.vac_model.specs.Kept.{in_order}
-use Rattle.vac_model.specs.Limits.{Unfit, bad_name, too_long, first_bad, unfit_name}
+use Rattle.vac_model.specs.Limits.{bad_name, too_long, first_bad, unfit_name}
 use Rattle.vac_write.specs.Listing.{joined, metadata_len}
 use Rattle.vac_write.proofs.Listed.{below, below_orders}
 use Rattle.vac_write.proofs.Ordered.{ordered_of}

@@ -1,4 +1,4 @@
-use Rattle.std.proofs.Common.{◌≡◌, ◌-◌, ◌^◌, ℕ, List, take, min, sym, ◌∙◌, ap}
+use Rattle.std.proofs.Common.{◌-◌, ◌^◌, ℕ, List, min, sym, ◌∙◌, ap}
 use Rattle.std.specs.List.{sum_by}
 use Rattle.std.proofs.lemmas.List.{take_all}
 use Rattle.vt_folder.specs.declared.item.Item.{Item}

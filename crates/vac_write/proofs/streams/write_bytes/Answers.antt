@@ -1,5 +1,5 @@
-use Rattle.std.proofs.Common.{◌≡◌, ℕ, ◌*◌, ◌+◌, ◌-◌, ◌^◌, Bool, true, false, List, drop, refl, sym, ap, subst, arith}
-use Rattle.std.specs.Prelude.{MatchBool, min}
+use Rattle.std.proofs.Common.{◌≡◌, ℕ, Bool, true, false, List, drop, refl, subst, arith}
+use Rattle.std.specs.Prelude.{MatchBool}
 use Rattle.std.proofs.lemmas.Result.{err_from_is_err_and}
 use Rattle.vt_base.specs.Faults.{HasRisen}
 use Rattle.vt_tree.specs.Streams.{Shape}

@@ -1,7 +1,7 @@
-use Rattle.std.proofs.Common.{◌≡◌, ◌≤◌, ◌<◌, ◌-◌, ◌+◌, ℕ, inl, inr, List, [], ◌++◌, length, take, drop, sym, ap, ◌∙◌, arith}
+use Rattle.std.proofs.Common.{◌≡◌, ◌≤◌, ◌+◌, ℕ, inl, inr, List, ◌++◌, length, take, drop, sym, ap, ◌∙◌, arith}
 use Rattle.std.proofs.lemmas.Bool.{cases_lt}
 use Rattle.std.proofs.lemmas.Grind.{common_steps}
-use Rattle.std.proofs.lemmas.List.{drop_all, length-take-le}
+use Rattle.std.proofs.lemmas.List.{drop_all}
 use Rattle.vac_write.specs.Sources.{file_of, file_is, or_none}
 use Rattle.vac_write.proofs.Pieces.{moved, came, rest_of}
 use Rattle.vac_write.proofs.sources.FileSourceSource.take.Goals as goal
