@@ -1,0 +1,15 @@
+pub mod Assembling
+pub mod Beginning
+pub mod Buckets
+pub mod Counting
+pub mod Counts
+pub mod Ending
+pub mod Fills
+pub mod Finishing
+pub mod Gathers
+pub mod HeadWork
+pub mod InTurn
+pub mod NextBack
+pub mod Runs
+pub mod Using
+pub mod Walks

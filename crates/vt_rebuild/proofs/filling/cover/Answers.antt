@@ -1,0 +1,4 @@
+use Rattle.vt_rebuild.proofs.filling.cover.Goals as goal
+
+pub returns-then-number-gathered-clause-undamaged : goal.returns-then-number-gathered-clause-undamaged
+returns-then-number-gathered-clause-undamaged g c = λ h is. c.refill.ensures.undamaged h is.tells is.sound
