@@ -1,5 +1,5 @@
 -- How a client begins (venti(6)): both sides say their line, and then the client a hello.
-use Rattle.std.specs.Prelude.{ℕ, ◌≡◌, ◌⊎◌, ◌<◌, Bool, true, false, None, Result, Ok, Err, List, [], ◌∷◌, ◌++◌, length, take, codes}
+use Rattle.std.specs.Prelude.{ℕ, ◌≡◌, ⊤, ◌⊎◌, ◌<◌, Bool, true, false, None, Result, Ok, Err, List, [], ◌∷◌, ◌++◌, length, take, codes}
 use Rattle.vt_base.specs.Protocol.{t_hello, r_hello}
 use Rattle.vt_wire.specs.Lines.{line_of}
 use Rattle.vt_wire.specs.declared.line.Line.{Line}
@@ -55,6 +55,18 @@ EndsAtLine before after (Err (errs.Remote text)) = ⊥
 EndsAtLine before after (Err (errs.WrongScore want found)) = ⊥
 EndsAtLine before after (Err (errs.BadReply place)) = ⊥
 EndsAtLine before after (Err errs.Spent) = ⊥
+
+-- what a greeting may be refused for, whatever the link: nothing was asked for that has a score
+abbrev pub MayEndGreeting : ClientErr → Type 0
+MayEndGreeting (errs.WrongScore want found) = ⊥
+MayEndGreeting errs.Spent = ⊥
+MayEndGreeting errs.ReadFault = ⊤
+MayEndGreeting errs.WriteFault = ⊤
+MayEndGreeting errs.Cut = ⊤
+MayEndGreeting (errs.BadReply place) = ⊤
+MayEndGreeting errs.NoVersion = ⊤
+MayEndGreeting (errs.Remote text) = ⊤
+MayEndGreeting errs.NoMemory = ⊤
 
 -- How a greeting goes: it ends at the lines, or the hello goes out behind them, under tag 0, and
 -- is answered.

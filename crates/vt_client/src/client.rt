@@ -58,7 +58,7 @@ impl<L: Link, S: Scorer + Drop> Client<L, S> {
     ghost use Rattle.vt_client.specs.Clients.{Asks, CountsSides, SaysGoodbye, block_of, committing};
     ghost use Rattle.vt_client.specs.Clients.{taking_in};
     ghost use Rattle.vt_client.specs.Exchanges.{traffic_of};
-    ghost use Rattle.vt_client.specs.Greetings.{Greets};
+    ghost use Rattle.vt_client.specs.Greetings.{Greets, MayEndGreeting};
 
     /// Greets the server at the other end: puts this client's line, takes the server's, and then
     /// says hello, under tag 0. A refusal gives the link back.
@@ -78,6 +78,7 @@ impl<L: Link, S: Scorer + Drop> Client<L, S> {
         ensures sides { MatchResult result
             (λ client. CountsSides {T = Unit {0}} L.Link link client.link (Ok tt))
             (λ parted. CountsSides {T = Unit {0}} L.Link link parted.link (Err parted.why)) }
+        ensures refuses { IfErr result (λ parted. MayEndGreeting parted.why) }
     {
         let mut link = link;
         let Ok(mut buf) = vec![in alloc; 0u8; FRAME_MAX] else {

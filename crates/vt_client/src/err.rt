@@ -4,7 +4,7 @@ use vt_base::{NoMemory, Score, Text};
 
 /// Why a client didn't get what it asked for. After one other than `Remote`, `WrongScore` or
 /// `NoMemory` each further call answers `Spent`, and touches nothing.
-#[derive(Drop)]
+#[derive(Debug, Drop)]
 pub enum ClientErr {
     /// The server's Rerror, with its text.
     Remote(Text),

@@ -4,7 +4,7 @@ ghost use Rattle.std.specs.Prelude.{◌≡◌, ◌≤◌, ℕ, List, IsTrue, IfO
 ghost use Rattle.vt_wire.specs.Frames.{IsFrame};
 ghost use Rattle.vt_client.specs.Clients.{CountsSides};
 ghost use Rattle.vt_client.specs.Exchanges.{traffic_of};
-ghost use Rattle.vt_client.specs.Greetings.{Greets, welcome};
+ghost use Rattle.vt_client.specs.Greetings.{Greets, MayEndGreeting, welcome};
 ghost use Rattle.vt_client.specs.Taking.{EndsLine, IsOfLine, IsOfTaking, TakesByte, TakesLine};
 ghost use Rattle.vt_client.specs.Taking.{Reads, TakesToNewline, offers_version};
 
@@ -29,6 +29,7 @@ pub(crate) fn say_hello<L: Link>(
     requires { length buf.old ≡ 65537 }
     ensures greets { (score_of : List ℕ → List ℕ) → IsTrue L.tells
         → Greets score_of (traffic_of L.Link link.old) (traffic_of L.Link link.new) result }
+    ensures about { IfErr result MayEndGreeting }
     ensures sides { CountsSides L.Link link.old link.new result }
 {
     let Ok(()) = link.put(LINE) else {

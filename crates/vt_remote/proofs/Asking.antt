@@ -17,7 +17,7 @@ module _ {L T : Type 0} (link : LinkOf L) (score_of : List ℕ → List ℕ)
         → IsBack told address back old new → faults' ≡ faults
         → AsksServer link score_of Does told address old new faults faults' (as_remote answer)
     asks_as (Ok value) back talks is same = (back, talks, is, same)
-    asks_as (Err why) back talks is same = (back, inr talks, is, same)
+    asks_as (Err why) back talks is same = inr (back, talks, is, same)
 
     pub asks_so : (answer : Result T ClientErr) (result : Result T RemoteBad)
         → result ≡ as_remote answer → Meets link score_of client

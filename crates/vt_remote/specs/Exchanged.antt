@@ -14,7 +14,7 @@ ExchangesEach tag (call ∷ calls) before after = (between : Traffic)
     × Exchanges before between tag call.0 call.1 × ExchangesEach (tag + 1) calls between after
 
 -- On a link over which nothing had gone, both sides said their line; a hello was answered; these
--- requests had these replies; and a goodbye went out, or a front of it where its write failed.
+-- requests had these replies; and a goodbye went out, or a front of it.
 -- Nothing else went over it.
 pub record Exchanged (calls : List (TMessage × RMessage)) (back : Traffic) : Type 0 where
   pub before : Traffic

@@ -1,3 +1,4 @@
 pub mod Exchanged
 pub mod Members
+pub mod Refused
 pub mod Remote

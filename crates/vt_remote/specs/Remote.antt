@@ -5,7 +5,7 @@ use Rattle.vt_base.specs.Faults.{HasRisen}
 use Rattle.vt_base.specs.declared.score.Score.{Score}
 use Rattle.vt_client.specs.Clients.{Asks, ClientState, CountsSides, SaysGoodbye, block_of, committing, taking_in}
 use Rattle.vt_client.specs.Exchanges.{traffic_of}
-use Rattle.vt_client.specs.Greetings.{Greets}
+use Rattle.vt_client.specs.Greetings.{Greets, MayEndGreeting}
 use Rattle.vt_client.specs.declared.err.ClientErr.{ClientErr}
 use Rattle.vt_client.specs.declared.err.Parted.{Parted}
 use Rattle.vt_conf.specs.declared.address.Address.{Address}
@@ -64,6 +64,7 @@ pub record MeetsInVain {L : Type 0} (link : LinkOf L) (score_of : List ℕ → L
   pub greets : IsTrue link.tells
       → Greets score_of (traffic_of link made) (traffic_of link back) (Err why)
   pub sides : CountsSides {T = Unit {0}} link made back (Err why)
+  pub refuses : MayEndGreeting why
 
 -- a link was made to this address, and is back
 abbrev pub IsBack : {L : Type 0} → (told : Type 0) → Address → (link : L) → (old new : Dialled L)
@@ -118,7 +119,8 @@ AsksServer {L} link score_of Does told address old new faults faults' (Ok value)
     (back : L) × Talks link score_of (Does (Ok value)) back × IsBack told address back old new
     × (faults' ≡ faults)
 AsksServer {L} link score_of Does told address old new faults faults' (Err Undialled) =
-    (told → new ≡ old) × HasRisen faults faults'
+    AsksNothing link score_of told address old new faults faults' Undialled
 AsksServer {L} link score_of Does told address old new faults faults' (Err (Refused why)) =
-    (back : L) × (MeetsInVain link score_of why back ⊎ Talks link score_of (Does (Err why)) back)
-    × IsBack told address back old new × (faults' ≡ faults)
+    AsksNothing link score_of told address old new faults faults' (Refused why)
+    ⊎ ((back : L) × Talks link score_of (Does (Err why)) back × IsBack told address back old new
+    × (faults' ≡ faults))

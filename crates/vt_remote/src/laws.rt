@@ -1,12 +1,14 @@
-//! What went over the link to a server.
+//! What went over the link to a server, and why it didn't answer.
 
-ghost use Rattle.std.specs.Prelude.{◌≡◌, ℕ, IsTrue, List, [], ◌∷◌, Ok};
+ghost use Rattle.std.specs.Prelude.{◌≡◌, ℕ, IsTrue, List, [], ◌∷◌, Ok, Err};
 ghost use Rattle.vt_base.specs.Protocol.{read, write, sync, t_ask, r_read, r_write, r_sync};
 ghost use Rattle.vt_base.specs.declared.TheConstants.{MAX_BLOCK};
 ghost use Rattle.vt_base.specs.declared.score.Score.{Score};
+ghost use Rattle.vt_client.specs.declared.err.ClientErr.{ClientErr};
 ghost use Rattle.vt_client.specs.Exchanges.{traffic_of};
 ghost use Rattle.vt_remote.specs.Exchanged.{Exchanged};
-ghost use Rattle.vt_remote.specs.Remote.{AsksForBlock, PutsBlock, Talks};
+ghost use Rattle.vt_remote.specs.Refused.{HasCauseOver};
+ghost use Rattle.vt_remote.specs.Remote.{AsksForBlock, MeetsInVain, PutsBlock, Talks};
 
 use vt_out::Link;
 
@@ -23,4 +25,18 @@ pub fn answered_blocks_are_exchanged<L: Link>()
         → Talks L.Link score_of (PutsBlock L.Link score_of kind bytes (Ok given)) back
         → Exchanged ((t_ask (write kind bytes), r_write given.0) ∷ (t_ask sync, r_sync) ∷ [])
         (traffic_of L.Link back) }
+{}
+
+/// A refusal has its cause, over any link: a failed call is told only where the link that came back
+/// counts one, and of scores only two that differ.
+pub fn refusals_have_causes<L: Link>()
+    ensures met { (score_of : List ℕ → List ℕ) (why : ClientErr) (back : L)
+        → MeetsInVain L.Link score_of why back → HasCauseOver L.Link why back }
+    ensures read { (score_of : List ℕ → List ℕ) (kind : ℕ) (s : List ℕ) (why : ClientErr)
+        (back : L) → Talks L.Link score_of (AsksForBlock L.Link score_of kind s (Err why)) back
+        → HasCauseOver L.Link why back }
+    ensures written { (score_of : List ℕ → List ℕ) (kind : ℕ) (bytes : List ℕ)
+        (why : ClientErr) (back : L)
+        → Talks L.Link score_of (PutsBlock L.Link score_of kind bytes (Err why)) back
+        → HasCauseOver L.Link why back }
 {}

@@ -13,7 +13,7 @@ use vt_dial::Dialer;
 use vt_out::Link;
 
 /// Why a block of a server wasn't read or written.
-#[derive(Drop)]
+#[derive(Debug, Drop)]
 pub enum RemoteBad {
     /// No link to the address is made.
     Undialled,
