@@ -76,7 +76,7 @@ of_one_file disk tells len Formats faults faults' old new bad shows worked = ⊎
     (λ not_had. fault_alone bad (Err bad) refl not_had.2)
     worked
 
-module _ {R K I P D T : Type 0} (disk : DiskOf D) (file : List ℕ) (len : ℕ) (Formats : Result T MountBad → D → D → Type 0) (work : Work R K I P D)
+module _ {R K I P D N L T : Type 0} (disk : DiskOf D) (file : List ℕ) (len : ℕ) (Formats : Result T MountBad → D → D → Type 0) (work : Work R K I P D N L)
     (shows : (bad : MountBad) (before after : D) → Formats (Err bad) before after → Shows disk bad before after) where
   abbrev Worked : Result T MountBad → Type 0
   Worked result = WorksOn disk work.parts.tells len Formats work.parts.faults work.parts.faults' (work.parts.old file) (work.parts.new file) result
@@ -130,6 +130,6 @@ told_never file text (Ok made) outcome change tells = printed_never (text made) 
 told_never file text (Err bad) outcome change tells =
     λ one. refusal_never file bad tells.0.0 tells.0.2 (ap status_of (sym tells.0.1) ∙ one)
 
-pub formats_never : {R K I P D T : Type 0} (disk : DiskOf D) (file : List ℕ) (len : ℕ) (Formats : Result T MountBad → D → D → Type 0) (text : T → List ℕ)
-    (outcome : Outcome) (work : Work R K I P D) → FormatsFile disk file len Formats text outcome work → status_of outcome ≢ 1
+pub formats_never : {R K I P D N L T : Type 0} (disk : DiskOf D) (file : List ℕ) (len : ℕ) (Formats : Result T MountBad → D → D → Type 0) (text : T → List ℕ)
+    (outcome : Outcome) (work : Work R K I P D N L) → FormatsFile disk file len Formats text outcome work → status_of outcome ≢ 1
 formats_never disk file len Formats text outcome work formats = told_never file text formats.result outcome work.sink formats.told

@@ -89,8 +89,8 @@ served_well end input output turns source sink needs passes carried read write w
     (inl (ap closed_with needs.closed)))
 
 -- in memory
-pub memory_well : {R K I P D : Type 0} (score : List ℕ → List ℕ) (outcome : Outcome)
-    (work : Work R K I P D) → DoesSession score outcome work
+pub memory_well : {R K I P D N L : Type 0} (score : List ℕ → List ℕ) (outcome : Outcome)
+    (work : Work R K I P D N L) → DoesSession score outcome work
     → IsTrue (work.source.tells && work.sink.tells) → EndsWell work.source.old
     → ¬ HasRisen work.source.faults work.source.faults'
     → ¬ HasRisen work.sink.faults work.sink.faults' → IsWell outcome

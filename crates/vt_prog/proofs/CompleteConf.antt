@@ -82,7 +82,7 @@ none_read file text conf failure files says never tells content none no_fault = 
 
 -- ---- a store that isn't opened
 
-module _ {R K I P D : Type 0} (disk : DiskOf D) (work : Work R K I P D)
+module _ {R K I P D N L : Type 0} (disk : DiskOf D) (work : Work R K I P D N L)
     (fails : NoneFails disk work) where
   no_disk_fault : (failure : Failure) → failure ≡ DiskFault → HasCauseIn disk work (Err failure) → ⊥
   no_disk_fault failure is cause = ⊎_elim fails.parts fails.disks

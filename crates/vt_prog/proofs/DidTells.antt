@@ -7,52 +7,59 @@ use Rattle.vt_session.specs.declared.Ended.TheVariants as ends
 use Rattle.vt_words.specs.declared.asked.Asked.{Asked}
 use Rattle.vt_words.specs.declared.asked.Asked.TheVariants.{Do, Help, Version, Faulty}
 use Rattle.vt_words.specs.declared.command.Command.{Command}
-use Rattle.vt_words.specs.declared.command.Command.TheVariants.{Session, FormatArenas, FormatSection, FormatFilter, FormatIndex}
+use Rattle.vt_words.specs.declared.command.Command.TheVariants.{Session, FormatArenas, FormatSection, FormatFilter, FormatIndex, Read, Write}
 use Rattle.vt_words.specs.Words.{Asks, AreFaulty, IsFaulty}
 use Rattle.vt_words.proofs.Asking.{alone}
+use Rattle.vt_client.specs.declared.err.ClientErr.TheVariants as errs
+use Rattle.vt_remote.specs.declared.remote.RemoteBad.{RemoteBad}
+use Rattle.vt_remote.specs.declared.remote.RemoteBad.TheVariants as remote
 use Rattle.vt_prog.specs.declared.failure.Failure.{Failure}
-use Rattle.vt_prog.specs.declared.failure.Failure.TheVariants.{BadWords, BadConf, NotFormatted, TooSmall, Disagree, SameName, DiskFault, BadNumber, BadName, Cut, Malformed, Spent, ReadFault, FileFault, WriteFault, NoMemory, Damaged}
+use Rattle.vt_prog.specs.declared.failure.Failure.TheVariants.{BadWords, BadConf, NotFormatted, TooSmall, Disagree, SameName, DiskFault, BadNumber, BadName, Cut, Malformed, Spent, ReadFault, FileFault, WriteFault, NoMemory, Damaged, BadScore, IndexFull, ArenasFull, Refused, Server}
 use Rattle.vt_prog.specs.Change.{Work}
 use Rattle.vt_prog.specs.Commands.Fmtarenas.{AsksForNoArenas}
 use Rattle.vt_prog.specs.Commands.Fmtbloom.{AsksForNoFilter}
 use Rattle.vt_prog.specs.Commands.Fmtisect.{AsksForNoSection}
 use Rattle.vt_prog.specs.Commands.Session.{DoesSession}
 use Rattle.vt_prog.specs.Commands.SessionConf.{DoesSessionConf}
-use Rattle.vt_prog.specs.Failure.{Outcome, HasFailed, status_of, line_of, line, HasCauseIn}
+use Rattle.vt_prog.specs.Failure.{Outcome, HasFailed, HasLinkFailed, server_status, status_of, line_of, line, HasCauseIn}
 use Rattle.vt_prog.specs.Formatting.{RefusesWord}
-use Rattle.vt_prog.specs.Run.{Does, DoesAsked, DoesWords, EndsIdle, in_memory}
+use Rattle.vt_prog.specs.Members.{LinkOf}
+use Rattle.vt_prog.specs.Places.{EndsIdle, in_memory}
+use Rattle.vt_prog.specs.Run.{Does, DoesAsked, DoesWords}
+use Rattle.vt_prog.proofs.BlockCauses.{read_never, server_never, write_never}
 use Rattle.vt_prog.proofs.Causes.{formats_never}
 use Rattle.vt_prog.proofs.IndexCauses.{index_never}
 use Rattle.vt_prog.proofs.SessionCauses.{outcome_never, session_conf_never}
 
 -- ---- by what the words ask for
 
-faulty_idle : {R K I P D : Type 0} (disk : DiskOf D) (score : List ℕ → List ℕ) (asked : Asked) (outcome : Outcome) (work : Work R K I P D)
-    → IsFaulty asked → DoesAsked disk score asked outcome work → EndsIdle (Err BadWords) outcome work
-faulty_idle disk score (Do command) outcome work faulty does = absurd faulty
-faulty_idle disk score (Help text) outcome work faulty does = absurd faulty
-faulty_idle disk score (Version text) outcome work faulty does = absurd faulty
-faulty_idle disk score (Faulty text) outcome work faulty does = does
+faulty_idle : {R K I P D N L : Type 0} (disk : DiskOf D) (link : LinkOf L) (score : List ℕ → List ℕ) (asked : Asked) (outcome : Outcome) (work : Work R K I P D N L)
+    → IsFaulty asked → DoesAsked disk link score asked outcome work → EndsIdle (Err BadWords) outcome work
+faulty_idle disk link score (Do command) outcome work faulty does = absurd faulty
+faulty_idle disk link score (Help text) outcome work faulty does = absurd faulty
+faulty_idle disk link score (Version text) outcome work faulty does = absurd faulty
+faulty_idle disk link score (Faulty text) outcome work faulty does = does
 
-module _ {R K I P D : Type 0} (disk : DiskOf D) (score : List ℕ → List ℕ) (words : List (List ℕ))
-    (preface : List ℕ) (outcome : Outcome) (work : Work R K I P D) where
-  pub done : (command : Command) → Asks words (Do command) → DoesWords disk score words preface outcome work
-      → Does disk score command outcome work ⊎ EndsIdle (Err NoMemory) outcome work
+module _ {R K I P D N L : Type 0} (disk : DiskOf D) (link : LinkOf L) (score : List ℕ → List ℕ)
+    (words : List (List ℕ))
+    (preface : List ℕ) (outcome : Outcome) (work : Work R K I P D N L) where
+  pub done : (command : Command) → Asks words (Do command) → DoesWords disk link score words preface outcome work
+      → Does disk link score command outcome work ⊎ EndsIdle (Err NoMemory) outcome work
   done command asks does = ⊎_elim
-      (λ it. inl (subst (λ asked. DoesAsked disk score asked outcome work) (alone words command it.0 asks it.1) it.3))
+      (λ it. inl (subst (λ asked. DoesAsked disk link score asked outcome work) (alone words command it.0 asks it.1) it.3))
       (λ short. inr short.1)
       does
 
-  pub refused : AreFaulty words → DoesWords disk score words preface outcome work
+  pub refused : AreFaulty words → DoesWords disk link score words preface outcome work
       → EndsIdle (Err BadWords) outcome work ⊎ EndsIdle (Err NoMemory) outcome work
   refused faulty does = ⊎_elim
-      (λ it. inl (faulty_idle disk score it.0 outcome work (faulty it.0 it.1) it.3))
+      (λ it. inl (faulty_idle disk link score it.0 outcome work (faulty it.0 it.1) it.3))
       (λ short. inr short.1)
       does
 
 -- ---- a command never ends as other words do
 
-session_never : {R K I P D : Type 0} (score : List ℕ → List ℕ) (outcome : Outcome) (work : Work R K I P D)
+session_never : {R K I P D N L : Type 0} (score : List ℕ → List ℕ) (outcome : Outcome) (work : Work R K I P D N L)
     → DoesSession score outcome work → status_of outcome ≢ 1
 session_never score outcome work x one = outcome_never x.end (ap status_of (sym x.outcome_is) ∙ one)
 
@@ -60,7 +67,7 @@ session_never score outcome work x one = outcome_never x.end (ap status_of (sym 
 abbrev IsOther : Failure → Type 0
 IsOther failure = status_of (Err failure) ≢ 1
 
-word_never : {R K I P D : Type 0} (IsWhy : Failure → Type 0) (outcome : Outcome) (work : Work R K I P D)
+word_never : {R K I P D N L : Type 0} (IsWhy : Failure → Type 0) (outcome : Outcome) (work : Work R K I P D N L)
     → ((failure : Failure) → IsWhy failure → IsOther failure) → RefusesWord IsWhy outcome work → status_of outcome ≢ 1
 word_never IsWhy outcome work others x one = others x.failure x.why (ap status_of (sym x.outcome_is) ∙ one)
 
@@ -83,26 +90,28 @@ filter_words : (size positions : List ℕ) (failure : Failure) → AsksForNoFilt
 filter_words size positions failure why = ⊎_elim
     (λ of_size. number_other _ failure of_size.1) (λ of_positions. number_other _ failure of_positions.2) why
 
-does_never : {R K I P D : Type 0} (disk : DiskOf D) (score : List ℕ → List ℕ) (command : Command) (outcome : Outcome) (work : Work R K I P D)
-    → Does disk score command outcome work → status_of outcome ≢ 1
-does_never disk score (Session store) outcome work does = ⊎_elim
+does_never : {R K I P D N L : Type 0} (disk : DiskOf D) (link : LinkOf L) (score : List ℕ → List ℕ) (command : Command) (outcome : Outcome) (work : Work R K I P D N L)
+    → Does disk link score command outcome work → status_of outcome ≢ 1
+does_never disk link score (Session store) outcome work does = ⊎_elim
     (λ memory. session_never score outcome work memory.1)
     (λ conf. session_conf_never score disk store outcome work conf.1) does
-does_never disk score (FormatArenas file name length arena_size) outcome work does = ⊎_elim
+does_never disk link score (FormatArenas file name length arena_size) outcome work does = ⊎_elim
     (word_never (AsksForNoArenas name length arena_size) outcome work (arenas_words name length arena_size))
     (λ x. formats_never disk file _ _ _ outcome work x.3) does
-does_never disk score (FormatSection file name length) outcome work does = ⊎_elim
+does_never disk link score (FormatSection file name length) outcome work does = ⊎_elim
     (word_never (AsksForNoSection name length) outcome work (section_words name length))
     (λ x. formats_never disk file _ _ _ outcome work x.2) does
-does_never disk score (FormatFilter file size positions) outcome work does = ⊎_elim
+does_never disk link score (FormatFilter file size positions) outcome work does = ⊎_elim
     (word_never (AsksForNoFilter size positions) outcome work (filter_words size positions))
     (λ x. formats_never disk file _ _ _ outcome work x.4) does
-does_never disk score (FormatIndex file) outcome work does = index_never disk file outcome work does
+does_never disk link score (FormatIndex file) outcome work does = index_never disk file outcome work does
+does_never disk link score (Read store score_word kind) outcome work does = read_never score disk link store score_word kind outcome work does
+does_never disk link score (Write store kind) outcome work does = write_never score disk link store kind outcome work does
 
-pub never_bad : {R K I P D : Type 0} (disk : DiskOf D) (score : List ℕ → List ℕ) (command : Command) (outcome : Outcome) (work : Work R K I P D)
-    → Does disk score command outcome work ⊎ EndsIdle (Err NoMemory) outcome work → status_of outcome ≢ 1
-never_bad disk score command outcome work done = ⊎_elim
-    (does_never disk score command outcome work) (λ idle one. let wrong = ap status_of (sym idle.is) ∙ one in cc) done
+pub never_bad : {R K I P D N L : Type 0} (disk : DiskOf D) (link : LinkOf L) (score : List ℕ → List ℕ) (command : Command) (outcome : Outcome) (work : Work R K I P D N L)
+    → Does disk link score command outcome work ⊎ EndsIdle (Err NoMemory) outcome work → status_of outcome ≢ 1
+never_bad disk link score command outcome work done = ⊎_elim
+    (does_never disk link score command outcome work) (λ idle one. let wrong = ap status_of (sym idle.is) ∙ one in cc) done
 
 -- the line of status 1
 pub line_of_one : (outcome : Outcome) → status_of outcome ≡ 1 → line_of outcome ≡ line (codes "bad command line" ∷ [])
@@ -124,10 +133,15 @@ line_of_one (Err FileFault) one = absurd (cc)
 line_of_one (Err WriteFault) one = absurd (cc)
 line_of_one (Err NoMemory) one = absurd (cc)
 line_of_one (Err (Damaged want found)) one = absurd (cc)
+line_of_one (Err (BadScore at)) one = absurd (cc)
+line_of_one (Err IndexFull) one = absurd (cc)
+line_of_one (Err ArenasFull) one = absurd (cc)
+line_of_one (Err (Refused why)) one = absurd (cc)
+line_of_one (Err (Server bad)) one = absurd (server_never bad one)
 
 -- ---- by the status
 
-module _ {R K I P D : Type 0} (disk : DiskOf D) (work : Work R K I P D) where
+module _ {R K I P D N L : Type 0} (disk : DiskOf D) (work : Work R K I P D N L) where
   pub disk_risen : (outcome : Outcome) → status_of outcome ≡ 4 → HasCauseIn disk work outcome
       → HasRisen work.parts.faults work.parts.faults' ⊎ HasFailed disk work.parts
   disk_risen (Ok done) is cause = absurd (cc)
@@ -148,9 +162,29 @@ module _ {R K I P D : Type 0} (disk : DiskOf D) (work : Work R K I P D) where
   disk_risen (Err WriteFault) is cause = absurd (cc)
   disk_risen (Err NoMemory) is cause = absurd (cc)
   disk_risen (Err (Damaged want found)) is cause = absurd (cc)
+  disk_risen (Err (BadScore at)) is cause = absurd (cc)
+  disk_risen (Err IndexFull) is cause = absurd (cc)
+  disk_risen (Err ArenasFull) is cause = absurd (cc)
+  disk_risen (Err (Refused why)) is cause = absurd (cc)
+  disk_risen (Err (Server bad)) is cause = absurd (not_disk bad is)
+    where
+      not_disk : (bad : RemoteBad) → server_status bad ≢ 4
+      not_disk remote.Undialled is = cc
+      not_disk (remote.Refused errs.ReadFault) is = cc
+      not_disk (remote.Refused errs.WriteFault) is = cc
+      not_disk (remote.Refused (errs.WrongScore want found)) is = cc
+      not_disk (remote.Refused (errs.Remote text)) is = cc
+      not_disk (remote.Refused errs.Cut) is = cc
+      not_disk (remote.Refused (errs.BadReply place)) is = cc
+      not_disk (remote.Refused errs.NoVersion) is = cc
+      not_disk (remote.Refused errs.Spent) is = cc
+      not_disk (remote.Refused errs.NoMemory) is = cc
 
   pub read_risen : (outcome : Outcome) → status_of outcome ≡ 6 → HasCauseIn disk work outcome
-      → HasRisen work.source.faults work.source.faults' ⊎ HasRisen work.files.faults work.files.faults'
+      → HasRisen work.source.faults work.source.faults'
+      ⊎ HasRisen work.files.faults work.files.faults'
+      ⊎ HasRisen work.dialer.faults work.dialer.faults'
+      ⊎ HasLinkFailed work.dialer.read_faults work.dialer
   read_risen (Ok done) is cause = absurd (cc)
   read_risen (Err BadWords) is cause = absurd (cc)
   read_risen (Err (BadConf bad)) is cause = absurd (cc)
@@ -165,13 +199,28 @@ module _ {R K I P D : Type 0} (disk : DiskOf D) (work : Work R K I P D) where
   read_risen (Err (Malformed place)) is cause = absurd (cc)
   read_risen (Err (Spent taken)) is cause = absurd (cc)
   read_risen (Err ReadFault) is cause = inl cause
-  read_risen (Err FileFault) is cause = inr cause
+  read_risen (Err FileFault) is cause = inr (inl cause)
   read_risen (Err WriteFault) is cause = absurd (cc)
   read_risen (Err NoMemory) is cause = absurd (cc)
   read_risen (Err (Damaged want found)) is cause = absurd (cc)
+  read_risen (Err (BadScore at)) is cause = absurd (cc)
+  read_risen (Err IndexFull) is cause = absurd (cc)
+  read_risen (Err ArenasFull) is cause = absurd (cc)
+  read_risen (Err (Refused why)) is cause = absurd (cc)
+  read_risen (Err (Server remote.Undialled)) is cause = inr (inr (inl cause))
+  read_risen (Err (Server (remote.Refused errs.ReadFault))) is cause = inr (inr (inr cause))
+  read_risen (Err (Server (remote.Refused errs.WriteFault))) is cause = absurd (cc)
+  read_risen (Err (Server (remote.Refused (errs.WrongScore want found)))) is cause = absurd (cc)
+  read_risen (Err (Server (remote.Refused (errs.Remote text)))) is cause = absurd (cc)
+  read_risen (Err (Server (remote.Refused errs.Cut))) is cause = absurd (cc)
+  read_risen (Err (Server (remote.Refused (errs.BadReply place)))) is cause = absurd (cc)
+  read_risen (Err (Server (remote.Refused errs.NoVersion))) is cause = absurd (cc)
+  read_risen (Err (Server (remote.Refused errs.Spent))) is cause = absurd (cc)
+  read_risen (Err (Server (remote.Refused errs.NoMemory))) is cause = absurd (cc)
 
   pub write_risen : (outcome : Outcome) → status_of outcome ≡ 7 → HasCauseIn disk work outcome
       → HasRisen work.sink.faults work.sink.faults'
+      ⊎ HasLinkFailed work.dialer.write_faults work.dialer
   write_risen (Ok done) is cause = absurd (cc)
   write_risen (Err BadWords) is cause = absurd (cc)
   write_risen (Err (BadConf bad)) is cause = absurd (cc)
@@ -187,9 +236,23 @@ module _ {R K I P D : Type 0} (disk : DiskOf D) (work : Work R K I P D) where
   write_risen (Err (Spent taken)) is cause = absurd (cc)
   write_risen (Err ReadFault) is cause = absurd (cc)
   write_risen (Err FileFault) is cause = absurd (cc)
-  write_risen (Err WriteFault) is cause = cause
+  write_risen (Err WriteFault) is cause = inl cause
   write_risen (Err NoMemory) is cause = absurd (cc)
   write_risen (Err (Damaged want found)) is cause = absurd (cc)
+  write_risen (Err (BadScore at)) is cause = absurd (cc)
+  write_risen (Err IndexFull) is cause = absurd (cc)
+  write_risen (Err ArenasFull) is cause = absurd (cc)
+  write_risen (Err (Refused why)) is cause = absurd (cc)
+  write_risen (Err (Server remote.Undialled)) is cause = absurd (cc)
+  write_risen (Err (Server (remote.Refused errs.ReadFault))) is cause = absurd (cc)
+  write_risen (Err (Server (remote.Refused errs.WriteFault))) is cause = inr cause
+  write_risen (Err (Server (remote.Refused (errs.WrongScore want found)))) is cause = absurd (cc)
+  write_risen (Err (Server (remote.Refused (errs.Remote text)))) is cause = absurd (cc)
+  write_risen (Err (Server (remote.Refused errs.Cut))) is cause = absurd (cc)
+  write_risen (Err (Server (remote.Refused (errs.BadReply place)))) is cause = absurd (cc)
+  write_risen (Err (Server (remote.Refused errs.NoVersion))) is cause = absurd (cc)
+  write_risen (Err (Server (remote.Refused errs.Spent))) is cause = absurd (cc)
+  write_risen (Err (Server (remote.Refused errs.NoMemory))) is cause = absurd (cc)
 
 pub well_status : (outcome : Outcome) (status : ℕ) → status ≡ status_of outcome
     → (outcome ≡ Ok tt) ⊎ (outcome ≡ Err NoMemory) → (status ≡ 0) ⊎ (status ≡ 8)
@@ -197,15 +260,15 @@ well_status outcome status is well = ⊎_elim
     (λ good. inl (is ∙ ap status_of good)) (λ short. inr (is ∙ ap status_of short)) well
 
 -- a session on input that ends well
-pub session_well : {R K I P D : Type 0} (disk : DiskOf D) (score : List ℕ → List ℕ) (outcome : Outcome) (work : Work R K I P D)
+pub session_well : {R K I P D N L : Type 0} (disk : DiskOf D) (link : LinkOf L) (score : List ℕ → List ℕ) (outcome : Outcome) (work : Work R K I P D N L)
     → (DoesSession score outcome work → (outcome ≡ Ok tt) ⊎ (outcome ≡ Err NoMemory))
-    → Does disk score (Session in_memory) outcome work ⊎ EndsIdle (Err NoMemory) outcome work → (outcome ≡ Ok tt) ⊎ (outcome ≡ Err NoMemory)
-session_well disk score outcome work well done = ⊎_elim
+    → Does disk link score (Session in_memory) outcome work ⊎ EndsIdle (Err NoMemory) outcome work → (outcome ≡ Ok tt) ⊎ (outcome ≡ Err NoMemory)
+session_well disk link score outcome work well done = ⊎_elim
     (λ does. ⊎_elim (λ known. well known.1) (λ other. absurd (other.0 refl)) does) (λ idle. inr idle.is) done
 
 -- a session over the store of a configuration
-pub conf_well : {R K I P D : Type 0} (disk : DiskOf D) (score : List ℕ → List ℕ) (file : List ℕ) (outcome : Outcome) (work : Work R K I P D)
+pub conf_well : {R K I P D N L : Type 0} (disk : DiskOf D) (link : LinkOf L) (score : List ℕ → List ℕ) (file : List ℕ) (outcome : Outcome) (work : Work R K I P D N L)
     → file ≢ in_memory → (DoesSessionConf score disk file outcome work → (outcome ≡ Ok tt) ⊎ (outcome ≡ Err NoMemory))
-    → Does disk score (Session file) outcome work ⊎ EndsIdle (Err NoMemory) outcome work → (outcome ≡ Ok tt) ⊎ (outcome ≡ Err NoMemory)
-conf_well disk score file outcome work other well done = ⊎_elim
+    → Does disk link score (Session file) outcome work ⊎ EndsIdle (Err NoMemory) outcome work → (outcome ≡ Ok tt) ⊎ (outcome ≡ Err NoMemory)
+conf_well disk link score file outcome work other well done = ⊎_elim
     (λ does. ⊎_elim (λ memory. absurd (other memory.0)) (λ conf. well conf.1) does) (λ idle. inr idle.is) done

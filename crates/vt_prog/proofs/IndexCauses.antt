@@ -24,7 +24,7 @@ use Rattle.vt_prog.proofs.Causes.{have_failed, printed_never}
 
 -- ---- what a fault comes of
 
-module _ {R K I P D : Type 0} (disk : DiskOf D) (files : List PartFile) (work : Work R K I P D) where
+module _ {R K I P D N L : Type 0} (disk : DiskOf D) (files : List PartFile) (work : Work R K I P D N L) where
   failed : (part : ℕ) → FailsAt disk (IsTrue work.parts.tells) 0 files work.parts.old work.parts.new part → HasCauseIn disk work (Err DiskFault)
   failed part it = inr (record {
     name = it.file.name;
@@ -54,7 +54,7 @@ module _ {R K I P D : Type 0} (disk : DiskOf D) (files : List PartFile) (work : 
   among file mount_bad.NoMemory failure names is = as_told failure _ is tt
 
 -- what is told of an index that isn't formatted has its cause
-index_has_cause : {R K I P D : Type 0} (disk : DiskOf D) (file : List ℕ) (conf : Conf) (work : Work R K I P D) (bad : IndexBad) (failure : Failure)
+index_has_cause : {R K I P D N L : Type 0} (disk : DiskOf D) (file : List ℕ) (conf : Conf) (work : Work R K I P D N L) (bad : IndexBad) (failure : Failure)
     → Fails disk (IsTrue work.parts.tells) 0 (files_of conf) work.parts.old work.parts.new work.parts.faults work.parts.faults' bad
     → NamesCause bad → IsIndexRefusal file conf bad failure → HasCauseIn disk work (Err failure)
 index_has_cause disk file conf work (index_bad.Fault None) failure fails names is =
@@ -69,24 +69,24 @@ index_has_cause disk file conf work (index_bad.Refused bad) failure fails names 
 index_has_cause disk file conf work (index_bad.Stopped part) failure fails names is =
     as_told disk (files_of conf) work failure DiskFault is (failed disk (files_of conf) work part fails.1)
 
-printed_has_cause : {R K I P D : Type 0} (disk : DiskOf D) (text : List ℕ) (outcome : Outcome) (work : Work R K I P D)
+pub printed_has_cause : {R K I P D N L : Type 0} (disk : DiskOf D) (text : List ℕ) (outcome : Outcome) (work : Work R K I P D N L)
     → Prints text outcome work.sink → HasCauseIn disk work outcome
 printed_has_cause disk text (Ok done) work prints = tt
 printed_has_cause disk text (Err WriteFault) work prints = prints.1
 printed_has_cause disk text (Err failure) work prints = absurd prints
 
-told_has_cause : {R K I P D : Type 0} (disk : DiskOf D) (file : List ℕ) (conf : Conf) (work : Work R K I P D) (result : Result Index IndexBad)
+told_has_cause : {R K I P D N L : Type 0} (disk : DiskOf D) (file : List ℕ) (conf : Conf) (work : Work R K I P D N L) (result : Result Index IndexBad)
     (outcome : Outcome) → FormatsIndex disk conf work.parts result → TellsIndex file conf result outcome work.sink → HasCauseIn disk work outcome
 told_has_cause disk file conf work (Ok index) outcome formats tells = printed_has_cause disk (index_line conf.index index) outcome work tells
 told_has_cause disk file conf work (Err bad) outcome formats tells = subst (HasCauseIn disk work) (sym tells.0.1)
     (index_has_cause disk file conf work bad tells.0.0 formats.cause formats.differs tells.0.2)
 
-pub indexed_has_cause : {R K I P D : Type 0} (disk : DiskOf D) (file : List ℕ) (conf : Conf) (work : Work R K I P D) (outcome : Outcome)
+pub indexed_has_cause : {R K I P D N L : Type 0} (disk : DiskOf D) (file : List ℕ) (conf : Conf) (work : Work R K I P D N L) (outcome : Outcome)
     → IndexesConf disk file conf outcome work.parts work.sink → HasCauseIn disk work outcome
 indexed_has_cause disk file conf work outcome it = told_has_cause disk file conf work it.result outcome it.formats it.told
 
 -- so has what is told where no configuration is read
-pub none_has_cause : {R K I P D : Type 0} (disk : DiskOf D) (file : List ℕ) (work : Work R K I P D) (failure : Failure)
+pub none_has_cause : {R K I P D N L : Type 0} (disk : DiskOf D) (file : List ℕ) (work : Work R K I P D N L) (failure : Failure)
     → ReadsNone file failure work.files → HasCauseIn disk work (Err failure)
 none_has_cause disk file work (BadConf bad) none = tt
 none_has_cause disk file work FileFault none = none
@@ -128,7 +128,7 @@ told_never file conf (Ok index) outcome change tells = printed_never (index_line
 told_never file conf (Err bad) outcome change tells =
     λ one. refusal_never file conf bad tells.0.0 tells.0.2 (ap status_of (sym tells.0.1) ∙ one)
 
-pub index_never : {R K I P D : Type 0} (disk : DiskOf D) (file : List ℕ) (outcome : Outcome) (work : Work R K I P D)
+pub index_never : {R K I P D N L : Type 0} (disk : DiskOf D) (file : List ℕ) (outcome : Outcome) (work : Work R K I P D N L)
     → DoesFmtindex disk file outcome work → status_of outcome ≢ 1
 index_never disk file outcome work does = ⊎_elim
     (λ none one. none_never file none.0 work.files none.2 (ap status_of (sym none.1) ∙ one))

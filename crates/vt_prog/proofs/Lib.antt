@@ -1,10 +1,12 @@
+pub mod Answered
+pub mod BlockCauses
+pub mod Causes
 pub mod Complete
 pub mod CompleteConf
-pub mod IndexCauses
-pub mod SessionCauses
-pub mod InMemory
-pub mod Puts
-pub mod Causes
 pub mod DidTells
+pub mod InMemory
+pub mod IndexCauses
 pub mod NameAt
+pub mod Puts
+pub mod SessionCauses
 pub mod WholeFile

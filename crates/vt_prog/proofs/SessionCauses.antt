@@ -43,7 +43,7 @@ use Rattle.vt_prog.proofs.IndexCauses.{IsOther, among_never, none_never, other_a
 -- ---- calls of a partition failed
 
 module _ {P D : Type 0} (disk : DiskOf D) (parts : PartsChange P D) where
-  has_failed : (files : List PartFile) (before after : List D) (k : ℕ)
+  pub has_failed : (files : List PartFile) (before after : List D) (k : ℕ)
       → length before ≡ length files → length after ≡ length files
       → (IsTrue parts.tells → StandUnder parts.old files before)
       → (IsTrue parts.tells → StandUnder parts.new files after)
@@ -70,14 +70,14 @@ module _ {P D : Type 0} (disk : DiskOf D) (parts : PartsChange P D) where
   has_failed (file ∷ files) (b ∷ before) [] k many many' stood stand rose =
       absurd (omega (arith, many'))
 
-same_len : {X Y : Type 0} (these : PerDevice X) (those : PerDevice Y) → HaveOneShape these those
+pub same_len : {X Y : Type 0} (these : PerDevice X) (those : PerDevice Y) → HaveOneShape these those
     → length (all_of these) ≡ length (all_of those)
 same_len these those it = simp length-append (omega (arith, it.partitions, it.sections, it.filter))
 
 -- ---- a store that isn't opened
 
-module _ {R K I P D : Type 0} (score : List ℕ → List ℕ) (disk : DiskOf D) (file : List ℕ)
-    (conf : Conf) (work : Work R K I P D) where
+module _ {R K I P D N L : Type 0} (score : List ℕ → List ℕ) (disk : DiskOf D) (file : List ℕ)
+    (conf : Conf) (work : Work R K I P D N L) where
   as_told : (failure told : Failure) → failure ≡ told → HasCauseIn disk work (Err told)
       → HasCauseIn disk work (Err failure)
   as_told failure told is cause =
@@ -139,7 +139,7 @@ module _ {R K I P D : Type 0} (score : List ℕ → List ℕ) (disk : DiskOf D) 
   among (mount_bad.Damaged site want found) failure it names is = as_told failure _ is names
   among mount_bad.NoMemory failure it names is = as_told failure _ is tt
 
-  open_told : (bad : OpenBad) (failure : Failure)
+  pub open_told : (bad : OpenBad) (failure : Failure)
       → RefusesStore score disk (IsTrue work.parts.tells) conf work.parts.old work.parts.new
       work.parts.faults work.parts.faults' bad → NamesCause bad
       → IsOpenRefusal file conf bad failure → HasCauseIn disk work (Err failure)
@@ -156,7 +156,7 @@ module _ {R K I P D : Type 0} (score : List ℕ → List ℕ) (disk : DiskOf D) 
 
 -- ---- how a session ends
 
-module _ {R K I P D : Type 0} (disk : DiskOf D) (work : Work R K I P D) where
+module _ {R K I P D N L : Type 0} (disk : DiskOf D) (work : Work R K I P D N L) where
   ended_cause : (ended : Ended) (taken : ℕ)
       → ReadCause ended work.source.faults work.source.faults'
       → SinkCause ended work.sink.faults work.sink.faults'
@@ -227,8 +227,8 @@ module _ {R K I P D : Type 0} (disk : DiskOf D) (work : Work R K I P D) where
 
 -- ---- a session over the store of a configuration
 
-module _ {R K I P D : Type 0} (score : List ℕ → List ℕ) (disk : DiskOf D) (file : List ℕ)
-    (conf : Conf) (work : Work R K I P D) where
+module _ {R K I P D N L : Type 0} (score : List ℕ → List ℕ) (disk : DiskOf D) (file : List ℕ)
+    (conf : Conf) (work : Work R K I P D N L) where
   pub served_rises : (outcome : Outcome)
       → (x : ServesConf score disk conf outcome work.source work.sink work.parts)
       → OneRose (each_of disk.faults x.opened) (each_of disk.faults x.serves.ended)
@@ -253,9 +253,9 @@ module _ {R K I P D : Type 0} (score : List ℕ → List ℕ) (disk : DiskOf D) 
       tells.closed s.read s.write)
 
 -- either has its cause
-pub session_has_cause : {R K I P D : Type 0} (score : List ℕ → List ℕ) (disk : DiskOf D)
+pub session_has_cause : {R K I P D N L : Type 0} (score : List ℕ → List ℕ) (disk : DiskOf D)
     (fits : (device : D) → disk.faults device < 2 ^ 64) (file : List ℕ) (conf : Conf)
-    (work : Work R K I P D) (outcome : Outcome)
+    (work : Work R K I P D N L) (outcome : Outcome)
     → OpensNone score disk file conf outcome work.source work.sink work.parts
     ⊎ ServesConf score disk conf outcome work.source work.sink work.parts
     → HasCauseIn disk work outcome
@@ -280,7 +280,7 @@ end_never_bad ends.ReadFault taken is = cc
 end_never_bad ends.WriteFault taken is = cc
 end_never_bad ends.NoMemory taken is = cc
 
-why_never : (why : Why) → IsOther (failure_for why)
+pub why_never : (why : Why) → IsOther (failure_for why)
 why_never whys.DiskFault is = cc
 why_never (whys.Stopped call) is = cc
 why_never (whys.Damaged site want found) is = cc
@@ -311,15 +311,15 @@ outcome_never end = first_never (failed_in end.failure) _ (failed_never end.fail
     (first_never (outcome_of_end end.ended end.taken) (closed_with end.closed)
     (end_never_bad end.ended end.taken) (closed_never end.closed))
 
-open_never : (file : List ℕ) (conf : Conf) (bad : OpenBad) (failure : Failure)
+pub open_never : (file : List ℕ) (conf : Conf) (bad : OpenBad) (failure : Failure)
     → IsOpenRefusal file conf bad failure → IsOther failure
 open_never file conf (Missing part) failure is = other_as failure DiskFault is (λ one. cc)
 open_never file conf (Refused bad) failure is = ⊎_elim
     (among_never file (files_in conf) bad failure)
     (λ memory. other_as failure NoMemory memory (λ one. cc)) is
 
-pub session_conf_never : {R K I P D : Type 0} (score : List ℕ → List ℕ) (disk : DiskOf D)
-    (file : List ℕ) (outcome : Outcome) (work : Work R K I P D)
+pub session_conf_never : {R K I P D N L : Type 0} (score : List ℕ → List ℕ) (disk : DiskOf D)
+    (file : List ℕ) (outcome : Outcome) (work : Work R K I P D N L)
     → DoesSessionConf score disk file outcome work → status_of outcome ≢ 1
 session_conf_never score disk file outcome work does = ⊎_elim
     (λ none one. none_never file none.0 work.files none.2 (ap status_of (sym none.1) ∙ one))

@@ -1,10 +1,11 @@
--- What a run did to the streams, the files and the partitions of its host.
+-- What a run did to the streams, the files, the partitions and the links of its host.
 use Rattle.std.specs.Prelude.{ℕ, ◌≡◌, ◌⊎◌, ◌++◌, Bool, IsTrue, List, Option}
 use Rattle.vt_base.specs.Faults.{HasRisen}
 use Rattle.vt_out.specs.Streams.{AppendsPrefix}
 use Rattle.vt_parts.specs.Parts.{Standing}
+use Rattle.vt_dial.specs.Dialled.{Dialled}
 use Rattle.vt_prog.specs.Hosts.{Lent}
-use Rattle.vt_prog.specs.Members.{SourceOf, SinkOf, FilesOf, PartsOf}
+use Rattle.vt_prog.specs.Members.{SourceOf, SinkOf, FilesOf, PartsOf, DialerOf, LinkOf}
 
 -- A stream before the run and behind it: the stream itself; its bytes, left or written, where it
 -- tells them; and its count of faults.
@@ -81,30 +82,60 @@ parts_change parts before after = record {
   faults' = parts.faults after;
 }
 
+-- The dialer before the run and behind it: it itself; what became of its link, where it tells it;
+-- its count of faults; and how many calls of reading and of writing a link of it counts as failed.
+pub record DialerChange (Dialer Link : Type 0) : Type 0 where
+  pub before : Dialer
+  pub after : Dialer
+  pub tells : Bool
+  pub old : Dialled Link
+  pub new : Dialled Link
+  pub faults : ℕ
+  pub faults' : ℕ
+  pub read_faults : Link → ℕ
+  pub write_faults : Link → ℕ
+
+abbrev pub dialer_change : {N L : Type 0} → DialerOf N L → LinkOf L → (before after : N)
+    → DialerChange N L
+dialer_change dialer link before after = record {
+  before = before;
+  after = after;
+  tells = dialer.tells;
+  old = dialer.dialled before;
+  new = dialer.dialled after;
+  faults = dialer.faults before;
+  faults' = dialer.faults after;
+  read_faults = link.read_faults;
+  write_faults = link.write_faults;
+}
+
 -- what a run did before its line on the fault sink
-pub record Work (R K I P D : Type 0) : Type 0 where
+pub record Work (R K I P D N L : Type 0) : Type 0 where
   pub source : Change R
   pub sink : Change K
   pub files : FilesChange I
   pub parts : PartsChange P D
+  pub dialer : DialerChange N L
 
-abbrev pub work_of : {R K F I P D : Type 0} → SourceOf R → SinkOf K → FilesOf I → PartsOf P D
-    → (before after : Lent R K F I P) → Work R K I P D
-work_of source sink files parts before after = record {
+abbrev pub work_of : {R K F I P D N L : Type 0} → SourceOf R → SinkOf K → FilesOf I → PartsOf P D
+    → DialerOf N L → LinkOf L → (before after : Lent R K F I P N) → Work R K I P D N L
+work_of source sink files parts dialer link before after = record {
   source = source_change source before.source after.source;
   sink = sink_change sink before.sink after.sink;
   files = files_change files before.files after.files;
   parts = parts_change parts before.parts after.parts;
+  dialer = dialer_change dialer link before.dialer after.dialer;
 }
 
--- nothing but files was read, and nothing was written or handed out
-pub record ReadsFiles {R K I P D : Type 0} (work : Work R K I P D) : Type 0 where
+-- nothing but files was read, nothing was written or handed out, and no link was made
+pub record ReadsFiles {R K I P D N L : Type 0} (work : Work R K I P D N L) : Type 0 where
   pub unread : work.source.after ≡ work.source.before
   pub unwritten : work.sink.after ≡ work.sink.before
   pub unused : work.parts.after ≡ work.parts.before
+  pub undialled : work.dialer.after ≡ work.dialer.before
 
 -- nor was a file read
-pub record IsIdle {R K I P D : Type 0} (work : Work R K I P D) : Type 0 where
+pub record IsIdle {R K I P D N L : Type 0} (work : Work R K I P D N L) : Type 0 where
   pub rest : ReadsFiles work
   pub unopened : work.files.after ≡ work.files.before
 

@@ -45,9 +45,9 @@ Tells file text result outcome change = MatchResult result
     × (change.after ≡ change.before))
 
 -- This was done to the partition of the file, with so many bytes at least, and to no other.
-pub record FormatsFile {R K I P D T : Type 0} (disk : DiskOf D) (file : List ℕ) (len : ℕ)
+pub record FormatsFile {R K I P D N L T : Type 0} (disk : DiskOf D) (file : List ℕ) (len : ℕ)
     (Formats : Result T MountBad → D → D → Type 0) (text : T → List ℕ) (outcome : Outcome)
-    (work : Work R K I P D) : Type 0 where
+    (work : Work R K I P D N L) : Type 0 where
   pub result : Result T MountBad
   pub worked : WorksOn disk work.parts.tells len Formats work.parts.faults work.parts.faults'
       (work.parts.old file) (work.parts.new file) result
@@ -56,10 +56,11 @@ pub record FormatsFile {R K I P D T : Type 0} (disk : DiskOf D) (file : List ℕ
   pub told : Tells file text result outcome work.sink
   pub unread : work.source.after ≡ work.source.before
   pub unopened : work.files.after ≡ work.files.before
+  pub undialled : work.dialer.after ≡ work.dialer.before
 
 -- a word was refused, for this cause, and nothing was done
-pub record RefusesWord {R K I P D : Type 0} (IsWhy : Failure → Type 0) (outcome : Outcome)
-    (work : Work R K I P D) : Type 0 where
+pub record RefusesWord {R K I P D N L : Type 0} (IsWhy : Failure → Type 0) (outcome : Outcome)
+    (work : Work R K I P D N L) : Type 0 where
   pub failure : Failure
   pub why : IsWhy failure
   pub outcome_is : outcome ≡ Err failure

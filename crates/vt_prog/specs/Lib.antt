@@ -1,3 +1,5 @@
+pub mod Answers
+pub mod Blocks
 pub mod Change
 pub mod Commands
 pub mod Configurations
@@ -6,6 +8,9 @@ pub mod Fields
 pub mod Formatting
 pub mod Hosts
 pub mod Members
+pub mod Memory
+pub mod Places
 pub mod Run
 pub mod Served
+pub mod Servers
 pub mod Words

@@ -6,9 +6,11 @@ pub mod fmtindex;
 pub mod fmtisect;
 #[cfg(test)]
 mod messages;
+pub mod read;
 #[cfg(test)]
 mod runs;
 pub mod session;
 pub mod session_conf;
 #[cfg(test)]
 mod tests;
+pub mod write;

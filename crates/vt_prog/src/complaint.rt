@@ -6,15 +6,17 @@ ghost use Rattle.vt_base.specs.Faults.{HasCause};
 ghost use Rattle.vt_conf.specs.Causes.{text_of};
 ghost use Rattle.vt_out.specs.Streams.{AppendsPrefix};
 ghost use Rattle.vt_prog.specs.Change.{sink_change, Attempts};
-ghost use Rattle.vt_prog.specs.Failure.{line, line_of};
+ghost use Rattle.vt_prog.specs.Failure.{line, line_of, server_line};
 ghost use Rattle.vt_prog.specs.Fields.{field_name, value_text};
 
 use crate::failure::Failure;
 use crate::printing::put_pieces;
 use itoa::Buffer;
-use vt_base::{Failed, FieldValue, MountField};
+use vt_base::{Failed, FieldValue, MountField, Score, why_text};
+use vt_client::ClientErr;
 use vt_conf::{ConfWhy, conf_text};
 use vt_out::Sink;
+use vt_remote::RemoteBad;
 
 /// Says why a command did not end well. Where it did, nothing is said.
 pub fn complain_of<F: Sink>(sink: &mut F, outcome: &Result<(), Failure>)
@@ -46,6 +48,7 @@ pub fn complain_of<F: Sink>(sink: &mut F, outcome: &Result<(), Failure>)
         Failure::DiskFault => complain(sink, &[b"disk fault"]),
         Failure::BadNumber(at) => complain_at(sink, b"bad number at ", *at),
         Failure::BadName(at) => complain_at(sink, b"bad name at ", *at),
+        Failure::BadScore(at) => complain_at(sink, b"bad score at ", *at),
         Failure::Cut(taken) => complain_at(sink, b"cut at ", *taken),
         Failure::Malformed(place) => complain_at(sink, b"malformed at ", *place),
         Failure::Spent(taken) => complain_at(sink, b"spent at ", *taken),
@@ -54,7 +57,49 @@ pub fn complain_of<F: Sink>(sink: &mut F, outcome: &Result<(), Failure>)
         Failure::WriteFault => complain(sink, &[b"write fault"]),
         Failure::NoMemory => complain(sink, &[b"no memory"]),
         Failure::Damaged { want, found } => complain_of_damage(sink, want, found),
+        Failure::IndexFull => complain(sink, &[b"index full"]),
+        Failure::ArenasFull => complain(sink, &[b"arenas full"]),
+        Failure::Refused(why) => complain(sink, &[b"refused: ", why_text(why).as_bytes()]),
+        Failure::Server(bad) => complain_of_server(sink, bad),
     }
+}
+
+/// Writes a line on a server that wasn't reached, or didn't answer what was asked.
+fn complain_of_server<F: Sink>(sink: &mut F, bad: &RemoteBad)
+    ensures { Attempts (sink_change F.Sink sink.old sink.new) (server_line bad.now) }
+{
+    let RemoteBad::Refused(why) = bad else {
+        return complain(sink, &[b"read fault"]);
+    };
+    match why {
+        ClientErr::ReadFault => complain(sink, &[b"read fault"]),
+        ClientErr::WriteFault => complain(sink, &[b"write fault"]),
+        ClientErr::NoMemory => complain(sink, &[b"no memory"]),
+        ClientErr::WrongScore { want, found } => complain_of_scores(sink, want, found),
+        ClientErr::Remote(text) => complain(sink, &[b"refused: ", text.as_slice()]),
+        ClientErr::Cut => complain(sink, &[b"refused: ", b"peer cut"]),
+        ClientErr::BadReply(_) => complain(sink, &[b"refused: ", b"bad reply"]),
+        ClientErr::NoVersion => complain(sink, &[b"refused: ", b"no version"]),
+        ClientErr::Spent => complain(sink, &[b"refused: ", b"client spent"]),
+    }
+}
+
+/// Writes a line on a score that is another than was wanted.
+fn complain_of_scores<F: Sink>(sink: &mut F, want: &Score, found: &Score)
+    ensures { Attempts (sink_change F.Sink sink.old sink.new) (line (codes "damaged: want "
+        ∷ encode_lower want.now.0 ∷ codes ", found " ∷ encode_lower found.now.0 ∷ [])) }
+{
+    let mut want_digits = [0; 40];
+    let mut found_digits = [0; 40];
+    complain(
+        sink,
+        &[
+            b"damaged: want ",
+            hexadecimal(&mut want_digits, &want.0),
+            b", found ",
+            hexadecimal(&mut found_digits, &found.0),
+        ],
+    );
 }
 
 /// Writes a line on a configuration that is refused.
@@ -160,7 +205,7 @@ impl Digits {
 }
 
 /// Fills the room with the digits of these bytes.
-fn hexadecimal<'a>(room: &'a mut [u8], bytes: &[u8]) -> &'a [u8]
+pub fn hexadecimal<'a>(room: &'a mut [u8], bytes: &[u8]) -> &'a [u8]
     requires { length room.now ≡ 2 * length bytes.now }
     ensures { result.now ≡ encode_lower bytes.now }
 {

@@ -1,10 +1,12 @@
 //! Why a command ends with a status other than 0.
 
 ghost use Rattle.std.specs.Prelude.{◌≡◌};
-ghost use Rattle.vt_prog.specs.Failure.{status_of};
+ghost use Rattle.vt_prog.specs.Failure.{server_status, status_of};
 
-use vt_base::{FieldValue, MountField, Text};
+use vt_base::{FieldValue, MountField, Text, Why};
+use vt_client::ClientErr;
 use vt_conf::ConfBad;
+use vt_remote::RemoteBad;
 
 /// Why a command ends with a status other than 0. A file is told by the name that it has on the
 /// command line.
@@ -41,6 +43,8 @@ pub enum Failure {
     BadNumber(u64),
     /// A word is no name; the place of its first wrong byte.
     BadName(u64),
+    /// A word is no score; the place of its first wrong byte.
+    BadScore(u64),
     /// The input ended within the line or a message, behind so many bytes.
     Cut(u64),
     /// The input has a wrong byte of the line, or a size below 2, at this place.
@@ -57,6 +61,14 @@ pub enum Failure {
         want: FieldValue,
         found: FieldValue,
     },
+    /// The bucket of a block's score has no room.
+    IndexFull,
+    /// No arena has room for a block.
+    ArenasFull,
+    /// The store says no, for this reason.
+    Refused(Why),
+    /// The server at an address wasn't reached, or says no, or something other than what was asked.
+    Server(RemoteBad),
 }
 
 /// The exit status of an outcome.
@@ -76,6 +88,7 @@ pub fn status(outcome: &Result<(), Failure>) -> u8
         Failure::DiskFault => 4,
         Failure::BadNumber(_)
         | Failure::BadName(_)
+        | Failure::BadScore(_)
         | Failure::Cut(_)
         | Failure::Malformed(_)
         | Failure::Spent(_) => 5,
@@ -83,5 +96,28 @@ pub fn status(outcome: &Result<(), Failure>) -> u8
         Failure::WriteFault => 7,
         Failure::NoMemory => 8,
         Failure::Damaged { .. } => 9,
+        Failure::IndexFull | Failure::ArenasFull => 10,
+        Failure::Refused(_) => 11,
+        Failure::Server(bad) => server_status(bad),
+    }
+}
+
+/// The exit status where a server is why.
+fn server_status(bad: &RemoteBad) -> u8
+    ensures { result ≡ server_status bad.now }
+{
+    let RemoteBad::Refused(why) = bad else {
+        return 6;
+    };
+    match why {
+        ClientErr::ReadFault => 6,
+        ClientErr::WriteFault => 7,
+        ClientErr::NoMemory => 8,
+        ClientErr::WrongScore { .. } => 9,
+        ClientErr::Remote(_)
+        | ClientErr::Cut
+        | ClientErr::BadReply(_)
+        | ClientErr::NoVersion
+        | ClientErr::Spent => 11,
     }
 }

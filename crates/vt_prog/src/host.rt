@@ -6,10 +6,12 @@ ghost use Rattle.vt_answer.specs.contracts.streams_client.StreamsClient.{the_row
 ghost use Rattle.vt_prog.specs.Hosts.{Lent};
 
 use vt_answer::StreamsClient;
+use vt_dial::Dialer;
 use vt_out::{Clock, Files, Sink, Source};
 use vt_parts::Parts;
 
-/// Lends the program its streams, and files and partitions by name, and tells it the time.
+/// Lends the program its streams, files and partitions by name, and what makes links to addresses,
+/// and tells it the time.
 pub trait Host {
     type Source: Source;
 
@@ -21,15 +23,18 @@ pub trait Host {
 
     type Parts: Parts;
 
+    type Dialer: Dialer;
+
     /// What a long call tells meanwhile goes there.
     type Terminal: Sink + Drop;
 
     /// What it lends.
-    ghost lent: { Self → Lent Self.Source Self.Sink Self.FaultSink Self.Files Self.Parts };
+    ghost lent: { Self → Lent Self.Source Self.Sink Self.FaultSink Self.Files Self.Parts
+        Self.Dialer };
 
     /// The host when it lends this.
     ghost lending: { Self → Lent Self.Source Self.Sink Self.FaultSink Self.Files Self.Parts
-        → Self };
+        Self.Dialer → Self };
 
     /// The stream that is read, and that where results go.
     fn streams(&mut self) -> &mut StreamsClient<Self::Source, Self::Sink>
@@ -65,6 +70,12 @@ pub trait Host {
             (λ parts. lending self.old (record (lent self.old) { parts = parts }))) }
         ensures parts { result.now ≡ (lent self.old).parts };
 
+    /// What makes links.
+    fn dialer(&mut self) -> &mut Self::Dialer
+        ensures* lends { sem 𝓛 (Lends Self.row Self.Dialer.row self.entry result
+            (λ dialer. lending self.old (record (lent self.old) { dialer = dialer }))) }
+        ensures dialer { result.now ≡ (lent self.old).dialer };
+
     /// The terminal, where there is one that nobody took yet. No clause speaks of what goes there.
     fn terminal(&mut self) -> Option<Self::Terminal>
         ensures { lent self.new ≡ lent self.old };
@@ -74,28 +85,30 @@ pub trait Host {
         ensures { lent self.new ≡ lent self.old };
 
     ghost lent_again: { (host : Self)
-        (lent' : Lent Self.Source Self.Sink Self.FaultSink Self.Files Self.Parts) →
+        (lent' : Lent Self.Source Self.Sink Self.FaultSink Self.Files Self.Parts Self.Dialer) →
         lent (lending host lent') ≡ lent' };
 }
 
 /// A host that is what it lends, and a clock and a terminal, if there is one.
 #[derive(Drop)]
-pub struct Outside<S, K, F, I, P, C, T> {
+pub struct Outside<S, K, F, I, P, N, C, T> {
     pub streams: StreamsClient<S, K>,
     pub fault_sink: F,
     pub files: I,
     pub parts: P,
+    pub dialer: N,
     pub clock: C,
     pub terminal: Option<T>,
 }
 
-impl<S, K, F, I, P, C, T> Host for Outside<S, K, F, I, P, C, T>
+impl<S, K, F, I, P, N, C, T> Host for Outside<S, K, F, I, P, N, C, T>
 where
     S: Source,
     K: Sink,
     F: Sink,
     I: Files,
     P: Parts,
+    N: Dialer,
     C: Clock,
     T: Sink + Drop,
 {
@@ -111,6 +124,8 @@ where
 
     type Parts = P;
 
+    type Dialer = N;
+
     type Terminal = T;
 
     ghost lent = { λ host. record {
@@ -119,6 +134,7 @@ where
       fault_sink = host.fault_sink;
       files = host.files;
       parts = host.parts;
+      dialer = host.dialer;
     } };
 
     ghost lending = { λ host lent. record {
@@ -126,6 +142,7 @@ where
       fault_sink = lent.fault_sink;
       files = lent.files;
       parts = lent.parts;
+      dialer = lent.dialer;
       clock = host.clock;
       terminal = host.terminal;
     } };
@@ -151,6 +168,10 @@ where
 
     fn parts(&mut self) -> &mut P {
         &mut self.parts
+    }
+
+    fn dialer(&mut self) -> &mut N {
+        &mut self.dialer
     }
 
     fn terminal(&mut self) -> Option<T> {

@@ -3,12 +3,15 @@
 
 ghost use Rattle.std.specs.Prelude.{◌≡◌, drop};
 
+mod block;
 mod commands;
 mod complaint;
 mod configuration;
 mod failure;
 mod host;
 pub mod laws;
+mod memory;
+mod place;
 mod printing;
 mod refusal;
 mod run;
@@ -20,7 +23,9 @@ pub use commands::fmtarenas::fmtarenas;
 pub use commands::fmtbloom::fmtbloom;
 pub use commands::fmtindex::fmtindex;
 pub use commands::fmtisect::fmtisect;
+pub use commands::read::read;
 pub use commands::session::session;
+pub use commands::write::write;
 pub use failure::{Failure, status};
 pub use host::{Host, Outside};
 pub use run::{run, run_with};
@@ -30,7 +35,7 @@ use std::io::{ErrorKind, IsTerminal, Stderr};
 use std::process::ExitCode;
 use std::rt::Env;
 use vt_answer::StreamsClient;
-use vt_host::{FileParts, StdClock, StdFiles, StdSink, StdSource};
+use vt_host::{FileParts, StdClock, StdDialer, StdFiles, StdSink, StdSource};
 
 fn main(rt: HostRuntime) -> ExitCode {
     let mut host = Outside {
@@ -41,6 +46,7 @@ fn main(rt: HostRuntime) -> ExitCode {
         fault_sink: StdSink::new(rt.stderr()),
         files: StdFiles::new(rt),
         parts: FileParts::new(rt),
+        dialer: StdDialer::new(rt),
         clock: StdClock(rt),
         terminal: terminal(rt),
     };

@@ -2,24 +2,26 @@
 
 ghost use Rattle.sha1.specs.Sha1.{sha1};
 ghost use Rattle.std.specs.Prelude.{◌≡◌, ◌++◌, map, string_bytes};
-ghost use Rattle.std.specs.Str.{bytes_eq};
 ghost use Rattle.vt_prog.specs.Change.{work_of, sink_change, Attempts};
 ghost use Rattle.vt_prog.specs.Failure.{HasCauseIn, status_of, line_of};
-ghost use Rattle.vt_prog.specs.Run.{Did, Does, DoesWords, in_memory};
+ghost use Rattle.vt_prog.specs.Run.{Did, Does, DoesWords};
 
 use crate::commands::fmtarenas::fmtarenas;
 use crate::commands::fmtbloom::fmtbloom;
 use crate::commands::fmtindex::fmtindex;
 use crate::commands::fmtisect::fmtisect;
+use crate::commands::read::read;
 use crate::commands::session::session;
 use crate::commands::session_conf::session_conf;
+use crate::commands::write::write;
 use crate::complaint::complain_of;
 use crate::failure::{Failure, status};
 use crate::host::Host;
+use crate::place::is_in_memory;
 use crate::printing::print;
 use std::alloc::Global;
 use std::convert::AsStr;
-use vt_base::{NoMemory, Scorer, Sha1Scorer, Text};
+use vt_base::{NoMemory, Scorer, Sha1Scorer};
 use vt_out::Sink;
 use vt_words::{Asked, Command, ask};
 
@@ -30,11 +32,13 @@ use vt_words::{Asked, Command, ask};
 /// the replies to the sink: over the store of a configuration, or `:memory:`, one in memory.
 /// `fmtarenas`, `fmtisect` and `fmtbloom` make the file that they name a partition of arenas, an index section or a Bloom
 /// filter, and print a line on the sink. `fmtindex` puts the sections that a configuration names to
-/// use as an index. Help and the version are printed on the sink; where there is no command, short
+/// use as an index. `read` prints one block of a store, and `write` stores what comes in as one and
+/// prints its score. Help and the version are printed on the sink; where there is no command, short
 /// help goes to the fault sink, in front of the line.
 pub fn run<R, H: Host, W: AsStr>(rt: &R, alloc: Global, words: &[W], host: &mut H) -> u8
-    ensures did { Did H.Parts.Disk.Disk sha1 (map W.text words.now) result
-        (work_of H.Source.Source H.Sink.Sink H.Files.Files H.Parts.Parts (H.lent host.old)
+    ensures did { Did H.Parts.Disk.Disk H.Dialer.Link.Link sha1 (map W.text words.now) result
+        (work_of H.Source.Source H.Sink.Sink
+        H.Files.Files H.Parts.Parts H.Dialer.Dialer H.Dialer.Link.Link (H.lent host.old)
         (H.lent host.new))
         (sink_change H.FaultSink.Sink
         (H.lent host.old).fault_sink (H.lent host.new).fault_sink) }
@@ -50,8 +54,9 @@ pub fn run_with<R, H: Host, S: Scorer, W: AsStr>(
     host: &mut H,
     scorer: &S,
 ) -> u8
-    ensures did { Did H.Parts.Disk.Disk S.score_of (map W.text words.now) result
-        (work_of H.Source.Source H.Sink.Sink H.Files.Files H.Parts.Parts (H.lent host.old)
+    ensures did { Did H.Parts.Disk.Disk H.Dialer.Link.Link S.score_of (map W.text words.now) result
+        (work_of H.Source.Source H.Sink.Sink
+        H.Files.Files H.Parts.Parts H.Dialer.Dialer H.Dialer.Link.Link (H.lent host.old)
         (H.lent host.new))
         (sink_change H.FaultSink.Sink
         (H.lent host.old).fault_sink (H.lent host.new).fault_sink) }
@@ -90,11 +95,14 @@ fn do_words<H: Host, S: Scorer, W: AsStr>(
     host: &mut H,
     scorer: &S,
 ) -> (String, Result<(), Failure>)
-    ensures cause { HasCauseIn H.Parts.Disk.Disk (work_of H.Source.Source H.Sink.Sink H.Files.Files
-        H.Parts.Parts (H.lent host.old) (H.lent host.new)) result.1 }
-    ensures does { DoesWords H.Parts.Disk.Disk S.score_of (map W.text words.now)
-        (string_bytes result.0) result.1 (work_of H.Source.Source H.Sink.Sink H.Files.Files
-        H.Parts.Parts (H.lent host.old) (H.lent host.new)) }
+    ensures cause { HasCauseIn H.Parts.Disk.Disk (work_of H.Source.Source H.Sink.Sink
+        H.Files.Files H.Parts.Parts H.Dialer.Dialer H.Dialer.Link.Link (H.lent host.old)
+        (H.lent host.new)) result.1 }
+    ensures does { DoesWords H.Parts.Disk.Disk H.Dialer.Link.Link S.score_of
+        (map W.text words.now)
+        (string_bytes result.0) result.1 (work_of H.Source.Source H.Sink.Sink
+        H.Files.Files H.Parts.Parts H.Dialer.Dialer H.Dialer.Link.Link (H.lent host.old)
+        (H.lent host.new)) }
     ensures quiet { (H.lent host.new).fault_sink ≡ (H.lent host.old).fault_sink }
 {
     let nothing = String::new(alloc);
@@ -115,10 +123,12 @@ fn do_command<H: Host, S: Scorer>(
     host: &mut H,
     scorer: &S,
 ) -> Result<(), Failure>
-    ensures cause { HasCauseIn H.Parts.Disk.Disk (work_of H.Source.Source H.Sink.Sink H.Files.Files
-        H.Parts.Parts (H.lent host.old) (H.lent host.new)) result }
-    ensures does { Does H.Parts.Disk.Disk S.score_of command result (work_of H.Source.Source
-        H.Sink.Sink H.Files.Files H.Parts.Parts (H.lent host.old) (H.lent host.new)) }
+    ensures cause { HasCauseIn H.Parts.Disk.Disk (work_of H.Source.Source H.Sink.Sink
+        H.Files.Files H.Parts.Parts H.Dialer.Dialer H.Dialer.Link.Link (H.lent host.old)
+        (H.lent host.new)) result }
+    ensures does { Does H.Parts.Disk.Disk H.Dialer.Link.Link S.score_of command result (work_of H.Source.Source H.Sink.Sink
+        H.Files.Files H.Parts.Parts H.Dialer.Dialer H.Dialer.Link.Link (H.lent host.old)
+        (H.lent host.new)) }
     ensures quiet { (H.lent host.new).fault_sink ≡ (H.lent host.old).fault_sink }
 {
     match command {
@@ -139,12 +149,7 @@ fn do_command<H: Host, S: Scorer>(
             positions,
         } => fmtbloom(alloc, host, file, &size, &positions),
         Command::FormatIndex { file } => fmtindex(alloc, host, &file, scorer),
+        Command::Read { store, score, kind } => read(alloc, host, &store, &score, &kind, scorer),
+        Command::Write { store, kind } => write(alloc, host, &store, &kind, scorer),
     }
-}
-
-/// It is the name of a store in memory.
-fn is_in_memory(store: &Text) -> bool
-    ensures { result ≡ bytes_eq store.now in_memory }
-{
-    store.as_slice() == b":memory:".as_slice()
 }

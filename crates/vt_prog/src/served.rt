@@ -38,7 +38,7 @@ fn end_of(ended: Ended, taken: u64) -> Result<(), Failure>
 }
 
 /// What is told where the store failed.
-fn failure_for(why: Why) -> Failure
+pub fn failure_for(why: Why) -> Failure
     ensures { result ≡ failure_for why }
 {
     match why {

@@ -12,7 +12,7 @@ use Rattle.clap.specs.declared.error.kind.ErrorKind.TheVariants.{DisplayHelp, Di
 use Rattle.vt_words.specs.declared.asked.Asked.{Asked}
 use Rattle.vt_words.specs.declared.asked.Asked.TheVariants.{Do, Help, Version, Faulty}
 use Rattle.vt_words.specs.declared.command.Command.{Command}
-use Rattle.vt_words.specs.declared.command.Command.TheVariants.{Session, FormatArenas, FormatSection, FormatFilter, FormatIndex}
+use Rattle.vt_words.specs.declared.command.Command.TheVariants.{Session, FormatArenas, FormatSection, FormatFilter, FormatIndex, Read, Write}
 
 -- a word that a command wants, by the name that help shows
 abbrev pub wanted : Text → Rule
@@ -44,6 +44,14 @@ fmtbloom =
 abbrev pub fmtindex : App
 fmtindex = with_word (new_app (codes "fmtindex")) (codes "CONF")
 
+abbrev pub read : App
+read =
+    with_word (with_word (with_word (new_app (codes "read"))
+    (codes "STORE")) (codes "SCORE")) (codes "TYPE")
+
+abbrev pub write : App
+write = with_word (with_word (new_app (codes "write")) (codes "STORE")) (codes "TYPE")
+
 -- the program: one of its commands, or a request for help or the version
 abbrev pub with_settings : Shape → Shape
 with_settings shape = record shape {
@@ -57,8 +65,8 @@ with_settings shape = record shape {
 abbrev pub venti : App
 venti =
     with_subcommand (with_subcommand (with_subcommand (with_subcommand (with_subcommand
-    (on_top with_settings (new_app (codes "venti")))
-    session.top) fmtarenas.top) fmtisect.top) fmtbloom.top) fmtindex.top
+    (with_subcommand (with_subcommand (on_top with_settings (new_app (codes "venti")))
+    session.top) fmtarenas.top) fmtisect.top) fmtbloom.top) fmtindex.top) read.top) write.top
 
 -- ---- what its words ask for
 
@@ -89,6 +97,18 @@ filter_of rows =
 abbrev pub index_of : List Row → Option Command
 index_of rows = option_and_then (λ file. Some (FormatIndex file)) (first_of (codes "CONF") rows)
 
+abbrev pub read_of : List Row → Option Command
+read_of rows =
+    option_and_then (λ store. option_and_then (λ score. option_and_then (λ kind.
+    Some (Read store score kind))
+    (first_of (codes "TYPE") rows)) (first_of (codes "SCORE") rows))
+    (first_of (codes "STORE") rows)
+
+abbrev pub write_of : List Row → Option Command
+write_of rows =
+    option_and_then (λ store. option_and_then (λ kind. Some (Write store kind))
+    (first_of (codes "TYPE") rows)) (first_of (codes "STORE") rows)
+
 -- the command of this name, with the values of its words
 abbrev pub command_of : Text → List Row → Option Command
 command_of name rows =
@@ -97,6 +117,8 @@ command_of name rows =
     else if bytes_eq name (codes "fmtisect") then section_of rows
     else if bytes_eq name (codes "fmtbloom") then filter_of rows
     else if bytes_eq name (codes "fmtindex") then index_of rows
+    else if bytes_eq name (codes "read") then read_of rows
+    else if bytes_eq name (codes "write") then write_of rows
     else None
 
 -- by the subcommand that was met, with its values

@@ -4,6 +4,7 @@ ghost use Rattle.std.specs.Prelude.{◌≡◌, IfOk};
 ghost use Rattle.clap.specs.Matches.{found_of};
 ghost use Rattle.clap.specs.Walk.{first_of, rows_of};
 ghost use Rattle.vt_words.specs.Words.{command_of, session_of, arenas_of, section_of, filter_of, index_of};
+ghost use Rattle.vt_words.specs.Words.{read_of, write_of};
 
 use clap::ArgMatches;
 use std::alloc::Global;
@@ -39,6 +40,17 @@ pub enum Command {
     FormatIndex {
         file: Text,
     },
+    /// `read STORE SCORE TYPE`
+    Read {
+        store: Text,
+        score: Text,
+        kind: Text,
+    },
+    /// `write STORE TYPE`
+    Write {
+        store: Text,
+        kind: Text,
+    },
 }
 
 /// The command of this name, with the values that clap found, if it is one and has them all.
@@ -59,6 +71,10 @@ pub(crate) fn command_of(
         filter_of(alloc, found)
     } else if name == "fmtindex" {
         index_of(alloc, found)
+    } else if name == "read" {
+        read_of(alloc, found)
+    } else if name == "write" {
+        write_of(alloc, found)
     } else {
         Ok(None)
     }
@@ -137,6 +153,33 @@ fn index_of(alloc: Global, found: &ArgMatches<'_>) -> Result<Option<Command>, No
         return Ok(None);
     };
     Ok(Some(Command::FormatIndex { file }))
+}
+
+fn read_of(alloc: Global, found: &ArgMatches<'_>) -> Result<Option<Command>, NoMemory>
+    ensures { IfOk result (λ it. it ≡ read_of (rows_of (found_of found.now))) }
+{
+    let Some(store) = value_of(alloc, found, "STORE")? else {
+        return Ok(None);
+    };
+    let Some(score) = value_of(alloc, found, "SCORE")? else {
+        return Ok(None);
+    };
+    let Some(kind) = value_of(alloc, found, "TYPE")? else {
+        return Ok(None);
+    };
+    Ok(Some(Command::Read { store, score, kind }))
+}
+
+fn write_of(alloc: Global, found: &ArgMatches<'_>) -> Result<Option<Command>, NoMemory>
+    ensures { IfOk result (λ it. it ≡ write_of (rows_of (found_of found.now))) }
+{
+    let Some(store) = value_of(alloc, found, "STORE")? else {
+        return Ok(None);
+    };
+    let Some(kind) = value_of(alloc, found, "TYPE")? else {
+        return Ok(None);
+    };
+    Ok(Some(Command::Write { store, kind }))
 }
 
 /// The first value of this name, if there is one.

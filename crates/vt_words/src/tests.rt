@@ -13,6 +13,8 @@ fn letter(alloc: Global, words: &[&str]) -> Result<char, Fail> {
         Asked::Do(Command::FormatSection { .. }) => 'i',
         Asked::Do(Command::FormatFilter { .. }) => 'b',
         Asked::Do(Command::FormatIndex { .. }) => 'x',
+        Asked::Do(Command::Read { .. }) => 'r',
+        Asked::Do(Command::Write { .. }) => 'w',
         Asked::Help(_) => 'h',
         Asked::Version(_) => 'v',
         Asked::Faulty(_) => 'f',
@@ -21,13 +23,16 @@ fn letter(alloc: Global, words: &[&str]) -> Result<char, Fail> {
 
 #[test]
 fn words_ask_for_this(rt: HostRuntime) -> Result<(), Fail> {
-    let cases: [(&[&str], char); 18] = [
+    let cases: [(&[&str], char); 21] = [
         (&["session", ":memory:"], 's'),
         (&["fmtarenas", "a.part", "a0", "40960", "32768"], 'a'),
         (&["fmtisect", "i.part", "i0", "92160"], 'i'),
         (&["fmtbloom", "b.part", "8192", "8"], 'b'),
         (&["fmtindex", "v.conf"], 'x'),
         (&["fmtindex"], 'f'),
+        (&["read", "v.conf", "vac:00", "13"], 'r'),
+        (&["write", "v.conf", "13"], 'w'),
+        (&["write", "v.conf"], 'f'),
         (&["fmtisect", "--", "-i.part", "i0", "92160"], 'i'),
         (&["fmtisect", "-i.part", "i0", "92160"], 'f'),
         (&["fmtisect", "i.part", "i0", "-5"], 'f'),
@@ -66,6 +71,8 @@ fn texts_teach(rt: HostRuntime) -> Result<(), Fail> {
         "fmtisect",
         "fmtbloom",
         "fmtindex",
+        "read",
+        "write",
         "mkdir store",
     ] {
         assert!(rt; help.contains(word), "help without {word}");

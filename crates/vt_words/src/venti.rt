@@ -4,7 +4,8 @@ ghost use Rattle.std.specs.Prelude.{◌≡◌, false, codes, IfOk};
 ghost use Rattle.clap.specs.Simple.{on_top};
 ghost use Rattle.clap.specs.Words.{app_of, new_app, shape_of, with_subcommand};
 ghost use Rattle.clap.specs.declared.builder.command.Command.TheViews.{out-Command as fields_of};
-ghost use Rattle.vt_words.specs.Words.{with_settings, with_word, session, fmtarenas, fmtisect, fmtbloom, fmtindex, venti};
+ghost use Rattle.vt_words.specs.Words.{with_settings, with_word, venti};
+ghost use Rattle.vt_words.specs.Words.{session, fmtarenas, fmtisect, fmtbloom, fmtindex, read, write};
 
 use clap::{Arg, Command};
 use std::alloc::{AllocError, Global};
@@ -22,6 +23,11 @@ A store of one partition of arenas and one index section, made in a new folder:
   venti fmtisect store/isect i0 134217728
   venti fmtindex store/venti.conf
 
+A block of it, whose score is printed, and which is read again:
+
+  printf abc | venti write store/venti.conf 13
+  venti read store/venti.conf a9993e364706816aba3e25717850c26c9cd0d89d 13
+
 A session in memory, which is spoken on the standard streams:
 
   venti session :memory: < samples/abc.venti | od -An -tx1";
@@ -35,7 +41,9 @@ pub(crate) fn venti<'a>(alloc: Global) -> Result<Command<'a>, AllocError>
     let program = with_command(program, fmtarenas(alloc)?)?;
     let program = with_command(program, fmtisect(alloc)?)?;
     let program = with_command(program, fmtbloom(alloc)?)?;
-    with_command(program, fmtindex(alloc)?)
+    let program = with_command(program, fmtindex(alloc)?)?;
+    let program = with_command(program, read(alloc)?)?;
+    with_command(program, write(alloc)?)
 }
 
 /// The program without its commands.
@@ -93,7 +101,7 @@ fn session<'a>(alloc: Global) -> Result<Command<'a>, AllocError>
         alloc,
         command,
         "STORE",
-        ":memory:, for a store in memory that begins empty",
+        "the file of a configuration, or :memory: for a store in memory that begins empty",
     )
 }
 
@@ -156,4 +164,29 @@ fn fmtindex<'a>(alloc: Global) -> Result<Command<'a>, AllocError>
         "CONF",
         "the configuration, a line for each partition: 'arenas FILE', 'isect FILE', 'bloom FILE'",
     )
+}
+
+const STORE: &str = "the file of a configuration, a server's address as tcp!HOST!PORT, or :memory:";
+
+const TYPE: &str = "the number of the block's type: 13 for data";
+
+fn read<'a>(alloc: Global) -> Result<Command<'a>, AllocError>
+    ensures app { IfOk result (λ it. app_of it ≡ read) }
+    ensures local { IfOk result (λ it. (fields_of it).has_globals ≡ false) }
+{
+    let about = "Prints the block of a score and a type";
+    let command = command_of(alloc, "read", about);
+    let command = with_word(alloc, command, "STORE", STORE)?;
+    let command = with_word(alloc, command, "SCORE", "the 40 digits of its score")?;
+    with_word(alloc, command, "TYPE", TYPE)
+}
+
+fn write<'a>(alloc: Global) -> Result<Command<'a>, AllocError>
+    ensures app { IfOk result (λ it. app_of it ≡ write) }
+    ensures local { IfOk result (λ it. (fields_of it).has_globals ≡ false) }
+{
+    let about = "Stores what comes in as one block, and prints its score";
+    let command = command_of(alloc, "write", about);
+    let command = with_word(alloc, command, "STORE", STORE)?;
+    with_word(alloc, command, "TYPE", TYPE)
 }

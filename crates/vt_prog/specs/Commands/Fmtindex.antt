@@ -71,11 +71,12 @@ pub record IndexesConf {K P D : Type 0} (disk : DiskOf D) (file : List ℕ) (con
 
 -- The configuration was read, and its index formatted; or it is told why none was read, and nothing
 -- is done.
-abbrev pub DoesFmtindex : {R K I P D : Type 0} → DiskOf D → (file : List ℕ) → Outcome
-    → Work R K I P D → Type 0
+abbrev pub DoesFmtindex : {R K I P D N L : Type 0} → DiskOf D → (file : List ℕ) → Outcome
+    → Work R K I P D N L → Type 0
 DoesFmtindex disk file outcome work =
     ((failure : Failure) × (outcome ≡ Err failure) × ReadsNone file failure work.files
     × ReadsFiles work)
     ⊎ ((conf : Conf) × ReadsConf file conf work.files
     × IndexesConf disk file conf outcome work.parts work.sink
-    × (work.source.after ≡ work.source.before))
+    × (work.source.after ≡ work.source.before)
+    × (work.dialer.after ≡ work.dialer.before))

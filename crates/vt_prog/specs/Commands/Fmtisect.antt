@@ -31,8 +31,8 @@ section_line name count =
     concat (codes "fmtisect " ∷ name ∷ codes ": " ∷ decimal count ∷ codes " buckets\n" ∷ [])
 
 -- its words were refused, or the file was made a section, of this name
-abbrev pub DoesFmtisect : {R K I P D : Type 0} → DiskOf D → (file name length : List ℕ) → Outcome
-    → Work R K I P D → Type 0
+abbrev pub DoesFmtisect : {R K I P D N L : Type 0} → DiskOf D → (file name length : List ℕ) → Outcome
+    → Work R K I P D N L → Type 0
 DoesFmtisect disk file name length outcome work =
     RefusesWord (AsksForNoSection name length) outcome work
     ⊎ ((len : ℕ) × AsksForSection name length len

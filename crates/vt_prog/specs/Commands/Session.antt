@@ -12,11 +12,8 @@ use Rattle.vt_alone.specs.declared.serving.StoreServed.{StoreServed}
 use Rattle.vt_alone.specs.Sessions.{AreUnsaid, NeedsMemory, OnlyMemory}
 use Rattle.vt_prog.specs.Change.{Change, Work, IsIdle}
 use Rattle.vt_prog.specs.Failure.{Outcome}
+use Rattle.vt_prog.specs.Memory.{memory}
 use Rattle.vt_prog.specs.Served.{PassesOver, outcome_of}
-
--- the store in memory: one arena of 1,048,576 bytes, and one index section of 4 buckets
-abbrev pub memory : Setup
-memory = record { arenas = 1048576 ∷ []; base = 0; sections = 4 ∷ [] }
 
 -- What came in and went out is a session that nobody shares, over a store that began empty. Nothing
 -- fails in it but for want of memory, and exactly where it ran out in a request that was heard, that
@@ -45,8 +42,8 @@ pub record ServesMemory {R K : Type 0} (score : List ℕ → List ℕ) (end : St
   pub write : SinkCause end.ended sink.faults sink.faults'
 
 -- One session was served in memory, whose end gives the outcome, and nothing else was done.
-pub record DoesSession {R K I P D : Type 0} (score : List ℕ → List ℕ) (outcome : Outcome)
-    (work : Work R K I P D) : Type 0 where
+pub record DoesSession {R K I P D N L : Type 0} (score : List ℕ → List ℕ) (outcome : Outcome)
+    (work : Work R K I P D N L) : Type 0 where
   pub end : StoreServed
   pub serves : ServesMemory score end work.source work.sink
   pub outcome_is : outcome ≡ outcome_of end
@@ -54,3 +51,4 @@ pub record DoesSession {R K I P D : Type 0} (score : List ℕ → List ℕ) (out
   pub idle : end.ended ≡ ends.NoMemory → IsIdle work
   pub unopened : work.files.after ≡ work.files.before
   pub unused : work.parts.after ≡ work.parts.before
+  pub undialled : work.dialer.after ≡ work.dialer.before

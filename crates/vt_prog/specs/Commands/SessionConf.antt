@@ -30,7 +30,7 @@ use Rattle.vt_prog.specs.declared.failure.Failure.TheVariants.{DiskFault, NoMemo
 use Rattle.vt_prog.specs.Change.{Change, PartsChange, Work, ReadsFiles}
 use Rattle.vt_prog.specs.Configurations.{IsRefusalAmong, ReadsConf, ReadsNone}
 use Rattle.vt_prog.specs.Failure.{HasFailed, Outcome}
-use Rattle.vt_prog.specs.Served.{EndsWell, PassesOver, outcome_of}
+use Rattle.vt_prog.specs.Served.{PassesOver, outcome_of}
 
 -- ---- what is told
 
@@ -87,14 +87,15 @@ pub record OpensNone {R K P D : Type 0} (score : List ℕ → List ℕ) (disk : 
 
 -- The configuration was read, and a session was served over its store, or it is told why that isn't
 -- opened; or it is told why none was read, and nothing else is done.
-abbrev pub DoesSessionConf : {R K I P D : Type 0} → (score : List ℕ → List ℕ) → DiskOf D
-    → (file : List ℕ) → Outcome → Work R K I P D → Type 0
+abbrev pub DoesSessionConf : {R K I P D N L : Type 0} → (score : List ℕ → List ℕ) → DiskOf D
+    → (file : List ℕ) → Outcome → Work R K I P D N L → Type 0
 DoesSessionConf score disk file outcome work =
     ((failure : Failure) × (outcome ≡ Err failure) × ReadsNone file failure work.files
     × ReadsFiles work)
     ⊎ ((conf : Conf) × ReadsConf file conf work.files
     × (OpensNone score disk file conf outcome work.source work.sink work.parts
-    ⊎ ServesConf score disk conf outcome work.source work.sink work.parts))
+    ⊎ ServesConf score disk conf outcome work.source work.sink work.parts)
+    × (work.dialer.after ≡ work.dialer.before))
 
 -- ---- the promise
 
@@ -132,9 +133,9 @@ pub record KeepsConf {D : Type 0} (score : List ℕ → List ℕ) (disk : DiskOf
 
 -- All that is handed in tells what it holds: the file of this name is a configuration, of what
 -- stands under its names every combination of images stands for a prefix of one legal history,
--- within the limits of a store, and the input ends well.
-pub record IsWellHandedIn {R K I P D : Type 0} (score : List ℕ → List ℕ) (disk : DiskOf D)
-    (file : List ℕ) (work : Work R K I P D) : Type 0 where
+-- within the limits of a store.
+pub record IsWellHandedIn {R K I P D N L : Type 0} (score : List ℕ → List ℕ) (disk : DiskOf D)
+    (file : List ℕ) (work : Work R K I P D N L) : Type 0 where
   pub streams : IsTrue (work.source.tells && work.sink.tells)
   pub files : IsTrue work.files.tells
   pub parts : IsTrue work.parts.tells
@@ -152,10 +153,9 @@ pub record IsWellHandedIn {R K I P D : Type 0} (score : List ℕ → List ℕ) (
   pub base : ℕ
   pub log : IsLogOf score disk tables devices c h g base
   pub limits : KeepsLimits tables c
-  pub input : EndsWell work.source.old
 
 -- no call failed: no count rose, of the streams, the files, the partitions or a disk of these
-pub record NoneFails {R K I P D : Type 0} (disk : DiskOf D) (work : Work R K I P D) : Type 0 where
+pub record NoneFails {R K I P D N L : Type 0} (disk : DiskOf D) (work : Work R K I P D N L) : Type 0 where
   pub source : ¬ HasRisen work.source.faults work.source.faults'
   pub sink : ¬ HasRisen work.sink.faults work.sink.faults'
   pub files : ¬ HasRisen work.files.faults work.files.faults'

@@ -28,10 +28,12 @@ pub fn fmtarenas<H: Host>(
     arena_size: &Text,
 ) -> Result<(), Failure>
     ensures does { DoesFmtarenas H.Parts.Disk.Disk file name.now length.now arena_size.now result
-        (work_of H.Source.Source H.Sink.Sink H.Files.Files H.Parts.Parts (H.lent host.old)
+        (work_of H.Source.Source H.Sink.Sink
+        H.Files.Files H.Parts.Parts H.Dialer.Dialer H.Dialer.Link.Link (H.lent host.old)
         (H.lent host.new)) }
-    ensures cause { HasCauseIn H.Parts.Disk.Disk (work_of H.Source.Source H.Sink.Sink H.Files.Files
-        H.Parts.Parts (H.lent host.old) (H.lent host.new)) result }
+    ensures cause { HasCauseIn H.Parts.Disk.Disk (work_of H.Source.Source H.Sink.Sink
+        H.Files.Files H.Parts.Parts H.Dialer.Dialer H.Dialer.Link.Link (H.lent host.old)
+        (H.lent host.new)) result }
     ensures quiet { (H.lent host.new).fault_sink ≡ (H.lent host.old).fault_sink }
 {
     let (len, size) = read_words(name, length, arena_size)?;

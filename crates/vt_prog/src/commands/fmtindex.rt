@@ -28,10 +28,12 @@ pub fn fmtindex<H: Host, S: Scorer>(
     file: &Text,
     scorer: &S,
 ) -> Result<(), Failure>
-    ensures does { DoesFmtindex H.Parts.Disk.Disk file.now result (work_of H.Source.Source
-        H.Sink.Sink H.Files.Files H.Parts.Parts (H.lent host.old) (H.lent host.new)) }
-    ensures cause { HasCauseIn H.Parts.Disk.Disk (work_of H.Source.Source H.Sink.Sink H.Files.Files
-        H.Parts.Parts (H.lent host.old) (H.lent host.new)) result }
+    ensures does { DoesFmtindex H.Parts.Disk.Disk file.now result (work_of H.Source.Source H.Sink.Sink
+        H.Files.Files H.Parts.Parts H.Dialer.Dialer H.Dialer.Link.Link (H.lent host.old)
+        (H.lent host.new)) }
+    ensures cause { HasCauseIn H.Parts.Disk.Disk (work_of H.Source.Source H.Sink.Sink
+        H.Files.Files H.Parts.Parts H.Dialer.Dialer H.Dialer.Link.Link (H.lent host.old)
+        (H.lent host.new)) result }
     ensures quiet { (H.lent host.new).fault_sink ≡ (H.lent host.old).fault_sink }
 {
     configurations_number_their_files();
@@ -54,6 +56,7 @@ fn index_conf<H: Host, S: Scorer, T: Sink>(
         (parts_change H.Parts.Parts (H.lent host.old).parts (H.lent host.new).parts)
         (sink_change H.Sink.Sink (H.lent host.old).sink (H.lent host.new).sink) }
     ensures source { (H.lent host.new).source ≡ (H.lent host.old).source }
+    ensures dialer { (H.lent host.new).dialer ≡ (H.lent host.old).dialer }
     ensures files { (H.lent host.new).files ≡ (H.lent host.old).files }
     ensures fault_sink { (H.lent host.new).fault_sink ≡ (H.lent host.old).fault_sink }
 {

@@ -27,10 +27,12 @@ pub fn fmtisect<H: Host>(
     length: &Text,
 ) -> Result<(), Failure>
     ensures does { DoesFmtisect H.Parts.Disk.Disk file name.now length.now result
-        (work_of H.Source.Source H.Sink.Sink H.Files.Files H.Parts.Parts (H.lent host.old)
+        (work_of H.Source.Source H.Sink.Sink
+        H.Files.Files H.Parts.Parts H.Dialer.Dialer H.Dialer.Link.Link (H.lent host.old)
         (H.lent host.new)) }
-    ensures cause { HasCauseIn H.Parts.Disk.Disk (work_of H.Source.Source H.Sink.Sink H.Files.Files
-        H.Parts.Parts (H.lent host.old) (H.lent host.new)) result }
+    ensures cause { HasCauseIn H.Parts.Disk.Disk (work_of H.Source.Source H.Sink.Sink
+        H.Files.Files H.Parts.Parts H.Dialer.Dialer H.Dialer.Link.Link (H.lent host.old)
+        (H.lent host.new)) result }
     ensures quiet { (H.lent host.new).fault_sink ≡ (H.lent host.old).fault_sink }
 {
     let len = read_words(name, length)?;

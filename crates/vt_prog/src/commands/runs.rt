@@ -5,9 +5,10 @@ use std::alloc::Global;
 use std::test::Fail;
 use vt_answer::StreamsClient;
 use vt_base::{Bytes, NoMemory, Scorer, Sha1Scorer, Text};
+use vt_dial::MemDialer;
 use vt_memdisk::{CrashMode, Listed, MemDisk};
 use vt_memparts::{Failing, MemParts};
-use vt_out::{MemClock, MemFiles, MemSink, MemSource};
+use vt_out::{MemClock, MemFiles, MemLink, MemSink, MemSource};
 use vt_parts::Parts;
 
 /// Partitions that a test makes. What is done to them is proved for any such, which is much less
@@ -87,6 +88,15 @@ pub fn see_ran(ran: &Ran, output: &[u8], status: u8, complaint: &str) -> Result<
     )
 }
 
+/// A dialer whose one server nobody asks for.
+pub fn no_server(alloc: Global) -> Result<MemDialer, Fail> {
+    let link = MemLink {
+        source: MemSource::new(alloc, Vec::new(alloc)),
+        sink: MemSink::new(alloc, 0)?,
+    };
+    Ok(MemDialer::new(Text::copy_of(alloc, b"nobody")?, 1, link))
+}
+
 /// Runs the program with these words over these streams, files and partitions, and gives the
 /// partitions back.
 pub fn run_over<S: Scorer, P: Parts + Drop>(
@@ -103,6 +113,7 @@ pub fn run_over<S: Scorer, P: Parts + Drop>(
         fault_sink: MemSink::new(alloc, 200)?,
         files,
         parts,
+        dialer: no_server(alloc)?,
         clock: MemClock::new(0),
         terminal: None::<MemSink>,
     };

@@ -7,42 +7,29 @@ ghost use Rattle.vt_prog.specs.Failure.{HasCauseIn};
 
 use crate::failure::Failure;
 use crate::host::Host;
+use crate::memory::memory_store;
 use crate::served::outcome_of;
 use std::alloc::Global;
 use vt_alone::{StoreServed, serve_store, sound_stores_need_memory};
-use vt_base::{NoMemory, Scorer};
-use vt_conf::{block_room, entry_room};
+use vt_base::Scorer;
 use vt_fresh::laws::memory_never_fails;
-use vt_fresh::{Shape, fresh_store};
 use vt_memdisk::MemDisk;
 use vt_session::Ended;
-use vt_shard::Sizes;
 
 #[cfg(test)]
 mod patient;
 #[cfg(test)]
 mod tests;
 
-/// The shape of the store in memory.
-const MEMORY: Shape = Shape {
-    arenas: 1,
-    arena_len: 1_048_576,
-    sections: 1,
-    buckets: 4,
-    filter: 8_192,
-    positions: 8,
-};
-
-/// How many bytes of blocks it keeps at hand, and how many of index entries.
-const MEM: u64 = 1 << 20;
-
 /// Serves one session over a store that begins empty. What can be answered is answered, and has gone
 /// out, before more is read.
 pub fn session<H: Host, S: Scorer>(alloc: Global, host: &mut H, scorer: &S) -> Result<(), Failure>
-    ensures does { DoesSession S.score_of result (work_of H.Source.Source H.Sink.Sink H.Files.Files
-        H.Parts.Parts (H.lent host.old) (H.lent host.new)) }
-    ensures cause { HasCauseIn H.Parts.Disk.Disk (work_of H.Source.Source H.Sink.Sink H.Files.Files
-        H.Parts.Parts (H.lent host.old) (H.lent host.new)) result }
+    ensures does { DoesSession S.score_of result (work_of H.Source.Source H.Sink.Sink
+        H.Files.Files H.Parts.Parts H.Dialer.Dialer H.Dialer.Link.Link (H.lent host.old)
+        (H.lent host.new)) }
+    ensures cause { HasCauseIn H.Parts.Disk.Disk (work_of H.Source.Source H.Sink.Sink
+        H.Files.Files H.Parts.Parts H.Dialer.Dialer H.Dialer.Link.Link (H.lent host.old)
+        (H.lent host.new)) result }
     ensures quiet { (H.lent host.new).fault_sink ≡ (H.lent host.old).fault_sink }
 {
     let now = host.now();
@@ -60,18 +47,16 @@ fn serve_memory<H: Host, S: Scorer>(
         (source_change H.Source.Source (H.lent host.old).source (H.lent host.new).source)
         (sink_change H.Sink.Sink (H.lent host.old).sink (H.lent host.new).sink) }
     ensures idle { result.ended ≡ Ended.NoMemory → IsIdle (work_of H.Source.Source H.Sink.Sink
-        H.Files.Files H.Parts.Parts (H.lent host.old) (H.lent host.new)) }
+        H.Files.Files H.Parts.Parts H.Dialer.Dialer H.Dialer.Link.Link (H.lent host.old)
+        (H.lent host.new)) }
     ensures fault_sink { (H.lent host.new).fault_sink ≡ (H.lent host.old).fault_sink }
     ensures files { (H.lent host.new).files ≡ (H.lent host.old).files }
     ensures parts { (H.lent host.new).parts ≡ (H.lent host.old).parts }
+    ensures dialer { (H.lent host.new).dialer ≡ (H.lent host.old).dialer }
 {
     memory_never_fails();
     sound_stores_need_memory::<MemDisk>();
-    let sizes = Sizes {
-        lumps: block_room(MEM, MEMORY.sections),
-        clean: entry_room(MEM, MEMORY.sections),
-    };
-    let Ok(core) = fresh_store(alloc, &MEMORY, sizes, 1, scorer) else {
+    let Ok(core) = memory_store(alloc, scorer) else {
         return StoreServed {
             ended: Ended::NoMemory,
             taken: 0,

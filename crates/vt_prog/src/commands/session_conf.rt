@@ -33,11 +33,12 @@ pub fn session_conf<H: Host, S: Scorer>(
     file: &Text,
     scorer: &S,
 ) -> Result<(), Failure>
-    ensures does { DoesSessionConf S.score_of H.Parts.Disk.Disk file.now result (work_of
-        H.Source.Source H.Sink.Sink H.Files.Files H.Parts.Parts (H.lent host.old)
+    ensures does { DoesSessionConf S.score_of H.Parts.Disk.Disk file.now result (work_of H.Source.Source H.Sink.Sink
+        H.Files.Files H.Parts.Parts H.Dialer.Dialer H.Dialer.Link.Link (H.lent host.old)
         (H.lent host.new)) }
-    ensures cause { HasCauseIn H.Parts.Disk.Disk (work_of H.Source.Source H.Sink.Sink H.Files.Files
-        H.Parts.Parts (H.lent host.old) (H.lent host.new)) result }
+    ensures cause { HasCauseIn H.Parts.Disk.Disk (work_of H.Source.Source H.Sink.Sink
+        H.Files.Files H.Parts.Parts H.Dialer.Dialer H.Dialer.Link.Link (H.lent host.old)
+        (H.lent host.new)) result }
     ensures quiet { (H.lent host.new).fault_sink ≡ (H.lent host.old).fault_sink }
 {
     configurations_can_be_opened();
@@ -65,6 +66,7 @@ fn serve_conf<H: Host, S: Scorer>(
         (sink_change H.Sink.Sink (H.lent host.old).sink (H.lent host.new).sink)
         (parts_change H.Parts.Parts (H.lent host.old).parts (H.lent host.new).parts) }
     ensures files { (H.lent host.new).files ≡ (H.lent host.old).files }
+    ensures dialer { (H.lent host.new).dialer ≡ (H.lent host.old).dialer }
     ensures fault_sink { (H.lent host.new).fault_sink ≡ (H.lent host.old).fault_sink }
 {
     let now = host.now();
@@ -92,6 +94,7 @@ fn serve_opened<H: Host, S: Scorer + Drop>(
     ensures faults { H.Parts.faults (H.lent host.new).parts
         ≡ H.Parts.faults (H.lent host.old).parts }
     ensures files { (H.lent host.new).files ≡ (H.lent host.old).files }
+    ensures dialer { (H.lent host.new).dialer ≡ (H.lent host.old).dialer }
     ensures fault_sink { (H.lent host.new).fault_sink ≡ (H.lent host.old).fault_sink }
 {
     sessions_are_runs::<<H::Parts as Parts>::Disk>();
@@ -102,7 +105,13 @@ fn serve_opened<H: Host, S: Scorer + Drop>(
 }
 
 /// What is told where the store isn't opened. A file that can't be had is named on the terminal.
-fn told<H: Host>(alloc: Global, host: &mut H, file: &Text, conf: &Conf, bad: OpenBad) -> Failure
+pub(crate) fn told<H: Host>(
+    alloc: Global,
+    host: &mut H,
+    file: &Text,
+    conf: &Conf,
+    bad: OpenBad,
+) -> Failure
     ensures told { IsOpenRefusal file.now conf.now bad result }
     ensures same { H.lent host.new ≡ H.lent host.old }
 {

@@ -1,4 +1,5 @@
 -- the line is that of the branch that was taken
+use Rattle.std.proofs.Common.{◌∙◌}
 use Rattle.vt_prog.proofs.complaint.complain_of.Goals as goal
 
 pub returns-in-BadWords : goal.returns-in-BadWords
@@ -49,3 +50,19 @@ returns-in-NoMemory g c tells = rw (c.in-Err.is, c.in-NoMemory.is) (c.complain-i
 
 pub returns-in-Damaged : goal.returns-in-Damaged
 returns-in-Damaged g c tells = rw (c.in-Err.is, c.in-Damaged.is) (c.complain_of_damage.ensures tells)
+
+pub returns-in-BadScore : goal.returns-in-BadScore
+returns-in-BadScore g c tells = rw (c.in-Err.is, c.in-BadScore.is) (c.complain_at-in-BadScore.ensures tells)
+
+pub returns-in-IndexFull : goal.returns-in-IndexFull
+returns-in-IndexFull g c tells = rw (c.in-Err.is, c.in-IndexFull.is) (c.complain-in-IndexFull.ensures tells)
+
+pub returns-in-ArenasFull : goal.returns-in-ArenasFull
+returns-in-ArenasFull g c tells = rw (c.in-Err.is, c.in-ArenasFull.is) (c.complain-in-ArenasFull.ensures tells)
+
+pub returns-in-Refused : goal.returns-in-Refused
+returns-in-Refused g c tells = rw (c.in-Err.is, c.in-Refused.is)
+    (rw (c.as_bytes.ensures.value ∙ c.why_text.ensures) at (c.complain-in-Refused.ensures tells))
+
+pub returns-in-Server : goal.returns-in-Server
+returns-in-Server g c tells = rw (c.in-Err.is, c.in-Server.is) (c.complain_of_server.ensures tells)

@@ -13,8 +13,9 @@ use Rattle.vt_prog.proofs.SessionCauses.{served_rises}
 use Rattle.vt_prog.proofs.laws.sessions_are_answered.Goals as goal
 
 pub returns : goal.returns
-returns g c score words status work complaint file did asks other it fails =
+returns g c score words status work complaint file did asks other it well_ended fails =
     let disk = g.P.Disk.Disk in
+    let link = g.N.Link.Link in
     let outcome = did.outcome in
     let cause_of = λ (failure : Failure) (is : outcome ≡ Err failure).
     subst (λ (o : Outcome). HasCauseIn disk work o) is did.cause in
@@ -50,10 +51,10 @@ returns g c score words status work complaint file did asks other it fails =
     }) in
     let session = s.serves.session it.g it.disks recalls.sound it.streams in
     subst IsWell (sym s.outcome_is) (served_well s.end s.input s.output session.turns work.source
-    work.sink needs (s.passes it.streams) session.alone.carried s.read s.write it.input fails.source
+    work.sink needs (s.passes it.streams) session.alone.carried s.read s.write well_ended fails.source
     fails.sink))
     read.2)
     does in
     well_status outcome status did.status_is
-    (conf_well disk score file outcome work other well
-    (done disk score words did.preface outcome work (Session file) asks did.does))
+    (conf_well disk link score file outcome work other well
+    (done disk link score words did.preface outcome work (Session file) asks did.does))

@@ -3,7 +3,7 @@
 ghost use Rattle.std.specs.Prelude.{◌<◌, ◌^◌};
 
 use crate::commands::messages::OUR_LINE;
-use crate::commands::runs::{Ran, TestParts, confs};
+use crate::commands::runs::{Ran, TestParts, confs, no_server};
 use crate::{Outside, run_with};
 use std::alloc::Global;
 use std::cell::Cell;
@@ -129,6 +129,7 @@ pub fn run_patient<P: TestParts>(
         fault_sink: MemSink::new(alloc, 100)?,
         files: confs(alloc)?,
         parts,
+        dialer: no_server(alloc)?,
         clock: MemClock::new(0),
         terminal: None::<MemSink>,
     };

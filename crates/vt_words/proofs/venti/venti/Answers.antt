@@ -19,6 +19,10 @@ returns c =
     ∙ ap₂ with_subcommand two (ap top c.in_ok-fmtisect.ensures.app) in
     let four = c.in_ok-program-5.ensures
     ∙ ap₂ with_subcommand three (ap top c.in_ok-fmtbloom.ensures.app) in
-    IfOk-weaker c.with_command-5.result _ _
-    (λ it adds. adds ∙ ap₂ with_subcommand four (ap top c.in_ok-fmtindex.ensures.app))
-    c.with_command-5.ensures
+    let five = c.in_ok-program-6.ensures
+    ∙ ap₂ with_subcommand four (ap top c.in_ok-fmtindex.ensures.app) in
+    let six = c.in_ok-program-7.ensures
+    ∙ ap₂ with_subcommand five (ap top c.in_ok-read.ensures.app) in
+    IfOk-weaker c.with_command-7.result _ _
+    (λ it adds. adds ∙ ap₂ with_subcommand six (ap top c.in_ok-write.ensures.app))
+    c.with_command-7.ensures

@@ -18,8 +18,10 @@ returns-in-Err-clause-cause g c =
     let before = g.H.Host.lent c.args.host.now in
     let after = record before { parts = c.format_arenas.new.parts } in
     let worked = rw c.parts.ensures.parts at c.in-Err.ensures.worked in
-    subst (λ lent. HasCauseIn disk (work_of g.H.Source.Source g.H.Sink.Sink g.H.Files.Files g.H.Parts.Parts before lent) (Err c.refused.result))
+    subst (λ lent. HasCauseIn disk (work_of g.H.Source.Source g.H.Sink.Sink g.H.Files.Files g.H.Parts.Parts
+    g.H.Dialer.Dialer g.H.Dialer.Link.Link before lent) (Err c.refused.result))
     (sym (c.refused.ensures.same ∙ g.met.H.Host.lent_again c.args.host.now after))
     (refused disk c.args.file c.in_ok-len.len (FormatsArenas disk c.args.name.now c.in_ok-len.size)
-    (work_of g.H.Source.Source g.H.Sink.Sink g.H.Files.Files g.H.Parts.Parts before after)
+    (work_of g.H.Source.Source g.H.Sink.Sink g.H.Files.Files g.H.Parts.Parts
+    g.H.Dialer.Dialer g.H.Dialer.Link.Link before after)
     (arenas disk c.args.name.now c.in_ok-len.size) c.in-Err.bad c.refused.result c.refused.ensures.told worked)

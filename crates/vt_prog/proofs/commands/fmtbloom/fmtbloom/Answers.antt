@@ -19,6 +19,7 @@ returns-in-Ok-clause-does g c =
         told = rw sink_is at c.print_filter.ensures;
         unread = refl;
         unopened = refl;
+        undialled = refl;
       },
     ))
 
@@ -38,5 +39,6 @@ returns-in-Err-clause-does g c =
         told = ((c.refused.result, refl, c.refused.ensures.told), refl);
         unread = refl;
         unopened = refl;
+        undialled = refl;
       },
     )))

@@ -1,21 +1,8 @@
 -- the store that was made is sound for the empty history, and no call of its disks fails
-use Rattle.std.proofs.Common.{[], refl, ap, ◌∙◌, arith, rules}
+use Rattle.std.proofs.Common.{[], refl, ap, ◌∙◌}
 use Rattle.vt_answer.specs.Links.{since}
 use Rattle.vt_prog.proofs.InMemory.{never_fails, serves_none, session_in}
 use Rattle.vt_prog.proofs.commands.session.serve_memory.Goals as goal
-
-pub fresh_store-requires-clause-shape : goal.fresh_store-requires-clause-shape
-fresh_store-requires-clause-shape g c = record {
-  some_arena = omega arith;
-  arenas = omega arith;
-  arena_len = search rules;
-  some_section = omega arith;
-  some_bucket = omega arith;
-  buckets = omega arith;
-  m = 16;
-  filter = record { least = omega arith; most = omega arith; bytes = refl };
-  counts = record { least = omega arith; most = omega arith; some = omega arith; few = omega arith };
-}
 
 pub returns-in_default-clause-serves : goal.returns-in_default-clause-serves
 returns-in_default-clause-serves g c = serves_none g.S.Scorer.score_of _ _
@@ -46,10 +33,10 @@ returns-clause-serves g c =
         written = serve.written tells;
       };
       session = λ tells. session_in score _ end c.args.now core serve.serves.served input output
-          fresh.setup (never_fails _ never score _ _ _ core serve.serves.served fresh)
+          fresh.setup (never_fails _ never score core serve.serves.served fresh)
           (serve.serves.session [] refl fresh.sound tells);
       needs = c.sound_stores_need_memory.ensures score end c.args.now core ended _ input output []
-          serve.serves refl fresh.sound (never_fails _ never score _ _ _ core ended fresh);
+          serve.serves refl fresh.sound (never_fails _ never score core ended fresh);
       read = serve.reads;
       write = serve.writes;
     }))
@@ -63,6 +50,7 @@ returns-clause-idle g c none =
         unread = ap (λ s. s.source) same ∙ c.streams.ensures.source;
         unwritten = ap (λ s. s.sink) same ∙ c.streams.ensures.sink;
         unused = refl;
+        undialled = refl;
       };
       unopened = refl;
     })

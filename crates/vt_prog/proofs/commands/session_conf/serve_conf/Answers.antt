@@ -21,6 +21,11 @@ returns-in-Ok-clause-files g c =
     let again = g.met.H.Host.lent_again in
     rw c.now-now.ensures at (simp again at c.serve_opened.ensures.files)
 
+pub returns-in-Ok-clause-dialer : goal.returns-in-Ok-clause-dialer
+returns-in-Ok-clause-dialer g c =
+    let again = g.met.H.Host.lent_again in
+    rw c.now-now.ensures at (simp again at c.serve_opened.ensures.dialer)
+
 pub returns-in-Ok-clause-fault_sink : goal.returns-in-Ok-clause-fault_sink
 returns-in-Ok-clause-fault_sink g c =
     let again = g.met.H.Host.lent_again in

@@ -66,5 +66,8 @@ returns-clause-faults g c =
 pub returns-clause-files : goal.returns-clause-files
 returns-clause-files g c = let again = g.met.H.Host.lent_again in simp again refl
 
+pub returns-clause-dialer : goal.returns-clause-dialer
+returns-clause-dialer g c = let again = g.met.H.Host.lent_again in simp again refl
+
 pub returns-clause-fault_sink : goal.returns-clause-fault_sink
 returns-clause-fault_sink g c = let again = g.met.H.Host.lent_again in simp again refl
