@@ -73,16 +73,29 @@ def put(path, pieces):
         out.writelines(pieces)
 
 
+def peak(pid):
+    """The most memory that a process has had yet, in KiB. What wait4 tells of it begins with this script's own."""
+    try:
+        with open(f"/proc/{pid}/status", encoding="ascii", errors="replace") as lines:
+            return next((int(line.split()[1]) for line in lines if line.startswith("VmHWM")), 0)
+    except OSError:
+        return 0
+
+
 def run(command, folder, path):
     """Seconds by the clock and of the processor, and the most memory in MiB."""
     with open(path, "rb") as source, open(os.devnull, "wb") as sink:
         began = time.perf_counter()
         child = subprocess.Popen(command, cwd=folder, stdin=source, stdout=sink)
-        _, status, usage = os.wait4(child.pid, 0)
+        most, pid = 0, 0
+        while pid == 0:
+            most = max(most, peak(child.pid))
+            time.sleep(0.005)
+            pid, status, usage = os.wait4(child.pid, os.WNOHANG)
         seconds = time.perf_counter() - began
     if status != 0:
         sys.exit(f"{command}: status {status}")
-    return seconds, usage.ru_utime + usage.ru_stime, usage.ru_maxrss / 1024
+    return seconds, usage.ru_utime + usage.ru_stime, most / 1024
 
 
 def row(name, blocks, measured):
@@ -134,7 +147,7 @@ def in_store(where, arenas, buckets, work):
 def main():
     where = sys.argv[1] if len(sys.argv) > 1 else "/var/tmp"
     subprocess.run([VENTI, "session", ":memory:"], stdin=subprocess.DEVNULL, stdout=subprocess.DEVNULL, check=True)
-    serve = [VENTI, "session", "v.conf"]
+    serve = [PROGRAM, "session", "v.conf"]
     count = 20_000
     print("| work | blocks | seconds | processor seconds | blocks a second | microseconds a block | memory, MiB |")
     print("|---|---|---|---|---|---|---|")
