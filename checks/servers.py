@@ -31,7 +31,6 @@ class Listener:
     def listen(self):
         link, _ = self.listener.accept()
         with link:
-            link.settimeout(60)
             self.serve(link)
 
 
@@ -43,6 +42,7 @@ class Scripted(Listener):
         self.says, self.replies, self.heard = says, replies, b""
 
     def serve(self, link):
+        link.settimeout(60)
         with link.makefile("rb") as stream:
             link.sendall(self.says)
             self.heard += stream.readline()
@@ -61,5 +61,7 @@ class Program(Listener):
         self.command, self.folder = command, folder
 
     def serve(self, link):
+        # (the program's reads and writes wait)
+        link.setblocking(True)
         streams = {"stdin": link, "stdout": link, "stderr": subprocess.DEVNULL}
         subprocess.run(self.command, cwd=self.folder, timeout=60, **streams)
