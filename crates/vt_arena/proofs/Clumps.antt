@@ -1,8 +1,11 @@
 -- What reading the clump of a block finds.
-use Rattle.std.proofs.Common.{◌≡◌, ◌⊎◌, inl, inr, ℕ, ◌+◌, ◌-◌, ◌<◌, min, Bool, true, false, cond, Option, Some, None, List, [], ◌∷◌, ◌++◌, length, drop, Err, refl, sym, ◌∙◌, ap, subst, arith, append-nil, length-take, length-drop}
+use Rattle.std.proofs.Common.{◌≡◌, ◌⊎◌, ⊎_elim, inl, inr, ℕ, ◌+◌, ◌-◌, ◌<◌, ◌≤◌, min, Bool, true, false, cond, Option, Some, None, List, [], ◌∷◌, ◌++◌, length, take, drop, Err, refl, sym, ◌∙◌, ap, subst, arith, append-nil, length-take, length-drop}
 use Rattle.std.specs.Prelude.{slice_index}
 use Rattle.std.specs.Str.{bytes_eq}
-use Rattle.std.proofs.lemmas.List.{get_or-drop, get_or_append_left}
+use Rattle.std.specs.List.{copy_within}
+use Rattle.std.proofs.lemmas.Bool.{cases_lt}
+use Rattle.std.proofs.lemmas.List.{get_or-take, get_or-drop, get_or_append_left, get_or_past, take-take, drop-take, drop-drop}
+use Rattle.std.proofs.lemmas.List.Edits.{take-paste}
 use Rattle.std.proofs.lemmas.Slice.Eq.{bytes_eq-Decides}
 use Rattle.vt_base.specs.Bytes.{AreBytes}
 use Rattle.vt_disk.specs.declared.region.Region.{Region}
@@ -72,14 +75,66 @@ module _ (region : Region) (offset : ℕ) (header block file : List ℕ) where
       ∙ sym (part-sum (region.start + offset) 38 rest file)
       ∙ ap (λ (n : ℕ). part (region.start + offset) n file) len
 
-  -- also where a call between the two reads left the bytes as they were
-  pub read_there : (between : List ℕ) → between ≡ file → header ≡ header_at region offset file
-      → (header ≡ header_at region offset between
-      → header ++ block ≡ clump_at region offset between)
-      → header ++ block ≡ clump_at region offset file
-  read_there between same is read =
-      subst (λ (f : List ℕ). header ++ block ≡ clump_at region offset f) same
-      (read (subst (λ (f : List ℕ). header ≡ header_at region offset f) (sym same) is))
+-- the front of bytes
+pub taken_bytes : (n : ℕ) (bytes : List ℕ) → AreBytes bytes → AreBytes (take n bytes)
+taken_bytes n bytes are k = ⊎_elim
+    (λ (below : k < n). subst (λ (b : ℕ). b < 256) (sym (get_or-take n bytes k 0 below)) (are k))
+    (λ (past : n ≤ k). subst (λ (b : ℕ). b < 256) (sym (get_or_past (take n bytes) k 0 (omega (arith, length-take n bytes, past)))) (omega arith))
+    (cases_lt k n)
+
+-- what is read at once: a header, and what is behind it
+module _ (region : Region) (offset size : ℕ) (bytes file : List ℕ) (inside : HasHeader region.len offset)
+    (bytes_is : bytes ≡ part (region.start + offset) (min (38 + size) (region.len - offset)) file) where
+  abbrev there : ℕ
+  there = min size (region.len - (offset + 38))
+
+  split : min (38 + size) (region.len - offset) ≡ 38 + there
+  split = omega (arith, inside.1)
+
+  bytes_split : bytes ≡ take (38 + there) (drop (region.start + offset) file)
+  bytes_split = bytes_is ∙ ap (λ (n : ℕ). part (region.start + offset) n file) split
+
+  pub header_read : take 38 bytes ≡ header_at region offset file
+  header_read = ap (λ (l : List ℕ). take 38 l) bytes_split ∙ take-take 38 (38 + there) (drop (region.start + offset) file) (omega arith)
+
+  behind_read : drop 38 bytes ≡ part (region.start + (offset + 38)) there file
+  behind_read =
+      ap (λ (l : List ℕ). drop 38 l) bytes_split
+      ∙ drop-take 38 there (drop (region.start + offset) file)
+      ∙ ap (λ (l : List ℕ). take there l) (drop-drop 38 (region.start + offset) file)
+      ∙ ap (λ (p : ℕ). part p there file) place
+    where
+      place : region.start + offset + 38 ≡ region.start + (offset + 38)
+      place = omega arith
+
+  pub clump_read : (header block : List ℕ) (len : ℕ) → header ≡ take 38 bytes → len ≡ size_in header → len ≤ size
+      → block ≡ take (min there len) (drop 38 bytes) → header ++ block ≡ clump_at region offset file
+  clump_read header block len header_is len_is few block_is =
+      header_then_block region offset header block file inside (header_is ∙ header_read)
+      (block_is ∙ (λ i. take (count i) (behind_read i)) ∙ take-take rests there (drop (region.start + (offset + 38)) file) (omega (arith, count)))
+    where
+      rests : ℕ
+      rests = min (size_in header) (region.len - (offset + 38))
+
+      count : min there len ≡ rests
+      count = omega (arith, len_is, few)
+
+-- the bytes behind the header, moved to the front
+pub moved_front : (bytes : List ℕ) (k : ℕ) → 38 ≤ length bytes → k ≤ length bytes - 38
+    → take k (copy_within bytes 38 (length bytes) 0) ≡ take k (drop 38 bytes)
+moved_front bytes k long few =
+    sym (take-take k n (copy_within bytes 38 (length bytes) 0) few)
+    ∙ ap (λ (l : List ℕ). take k l) all
+    ∙ take-take k n (drop 38 bytes) few
+  where
+    n : ℕ
+    n = length bytes - 38
+
+    all : take n (copy_within bytes 38 (length bytes) 0) ≡ take n (drop 38 bytes)
+    all = ap (λ (m : ℕ). take m (copy_within bytes 38 (length bytes) 0)) zeroth ∙ take-paste bytes 0 (drop 38 bytes) n (omega arith) (omega (arith, length-drop 38 bytes))
+      where
+        zeroth : n ≡ 0 + n
+        zeroth = omega arith
 
 none_first : (first later : Option ClumpBad) → or_else first later ≡ None
     → (first ≡ None) × (later ≡ None)
@@ -128,6 +183,27 @@ module _ (score_of : List ℕ → List ℕ) (header block : List ℕ) (len : len
         );
         most = omega (arith, length-take (size_in bytes) (drop 38 bytes), pass.most);
       }
+
+  size_at : (k : ℕ) → k < 2 → slice_index (drop 5 (header ++ block)) k ≡ slice_index (drop 5 header) k
+  size_at k below =
+      get_or-drop 5 (header ++ block) k 0
+      ∙ get_or_append_left header block 0 (5 + k) (omega (arith, len, below))
+      ∙ sym (get_or-drop 5 header k 0)
+
+  -- whose block has as many bytes as the header says
+  pub good_len : first_bad score_of (header ++ block) ≡ None
+      → size_in header ≡ length (stored_in (header ++ block)).block
+  good_len good =
+      let bytes : List ℕ = header ++ block in
+      let pass : Passes bytes = passed bytes (none_first (bad_header bytes) (bad_score score_of (stored_in bytes)) good).0 in
+      omega (
+        arith,
+        size_at 0 (omega arith),
+        size_at 1 (omega arith),
+        length-take (size_in bytes) (drop 38 bytes),
+        length-drop 38 bytes,
+        pass.inside,
+      )
 
 -- at its place stands the clump of a block
 pub begins_there : (score_of : List ℕ → List ℕ) (region : Region) (old : Content) (before behind : List Stored) (s : Stored) (file bytes : List ℕ) (offset : ℕ)

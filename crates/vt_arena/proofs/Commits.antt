@@ -1,5 +1,5 @@
 -- The head's change of a commit, call by call, and what a crash leaves.
-use Rattle.std.proofs.Common.{◌≡◌, ◌⊎◌, inl, inr, ⊎_elim, ℕ, ◌+◌, ◌-◌, ◌≤◌, false, is_some, List, [], ◌++◌, length, take, Option, Some, None, Ok, Err, Result, refl, sym, ◌∙◌, ap, subst, arith, length-append, length-take, append-nil}
+use Rattle.std.proofs.Common.{◌≡◌, ◌⊎◌, inl, inr, ⊎_elim, ℕ, ◌+◌, ◌-◌, ◌≤◌, false, is_some, List, [], ◌∷◌, ◌++◌, length, take, map, Option, Some, None, Ok, Err, Result, refl, sym, ◌∙◌, ap, subst, arith, length-append, append-nil}
 use Rattle.std.specs.Prelude.{IsSome, MatchResult, replicate}
 use Rattle.std.proofs.lemmas.List.{take_all, take_at, length-map}
 use Rattle.vt_disk.specs.declared.region.Region.{Region}
@@ -12,6 +12,7 @@ use Rattle.vt_twin.specs.Twin.{TwinState, calls_made, next_frame, with_change, w
 use Rattle.vt_twin.specs.Sound.{IsSound as IsSoundTwin}
 use Rattle.vt_twin.proofs.Changes.{none_made, begun_made, is_changing}
 use Rattle.vt_twin.proofs.Steps.{sound_gives}
+use Rattle.vt_clump.specs.declared.packed.Packed.{Packed}
 use Rattle.vt_clump.specs.Spelling.{Stored, spelled}
 use Rattle.vt_clump.specs.Clumps.{stored_of}
 use Rattle.vt_model.specs.declared.TheConstants.{ARENA_HEAD_LEN}
@@ -21,7 +22,7 @@ use Rattle.vt_arena.specs.Arena.{ArenaState, added_by, next_content, pieces, aft
 use Rattle.vt_arena.specs.Heads.{fields_of, frame_of}
 use Rattle.vt_arena.specs.Layout.{Content, IsContent, IsArena, HasBlocks, StandsAt, InHead, clumps_of, directory_of, clumps_place, directory_place, used_of, head_of}
 use Rattle.vt_arena.specs.Places.{directory_room, arena_room}
-use Rattle.vt_arena.specs.Sound.{IsSound, HasPieces, GivesOldOrNext, HasBegunSelector, clumps_made, entries_made}
+use Rattle.vt_arena.specs.Sound.{IsSound, HasPieces, GivesOldOrNext, HasBegunSelector, clumps_made}
 use Rattle.vt_arena.proofs.Layouts.{stands-sum, stands_same, flat_map-append, directory-append, length-clumps, length-directory, content_fits, All-stored}
 
 -- the fields of a frame
@@ -40,8 +41,12 @@ module _ (score_of : List ℕ → List ℕ) (a : ArenaState) (region : Region) (
   all_clumps : clumps_made a ≡ added_by a
   all_clumps = take_all a.written (added_by a) (omega (arith, written, count))
 
-  all_entries : entries_made a ≡ added_by a
-  all_entries = take_all (a.written - length a.staged) (added_by a) (omega (arith, written, count))
+  entries : (file : List ℕ) → HasPieces a region old file → StandsAt (directory_place region (length old.stored + length (added_by a))) (directory_of (added_by a)) file
+  entries file made = subst (λ (n : ℕ). StandsAt (directory_place region (length old.stored + n)) (directory_of (added_by a)) file) (sym count) (at a.staged refl)
+    where
+      at : (ps : List Packed) → a.staged ≡ ps → StandsAt (directory_place region (length old.stored + length a.staged)) (directory_of (added_by a)) file
+      at [] is = subst (λ (ps : List Packed). StandsAt (directory_place region (length old.stored + length a.staged)) (directory_of (map stored_of ps)) file) (sym is) refl
+      at (p ∷ ps) is = made.directory (omega (arith, written, ap (λ (l : List Packed). length l) is))
 
   pub joined : (file : List ℕ) → HasBlocks region old.stored file → HasPieces a region old file → HasBlocks region (next_content a old).stored file
   joined file blocks made =
@@ -53,14 +58,13 @@ module _ (score_of : List ℕ → List ℕ) (a : ArenaState) (region : Region) (
       length-directory score_of more (All-stored score_of a.staged sound.packed) in
       let clumps : StandsAt (clumps_place region old.stored) (clumps_of more) file =
       subst (λ (l : List Stored). StandsAt (clumps_place region old.stored) (clumps_of l) file) all_clumps made.clumps in
-      let entries : StandsAt (directory_place region (length old.stored + length more)) (directory_of more) file =
-      subst (λ (l : List Stored). StandsAt (directory_place region (length old.stored + length l)) (directory_of l) file) all_entries made.directory in record {
+      record {
         clumps = subst (λ (l : List ℕ). StandsAt (region.start + ARENA_HEAD_LEN) l file) (sym (flat_map-append spelled old.stored more))
             (stands-sum (region.start + ARENA_HEAD_LEN) (clumps_of old.stored) (clumps_of more) file blocks.clumps
             (subst (λ (at : ℕ). StandsAt at (clumps_of more) file) (omega (arith, clumps_len)) clumps));
         directory = subst (λ (l : List ℕ). StandsAt (directory_place region (length (old.stored ++ more))) l file) (sym (directory-append old.stored more))
             (subst (λ (k : ℕ). StandsAt (directory_place region k) (directory_of more ++ directory_of old.stored) file) (sym counted)
-            (stands-sum (directory_place region (length old.stored + length more)) (directory_of more) (directory_of old.stored) file entries
+            (stands-sum (directory_place region (length old.stored + length more)) (directory_of more) (directory_of old.stored) file (entries file made)
             (subst (λ (at : ℕ). StandsAt at (directory_of old.stored) file) (omega (arith, more_len, fits, counted)) blocks.directory)));
       }
 
@@ -146,8 +150,9 @@ module _ (score_of : List ℕ → List ℕ) (a : ArenaState) (region : Region) (
   pieces_after : (file files : List ℕ) → SameBut (InHead region) file files → HasPieces a region old file → HasPieces a region old files
   pieces_after file files but made = record {
     clumps = stays (clumps_place region old.stored) (clumps_of (clumps_made a)) file files (omega arith) but made.clumps;
-    directory = stays (directory_place region (length old.stored + length (entries_made a))) (directory_of (entries_made a)) file files
-        (omega (arith, fits, counted, least, length-take (a.written - length a.staged) (added_by a))) but made.directory;
+    directory = λ written.
+        stays (directory_place region (length old.stored + length a.staged)) (directory_of (added_by a)) file files
+        (omega (arith, fits, counted, least, length-map a.staged stored_of)) but (made.directory written);
   }
 
   read_after : HasPieces a region old reads
@@ -180,7 +185,8 @@ module _ (score_of : List ℕ → List ℕ) (a : ArenaState) (region : Region) (
         (λ was. let it = synced_after was c left in record { clumps = it.clumps; directory = it.directory })
         (λ settled. let is = settled c left in record {
           clumps = ap (λ (l : List ℕ). part (clumps_place region old.stored) (length (clumps_of (clumps_made a))) l) is ∙ read_after.clumps;
-          directory = ap (λ (l : List ℕ). part (directory_place region (length old.stored + length (entries_made a))) (length (directory_of (entries_made a))) l) is ∙ read_after.directory;
+          directory = λ written.
+              ap (λ (l : List ℕ). part (directory_place region (length old.stored + length a.staged)) (length (directory_of (added_by a))) l) is ∙ read_after.directory written;
         })
         (sync made);
   }
@@ -205,7 +211,7 @@ module _ (score_of : List ℕ → List ℕ) (a : ArenaState) (region : Region) (
         twin = twin;
         fields = ap (λ (l : List ℕ). take FIELDS_LEN l) begun.1 ∙ frame_fields a.next sound.chain;
         kept = λ c left. joined score_of a region old read before sound begun.0 c (blocks_after c left) (synced_after made c left);
-        written = record { clumps = refl; directory = refl };
+        written = record { clumps = refl; directory = λ written. absurd (omega (arith, written)) };
         synced = λ calls. absurd (omega (arith, calls));
       }
 

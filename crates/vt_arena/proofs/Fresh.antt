@@ -52,7 +52,7 @@ fresh_sound score_of region size number current old head read images is settled 
   };
   fields = arena.head ∙ ap fields_of (sym head_is);
   kept = λ c left. blocks_in_region score_of region old read c least (settled c left) arena.content arena.blocks;
-  written = record { clumps = refl; directory = refl };
+  written = record { clumps = refl; directory = λ written. absurd (omega (arith, written)) };
   synced = λ made. absurd (omega (arith, made));
 }
   where

@@ -12,9 +12,9 @@ use Rattle.vt_clump.specs.declared.packed.Packed.{Packed}
 use Rattle.vt_clump.specs.Spelling.{Stored, IsStored, spelled}
 use Rattle.vt_clump.specs.Clumps.{IsPacked, stored_of}
 use Rattle.vt_clump.proofs.ReadBack.{length-spelled}
-use Rattle.vt_arena.specs.Layout.{Content, IsContent, StandsAt, entry_of, clumps_of, directory_of, used_of}
+use Rattle.vt_arena.specs.Layout.{Content, IsContent, StandsAt, entry_bytes, entry_of, clumps_of, directory_of, used_of}
 use Rattle.vt_arena.specs.Places.{block_room, directory_room, arena_room, lengths_of, Fit}
-use Rattle.vt_arena.specs.Whole.{staged_room}
+use Rattle.vt_arena.specs.Whole.{staged_room, staged_directory}
 
 -- what a write touches lies in the written range
 pub touched_within : (start n i : ℕ) → Touches start n i → (start ≤ i) × (i < start + n)
@@ -71,6 +71,19 @@ module _ (region : Region) (old new : List ℕ) (same : region_bytes region new 
 pub flat_map-append : {X : Type 0} (f : X → List ℕ) (xs ys : List X) → flat_map f (xs ++ ys) ≡ flat_map f xs ++ flat_map f ys
 flat_map-append f [] ys = refl
 flat_map-append f (x ∷ xs) ys = ap (λ (l : List ℕ). f x ++ l) (flat_map-append f xs ys) ∙ sym (append_assoc (f x) (flat_map f xs) (flat_map f ys))
+
+-- a directory is in reverse
+reversed-append : {X : Type 0} (f : X → List ℕ) (xs ys : List X) → flat_map f (reverse (xs ++ ys)) ≡ flat_map f (reverse ys) ++ flat_map f (reverse xs)
+reversed-append {X = X} f xs ys = ap (λ (l : List X). flat_map f l) (reverse-append xs ys) ∙ flat_map-append f (reverse ys) (reverse xs)
+
+pub directory-append : (xs ys : List Stored) → directory_of (xs ++ ys) ≡ directory_of ys ++ directory_of xs
+directory-append = reversed-append entry_of
+
+abbrev pub packed_entry : Packed → List ℕ
+packed_entry p = entry_bytes p.kind p.len p.score.0
+
+pub staged-push : (ps : List Packed) (p : Packed) → staged_directory (ps ++ p ∷ []) ≡ packed_entry p ++ staged_directory ps
+staged-push ps p = reversed-append packed_entry ps (p ∷ []) ∙ ap (λ (l : List ℕ). l ++ staged_directory ps) (append-nil (packed_entry p))
 
 module _ {X : Type 0} (P : X → Type 0) where
   pub all_head : (x : X) (xs : List X) → All P (x ∷ xs) → P x
@@ -137,13 +150,17 @@ module _ (score_of : List ℕ → List ℕ) where
       ∙ (λ i. block_room (sym (all_head (IsPacked score_of) p ps all).len i) + used-packed ps (all_tail (IsPacked score_of) p ps all) i)
       ∙ sym (sum_by-cons (λ (q : Packed). block_room q.len) p ps)
 
+  pub entry_is : (p : Packed) → IsPacked score_of p → packed_entry p ≡ entry_of (stored_of p)
+  entry_is p is i = entry_bytes (is.kind i) (is.len i) (is.score i)
+
+  pub directory-packed : (ps : List Packed) → All (IsPacked score_of) ps → staged_directory ps ≡ directory_of (map stored_of ps)
+  directory-packed [] all = refl
+  directory-packed (p ∷ ps) all =
+      reversed-append packed_entry (p ∷ []) ps
+      ∙ (λ i. directory-packed ps (all_tail (IsPacked score_of) p ps all) i ++ (entry_is p (all_head (IsPacked score_of) p ps all) i ++ []))
+      ∙ sym (directory-append (stored_of p ∷ []) (map stored_of ps))
+
 -- one more
 pub clumps-push : (ss : List Stored) (s : Stored) → clumps_of (ss ++ s ∷ []) ≡ clumps_of ss ++ spelled s
 clumps-push [] s = append-nil (spelled s)
 clumps-push (t ∷ ts) s = ap (λ (l : List ℕ). spelled t ++ l) (clumps-push ts s) ∙ sym (append_assoc (spelled t) (clumps_of ts) (spelled s))
-
-pub directory-append : (xs ys : List Stored) → directory_of (xs ++ ys) ≡ directory_of ys ++ directory_of xs
-directory-append xs ys = ap (λ (l : List Stored). flat_map entry_of l) (reverse-append xs ys) ∙ flat_map-append entry_of (reverse ys) (reverse xs)
-
-pub directory-push : (ss : List Stored) (s : Stored) → directory_of (ss ++ s ∷ []) ≡ entry_of s ++ directory_of ss
-directory-push ss s = ap (λ (l : List Stored). flat_map entry_of l) (reverse-append ss (s ∷ []))

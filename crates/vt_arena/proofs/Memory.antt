@@ -1,10 +1,12 @@
 -- What an arena in memory keeps, as the calls of a commit use it.
-use Rattle.std.proofs.Common.{◌≡◌, ℕ, ◌+◌, ◌*◌, ◌<◌, ◌≤◌, List, [], length, take, get_or, Option, Some, None, refl, sym, ap, subst, arith}
-use Rattle.std.specs.Prelude.{IsSome, Vec, replicate, vec_capacity}
+use Rattle.std.proofs.Common.{◌≡◌, ℕ, ◌+◌, ◌-◌, ◌*◌, ◌<◌, ◌≤◌, List, [], ◌∷◌, ◌++◌, length, take, drop, get_or, Option, Some, None, refl, sym, ◌∙◌, ap, subst, arith, append_assoc, length-append, length-drop, length-take, take-append-drop}
+use Rattle.std.specs.Prelude.{IsSome, IsTrue, IsFalse, Vec, replicate, vec_len, vec_capacity}
 use Rattle.std.specs.declared.alloc.Global.{Global}
-use Rattle.std.proofs.lemmas.List.{length-replicate, drop-replicate}
-use Rattle.std.proofs.lemmas.List.Sums.{sum_by_more_le}
+use Rattle.std.proofs.lemmas.List.{drop_at, take_all, length-replicate, drop-replicate}
+use Rattle.std.proofs.lemmas.Bool.Decides.{nat_tests}
+use Rattle.std.proofs.lemmas.List.Sums.{sum_by_more_le, sum_by_push}
 use Rattle.std.specs.Option.{ForSome, option_map_or}
+use Rattle.vt_base.specs.declared.score.Score.{Score}
 use Rattle.vt_twin.specs.Twin.{TwinState, Change, fresh, after_call, calls_made}
 use Rattle.vt_clump.specs.declared.packed.Packed.{Packed}
 use Rattle.vt_model.specs.declared.TheConstants.{ARENA_HEAD_LEN}
@@ -12,13 +14,16 @@ use Rattle.vt_arena.specs.declared.TheConstants.{FRAME_LEN, FIELDS_LEN, STAGED_M
 use Rattle.vt_arena.specs.declared.head.ArenaHead.{ArenaHead}
 use Rattle.vt_arena.specs.declared.arena.Arena.TheInside.{Inside}
 use Rattle.vt_arena.specs.Places.{IsArenaLen, block_room, directory_room, arena_room}
-use Rattle.vt_arena.specs.Whole.{IsWhole, IsBuffer, staged_room}
+use Rattle.vt_arena.specs.Arena.{pieces_of, fits, is_committing}
+use Rattle.vt_arena.specs.Whole.{IsWhole, IsBuffer, HasDirectory, state_of, staged_room, staged_directory}
+use Rattle.vt_arena.proofs.Layouts.{packed_entry, staged-push}
+use Rattle.vt_arena.proofs.Stage.{resting}
 
 -- no change is under way while pieces are to be written
-pub at_rest : (a : Inside) → IsWhole a → a.written < 2 * length a.staged.items → a.twin.change ≡ None
+pub at_rest : (a : Inside) → IsWhole a → a.written < pieces_of (length a.staged.items) → a.twin.change ≡ None
 at_rest a is below = rest a.twin.change is.begun
   where
-    rest : (change : Option Change) → (IsSome change → a.written ≡ 2 * length a.staged.items) → change ≡ None
+    rest : (change : Option Change) → (IsSome change → a.written ≡ pieces_of (length a.staged.items)) → change ≡ None
     rest None begun = refl
     rest (Some it) begun = absurd (omega (arith, below, begun refl))
 
@@ -34,6 +39,76 @@ clump_room a whole p below is =
 -- the entries of what is staged fit below those that stand
 pub entry_room : (a : Inside) → IsWhole a → directory_room (a.head.clumps + length a.staged.items) + a.head.used + staged_room a.staged.items + ARENA_HEAD_LEN ≤ a.len
 entry_room a whole = omega (arith, whole.room, whole.used, whole.clumps, whole.len_is.0)
+
+-- the entry of one more stands before those of what was staged
+pub directory_more : (staged : List Packed) (p : Packed) (entry old new : List ℕ) (place : ℕ) → HasDirectory staged old → length staged < STAGED_MAX
+    → place ≡ (STAGED_MAX - 1 - length staged) * 25 → entry ≡ packed_entry p → length entry ≡ 25 → length new ≡ length old
+    → take (place + length entry) new ≡ take place old ++ entry → drop (place + length entry) new ≡ drop (place + length entry) old → HasDirectory (staged ++ p ∷ []) new
+directory_more staged p entry old new place was few place_is entry_is len same front behind = (
+  same ∙ was.0,
+  (
+      ap (λ (n : ℕ). drop n new) from
+      ∙ ap (λ (l : List ℕ). drop place l) (sym (take-append-drop (place + length entry) new) ∙ (λ i. front i ++ behind i) ∙ append_assoc (take place old) entry (drop (place + length entry) old))
+      ∙ drop_at (take place old) (entry ++ drop (place + length entry) old) place (omega (arith, length-take place old, was.0, place_is, few))
+      ∙ (λ i. entry_is i ++ (ap (λ (n : ℕ). drop n old) rest ∙ was.1) i)
+      ∙ sym (staged-push staged p)
+      ),
+)
+  where
+    from : (STAGED_MAX - length (staged ++ p ∷ [])) * 25 ≡ place
+    from = omega (arith, place_is, few, length-append staged (p ∷ []))
+
+    rest : place + length entry ≡ (STAGED_MAX - length staged) * 25
+    rest = omega (arith, place_is, few, len)
+
+-- after one more was staged
+pub staged_whole : (a : Inside) (p : Packed) (staged : Vec Packed Global) (directory : Vec ℕ Global) (room : ℕ) (chain : Score) → IsWhole a → IsFalse (is_committing (state_of a)) → IsTrue (fits (state_of a) p.len)
+    → length a.staged.items < STAGED_MAX → staged.items ≡ a.staged.items ++ p ∷ [] → STAGED_MAX ≤ vec_capacity staged → room ≡ block_room p.len → HasDirectory (a.staged.items ++ p ∷ []) directory.items
+    → IsWhole (record a { next = record a.next { clumps = a.next.clumps + 1; used = a.next.used + room; chain = chain }; staged = staged; directory = directory })
+staged_whole a p staged directory room chain whole rest fits few items capacity room_is has =
+    let rests = resting (state_of a) rest in
+    let count : length staged.items ≡ length a.staged.items + 1 = ap (λ (l : List Packed). length l) items ∙ length-append a.staged.items (p ∷ []) in
+    let more : staged_room staged.items ≡ staged_room a.staged.items + block_room p.len = ap staged_room items ∙ sum_by_push (λ (q : Packed). block_room q.len) a.staged.items p in record {
+      frame_len = whole.frame_len;
+      runs = whole.runs;
+      len_is = whole.len_is;
+      room = let taken = fits in grind (arith, nat_tests, room_is);
+      used = omega (arith, whole.used, more, room_is);
+      clumps = omega (arith, whole.clumps, count);
+      few = omega (arith, count, few);
+      capacity = capacity;
+      written_most = omega (arith, rests.written);
+      end_is = omega (arith, whole.end_is, ap (λ (n : ℕ). staged_room (take n a.staged.items)) rests.written, ap (λ (n : ℕ). staged_room (take n staged.items)) rests.written);
+      buffer = whole.buffer;
+      frame = whole.frame;
+      head_calls_is = whole.head_calls_is;
+      head_calls_most = whole.head_calls_most;
+      begun = λ some. absurd (none_some a.twin.change rests.change some);
+      directory = subst (λ (ps : List Packed). HasDirectory ps directory.items) (sym items) has;
+    }
+  where
+    none_some : (change : Option Change) → change ≡ None → IsSome change → ⊥
+    none_some None off some = cc
+    none_some (Some it) off some = cc
+
+-- the end of the buffer for a directory of n blocks, which is written as the directory
+abbrev pub end_for : (n : ℕ) (buffer : List ℕ) → List ℕ
+end_for n buffer = take (length buffer - (1600 - n * 25)) (drop (1600 - n * 25) buffer)
+
+end_is : (n : ℕ) (buffer : List ℕ) → end_for n buffer ≡ drop (1600 - n * 25) buffer
+end_is n buffer = take_all (length buffer - (1600 - n * 25)) (drop (1600 - n * 25) buffer) (omega (arith, length-drop (1600 - n * 25) buffer))
+
+module _ (a : Inside) (whole : IsWhole a) (n : ℕ) (buffer : List ℕ) (n_is : n ≡ vec_len a.staged) (is : buffer ≡ a.directory.items) where
+  from : 1600 - n * 25 ≡ (STAGED_MAX - length a.staged.items) * 25
+  from = omega (arith, n_is, whole.few)
+
+  pub directory_is : end_for n buffer ≡ staged_directory a.staged.items
+  directory_is = end_is n buffer ∙ (λ i. drop (from i) (is i)) ∙ whole.directory.1
+
+  pub directory_len : length (end_for n buffer) ≡ directory_room (length a.staged.items)
+  directory_len =
+      ap (λ (l : List ℕ). length l) (end_is n buffer)
+      ∙ omega (arith, length-drop (1600 - n * 25) buffer, ap (λ (l : List ℕ). length l) is, whole.directory.0, n_is, whole.few)
 
 -- the buffer is the frame of the change under way
 next_buffer : (change : Option Change) → IsSome change → ForSome change (λ it. IsBuffer it.frame) → IsBuffer (option_map_or (λ it. it.frame) change [])
@@ -61,14 +136,15 @@ more_whole a t k is some going whole =
       head_calls_is = ap (λ (n : ℕ). n + 1) whole.head_calls_is;
       head_calls_most = omega (arith, whole.head_calls_is, whole.head_calls_most, going);
       begun = λ still. whole.begun some;
+      directory = whole.directory;
     }
 
 -- before the first commit
-pub fresh_whole : (number len current : ℕ) (twin : TwinState) (head : ArenaHead) (staged : Vec Packed Global) (buffer : List ℕ) → twin ≡ fresh FRAME_LEN current → IsArenaLen len
-    → head.used + directory_room head.clumps ≤ arena_room len → staged.items ≡ [] → STAGED_MAX ≤ vec_capacity staged → buffer ≡ replicate FRAME_LEN 0
-    → IsWhole (record { number = number; len = len; twin = twin; head = head; next = head; staged = staged; written = 0; end = head.used; buffer = Some buffer; head_calls = 0; calls = 0; stopped = None })
-fresh_whole number len current twin head staged buffer is len_is fit none capacity zeros =
-    subst (λ (t : TwinState). IsWhole (record { number = number; len = len; twin = t; head = head; next = head; staged = staged; written = 0; end = head.used; buffer = Some buffer; head_calls = 0; calls = 0; stopped = None })) (sym is) record {
+pub fresh_whole : (number len current : ℕ) (twin : TwinState) (head : ArenaHead) (staged : Vec Packed Global) (directory : Vec ℕ Global) (buffer : List ℕ) → twin ≡ fresh FRAME_LEN current → IsArenaLen len
+    → head.used + directory_room head.clumps ≤ arena_room len → staged.items ≡ [] → STAGED_MAX ≤ vec_capacity staged → directory.items ≡ replicate 1600 0 → buffer ≡ replicate FRAME_LEN 0
+    → IsWhole (record { number = number; len = len; twin = twin; head = head; next = head; staged = staged; directory = directory; written = 0; end = head.used; buffer = Some buffer; head_calls = 0; calls = 0; stopped = None })
+fresh_whole number len current twin head staged directory buffer is len_is fit none capacity blank zeros =
+    subst (λ (t : TwinState). IsWhole (record { number = number; len = len; twin = t; head = head; next = head; staged = staged; directory = directory; written = 0; end = head.used; buffer = Some buffer; head_calls = 0; calls = 0; stopped = None })) (sym is) record {
       frame_len = refl;
       runs = λ runs. refl;
       len_is = len_is;
@@ -84,4 +160,9 @@ fresh_whole number len current twin head staged buffer is len_is fit none capaci
       head_calls_is = refl;
       head_calls_most = omega arith;
       begun = λ some. cc;
+      directory = empty_directory;
     }
+  where
+    empty_directory : HasDirectory staged.items directory.items
+    empty_directory = subst (λ (ps : List Packed). HasDirectory ps directory.items) (sym none)
+        (subst (HasDirectory []) (sym blank) (length-replicate {A = ℕ} 1600 0, drop-replicate {X = ℕ} 1600 1600 0))

@@ -1,7 +1,7 @@
--- A commit writes clumps behind the committed ones, and entries below the committed ones.
-use Rattle.std.proofs.Common.{◌≡◌, ℕ, ◌+◌, ◌-◌, ◌<◌, ◌≤◌, List, [], ◌∷◌, ◌++◌, length, take, map, Option, Some, None, refl, sym, ◌∙◌, ap, subst, arith, length-take, get_or}
+-- A commit writes clumps behind the committed ones, and their directory below the committed one.
+use Rattle.std.proofs.Common.{◌≡◌, ℕ, ◌+◌, ◌-◌, ◌<◌, ◌≤◌, List, [], ◌∷◌, ◌++◌, length, take, map, Option, Some, None, refl, sym, ◌∙◌, ap, subst, arith, get_or}
 use Rattle.std.specs.Prelude.{All, IsSome}
-use Rattle.std.proofs.lemmas.List.{take-map, map-append, take_more, take_all, length-take-le, length-map}
+use Rattle.std.proofs.lemmas.List.{take-map, map-append, take_more, take_all, length-map}
 use Rattle.vt_disk.specs.declared.region.Region.{Region}
 use Rattle.vt_disk.specs.Disk.{Touches, SameBut, ChangesAt, part}
 use Rattle.vt_disk.specs.Calls.{WritesAt, WritesWithin}
@@ -19,11 +19,11 @@ use Rattle.vt_clump.specs.Clumps.{IsPacked, stored_of}
 use Rattle.vt_model.specs.declared.TheConstants.{ARENA_HEAD_LEN}
 use Rattle.vt_arena.specs.declared.TheConstants.{FRAME_LEN}
 use Rattle.vt_arena.specs.Arena.{ArenaState, added_by}
-use Rattle.vt_arena.specs.Layout.{Content, HasBlocks, StandsAt, entry_bytes, entry_of, clumps_of, directory_of, clumps_place, directory_place, head_place, used_of}
+use Rattle.vt_arena.specs.Layout.{Content, HasBlocks, StandsAt, clumps_of, directory_of, clumps_place, directory_place, head_place, used_of}
 use Rattle.vt_arena.specs.Places.{directory_room}
-use Rattle.vt_arena.specs.Sound.{IsRegion, IsSound, HasPieces, clumps_made, entries_made}
-use Rattle.vt_arena.specs.Whole.{staged_room}
-use Rattle.vt_arena.proofs.Layouts.{touched_within, stands-sum, stands_same, length-clumps, used-packed, All-stored, all_take, clumps-push, directory-push}
+use Rattle.vt_arena.specs.Sound.{IsRegion, IsSound, HasPieces, clumps_made}
+use Rattle.vt_arena.specs.Whole.{staged_room, staged_directory}
+use Rattle.vt_arena.proofs.Layouts.{touched_within, stands-sum, stands_same, length-clumps, length-directory, directory-packed, used-packed, All-stored, all_take, clumps-push}
 
 -- the head's twin has its place
 pub head_room : (region : Region) (size n : ℕ) → IsRegion region size → n ≡ FRAME_LEN → HasRoom (head_place region) n size
@@ -51,9 +51,9 @@ twin_elsewhere t region size is frame_len P apart old read reads before after sa
 -- what is done at places that hold nothing of the arena
 module _ (score_of : List ℕ → List ℕ) (s : ArenaState) (region : Region) (size : ℕ) (old : Content) (read reads : List ℕ) (before after : List ℕ → Type 0)
     (is_region : IsRegion region size) (rest : s.twin.change ≡ None) (place n : ℕ)
-    (changes : ChangesAt (Touches place n) before after) (same : SameBut (Touches place n) read reads)
+    (changes : ChangesAt (Touches place n) before after) (same : SameBut (Touches place n) read reads) (few : s.written ≤ length s.staged)
     (low : clumps_place region old.stored + length (clumps_of (clumps_made s)) ≤ place)
-    (high : place + n ≤ directory_place region (length old.stored + length (entries_made s)))
+    (high : place + n ≤ directory_place region (length old.stored))
     (sound : IsSound score_of s region old read before) where
   twin_stays : IsSoundTwin s.twin region sound.frame reads after
   twin_stays = twin_elsewhere s.twin region size is_region sound.frame_len (Touches place n)
@@ -74,10 +74,6 @@ module _ (score_of : List ℕ → List ℕ) (s : ArenaState) (region : Region) (
   clumps_stay = stands_same (Touches place n) (clumps_place region old.stored) (clumps_of (clumps_made s)) read reads same
       (λ i over under touched. omega (arith, under, (touched_within place n i touched).0, low)) sound.written.clumps
 
-  pub entries_stay : StandsAt (directory_place region (length old.stored + length (entries_made s))) (directory_of (entries_made s)) reads
-  entries_stay = stands_same (Touches place n) (directory_place region (length old.stored + length (entries_made s))) (directory_of (entries_made s)) read reads same
-      (λ i over under touched. omega (arith, over, (touched_within place n i touched).1, high)) sound.written.directory
-
   -- a write that failed
   pub write_failed : (k : ℕ) (o : Option ℕ) → IsSound score_of (record s { calls = k; stopped = o }) region old reads after
   write_failed k o = record {
@@ -94,7 +90,7 @@ module _ (score_of : List ℕ → List ℕ) (s : ArenaState) (region : Region) (
     twin = twin_stays;
     fields = sound.fields;
     kept = blocks_stay;
-    written = record { clumps = clumps_stay; directory = entries_stay };
+    written = record { clumps = clumps_stay; directory = λ more. absurd (omega (arith, few, more)) };
     synced = λ made. absurd (omega (arith, made, none_made s.twin rest));
   }
 
@@ -151,17 +147,14 @@ module _ (score_of : List ℕ → List ℕ) (s : ArenaState) (region : Region) (
     (end room : ℕ) (end_is : end ≡ s.head.used + staged_room (take s.written s.staged))
     (place_is : place ≡ region.start + (ARENA_HEAD_LEN + end))
     (fits : end + length p.bytes + directory_room s.head.clumps + ARENA_HEAD_LEN ≤ region.len) where
-  few_entries : length (entries_made s) ≡ 0
-  few_entries = omega (arith, length-take (s.written - length s.staged) (added_by s), below)
-
   clump_low : clumps_place region old.stored + length (clumps_of (clumps_made s)) ≤ place
   clump_low = omega (arith, made_len score_of s.staged s.written sound.packed, (head_used score_of s region old read before sound).0, end_is, place_is)
 
-  clump_high : place + n ≤ directory_place region (length old.stored + length (entries_made s))
-  clump_high = omega (arith, few_entries, (head_used score_of s region old read before sound).1, place_is, n_is, fits)
+  clump_high : place + n ≤ directory_place region (length old.stored)
+  clump_high = omega (arith, (head_used score_of s region old read before sound).1, place_is, n_is, fits)
 
   pub clump_failed : (k : ℕ) (o : Option ℕ) → IsSound score_of (record s { calls = k; stopped = o }) region old reads after
-  clump_failed = write_failed score_of s region size old read reads before after is_region rest place n changes same clump_low clump_high sound
+  clump_failed = write_failed score_of s region size old read reads before after is_region rest place n changes same (omega (arith, below)) clump_low clump_high sound
 
   pub clump_made : (k : ℕ) → part place n reads ≡ p.bytes → IsSound score_of (record s { written = s.written + 1; calls = k }) region old reads after
   clump_made k new =
@@ -174,73 +167,44 @@ module _ (score_of : List ℕ → List ℕ) (s : ArenaState) (region : Region) (
       (subst (λ (l : List ℕ). StandsAt place l reads) is_packed.bytes piece) in
       let both : clumps_of (take (s.written + 1) (added_by s)) ≡ clumps_of (clumps_made s) ++ spelled (stored_of p) =
       ap clumps_of (added_more s.staged s.written p below is) ∙ clumps-push (clumps_made s) (stored_of p) in
-      let stays = clumps_stay score_of s region size old read reads before after is_region rest place n changes same clump_low clump_high sound in
-      write_made score_of s region size old read reads before after is_region rest place n changes same clump_low clump_high sound (s.written + 1) k (record {
+      let stays = clumps_stay score_of s region size old read reads before after is_region rest place n changes same (omega (arith, below)) clump_low clump_high sound in
+      write_made score_of s region size old read reads before after is_region rest place n changes same (omega (arith, below)) clump_low clump_high sound (s.written + 1) k (record {
         clumps = subst (λ (l : List ℕ). StandsAt (clumps_place region old.stored) l reads) (sym both)
             (stands-sum (clumps_place region old.stored) (clumps_of (clumps_made s)) (spelled (stored_of p)) reads stays further);
-        directory = no_entries (s.written + 1 - length s.staged) (omega (arith, below));
+        directory = λ more. absurd (omega (arith, below, more));
       })
-    where
-      no_entries : (j : ℕ) → j ≡ 0 → StandsAt (directory_place region (length old.stored + length (take j (added_by s)))) (directory_of (take j (added_by s))) reads
-      no_entries j zeroth = subst (λ (m : ℕ). StandsAt (directory_place region (length old.stored + length (take m (added_by s)))) (directory_of (take m (added_by s))) reads) (sym zeroth) refl
 
--- the next entry
+-- the directory of all
 module _ (score_of : List ℕ → List ℕ) (s : ArenaState) (region : Region) (size : ℕ) (old : Content) (read reads : List ℕ) (before after : List ℕ → Type 0)
     (is_region : IsRegion region size) (rest : s.twin.change ≡ None) (place n : ℕ)
     (changes : ChangesAt (Touches place n) before after) (same : SameBut (Touches place n) read reads)
-    (sound : IsSound score_of s region old read before)
-    (j : ℕ) (written : s.written ≡ length s.staged + j) (below : j < length s.staged) (p : Packed) (is : p ≡ get_or s.staged j p)
-    (n_is : n ≡ 25) (place_is : place ≡ region.start + (region.len - directory_room (s.head.clumps + j + 1)))
+    (sound : IsSound score_of s region old read before) (written : s.written ≡ length s.staged)
+    (n_is : n ≡ directory_room (length s.staged)) (place_is : place ≡ region.start + (region.len - directory_room (s.head.clumps + length s.staged)))
     (fits : directory_room (s.head.clumps + length s.staged) + s.head.used + staged_room s.staged + ARENA_HEAD_LEN ≤ region.len) where
-  count : length (added_by s) ≡ length s.staged
-  count = length-map s.staged stored_of
-
-  now : s.written - length s.staged ≡ j
-  now = omega (arith, written)
-
-  entries_len : (k : ℕ) → k ≤ length s.staged → length (take k (added_by s)) ≡ k
-  entries_len k short = length-take-le k (added_by s) (omega (arith, count, short))
-
-  entries_now : length (entries_made s) ≡ j
-  entries_now = ap (λ (k : ℕ). length (take k (added_by s))) now ∙ entries_len j (omega (arith, below))
-
-  entry_low : clumps_place region old.stored + length (clumps_of (clumps_made s)) ≤ place
-  entry_low =
-      let numbers = head_used score_of s region old read before sound in
+  directory_low : clumps_place region old.stored + length (clumps_of (clumps_made s)) ≤ place
+  directory_low =
       let all : staged_room (take s.written s.staged) ≡ staged_room s.staged = ap staged_room (take_all s.written s.staged (omega (arith, written))) in
-      omega (arith, made_len score_of s.staged s.written sound.packed, all, numbers.0, numbers.1, place_is, fits, below)
+      omega (arith, made_len score_of s.staged s.written sound.packed, all, (head_used score_of s region old read before sound).0, place_is, fits)
 
-  entry_high : place + n ≤ directory_place region (length old.stored + length (entries_made s))
-  entry_high = omega (arith, entries_now, (head_used score_of s region old read before sound).1, place_is, n_is, fits, below)
+  directory_high : place + n ≤ directory_place region (length old.stored)
+  directory_high = omega (arith, (head_used score_of s region old read before sound).1, place_is, n_is, fits)
 
-  pub entry_failed : (k : ℕ) (o : Option ℕ) → IsSound score_of (record s { calls = k; stopped = o }) region old reads after
-  entry_failed = write_failed score_of s region size old read reads before after is_region rest place n changes same entry_low entry_high sound
+  pub directory_failed : (k : ℕ) (o : Option ℕ) → IsSound score_of (record s { calls = k; stopped = o }) region old reads after
+  directory_failed = write_failed score_of s region size old read reads before after is_region rest place n changes same (omega (arith, written)) directory_low directory_high sound
 
-  pub entry_made : (k : ℕ) (piece : List ℕ) → piece ≡ entry_of (stored_of p) → length piece ≡ 25 → part place n reads ≡ piece
-      → IsSound score_of (record s { written = s.written + 1; calls = k }) region old reads after
-  entry_made k piece piece_is piece_len new =
+  pub directory_made : (k : ℕ) → part place n reads ≡ staged_directory s.staged → IsSound score_of (record s { written = s.written + 1; calls = k }) region old reads after
+  directory_made k new =
+      let count : length (added_by s) ≡ length s.staged = length-map s.staged stored_of in
       let numbers = head_used score_of s region old read before sound in
-      let whole : clumps_made s ≡ added_by s = take_all s.written (added_by s) (omega (arith, count, written)) in
-      let whole_next : take (s.written + 1) (added_by s) ≡ added_by s = take_all (s.written + 1) (added_by s) (omega (arith, count, written)) in
-      let next : s.written + 1 - length s.staged ≡ j + 1 = omega (arith, written) in
-      let there : StandsAt place piece reads = ap (λ (m : ℕ). part place m reads) (omega (arith, piece_len, n_is)) ∙ new in
-      let stay : StandsAt (directory_place region (length old.stored + length (entries_made s))) (directory_of (entries_made s)) reads =
-      entries_stay score_of s region size old read reads before after is_region rest place n changes same entry_low entry_high sound in
-      let behind : StandsAt (place + length piece) (directory_of (take j (added_by s))) reads =
-      subst (λ (at : ℕ). StandsAt at (directory_of (take j (added_by s))) reads)
-      (omega (arith, piece_len, place_is, entries_len j (omega (arith, below)), numbers.1, fits, below))
-      (subst (λ (m : ℕ). StandsAt (directory_place region (length old.stored + length (take m (added_by s)))) (directory_of (take m (added_by s))) reads) now stay) in
-      let both : directory_of (take (j + 1) (added_by s)) ≡ piece ++ directory_of (take j (added_by s)) =
-      ap directory_of (added_more s.staged j p below is) ∙ directory-push (take j (added_by s)) (stored_of p)
-      ∙ ap (λ (l : List ℕ). l ++ directory_of (take j (added_by s))) (sym piece_is) in
-      let at_place : place ≡ directory_place region (length old.stored + length (take (j + 1) (added_by s))) =
-      omega (arith, place_is, numbers.1, entries_len (j + 1) (omega (arith, below)), fits, below) in
-      write_made score_of s region size old read reads before after is_region rest place n changes same entry_low entry_high sound (s.written + 1) k (record {
-        clumps = subst (λ (l : List Stored). StandsAt (clumps_place region old.stored) (clumps_of l) reads) (whole ∙ sym whole_next)
-            (clumps_stay score_of s region size old read reads before after is_region rest place n changes same entry_low entry_high sound);
-        directory = subst (λ (m : ℕ). StandsAt (directory_place region (length old.stored + length (take m (added_by s)))) (directory_of (take m (added_by s))) reads) (sym next)
-            (subst (λ (at : ℕ). StandsAt at (directory_of (take (j + 1) (added_by s))) reads) at_place
-            (subst (λ (l : List ℕ). StandsAt place l reads) (sym both) (stands-sum place piece (directory_of (take j (added_by s))) reads there behind)));
+      let is : staged_directory s.staged ≡ directory_of (added_by s) = directory-packed score_of s.staged sound.packed in
+      let len : length (directory_of (added_by s)) ≡ n = omega (arith, length-directory score_of (added_by s) (All-stored score_of s.staged sound.packed), count, n_is) in
+      let same_clumps : clumps_made s ≡ take (s.written + 1) (added_by s) =
+      take_all s.written (added_by s) (omega (arith, count, written)) ∙ sym (take_all (s.written + 1) (added_by s) (omega (arith, count, written))) in
+      write_made score_of s region size old read reads before after is_region rest place n changes same (omega (arith, written)) directory_low directory_high sound (s.written + 1) k (record {
+        clumps = subst (λ (l : List Stored). StandsAt (clumps_place region old.stored) (clumps_of l) reads) same_clumps
+            (clumps_stay score_of s region size old read reads before after is_region rest place n changes same (omega (arith, written)) directory_low directory_high sound);
+        directory = λ made. subst (λ (at : ℕ). StandsAt at (directory_of (added_by s)) reads) (omega (arith, place_is, numbers.1, fits))
+            (ap (λ (m : ℕ). part place m reads) len ∙ new ∙ is);
       })
 
 module _ {D : Type 0} (disk : DiskOf D) (region : Region) where
@@ -252,6 +216,3 @@ module _ {D : Type 0} (disk : DiskOf D) (region : Region) where
   -- a call of the head's change
   pub writes_in_head : ARENA_HEAD_LEN ≤ region.len → (old new : D) → WritesWithin disk (head_place region) 1 old new → WritesWithin disk region 1 old new
   writes_in_head least = writes_wider disk (Inside (head_place region)) (Inside region) (λ i here. (here.0, omega (arith, here.1, least))) 1 1 (omega arith)
-
-pub entry_is : (score_of : List ℕ → List ℕ) (p : Packed) → IsPacked score_of p → entry_bytes p.kind p.len p.score.0 ≡ entry_of (stored_of p)
-entry_is score_of p is i = entry_bytes (is.kind i) (is.len i) (is.score i)

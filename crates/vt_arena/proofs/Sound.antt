@@ -4,11 +4,13 @@ use Rattle.vt_disk.specs.declared.region.Region.{Region}
 use Rattle.vt_disk.specs.Disk.{SameBut}
 use Rattle.vt_disk.specs.Region.{Inside, ChangesWithin, region_bytes}
 use Rattle.vt_disk.proofs.Bytes.{part_same}
-use Rattle.std.proofs.Common.{length-append, length-take}
+use Rattle.std.proofs.Common.{length-append}
+use Rattle.std.proofs.lemmas.List.{length-map}
 use Rattle.vt_clump.specs.Spelling.{IsStored}
+use Rattle.vt_clump.specs.Clumps.{stored_of}
 use Rattle.vt_arena.specs.Arena.{ArenaState, added_by, next_content}
 use Rattle.vt_arena.specs.Layout.{Content, clumps_of, directory_of, clumps_place, directory_place}
-use Rattle.vt_arena.specs.Sound.{IsRegion, IsSound, HasPieces, clumps_made, entries_made}
+use Rattle.vt_arena.specs.Sound.{IsRegion, IsSound, HasPieces, clumps_made}
 use Rattle.vt_arena.proofs.Layouts.{stands_inside, length-clumps, length-directory, used-append, content_fits, All-stored, all_take, used_take}
 use Rattle.vt_arena.proofs.Regions.{blocks_in_region}
 use Rattle.vt_arena.proofs.Pieces.{twin_elsewhere}
@@ -26,13 +28,15 @@ module _ (score_of : List ℕ → List ℕ) (a : ArenaState) (region : Region) (
       let fits = content_fits score_of region.len (next_content a old) sound.next_content_is in
       let used = used-append old.stored (added_by a) in
       let count = length-append old.stored (added_by a) in
+      let staged = length-map a.staged stored_of in
       let clumps_len = length-clumps score_of (clumps_made a) (all_take (IsStored score_of) a.written (added_by a) news) in
-      let entries_len = length-directory score_of (entries_made a) (all_take (IsStored score_of) (a.written - length a.staged) (added_by a) news) in record {
+      let entries_len = length-directory score_of (added_by a) news in record {
         clumps = stands_inside region file files (bytes_stay file files but) (clumps_place region old.stored) (clumps_of (clumps_made a)) (omega arith)
             (omega (arith, fits, used, is_region.len.0, clumps_len, used_take a.written (added_by a))) made.clumps;
-        directory = stands_inside region file files (bytes_stay file files but) (directory_place region (length old.stored + length (entries_made a))) (directory_of (entries_made a))
-            (omega (arith, fits, used, count, is_region.len.0, length-take (a.written - length a.staged) (added_by a)))
-            (omega (arith, fits, used, count, is_region.len.0, entries_len, length-take (a.written - length a.staged) (added_by a))) made.directory;
+        directory = λ written.
+            stands_inside region file files (bytes_stay file files but) (directory_place region (length old.stored + length a.staged)) (directory_of (added_by a))
+            (omega (arith, fits, used, count, staged, is_region.len.0))
+            (omega (arith, fits, used, count, staged, is_region.len.0, entries_len)) (made.directory written);
       }
 
   pub arena_elsewhere : IsSound score_of a region old reads after

@@ -11,12 +11,11 @@ use Rattle.vt_clump.specs.declared.packed.Packed.{Packed}
 use Rattle.vt_clump.specs.Spelling.{Stored, IsStored}
 use Rattle.vt_clump.specs.Clumps.{IsPacked, stored_of}
 use Rattle.vt_arena.specs.Arena.{ArenaState, added_by, next_content, fits, is_committing, with_staged}
-use Rattle.vt_arena.specs.Layout.{Content, StandsAt, entry_bytes, entry_of, clumps_of, directory_of, clumps_place, directory_place, used_of, chain_of, head_of}
+use Rattle.vt_arena.specs.Layout.{Content, StandsAt, entry_bytes, entry_of, clumps_of, clumps_place, used_of, chain_of, head_of}
 use Rattle.vt_arena.specs.Places.{block_room, directory_room, arena_room, lengths_of}
 use Rattle.vt_arena.specs.Sound.{IsSound}
-use Rattle.vt_arena.proofs.Layouts.{fit_of, All-stored}
+use Rattle.vt_arena.proofs.Layouts.{fit_of, All-stored, entry_is}
 use Rattle.vt_twin.proofs.Changes.{none_made}
-use Rattle.vt_arena.proofs.Pieces.{entry_is}
 
 -- with no commit under way nothing was written, and the head doesn't change
 pub record IsResting (a : ArenaState) : Type 0 where
@@ -87,7 +86,7 @@ module _ (score_of : List ℕ → List ℕ) (a : ArenaState) (p : Packed) (regio
         kept = sound.kept;
         written = record {
           clumps = subst (λ (w : ℕ). StandsAt (clumps_place region old.stored) (clumps_of (take w (map stored_of (a.staged ++ p ∷ [])))) read) (sym rests.written) refl;
-          directory = no_entries (a.written - length (a.staged ++ p ∷ [])) (omega (arith, rests.written));
+          directory = λ made. absurd (omega (arith, rests.written, made));
         };
         synced = λ made. absurd (omega (arith, made, none_made a.twin rests.change));
       }
@@ -99,10 +98,6 @@ module _ (score_of : List ℕ → List ℕ) (a : ArenaState) (p : Packed) (regio
       none_some : (change : Option Change) → change ≡ None → IsSome change → ⊥
       none_some None off some = cc
       none_some (Some it) off some = cc
-
-      no_entries : (j : ℕ) → j ≡ 0
-          → StandsAt (directory_place region (length old.stored + length (take j (map stored_of (a.staged ++ p ∷ []))))) (directory_of (take j (map stored_of (a.staged ++ p ∷ [])))) read
-      no_entries j zeroth = subst (λ (m : ℕ). StandsAt (directory_place region (length old.stored + length (take m (map stored_of (a.staged ++ p ∷ []))))) (directory_of (take m (map stored_of (a.staged ++ p ∷ [])))) read) (sym zeroth) refl
 
       more : (old.stored ++ added_by a) ++ stored_of p ∷ [] ≡ old.stored ++ map stored_of (a.staged ++ p ∷ [])
       more = append_assoc old.stored (added_by a) (stored_of p ∷ []) ∙ ap (λ (l : List Stored). old.stored ++ l) (sym (map-append stored_of a.staged (p ∷ [])))

@@ -12,9 +12,9 @@ use Rattle.vt_model.specs.declared.TheConstants.{ARENA_HEAD_LEN}
 use Rattle.vt_arena.specs.declared.TheConstants.{FRAME_LEN}
 use Rattle.vt_arena.specs.Arena.{ArenaState, pieces}
 use Rattle.vt_arena.specs.Heads.{frame_of}
-use Rattle.vt_arena.specs.Layout.{entry_bytes, directory_place, head_place}
+use Rattle.vt_arena.specs.Layout.{directory_place, head_place}
 use Rattle.vt_arena.specs.Places.{directory_room}
-use Rattle.vt_arena.specs.Whole.{staged_room}
+use Rattle.vt_arena.specs.Whole.{staged_room, staged_directory}
 use Rattle.vt_arena.specs.Written.{Writes}
 
 -- what is found at a place of a list that is cut there
@@ -28,17 +28,14 @@ count_is : (staged before behind : List Packed) (p : Packed)
 count_is staged before behind p split =
     ap (λ (l : List Packed). length l) split ∙ length-append before (p ∷ behind) ∙ omega arith
 
--- the write of a clump, and that of an entry
-module _ (a : ArenaState) (region : Region) (old new bytes : List ℕ) (q : Packed) (place : ℕ)
+-- the write of a clump, and that of the directory
+module _ (a : ArenaState) (region : Region) (old new bytes : List ℕ) (place : ℕ)
     (write : new ≡ with_bytes place bytes old) where
-  abbrev index : ℕ
-  index = a.written - length a.staged
-
-  pub writes_clump : a.written < length a.staged → q ≡ get_or a.staged a.written q
+  pub writes_clump : (q : Packed) → a.written < length a.staged → q ≡ get_or a.staged a.written q
       → bytes ≡ q.bytes
       → place ≡ region.start + (ARENA_HEAD_LEN + (a.head.used + staged_room (take a.written a.staged)))
       → Writes a region old new
-  writes_clump below is bytes_is place_is = record {
+  writes_clump q below is bytes_is place_is = record {
     clump = λ p before behind split at.
         let same : bytes ≡ p.bytes =
         bytes_is
@@ -49,28 +46,23 @@ module _ (a : ArenaState) (region : Region) (old new bytes : List ℕ) (q : Pack
         let there : place ≡ region.start + ARENA_HEAD_LEN + a.head.used + staged_room before =
         omega (arith, place_is, ap staged_room front) in
         write ∙ (λ i. with_bytes (there i) (same i) old);
-    entry = λ p before behind split at. absurd (omega (arith, below, at));
+    directory = λ some at. absurd (omega (arith, below, at));
     head = λ all. absurd (omega (arith, below, all));
   }
 
-  pub writes_entry : length a.staged ≤ a.written → a.written < pieces a
-      → q ≡ get_or a.staged index q → bytes ≡ entry_bytes q.kind q.len q.score.0
-      → a.len ≡ region.len → directory_room (a.head.clumps + index + 1) ≤ a.len
-      → place ≡ region.start + (a.len - directory_room (a.head.clumps + index + 1))
+  pub writes_directory : a.written ≡ length a.staged → 0 < length a.staged
+      → bytes ≡ staged_directory a.staged → a.len ≡ region.len
+      → directory_room (a.head.clumps + length a.staged) ≤ a.len
+      → place ≡ region.start + (a.len - directory_room (a.head.clumps + length a.staged))
       → Writes a region old new
-  writes_entry from below is bytes_is len fits place_is = record {
+  writes_directory written some is len fits place_is = record {
     clump = λ p before behind split at.
-        absurd (omega (arith, from, at, count_is a.staged before behind p split));
-    entry = λ p before behind split at.
-        let index_is : index ≡ length before = omega (arith, at) in
-        let same : bytes ≡ entry_bytes p.kind p.len p.score.0 =
-        bytes_is
-        ∙ ap (λ (r : Packed). entry_bytes r.kind r.len r.score.0)
-        (piece_is a.staged before behind p q index split index_is is) in
-        let there : place ≡ directory_place region (a.head.clumps + length before + 1) =
-        omega (arith, place_is, index_is, len, fits) in
-        write ∙ (λ i. with_bytes (there i) (same i) old);
-    head = λ all. absurd (omega (arith, below, all));
+        absurd (omega (arith, written, at, count_is a.staged before behind p split));
+    directory = λ some at.
+        let there : place ≡ directory_place region (a.head.clumps + length a.staged) =
+        omega (arith, place_is, len, fits) in
+        write ∙ (λ i. with_bytes (there i) (is i) old);
+    head = λ all. absurd (omega (arith, written, all, some));
   }
 
 -- what the next call of the head's change writes, where one has begun or begins now
@@ -88,8 +80,7 @@ pub writes_head : (a : ArenaState) (region : Region) (old new : List ℕ)
 writes_head a region old new all begun frame_len write = record {
   clump = λ p before behind split at.
       absurd (omega (arith, all, at, count_is a.staged before behind p split));
-  entry = λ p before behind split at.
-      absurd (omega (arith, all, at, count_is a.staged before behind p split));
+  directory = λ some at. absurd (omega (arith, all, at, some));
   head = λ made.
       write
       ∙ ap (λ (n : ℕ).
@@ -106,7 +97,7 @@ pub writes_first : {T E : Type 0} (r : Result T E) (a : ArenaState) (region : Re
 writes_first (Err e) a region old new rest writes = tt
 writes_first (Ok step) a region old new rest writes = record {
   clump = writes.clump;
-  entry = writes.entry;
+  directory = writes.directory;
   head = λ made.
       writes.head made
       ∙ ap (changed_bytes a (head_place region) old) (sym (ap (λ (change : Option Change). is_some change) rest));

@@ -1,5 +1,5 @@
 -- An arena as its calls see it.
-use Rattle.std.specs.Prelude.{◌≡◌, ℕ, ◌+◌, ◌*◌, nat_lt, Bool, ◌||◌, is_some, if◌then◌else◌, List, [], ◌∷◌, ◌++◌, length, map, Option, Some, None, Result, Ok, Err}
+use Rattle.std.specs.Prelude.{◌≡◌, ℕ, ◌+◌, min, nat_lt, Bool, ◌||◌, is_some, if◌then◌else◌, List, [], ◌∷◌, ◌++◌, length, map, Option, Some, None, Result, Ok, Err}
 use Rattle.vt_twin.specs.declared.step.Step.{Step}
 use Rattle.vt_twin.specs.declared.step.Step.TheVariants.{More, Done}
 use Rattle.vt_twin.specs.declared.step.TwinErr.{TwinErr}
@@ -74,11 +74,15 @@ added_by a = map stored_of a.staged
 abbrev pub next_content : ArenaState → Content → Content
 next_content a old = record { sealed = a.next.sealed; stored = old.stored ++ added_by a }
 
--- The pieces of a commit are a clump and a directory entry for each block. The calls behind them
--- are the four of the head's change.
-abbrev pub pieces : ArenaState → ℕ
-pieces a = 2 * length a.staged
+-- The pieces of a commit are a clump for each of so many blocks and, where there are any, their
+-- directory.
+abbrev pub pieces_of : (blocks : ℕ) → ℕ
+pieces_of blocks = blocks + min 1 blocks
 
+abbrev pub pieces : ArenaState → ℕ
+pieces a = pieces_of (length a.staged)
+
+-- The calls behind them are the four of the head's change.
 abbrev pub commit_calls : ArenaState → ℕ
 commit_calls a = pieces a + 4
 

@@ -1,5 +1,5 @@
 -- What reading a clump answers.
-use Rattle.std.specs.Prelude.{◌≡◌, ⊤, ℕ, ◌+◌, ◌-◌, ◌≤◌, min, Bool, true, false, List, Some, None, Result, Ok, Err, codes}
+use Rattle.std.specs.Prelude.{◌≡◌, ⊤, ℕ, ◌+◌, ◌-◌, ◌≤◌, nat_le, min, Bool, true, false, if◌then◌else◌, List, Some, None, Result, Ok, Err, codes}
 use Rattle.vt_base.specs.declared.why.FieldValue.{FieldValue}
 use Rattle.vt_base.specs.declared.why.FieldValue.TheVariants.{Number, Score as ScoreValue, Magic as MagicValue}
 use Rattle.vt_disk.specs.declared.region.Region.{Region}
@@ -27,6 +27,10 @@ abbrev pub clump_at : Region → (offset : ℕ) → (file : List ℕ) → List �
 clump_at region offset file =
     let len = clump_len (size_in (header_at region offset file)) in
     part (region.start + offset) (min len (region.len - offset)) file
+
+-- how many calls read the clump of a block of n bytes that is expected to have `size` at most
+abbrev pub reads_for : (size n : ℕ) → ℕ
+reads_for size n = if nat_le n size then 1 else 2
 
 -- what was wanted, and what was found
 abbrev pub damage_of : ClumpBad → FieldValue × FieldValue

@@ -1,5 +1,5 @@
 -- What a disk holds for an arena, and what a crash leaves of it.
-use Rattle.std.specs.Prelude.{◌≡◌, ◌⊎◌, ℕ, ◌+◌, ◌-◌, ◌≤◌, List, All, IsSome, length, take}
+use Rattle.std.specs.Prelude.{◌≡◌, ◌⊎◌, ℕ, ◌+◌, ◌<◌, ◌≤◌, List, All, IsSome, length, take}
 use Rattle.vt_disk.specs.declared.region.Region.{Region}
 use Rattle.vt_disk.specs.Disk.{IsAligned}
 use Rattle.vt_disk.specs.Region.{FitsDisk, region_bytes}
@@ -24,20 +24,18 @@ abbrev pub IsSettled : Region → (read : List ℕ) → (images : List ℕ → T
 IsSettled region read images =
     (c : List ℕ) → images c → region_bytes region c ≡ region_bytes region read
 
--- the blocks whose clumps the commit under way has written, and those whose entries it has
+-- the blocks whose clumps the commit under way has written
 abbrev pub clumps_made : ArenaState → List Stored
 clumps_made a = take a.written (added_by a)
 
-abbrev pub entries_made : ArenaState → List Stored
-entries_made a = take (a.written - length a.staged) (added_by a)
-
 -- the pieces that it has written stand in the region: clumps behind those of the blocks that were
--- there, entries below theirs
+-- there and, once all are, the directory below theirs
 pub record HasPieces (a : ArenaState) (region : Region) (old : Content) (file : List ℕ)
     : Type 0 where
   pub clumps : StandsAt (clumps_place region old.stored) (clumps_of (clumps_made a)) file
-  pub directory : StandsAt (directory_place region (length old.stored + length (entries_made a)))
-      (directory_of (entries_made a)) file
+  pub directory : length a.staged < a.written
+      → StandsAt (directory_place region (length old.stored + length a.staged))
+      (directory_of (added_by a)) file
 
 -- A disk, by what it reads as and by its images, is sound for an arena in this region that holds
 -- `old`.

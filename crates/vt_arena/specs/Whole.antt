@@ -1,11 +1,14 @@
 -- What an arena in memory keeps, whatever the disk holds.
-use Rattle.std.specs.Prelude.{◌≡◌, ℕ, ◌+◌, ◌-◌, ◌*◌, ◌≤◌, IsSome, None, List, length, take, drop, replicate, MatchOption, sum_by, vec_capacity}
+use Rattle.std.specs.Prelude.{◌≡◌, ℕ, ◌+◌, ◌-◌, ◌*◌, ◌≤◌, IsSome, None, List, length, take, drop, reverse, replicate, MatchOption, sum_by, vec_capacity}
+use Rattle.std.specs.List.{flat_map}
 use Rattle.std.specs.Option.{ForSome}
 use Rattle.vt_twin.specs.Twin.{calls_made}
 use Rattle.vt_clump.specs.declared.packed.Packed.{Packed}
+use Rattle.vt_model.specs.declared.TheConstants.{DIRECTORY_ENTRY_LEN}
 use Rattle.vt_arena.specs.declared.TheConstants.{FRAME_LEN, FIELDS_LEN, STAGED_MAX}
 use Rattle.vt_arena.specs.declared.arena.Arena.TheInside.{Inside}
-use Rattle.vt_arena.specs.Arena.{ArenaState}
+use Rattle.vt_arena.specs.Arena.{ArenaState, pieces_of}
+use Rattle.vt_arena.specs.Layout.{entry_bytes}
 use Rattle.vt_arena.specs.Places.{IsArenaLen, block_room, directory_room, arena_room}
 
 -- as its calls see it
@@ -26,6 +29,18 @@ state_of a = record {
 abbrev pub staged_room : List Packed → ℕ
 staged_room staged = sum_by (λ p. block_room p.len) staged
 
+-- their directory, in which the last entry stands first
+abbrev pub staged_directory : List Packed → List ℕ
+staged_directory staged =
+    flat_map (λ p. entry_bytes p.kind p.len p.score.0) (reverse staged)
+
+-- at the end of a buffer for as many as may be staged stands the directory of these
+abbrev pub HasDirectory : (staged : List Packed) → (buffer : List ℕ) → Type 0
+HasDirectory staged buffer =
+    (length buffer ≡ STAGED_MAX * DIRECTORY_ENTRY_LEN)
+    × (drop ((STAGED_MAX - length staged) * DIRECTORY_ENTRY_LEN) buffer
+    ≡ staged_directory staged)
+
 -- a buffer for a head's frame, zero behind the fields
 abbrev pub IsBuffer : List ℕ → Type 0
 IsBuffer frame =
@@ -42,11 +57,13 @@ pub record IsWhole (a : Inside) : Type 0 where
   pub few : length a.staged.items ≤ STAGED_MAX
   pub capacity : STAGED_MAX ≤ vec_capacity a.staged
   -- how far the commit under way has come
-  pub written_most : a.written ≤ 2 * length a.staged.items
+  pub written_most : a.written ≤ pieces_of (length a.staged.items)
   pub end_is : a.end ≡ a.head.used + staged_room (take a.written a.staged.items)
   -- the one buffer is here, or is the frame of the head's change
   pub buffer : a.twin.change ≡ None → MatchOption a.buffer ⊥ IsBuffer
   pub frame : ForSome a.twin.change (λ it. IsBuffer it.frame)
   pub head_calls_is : a.head_calls ≡ calls_made a.twin
   pub head_calls_most : a.head_calls ≤ 3
-  pub begun : IsSome a.twin.change → a.written ≡ 2 * length a.staged.items
+  pub begun : IsSome a.twin.change → a.written ≡ pieces_of (length a.staged.items)
+  -- what was staged is ready to be written as a directory
+  pub directory : HasDirectory a.staged.items a.directory.items

@@ -4,7 +4,7 @@ ghost use Rattle.std.specs.Prelude.{◌≡◌, ◌⊎◌, ◌↔◌, ◌+◌, �
 
 use crate::committing::entry_bytes;
 use crate::head::{ArenaHead, Found};
-use crate::{FRAME_LEN, STAGED_MAX, block_room, has_room};
+use crate::{DIRECTORY_MAX, FRAME_LEN, STAGED_MAX, block_room, has_room};
 use std::alloc::Global;
 use std::marker::Model;
 use vt_base::{Bytes, NoMemory, Scorer};
@@ -30,7 +30,9 @@ pub struct Arena {
     pub(crate) head: ArenaHead,
     pub(crate) next: ArenaHead,
     pub(crate) staged: Vec<Packed>,
-    /// How many pieces of the commit under way were written: clumps, then entries.
+    /// The directory of what is staged, at the end of a buffer for as many as may be.
+    pub(crate) directory: Vec<u8>,
+    /// How many pieces of the commit under way were written: clumps, then their directory.
     pub(crate) written: usize,
     /// How many bytes the clumps are, those counted that the commit under way has written.
     pub(crate) end: u64,
@@ -60,7 +62,7 @@ impl Arena {
     ghost use Rattle.vt_disk.specs.Disk.{WithinCall};
     ghost use Rattle.vt_twin.specs.Twin.{is_fault};
     ghost use Rattle.vt_arena.specs.Layout.{Content, IsArena};
-    ghost use Rattle.vt_arena.specs.Arena.{fresh_arena, fits, is_committing, with_staged, with_seal, next_content, commit_calls, calls_made, Advances, content_after};
+    ghost use Rattle.vt_arena.specs.Arena.{fresh_arena, fits, is_committing, with_staged, with_seal, next_content, pieces, commit_calls, calls_made, Advances, content_after};
     ghost use Rattle.vt_arena.specs.Places.{IsArenaLen, directory_room, arena_room};
     ghost use Rattle.vt_arena.specs.Sound.{IsRegion, IsSound, GivesOldOrNext};
     ghost use Rattle.vt_arena.specs.Written.{Writes};
@@ -72,6 +74,7 @@ impl Arena {
         ensures { IfOk result (λ a. a ≡ fresh_arena len (found.selector % 2) found.head) }
     {
         let staged = Vec::with_capacity(alloc, STAGED_MAX)?;
+        let directory = vec![in alloc; 0; DIRECTORY_MAX]?;
         let buffer = Bytes::copy_of(alloc, &[0; FRAME_LEN])?;
         Ok(Arena {
             number: found.head.number,
@@ -80,6 +83,7 @@ impl Arena {
             head: found.head,
             next: found.head,
             staged,
+            directory,
             written: 0,
             end: found.head.used,
             buffer: Some(buffer),
@@ -150,8 +154,18 @@ impl Arena {
         ensures left { result + calls_made self.now ≡ commit_calls self.now }
         ensures some { 0 < result }
     {
-        let calls = 2 * self.staged.len() + 4;
+        let calls = self.pieces() + 4;
         (calls - self.written) as u64 - u64::from(self.head_calls)
+    }
+
+    /// How many pieces a commit of what is staged writes.
+    pub(crate) fn pieces(&self) -> usize
+        ensures pieces { result ≡ pieces self.now }
+        ensures most { result ≤ STAGED_MAX + 1 }
+        ensures written { self.now.written ≤ result }
+    {
+        let blocks = self.staged.len();
+        blocks + blocks.min(1)
     }
 
     /// The number of the device call that stopped it, if one did. The calls are those that
@@ -169,12 +183,15 @@ impl Arena {
         requires rest { IsFalse (is_committing self.old) }
         ensures { self.new ≡ with_staged S.score_of packed self.old }
     {
+        let entry = entry_bytes(&packed);
         let mut link = [0; LINK_LEN];
         let at = put(&mut link, 0, &self.next.chain.0);
-        put(&mut link, at, &entry_bytes(&packed));
+        put(&mut link, at, &entry);
         self.next.chain = scorer.score(&link);
         self.next.clumps += 1;
         self.next.used += block_room(packed.len);
+        let place = (STAGED_MAX - 1 - self.staged.len()) * DIRECTORY_ENTRY_LEN;
+        put(&mut self.directory, place, &entry);
         let Ok(()) = self.staged.push(packed) else {
             unreachable!()
         };
@@ -188,9 +205,9 @@ impl Arena {
         self.next.sealed = true;
     }
 
-    /// Makes one device call of a commit of all that is staged: it writes each clump, then each
-    /// directory entry, then the idle frame of the head, syncs, writes the head's selector, syncs.
-    /// Where nothing is staged, it makes the last four alone.
+    /// Makes one device call of a commit of all that is staged: it writes each clump, then their
+    /// directory entries, all by one call, then the idle frame of the head, syncs, writes the
+    /// head's selector, syncs. Where nothing is staged, it makes the last four alone.
     ///
     /// Done is the answer to the last of them, and Fault to one that fails. From then on the answer
     /// is Stopped with the number of that call, and nothing is done.

@@ -6,7 +6,7 @@ ghost use Rattle.vt_disk.specs.Calls.{WritesWithin, MadeCalls, IsSynced};
 ghost use Rattle.vt_arena.specs.Layout.{Content, entry_bytes as entry_bytes_of};
 
 use crate::arena::Arena;
-use crate::{block_room, directory_room};
+use crate::{DIRECTORY_MAX, block_room, directory_room};
 use vt_base::{Bytes, Failed};
 use vt_clump::Packed;
 use vt_disk::{Disk, Region};
@@ -50,8 +50,8 @@ impl Arena {
         if self.written < count {
             return self.write_clump(disk, region);
         }
-        if self.written < 2 * count {
-            return self.write_entry(disk, region);
+        if self.written < self.pieces() {
+            return self.write_directory(disk, region);
         }
         if !self.twin.is_changing() {
             self.begin_head();
@@ -98,13 +98,13 @@ impl Arena {
         }
     }
 
-    /// Writes the next directory entry.
-    fn write_entry<D: Disk>(&mut self, disk: &mut D, region: Region) -> Result<Step, TwinErr>
+    /// Writes the directory entries of all that is staged, which stand one behind another.
+    fn write_directory<D: Disk>(&mut self, disk: &mut D, region: Region) -> Result<Step, TwinErr>
         requires region { IsRegion region (D.size disk.old) }
         requires same { region.len ≡ self.old.len }
         requires runs { self.old.stopped ≡ None }
-        requires clumps { length self.old.staged ≤ self.old.written }
-        requires next { self.old.written < pieces self.old }
+        requires clumps { self.old.written ≡ length self.old.staged }
+        requires some { 0 < length self.old.staged }
         ensures sound { (score_of : List ℕ → List ℕ) (old : Content) → IsTrue D.tells
             → IsSound score_of self.old region old (D.bytes disk.old) (D.images disk.old)
             → IsSound score_of self.new region old
@@ -119,10 +119,9 @@ impl Arena {
         ensures calls { MadeCalls D.Disk 1 disk.old disk.new }
         ensures writes { WritesWithin D.Disk region 1 disk.old disk.new }
     {
-        let index = self.written - self.staged.len();
-        let entry = entry_bytes(&self.staged[index]);
-        let entries = self.head.clumps + index as u32 + 1;
-        let outcome = region.write_at(disk, self.len - directory_room(u64::from(entries)), &entry);
+        let entries = &self.directory[DIRECTORY_MAX - self.staged.len() * DIRECTORY_ENTRY_LEN..];
+        let place = self.len - directory_room(u64::from(self.next.clumps));
+        let outcome = region.write_at(disk, place, entries);
         let number = self.calls;
         self.calls = number.saturating_add(1);
         match outcome {

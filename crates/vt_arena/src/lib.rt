@@ -46,6 +46,9 @@ pub const STAGED_MAX: usize = 64;
 
 const _: () = prove!(STAGED_MAX == 64);
 
+/// How many bytes their directory entries are.
+const DIRECTORY_MAX: usize = STAGED_MAX * DIRECTORY_ENTRY_LEN;
+
 /// What a block of `n` bytes takes of an arena.
 fn block_room(n: u32) -> u64
     ensures { result ≡ block_room n }

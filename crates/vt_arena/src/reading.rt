@@ -1,15 +1,16 @@
 //! Reading a clump.
 
-ghost use Rattle.std.specs.Prelude.{◌≡◌, ◌⊎◌, ◌+◌, ◌≤◌, ◌∷◌, ◌++◌, min, ◌-◌, ◌^◌, ℕ, List, length, IsTrue, IfOk, IfErr, OnOk, Ok, Err, MatchResult};
+ghost use Rattle.std.specs.Prelude.{◌≡◌, ◌⊎◌, ◌+◌, ◌-◌, ◌≤◌, ◌∷◌, ◌++◌, min, ℕ, List, length, take, IsTrue, IfOk, IfErr, OnOk, Ok, Err, MatchResult};
 ghost use Rattle.vt_base.specs.Bytes.{AreBytes};
 ghost use Rattle.vt_base.specs.Faults.{CountsFault};
 ghost use Rattle.vt_disk.specs.Calls.{OnlyReads, MadeCalls};
+ghost use Rattle.vt_disk.specs.Disk.{part};
 ghost use Rattle.vt_disk.specs.Region.{FitsDisk};
 ghost use Rattle.vt_clump.specs.Spelling.{Stored, IsStored, size_in};
 ghost use Rattle.vt_clump.specs.Clumps.{IsRead};
 ghost use Rattle.vt_arena.specs.Layout.{Content, IsContent, HasBlocks};
 ghost use Rattle.vt_arena.specs.Places.{offset_of};
-ghost use Rattle.vt_arena.specs.Reading.{HasHeader, clump_at, header_at, damage_of, ReadsAs, is_fault};
+ghost use Rattle.vt_arena.specs.Reading.{HasHeader, clump_at, header_at, reads_for, damage_of, ReadsAs, is_fault};
 
 use crate::bad::ReadBad;
 use std::alloc::Global;
@@ -19,7 +20,8 @@ use vt_disk::{Disk, Region};
 use vt_model::{ARENA_HEAD_LEN, CLUMP_HEADER_LEN};
 
 /// Reads the clump at an offset of an arena's region: its header, which says how long its block is,
-/// and then the block.
+/// and the block. Both are read by one device call where the block has at most `size` bytes, and
+/// else by two. The answer is the same, whatever `size` is.
 ///
 /// Damaged says by what value the clump differs from one whose block has the score that it names.
 /// An offset at which no header lies between the head and the region's end is Damaged too, with
@@ -29,6 +31,7 @@ pub fn read<D: Disk, S: Scorer>(
     disk: &mut D,
     region: Region,
     offset: u64,
+    size: u16,
     scorer: &S,
 ) -> Result<Clump, ReadBad>
     requires region { FitsDisk region (D.size disk.old) }
@@ -51,10 +54,14 @@ pub fn read<D: Disk, S: Scorer>(
         → MatchResult result (IsRead s)
         (λ bad. (bad ≡ ReadBad.Fault) ⊎ (bad ≡ ReadBad.NoMemory)) }
 
-    // It makes two reads at most, and none where no header lies there. It writes nothing.
+    // It makes one read where the header says that the block has at most `size` bytes, else two,
+    // and none where no header lies there. It writes nothing.
     ensures untouched { ¬ HasHeader region.len offset → disk.new ≡ disk.old }
     ensures reads { OnlyReads D.Disk 2 disk.old disk.new }
-    ensures calls { OnOk result (MadeCalls D.Disk 2 disk.old disk.new) }
+    ensures once { IsTrue D.tells → size_in (header_at region offset (D.bytes disk.old)) ≤ size
+        → OnlyReads D.Disk 1 disk.old disk.new }
+    ensures calls { IfOk result (λ clump.
+        MadeCalls D.Disk (reads_for size (length clump.bytes)) disk.old disk.new) }
     ensures cause { CountsFault is_fault result (D.faults disk.old) (D.faults disk.new) }
 {
     if !has_header(region.len, offset) {
@@ -63,14 +70,7 @@ pub fn read<D: Disk, S: Scorer>(
             found: FieldValue::Number(u128::from(offset)),
         });
     }
-    let mut header = [0; CLUMP_HEADER_LEN];
-    let Ok(()) = region.read_at(disk, offset, &mut header) else {
-        return Err(ReadBad::Fault);
-    };
-    let block = match read_block(alloc, disk, region, offset, &header) {
-        Ok(block) => block,
-        Err(bad) => return Err(bad),
-    };
+    let (header, block) = read_clump(alloc, disk, region, offset, size)?;
     match unpack_block(&header, block, scorer) {
         Ok(clump) => Ok(clump),
         Err(bad) => Err(refusal(bad)),
@@ -86,34 +86,84 @@ pub fn has_header(len: u64, offset: u64) -> bool
     offset >= ARENA_HEAD_LEN as u64 && len >= header_len && offset <= len - header_len
 }
 
-/// Reads the block that stands behind this header, cut at the region's end.
-fn read_block<D: Disk>(
+/// Reads a header and the block behind it, cut at the region's end.
+fn read_clump<D: Disk>(
     alloc: Global,
     disk: &mut D,
     region: Region,
     offset: u64,
-    header: &[u8; CLUMP_HEADER_LEN],
-) -> Result<Bytes, ReadBad>
+    size: u16,
+) -> Result<([u8; CLUMP_HEADER_LEN], Bytes), ReadBad>
     requires region { FitsDisk region (D.size disk.old) }
     requires header { HasHeader region.len offset }
-    ensures read { IfOk result (λ block. IsTrue D.tells
-        → header.now ≡ header_at region offset (D.bytes disk.old)
-        → header.now ++ block ≡ clump_at region offset (D.bytes disk.old)) }
-    ensures most { IfOk result (λ block. length block ≤ size_in header.now) }
-    ensures header { (length header.now ≡ CLUMP_HEADER_LEN) × AreBytes header.now }
+    ensures read { IfOk result (λ it. IsTrue D.tells
+        → it.0 ++ it.1 ≡ clump_at region offset (D.bytes disk.old)) }
+    ensures header { IfOk result (λ it. (length it.0 ≡ CLUMP_HEADER_LEN) × AreBytes it.0) }
+    ensures most { IfOk result (λ it. length it.1 ≤ size_in it.0) }
+    ensures refused { IfErr result (λ bad. (bad ≡ ReadBad.Fault) ⊎ (bad ≡ ReadBad.NoMemory)) }
+    ensures reads { OnlyReads D.Disk 2 disk.old disk.new }
+    ensures once { IsTrue D.tells → size_in (header_at region offset (D.bytes disk.old)) ≤ size
+        → OnlyReads D.Disk 1 disk.old disk.new }
+    ensures calls { IfOk result (λ it.
+        MadeCalls D.Disk (reads_for size (size_in it.0)) disk.old disk.new) }
+    ensures cause { CountsFault is_fault result (D.faults disk.old) (D.faults disk.new) }
+{
+    let mut bytes = read_bytes(
+        alloc,
+        disk,
+        region,
+        offset,
+        CLUMP_HEADER_LEN + size as usize,
+    )?;
+    let header = header_of(&bytes);
+    let len = block_len(&header);
+    if len > size {
+        let at = offset + CLUMP_HEADER_LEN as u64;
+        let block = read_bytes(alloc, disk, region, at, len as usize)?;
+        return Ok((header, Bytes::from_vec(block)));
+    }
+    let there = bytes.len() - CLUMP_HEADER_LEN;
+    bytes.copy_within(CLUMP_HEADER_LEN.., 0);
+    bytes.truncate(there.min(len as usize));
+    Ok((header, Bytes::from_vec(bytes)))
+}
+
+/// The header with which these bytes begin.
+fn header_of(bytes: &[u8]) -> [u8; CLUMP_HEADER_LEN]
+    requires { CLUMP_HEADER_LEN ≤ length bytes.now }
+    ensures header { result ≡ take CLUMP_HEADER_LEN bytes.now }
+    ensures len { length result ≡ CLUMP_HEADER_LEN }
+    ensures bytes { AreBytes result }
+{
+    let mut header = [0; CLUMP_HEADER_LEN];
+    header.copy_from_slice(&bytes[..CLUMP_HEADER_LEN]);
+    header
+}
+
+/// Reads so many bytes from this place of a region on, or up to the region's end.
+fn read_bytes<D: Disk>(
+    alloc: Global,
+    disk: &mut D,
+    region: Region,
+    at: u64,
+    len: usize,
+) -> Result<Vec<u8>, ReadBad>
+    requires region { FitsDisk region (D.size disk.old) }
+    requires inside { at ≤ region.len }
+    ensures read { IfOk result (λ bytes. IsTrue D.tells → bytes.items
+        ≡ part (region.start + at) (min len (region.len - at)) (D.bytes disk.old)) }
+    ensures len { IfOk result (λ bytes. length bytes.items ≡ min len (region.len - at)) }
     ensures refused { IfErr result (λ bad. (bad ≡ ReadBad.Fault) ⊎ (bad ≡ ReadBad.NoMemory)) }
     ensures reads { OnlyReads D.Disk 1 disk.old disk.new }
     ensures calls { OnOk result (MadeCalls D.Disk 1 disk.old disk.new) }
     ensures cause { CountsFault is_fault result (D.faults disk.old) (D.faults disk.new) }
 {
-    let at = offset + CLUMP_HEADER_LEN as u64;
-    let len = u64::from(block_len(header)).min(region.len - at);
-    let mut block = Vec::new(alloc);
-    let Ok(()) = block.resize(len as usize, 0) else {
+    let len = (len as u64).min(region.len - at);
+    let Ok(mut bytes) = vec![in alloc; 0; len as usize] else {
         return Err(ReadBad::NoMemory);
     };
-    match region.read_at(disk, at, &mut block) {
-        Ok(()) => Ok(Bytes::from_vec(block)),
+    match region.read_at(disk, at, &mut bytes) {
+        Ok(()) => Ok(bytes),
         Err(Failed) => Err(ReadBad::Fault),
     }
 }

@@ -23,6 +23,9 @@ const REGION: Region = Region {
 
 const NUMBER: u32 = 3;
 
+/// What a block of three bytes is thought to have at most.
+const SIZES: [u16; 4] = [0, 2, 3, u16::MAX];
+
 /// The calls before a commit's first one: three of formatting, three of mounting.
 const FIRST_CALL: u64 = 6;
 
@@ -199,19 +202,23 @@ impl<D: Disk + Drop> Rig<D> {
         Ok(())
     }
 
-    /// The block at an offset, or why it isn't read.
-    fn read(&mut self, alloc: Global, offset: u64) -> Result<Clump, ReadBad> {
-        read(alloc, &mut self.disk, REGION, offset, &Sha1Scorer)
+    /// The block at an offset, which is thought to have so many bytes at most, or why it isn't
+    /// read.
+    fn read(&mut self, alloc: Global, offset: u64, size: u16) -> Result<Clump, ReadBad> {
+        read(alloc, &mut self.disk, REGION, offset, size, &Sha1Scorer)
     }
 
-    /// Whether the block at an offset is read as this one.
+    /// Whether the block at an offset is read as this one, whatever size it is thought to have.
     fn reads(&mut self, alloc: Global, offset: u64, block: &[u8]) -> bool {
-        match self.read(alloc, offset) {
-            Ok(clump) => {
-                clump.bytes.as_slice() == block && clump.kind == Kind::DATA && clump.time == 0
+        for size in SIZES {
+            let Ok(clump) = self.read(alloc, offset, size) else {
+                return false;
+            };
+            if clump.bytes.as_slice() != block || clump.kind != Kind::DATA || clump.time != 0 {
+                return false;
             }
-            Err(_) => false,
         }
+        true
     }
 
     /// What the directory says where a walk stands, while it isn't at its end.
@@ -269,8 +276,9 @@ fn expected(at: usize, frames: [&[u8; 43]; 2], selector: u8) -> u8 {
 /// Fills an arena, with 64 blocks a commit at most.
 fn fill<D: Disk + Drop>(alloc: Global, disk: D) -> Result<(), Fail> {
     let mut rig = Rig::new(alloc, disk)?;
-    for (n, staged) in [(65, 64), (64, 60), (1, 0)] {
+    for (n, staged, calls) in [(65, 64, 69), (64, 60, 65), (1, 0, 4)] {
         see(rig.stage_many(alloc, b"abc", n)? == staged, "another count")?;
+        see(rig.arena.calls_left() == calls, "another count of calls")?;
         if staged > 0 {
             rig.commit()?;
         }
@@ -367,6 +375,50 @@ fn a_commit_is_stopped_anywhere(rt: HostRuntime) -> Result<(), Fail> {
     Ok(())
 }
 
+/// The disk of a commit of 63 blocks behind `abc` that is stopped at the write of their directory.
+fn stopped_at_directory<D: Disk + Drop>(alloc: Global, disk: D, fails: bool) -> Result<D, Fail> {
+    let mut rig = Rig::with(alloc, disk, &[b"abc"])?;
+    see(rig.stage_many(alloc, b"abd", 63)? == 63, "no room")?;
+    rig.stop(63, fails)?;
+    let Rig { disk, arena: _ } = rig;
+    Ok(disk)
+}
+
+/// What a crash leaves of that commit: its clumps, and of its directory, which is 1,575 bytes from
+/// 31,680 on, the bytes that were written or those that were there, by blocks of 512 bytes.
+fn torn(alloc: Global, written: [bool; 4]) -> Result<Vec<u16>, Fail> {
+    let mut choice = vec![in alloc; 257; 63 * 41]?;
+    for (len, is_written) in [64, 512, 512, 487].into_iter().zip(written) {
+        let end = choice.len().saturating_add(len);
+        choice.resize(end, if is_written { 257 } else { 256 })?;
+    }
+    Ok(choice)
+}
+
+/// The last entry of the directory of a disk.
+fn last_entry<D: Disk + Drop>(alloc: Global, disk: D) -> Result<Option<Info>, Fail> {
+    let mut rig = Rig::mounted(alloc, disk)?;
+    see(rig.reads(alloc, 24_576, b"abc"), "no abc")?;
+    let mut at = At::start(&rig.arena.head());
+    Ok(rig.walk(&mut at).and_then(Result::ok))
+}
+
+#[test]
+fn a_torn_directory_loses_no_block(rt: HostRuntime) -> Result<(), Fail> {
+    for fails in [false, true] {
+        let failing = if fails { FIRST_CALL + 6 + 63 } else { u64::MAX };
+        for blocks in 0..16u32 {
+            let written = [1, 2, 4, 8].map(|block| blocks & block == block);
+            let disk = disk(rt.alloc(), failing)?;
+            let disk = stopped_at_directory(rt.alloc(), disk, fails)?;
+            let choice = torn(rt.alloc(), written)?;
+            let info = last_entry(rt.alloc(), disk.crash(&choice))?;
+            see(info == info_of(b"abc", 0, 24_576), "another entry")?;
+        }
+    }
+    Ok(())
+}
+
 /// Why an arena with these bytes in its head is refused.
 fn head_refusal<D: Disk + Drop>(
     alloc: Global,
@@ -430,7 +482,11 @@ fn damage<D: Disk + Drop>(
     let mut rig = Rig::with(alloc, disk, &[b"abc"])?;
     see(rig.reads(alloc, 24_576, b"abc"), "no abc")?;
     rig.write(at, &[byte])?;
-    Ok(rig.read(alloc, offset).err())
+    let bad = rig.read(alloc, offset, 3).err();
+    for size in SIZES {
+        see(rig.read(alloc, offset, size).err() == bad, "two answers")?;
+    }
+    Ok(bad)
 }
 
 #[test]
@@ -493,10 +549,10 @@ fn walk<D: Disk + Drop>(alloc: Global, disk: D) -> Result<(), Fail> {
     see(rig.walk(&mut at).is_none(), "no end")
 }
 
-/// What a read of a block and one of the directory answer.
-fn reads<D: Disk + Drop>(alloc: Global, disk: D) -> Result<[bool; 2], Fail> {
+/// What a read of a block that is thought to have so many bytes and one of the directory answer.
+fn reads<D: Disk + Drop>(alloc: Global, disk: D, size: u16) -> Result<[bool; 2], Fail> {
     let mut rig = Rig::with(alloc, disk, &[b"abc"])?;
-    let read = rig.read(alloc, 24_576).err();
+    let read = rig.read(alloc, 24_576, size).err();
     let mut at = At::start(&rig.arena.head());
     let back = rig.walk(&mut at);
     Ok([
@@ -508,15 +564,22 @@ fn reads<D: Disk + Drop>(alloc: Global, disk: D) -> Result<[bool; 2], Fail> {
 #[test]
 fn the_directory_is_walked(rt: HostRuntime) -> Result<(), Fail> {
     walk(rt.alloc(), disk(rt.alloc(), u64::MAX)?)?;
-    // Each call fails in turn: the reads of a clump's header and block, that of an entry.
-    for (call, wanted) in [
-        (0, [true, false]),
-        (1, [true, false]),
-        (2, [false, true]),
-        (3, [false, false]),
+    // Each call fails in turn: that of a clump or, where its block has more bytes than was thought,
+    // those of its header and block; then that of an entry.
+    for (size, call, wanted) in [
+        (2, 0, [true, false]),
+        (2, 1, [true, false]),
+        (2, 2, [false, true]),
+        (2, 3, [false, false]),
+        (3, 0, [true, false]),
+        (3, 1, [false, true]),
+        (3, 2, [false, false]),
+        (4, 0, [true, false]),
+        (4, 1, [false, true]),
+        (4, 2, [false, false]),
     ] {
         let disk = disk(rt.alloc(), FIRST_CALL + 6 + call)?;
-        see(reads(rt.alloc(), disk)? == wanted, "another answer")?;
+        see(reads(rt.alloc(), disk, size)? == wanted, "another answer")?;
     }
     Ok(())
 }

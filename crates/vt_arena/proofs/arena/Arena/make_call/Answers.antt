@@ -1,4 +1,4 @@
-use Rattle.std.proofs.Common.{◌≡◌, ◌*◌, length, None, false, sym, ◌∙◌, ap, subst, arith, rules}
+use Rattle.std.proofs.Common.{◌≡◌, None, false, sym, ◌∙◌, ap, subst, arith, rules}
 use Rattle.std.specs.Prelude.{OnOk, is_some}
 use Rattle.vt_arena.specs.Arena.{ArenaState, content_after, pieces}
 use Rattle.vt_arena.specs.Layout.{Content}
@@ -14,10 +14,10 @@ returns-then-self-count-clause-sound g c score_of old told sound =
     subst (λ (content : Content). IsSound score_of c.write_clump.new.self c.args.region content (g.D.Disk.bytes c.write_clump.new.disk) (g.D.Disk.images c.write_clump.new.disk))
     (sym (content_piece c.write_clump.result _ _ c.args.self.now old c.write_clump.ensures.steps)) (c.write_clump.ensures.sound score_of old told sound)
 
-pub returns-then-self-count-2-clause-sound : goal.returns-then-self-count-2-clause-sound
-returns-then-self-count-2-clause-sound g c score_of old told sound =
-    subst (λ (content : Content). IsSound score_of c.write_entry.new.self c.args.region content (g.D.Disk.bytes c.write_entry.new.disk) (g.D.Disk.images c.write_entry.new.disk))
-    (sym (content_piece c.write_entry.result _ _ c.args.self.now old c.write_entry.ensures.steps)) (c.write_entry.ensures.sound score_of old told sound)
+pub returns-then-self-pieces-clause-sound : goal.returns-then-self-pieces-clause-sound
+returns-then-self-pieces-clause-sound g c score_of old told sound =
+    subst (λ (content : Content). IsSound score_of c.write_directory.new.self c.args.region content (g.D.Disk.bytes c.write_directory.new.disk) (g.D.Disk.images c.write_directory.new.disk))
+    (sym (content_piece c.write_directory.result _ _ c.args.self.now old c.write_directory.ensures.steps)) (c.write_directory.ensures.sound score_of old told sound)
 
 pub returns-clause-sound : goal.returns-clause-sound
 returns-clause-sound g c score_of old told sound =
@@ -26,8 +26,8 @@ returns-clause-sound g c score_of old told sound =
       | then-not-is_changing w ↦
           let off : is_some c.self.inside.twin.change ≡ false = search rules in
           let rest : a.twin.change ≡ None = ap (λ (s : ArenaState). s.twin.change) (sym c.self.view_is) ∙ none_is c.self.inside.twin.change off in
-          let all : c.self.inside.written ≡ 2 * length c.self.inside.staged.items = omega (arith, c.self.invariant.written_most) in
-          let written : a.written ≡ pieces a = ap (λ (s : ArenaState). s.written) (sym c.self.view_is) ∙ all ∙ ap (λ (s : ArenaState). pieces s) c.self.view_is in
+          let same : c.self.inside.written ≡ a.written = ap (λ (s : ArenaState). s.written) c.self.view_is in
+          let written : a.written ≡ pieces a = omega (arith, same, c.pieces.ensures.pieces, c.pieces.ensures.written, c.if-self-pieces.false) in
           let is = w.self-is ∙ w.begin_head.ensures.begun in
           let begun = begin_sound score_of a c.args.region old _ _ rest written sound in
           subst (λ (content : Content). IsSound score_of c.advance_head.new.self c.args.region content (g.D.Disk.bytes c.advance_head.new.disk) (g.D.Disk.images c.advance_head.new.disk))

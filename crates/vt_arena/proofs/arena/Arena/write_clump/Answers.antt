@@ -50,5 +50,5 @@ returns-in-Ok-clause-sound g c score_of old told sound =
 pub returns-in-Ok-clause-written : goal.returns-in-Ok-clause-written
 returns-in-Ok-clause-written g c told =
     subst (λ (s : ArenaState). Writes s c.args.region (g.D.Disk.bytes c.args.disk.now) (g.D.Disk.bytes c.write_at-outcome.new.disk)) c.self.view_is
-    (writes_clump _ c.args.region _ _ c.as_slice.result.now c.index-packed.result.now (c.args.region.start + (24576 + c.self.inside.end)) (c.in-Ok.ensures.written told)
+    (writes_clump _ c.args.region _ _ c.as_slice.result.now (c.args.region.start + (24576 + c.self.inside.end)) (c.in-Ok.ensures.written told) c.index-packed.result.now
     (rw (← c.self.view_is) at c.requires.next) c.index-packed.ensures c.as_slice.ensures (omega (arith, c.self.invariant.end_is)))
