@@ -1,14 +1,16 @@
 -- One disk of a log is lent to a call that reads an arena.
-use Rattle.std.proofs.Common.{◌≡◌, ℕ, ◌+◌, ◌^◌, ◌<◌, ◌≤◌, Bool, IsTrue, List, length, get_or, map, set, refl, sym, ◌∙◌, ap, subst, arith, Some, Ok, Err, Result, IfOk}
-use Rattle.std.specs.Prelude.{slice_get, sum_by, MatchResult}
+use Rattle.std.proofs.Common.{◌≡◌, ℕ, ◌+◌, ◌<◌, ◌≤◌, List, length, get_or, map, set, refl, sym, ◌∙◌, ap, subst, arith, Some, Ok, Err, Result, IfOk}
+use Rattle.std.specs.Prelude.{slice_get, sum_by}
+use Rattle.std.proofs.lemmas.Bool.Decides.{nat_tests}
 use Rattle.std.proofs.lemmas.List.{get_or_default, set-get_or}
 use Rattle.std.proofs.lemmas.Option.{slice_get_read, get_or_from_slice_get, same_Some}
 use Rattle.vt_disk.specs.Members.{DiskOf}
-use Rattle.vt_disk.specs.Calls.{OnlyReads as OnlyReadsDisk}
+use Rattle.vt_disk.specs.Calls.{MadeCalls, OnlyReads as OnlyReadsDisk}
 use Rattle.vt_arena.specs.declared.bad.ReadBad.{ReadBad}
 use Rattle.vt_clump.specs.declared.reading.Clump.{Clump}
 use Rattle.vt_clump.specs.Clumps.{IsRead}
 use Rattle.vt_clump.specs.Spelling.{Stored, IsStored}
+use Rattle.vt_arena.specs.Reading.{reads_for}
 use Rattle.vt_arena.specs.Sound.{IsRegion}
 use Rattle.vt_part.specs.declared.layout.ArenaRegion.{ArenaRegion}
 use Rattle.vt_part.specs.declared.part.Part.{Part}
@@ -78,6 +80,19 @@ pub read_whole : (score_of : List ℕ → List ℕ) (result : Result Clump ReadB
 read_whole score_of (Ok clump) whole =
     omega (arith, ap (λ (b : List ℕ). length b) whole.2.bytes, whole.1)
 read_whole score_of (Err bad) whole = tt
+
+-- and it is read by one call where its block has at most as many bytes as was thought
+reads_one : (size n : ℕ) → n ≤ size → reads_for size n ≡ 1
+reads_one size n few = grind (arith, nat_tests)
+
+pub read_once : {D : Type 0} (score_of : List ℕ → List ℕ) (disk : DiskOf D) (size : ℕ) (d e : D) (m k : LogState D) (result : Result Clump ReadBad)
+    → OnlyReadsDisk disk 2 d e → IfOk result (λ clump. MadeCalls disk (reads_for size (length clump.bytes)) d e)
+    → (OnlyReadsDisk disk 1 d e → OnlyReads score_of disk 1 m k)
+    → IfOk result (λ clump. length clump.bytes ≤ size → OnlyReads score_of disk 1 m k)
+read_once score_of disk size d e m k (Ok clump) reads made once = λ few.
+    let one : MadeCalls disk 1 d e = subst (λ (n : ℕ). MadeCalls disk n d e) (reads_one size (length clump.bytes) few) made in
+    once (record { bytes = reads.bytes; images = reads.images; size = reads.size; calls = λ told. omega (arith, one told) })
+read_once score_of disk size d e m k (Err bad) reads made once = tt
 
 -- a disk that is the same leaves the log the same
 pub unchanged : {D : Type 0} (score_of : List ℕ → List ℕ) (disk : DiskOf D) (i : ℕ) (d e : D) (m k : LogState D)

@@ -6,7 +6,7 @@ use Rattle.std.proofs.lemmas.List.{length-map}
 use Rattle.vt_twin.specs.Twin.{Change, with_change, calls_made as twin_calls_made}
 use Rattle.vt_clump.specs.declared.packed.Packed.{Packed}
 use Rattle.vt_arena.specs.declared.head.ArenaHead.{ArenaHead}
-use Rattle.vt_arena.specs.Arena.{ArenaState, calls_made, commit_calls, is_committing, with_seal, pieces, changing, after_step, after_piece, after_head}
+use Rattle.vt_arena.specs.Arena.{ArenaState, calls_made, commit_calls, is_committing, with_seal, pieces, pieces_of, changing, after_step, after_piece, after_head}
 use Rattle.vt_arena.specs.Heads.{frame_of}
 use Rattle.vt_arena.proofs.Stage.{resting}
 use Rattle.vt_log.specs.declared.queue.Waiting.{Waiting}
@@ -27,7 +27,7 @@ none_made a rest =
 
 -- a commit that adds blocks takes less than they are owed
 numbers : (sealed : Bool) (s w t v made seal : ℕ) → made ≡ 0 → t + v ≡ s + w → (s < t) ⊎ ((t ≡ s) × (seal ≡ 4))
-    → 2 * t + 4 + 6 * v ≤ cond sealed (2 * s + 4 - made) (cond (s == 0) 0 (2 * s + 4 - made)) + 6 * w + cond sealed 0 seal
+    → pieces_of t + 4 + 6 * v ≤ cond sealed (pieces_of s + 4 - made) (cond (s == 0) 0 (pieces_of s + 4 - made)) + 6 * w + cond sealed 0 seal
 numbers true s w t v made seal none same more = ⊎_elim (λ (h : s < t). omega (arith, none, same, h)) (λ (h : (t ≡ s) × (seal ≡ 4)). omega (arith, none, same, h.0)) more
 numbers false s w t v made seal none same more = ⊎_elim
     (λ (z : ((s == 0) ≡ true) × (s ≡ 0)). rw z.0 (⊎_elim (λ (h : s < t). omega (arith, none, same, h)) (λ (h : (t ≡ s) × (seal ≡ 4)). omega (arith, none, same, h.0, h.1, z.1)) more))
@@ -88,13 +88,13 @@ call_owed l b ds calls stopped staged next ready made left =
     let sealed : b.next.sealed ≡ l.arena.next.sealed = ap (λ (h : ArenaHead). h.sealed) next in
     rw (sealed, staged) (at l.arena.next.sealed l.arena.staged refl refl)
   where
-    less : (n : ℕ) → length l.arena.staged ≡ suc n → 2 * suc n + 4 - calls_made b + 6 * length l.queue.waiting + seal_calls l.committing l.queue.waiting
-        < 2 * suc n + 4 - calls_made l.arena + 6 * length l.queue.waiting + seal_calls l.committing l.queue.waiting
+    less : (n : ℕ) → length l.arena.staged ≡ suc n → pieces_of (suc n) + 4 - calls_made b + 6 * length l.queue.waiting + seal_calls l.committing l.queue.waiting
+        < pieces_of (suc n) + 4 - calls_made l.arena + 6 * length l.queue.waiting + seal_calls l.committing l.queue.waiting
     less n is = omega (arith, made, left, is)
 
     at : (s : Bool) (ps : List Packed) → l.arena.next.sealed ≡ s → l.arena.staged ≡ ps
-        → cond s (2 * length ps + 4 - calls_made b) (cond (length ps == 0) 0 (2 * length ps + 4 - calls_made b)) + 6 * length l.queue.waiting + cond s 0 (seal_calls l.committing l.queue.waiting)
-        < cond s (2 * length ps + 4 - calls_made l.arena) (cond (length ps == 0) 0 (2 * length ps + 4 - calls_made l.arena)) + 6 * length l.queue.waiting + cond s 0 (seal_calls l.committing l.queue.waiting)
+        → cond s (pieces_of (length ps) + 4 - calls_made b) (cond (length ps == 0) 0 (pieces_of (length ps) + 4 - calls_made b)) + 6 * length l.queue.waiting + cond s 0 (seal_calls l.committing l.queue.waiting)
+        < cond s (pieces_of (length ps) + 4 - calls_made l.arena) (cond (length ps == 0) 0 (pieces_of (length ps) + 4 - calls_made l.arena)) + 6 * length l.queue.waiting + cond s 0 (seal_calls l.committing l.queue.waiting)
     at true ps s_is ps_is = omega (arith, made, left, ap (λ (q : List Packed). length q) ps_is)
     at false [] s_is ps_is = absurd (let off = ready ps_is in cc)
     at false (p ∷ ps) s_is ps_is = rw (some_test (length ps)) (less (length ps) (ap (λ (q : List Packed). length q) ps_is))
@@ -106,12 +106,12 @@ ended_owed l m staged sealed waiting unsealed committing ready left =
     rw (staged, sealed, waiting, unsealed, committing) (at l.arena.staged refl)
   where
     less : (n : ℕ) → length l.arena.staged ≡ suc n → 0 + 6 * length l.queue.waiting + seal_calls l.committing l.queue.waiting
-        < 2 * suc n + 4 - calls_made l.arena + 6 * length l.queue.waiting + seal_calls l.committing l.queue.waiting
+        < pieces_of (suc n) + 4 - calls_made l.arena + 6 * length l.queue.waiting + seal_calls l.committing l.queue.waiting
     less n is = omega (arith, left, is)
 
     at : (ps : List Packed) → l.arena.staged ≡ ps
         → 0 + 6 * length l.queue.waiting + seal_calls l.committing l.queue.waiting
-        < cond (length ps == 0) 0 (2 * length ps + 4 - calls_made l.arena) + 6 * length l.queue.waiting + seal_calls l.committing l.queue.waiting
+        < cond (length ps == 0) 0 (pieces_of (length ps) + 4 - calls_made l.arena) + 6 * length l.queue.waiting + seal_calls l.committing l.queue.waiting
     at [] is = absurd (let off = ready is in cc)
     at (p ∷ ps) is = rw (some_test (length ps)) (less (length ps) (ap (λ (q : List Packed). length q) is))
 

@@ -36,7 +36,8 @@ impl<D: Disk, S: Scorer> Log<D, S> {
 
     /// Reads the block with this key that stands at this place. A queued block is given from the
     /// queue, without a device call. Else one clump is read from its disk, and counted as one step,
-    /// where its header can lie at the place.
+    /// where its header can lie at the place: by one device call where the block has at most `size`
+    /// bytes, and else by two. The answer is the same, whatever `size` is.
     ///
     /// Damaged says by what value the place, the clump or its key differs from what was wanted: of
     /// an arena that isn't there, that the last one was, or 0 where there is none. Fault says that
@@ -45,6 +46,7 @@ impl<D: Disk, S: Scorer> Log<D, S> {
         &mut self,
         alloc: Global,
         place: Place,
+        size: u16,
         key: &Key,
         steps: &mut Steps<L>,
     ) -> Result<Bytes, ReadBad>
@@ -63,8 +65,8 @@ impl<D: Disk, S: Scorer> Log<D, S> {
             → result ≡ Err (ReadBad.Damaged want found) → Differ want found }
         ensures whole { IfOk result (λ block. length block ≤ MAX_BLOCK) }
 
-        // One step is counted where a clump is read, and none else. It makes two reads at most, and
-        // changes nothing.
+        // One step is counted where a clump is read, and none else. It makes one read at most where
+        // a block is given that has no more than `size` bytes, else two, and changes nothing.
         ensures cost { (r : ArenaRegion) → IsNowhere self.old.queue.places place
             → slice_get self.old.layout place.arena ≡ Some r → HasHeader r.region.len place.offset
             → steps.new ≡ steps.old + 1 }
@@ -74,6 +76,8 @@ impl<D: Disk, S: Scorer> Log<D, S> {
             × ¬ HasHeader r.region.len place.offset)
             → (steps.new ≡ steps.old) × (self.new ≡ self.old) }
         ensures reads { OnlyReads S.score_of D.Disk 2 self.old self.new }
+        ensures once { IfOk result (λ block. length block ≤ size
+            → OnlyReads S.score_of D.Disk 1 self.old self.new) }
         ensures spares { (r : ArenaRegion) → slice_get self.old.layout place.arena ≡ Some r
             → Spares r.part self.old.disks self.new.disks }
         ensures cause { CountsFaults D.Disk is_fault result self.old.disks self.new.disks }
@@ -88,7 +92,7 @@ impl<D: Disk, S: Scorer> Log<D, S> {
                 found: FieldValue::Number(u128::from(place.arena)),
             });
         }
-        let clump = self.read_clump(alloc, place, steps)?;
+        let clump = self.read_clump(alloc, place, size, steps)?;
         check_key(key, clump.kind, clump.score)?;
         Ok(clump.bytes)
     }
@@ -98,6 +102,7 @@ impl<D: Disk, S: Scorer> Log<D, S> {
         &mut self,
         alloc: Global,
         place: Place,
+        size: u16,
         steps: &mut Steps<L>,
     ) -> Result<Clump, ReadBad>
         requires { place.arena < length self.old.layout }
@@ -119,6 +124,8 @@ impl<D: Disk, S: Scorer> Log<D, S> {
         ensures cost { (r : ArenaRegion) → slice_get self.old.layout place.arena ≡ Some r
             → HasHeader r.region.len place.offset → steps.new ≡ steps.old + 1 }
         ensures reads { OnlyReads S.score_of D.Disk 2 self.old self.new }
+        ensures once { IfOk result (λ clump. length clump.bytes ≤ size
+            → OnlyReads S.score_of D.Disk 1 self.old self.new) }
         ensures spares { (r : ArenaRegion) → slice_get self.old.layout place.arena ≡ Some r
             → Spares r.part self.old.disks self.new.disks }
         ensures cause { CountsFaults D.Disk is_fault result self.old.disks self.new.disks }
@@ -129,7 +136,7 @@ impl<D: Disk, S: Scorer> Log<D, S> {
             steps.tick();
         }
         let disk = &mut self.parts[r.part as usize].disk;
-        vt_arena::read(alloc, disk, r.region, offset, &self.scorer)
+        vt_arena::read(alloc, disk, r.region, offset, size, &self.scorer)
     }
 
     /// A queued clump, counted from the first one.

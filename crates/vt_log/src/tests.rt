@@ -249,7 +249,7 @@ fn read<D: Disk, L: Ledger>(
     block: &[u8],
     steps: &mut Steps<L>,
 ) -> Result<Result<Bytes, ReadBad>, Fail> {
-    Ok(log.read(alloc, place, &key_of(13, block)?, steps))
+    Ok(log.read(alloc, place, 3, &key_of(13, block)?, steps))
 }
 
 /// What a walk gives, from the last block to the first.
@@ -558,7 +558,7 @@ fn read_again(alloc: Global) -> Result<(), Fail> {
         Act::Clump(Err(Failed)),
         Act::Clump(Ok(ABC_CLUMP)),
     ];
-    let failing = [FIRST_CALL + 6, FIRST_CALL + 9, FIRST_CALL + 11];
+    let failing = [FIRST_CALL + 6, FIRST_CALL + 8, FIRST_CALL + 10];
     run(alloc, ONE, &failing, &acts)
 }
 
@@ -678,9 +678,11 @@ impl<D: Disk + Drop> Sides<D> {
         }
         let Taken { info, block } = &self.taken[(number % self.taken.len() as u64) as usize];
         let Info { key, place, .. } = info;
+        // Often another size than the block's.
+        let size = (number % 400) as u16;
         let wanted = self.plain.read(&key.score, key.kind.wire(), 57_344);
         see(wanted == Ok(block.as_slice()), "another plain block")?;
-        let found = self.log.read(alloc, *place, key, steps);
+        let found = self.log.read(alloc, *place, size, key, steps);
         let found = found.ok().ok_or("no block of the log")?;
         see(wanted == Ok(found.as_slice()), "another block of the log")
     }

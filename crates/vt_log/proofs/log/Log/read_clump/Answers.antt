@@ -9,7 +9,7 @@ use Rattle.vt_part.specs.declared.layout.ArenaRegion.{ArenaRegion}
 use Rattle.vt_log.specs.Whole.{IsWhole}
 use Rattle.vt_log.proofs.Disks.{tells_set}
 use Rattle.vt_log.proofs.Lists.{no_region}
-use Rattle.vt_log.proofs.OnlyReads.{lent, none_read, read_whole, unchanged}
+use Rattle.vt_log.proofs.OnlyReads.{lent, none_read, read_once, read_whole, unchanged}
 use Rattle.vt_log.proofs.log.Log.read_clump.Goals as goal
 use Rattle.vt_log.proofs.log.Log.read_clump.Goals.{then-has_header, else-has_header}
 
@@ -94,6 +94,13 @@ returns g c =
             | else-has_header w ↦ absurd (cc)
           ];
       reads = it.reads;
+      once = read_once g.S.Scorer.score_of g.D.Disk c.args.size c.index_mut.result.now.disk c.read.new.disk c.args.self.now _ c.read.result
+          c.read.ensures.reads c.read.ensures.calls
+          (λ one. (lent g.S.Scorer.score_of g.D.Disk 1
+          c.self.inside.parts.items c.args.place.arena r no_region c.index_mut.result.now
+          c.read.new.disk _ c.args.self.now c.self.invariant c.self.view_is refl refl c.requires
+          (ap (λ (rs : List ArenaRegion). get_or rs c.args.place.arena no_region) c.as_slice.ensures)
+          c.index_mut.ensures.value one).reads);
       spares = it.spares;
       cause = tells_set g.D.Disk.faults is_fault c.args.self.now.disks _ r.part _ c.read.new.disk
           c.read.result it.only.was it.only.disks_are c.read.ensures.cause;
