@@ -200,7 +200,7 @@ fn fetch<D: Disk, S: Scorer, L: Ledger>(
     if shard.touch_lump(&entry.key) {
         return Ok(());
     }
-    match log.read(alloc, entry.place, &entry.key, steps) {
+    match log.read(alloc, entry.place, entry.size, &entry.key, steps) {
         Ok(bytes) => keep(shard, entry.key, bytes),
         Err(bad) => Err(why_of_read(entry.place, bad)),
     }
