@@ -27,6 +27,8 @@ pub use laws::{
     recovery_is_a_crash, refusals_name_two, runs_are_runs_of_the_machine, runs_keep_the_store,
     stores_can_be_mounted, what_is_read_is_a_prefix,
 };
+pub use mounting::{test_arenas, test_buckets, test_heads};
+pub use opening::{close_sections, open_sections};
 pub use outs::Outs;
 pub use store::Core;
 pub use writing::{Verdict, add_block, test_write};

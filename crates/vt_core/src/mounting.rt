@@ -289,7 +289,7 @@ impl Tally {
 }
 
 /// The partitions have no more arenas than a store may have.
-fn test_arenas<D>(parts: &[Part<D>]) -> Result<u32, MountBad>
+pub fn test_arenas<D>(parts: &[Part<D>]) -> Result<u32, MountBad>
     requires { length parts.now < 2 ^ 32 }
     ensures { PassesOrRefuses MountField.Arenas MOST_ARENAS 0
         (map (λ t. t.count) (tables_of parts.now)) result }
@@ -301,8 +301,8 @@ fn test_arenas<D>(parts: &[Part<D>]) -> Result<u32, MountBad>
     tally.test(MountField::Arenas, MOST_ARENAS)
 }
 
-/// And the sections no more buckets. It gives how many they have.
-fn test_buckets<D: Disk>(sections: &[Section<D>], part: u32) -> Result<u32, MountBad>
+/// The sections have no more buckets than a store may have. It gives how many they have.
+pub fn test_buckets<D: Disk>(sections: &[Section<D>], part: u32) -> Result<u32, MountBad>
     requires { part + length sections.now < 2 ^ 32 }
     ensures { PassesOrRefuses MountField.Buckets MOST_BUCKETS part
         (map (λ s. s.buckets) sections.now) result }
@@ -314,8 +314,8 @@ fn test_buckets<D: Disk>(sections: &[Section<D>], part: u32) -> Result<u32, Moun
     tally.test(MountField::Buckets, MOST_BUCKETS)
 }
 
-/// The heads say that the sections are in use, and divide the buckets among them in order.
-fn test_heads<D: Disk>(sections: &[Section<D>], part: u32, total: u32) -> Result<(), MountBad>
+/// The heads say that the sections are in use (state 1), and divide the buckets among them in order.
+pub fn test_heads<D: Disk>(sections: &[Section<D>], part: u32, total: u32) -> Result<(), MountBad>
     requires many { part + length sections.now < 2 ^ 32 }
     requires total { total ≡ sum (buckets_in_each sections.now) }
     ensures { TestsHeads part sections.now result }

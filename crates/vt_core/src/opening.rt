@@ -27,7 +27,7 @@ const K: u8 = 8;
 
 /// The sections of these devices, the first of which is this part of the store; beside them, the
 /// memory for handing the devices back. A refusal hands them back.
-pub(crate) fn open_sections<D: Disk>(
+pub fn open_sections<D: Disk>(
     alloc: Global,
     mut devices: Vec<D>,
     part: u32,
@@ -63,7 +63,7 @@ pub(crate) fn open_sections<D: Disk>(
 
 /// The devices of sections, in order, and behind them those that wait, the last of which comes
 /// first.
-pub(crate) fn close_sections<D: Disk>(sections: Vec<Section<D>>, waiting: Vec<D>) -> Vec<D>
+pub fn close_sections<D: Disk>(sections: Vec<Section<D>>, waiting: Vec<D>) -> Vec<D>
     requires { length waiting.items + length sections.items ≤ vec_capacity waiting }
     ensures { result.items ≡ map (λ s. s.disk) sections.items ++ reverse waiting.items }
 {
