@@ -314,7 +314,7 @@ pub fn test_buckets<D: Disk>(sections: &[Section<D>], part: u32) -> Result<u32, 
     tally.test(MountField::Buckets, MOST_BUCKETS)
 }
 
-/// The heads say that the sections are in use (state 1), and divide the buckets among them in order.
+/// The heads say that the sections are in use (state 1) and divide the buckets among them in order.
 pub fn test_heads<D: Disk>(sections: &[Section<D>], part: u32, total: u32) -> Result<(), MountBad>
     requires many { part + length sections.now < 2 ^ 32 }
     requires total { total ≡ sum (buckets_in_each sections.now) }

@@ -26,8 +26,8 @@ pub fn close_store<P: Parts, S: Scorer + Drop>(parts: &mut P, conf: &Conf, core:
     give_all(parts, conf, core.into_devices());
 }
 
-/// Hands back the devices of a store.
-pub(crate) fn give_all<P: Parts>(parts: &mut P, conf: &Conf, devices: Devices<P::Disk>)
+/// Hands back the partitions of all files that a configuration names, as taking them gave them out.
+pub fn give_all<P: Parts>(parts: &mut P, conf: &Conf, devices: Devices<P::Disk>)
     requires { HaveOneShape (devices_in devices) (files_of conf.now) }
     ensures given { AreGiven (IsTrue P.tells) (all_of (files_of conf.now)) (P.standing parts.old)
         (P.standing parts.new) (all_of (devices_in devices)) }

@@ -9,13 +9,14 @@ mod opening;
 mod taking;
 
 pub use bad::OpenBad;
-pub use closing::close_store;
+pub use closing::{close_store, give_all};
 pub use files::file_of;
 pub use laws::{
     configurations_can_be_opened, devices_have_names, opened_stores_recall, refused_stores_stand,
     shapes_are_kept,
 };
 pub use opening::open_store;
+pub use taking::take_all;
 
 #[cfg(test)]
 mod tests;

@@ -19,7 +19,7 @@ use vt_told::of_part;
 
 /// Hands out the partitions of all files that a configuration names, in order, and reads the tables
 /// of those of arenas. A refusal hands back what was handed out.
-pub(crate) fn take_all<P: Parts>(
+pub fn take_all<P: Parts>(
     alloc: Global,
     parts: &mut P,
     conf: &Conf,
