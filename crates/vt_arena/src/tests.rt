@@ -567,7 +567,7 @@ fn the_directory_is_walked(rt: HostRuntime) -> Result<(), Fail> {
     // Each call fails in turn: that of a clump or, where its block has more bytes than was thought,
     // those of its header and block; then that of an entry.
     for (size, call, wanted) in [
-        (2, 0, [true, false]),
+        (2, 0u8, [true, false]),
         (2, 1, [true, false]),
         (2, 2, [false, true]),
         (2, 3, [false, false]),
@@ -578,7 +578,7 @@ fn the_directory_is_walked(rt: HostRuntime) -> Result<(), Fail> {
         (4, 1, [false, true]),
         (4, 2, [false, false]),
     ] {
-        let disk = disk(rt.alloc(), FIRST_CALL + 6 + call)?;
+        let disk = disk(rt.alloc(), FIRST_CALL + 6 + u64::from(call))?;
         see(reads(rt.alloc(), disk, size)? == wanted, "another answer")?;
     }
     Ok(())
