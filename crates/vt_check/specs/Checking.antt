@@ -1,0 +1,156 @@
+-- What checking an arena tells (venti(8), checkarenas): the first of its tests that fails, of all
+-- clumps, of how many bytes they are, of all directory entries, and of the chain.
+use Rattle.std.specs.Prelude.{◌≡◌, ◌↔◌, ℕ, zero, suc, ◌+◌, ◌-◌, ◌==◌, not, if◌then◌else◌, Bool, true, false, Option, Some, None, IfSome, List, [], ◌∷◌, ◌++◌, fold, length, map, replicate, slice_get, sum_by, take, drop}
+use Rattle.std.specs.Option.{option_map, option_or}
+use Rattle.std.specs.Str.{bytes_eq}
+use Rattle.vt_arena.specs.Directory.{kind_in, last_entry, score_in, size_in as size_in_entry, uncsize_in}
+use Rattle.vt_arena.specs.Layout.{Content, IsArena}
+use Rattle.vt_arena.specs.Reading.{damage_of}
+use Rattle.vt_arena.specs.declared.head.ArenaHead.{ArenaHead}
+use Rattle.vt_arena.specs.declared.head.Found.{Found}
+use Rattle.vt_base.specs.Damage.{Differ}
+use Rattle.vt_base.specs.declared.why.FieldValue.TheVariants.{Number, Score as ScoreValue}
+use Rattle.vt_clump.specs.declared.reading.ClumpBad.{ClumpBad}
+use Rattle.vt_clump.specs.Faults.{first_bad}
+use Rattle.vt_clump.specs.Spelling.{Stored, clump_len, size_in, stored_in}
+use Rattle.vt_disk.specs.Disk.{part}
+use Rattle.vt_disk.specs.Members.{DiskOf}
+use Rattle.vt_disk.specs.declared.region.Region.{Region}
+use Rattle.vt_log.specs.Faults.{AreFields, IsMountedBy}
+use Rattle.vt_log.specs.Log.{LogState}
+use Rattle.vt_model.specs.declared.TheConstants.{ARENA_HEAD_LEN}
+use Rattle.vt_part.specs.declared.layout.ArenaRegion.{ArenaRegion}
+use Rattle.vt_check.specs.declared.checking.ArenaReport.{ArenaReport}
+use Rattle.vt_check.specs.declared.checking.CheckErr.{CheckErr}
+use Rattle.vt_check.specs.declared.checking.CheckErr.TheVariants.{Fault, NoMemory}
+use Rattle.vt_check.specs.declared.checking.Damage.{Damage}
+
+-- ---- what is tested
+
+-- the clump that these bytes begin with, as long as its header says, or all of them
+abbrev pub clump_in : List ℕ → List ℕ
+clump_in bytes = take (clump_len (size_in bytes)) bytes
+
+-- so many clumps, one behind the other
+abbrev pub clumps_in : (n : ℕ) → List ℕ → List (List ℕ)
+clumps_in zero bytes = []
+clumps_in (suc n) bytes = clump_in bytes ∷ clumps_in n (drop (clump_len (size_in bytes)) bytes)
+
+-- the bytes of a region behind the arena's head
+abbrev pub area_of : Region → (file : List ℕ) → List ℕ
+area_of region file =
+    part (region.start + ARENA_HEAD_LEN) (region.len - ARENA_HEAD_LEN) file
+
+-- the clumps of an arena that has so many
+abbrev pub clumps_at : Region → (n : ℕ) → (file : List ℕ) → List (List ℕ)
+clumps_at region n file = clumps_in n (area_of region file)
+
+-- and so many entries of its directory, from entry i on
+abbrev pub entries_at : Region → (i n : ℕ) → (file : List ℕ) → List (List ℕ)
+entries_at region i zero file = []
+entries_at region i (suc n) file = last_entry region (i + 1) file ∷ entries_at region (i + 1) n file
+
+-- ---- the tests
+
+abbrev pub numbers : (want found : ℕ) → Damage
+numbers want found = record { want = Number want; found = Number found }
+
+abbrev pub scores : (want found : List ℕ) → Damage
+scores want found =
+    record { want = ScoreValue (record { 0 = want }); found = ScoreValue (record { 0 = found }) }
+
+-- a clump: its first test that fails, as when it is read
+abbrev pub damage_by : ClumpBad → Damage
+damage_by bad = record { want = (damage_of bad).0; found = (damage_of bad).1 }
+
+abbrev pub clump_damage : (List ℕ → List ℕ) → (clump : List ℕ) → Option Damage
+clump_damage score clump = option_map damage_by (first_bad score clump)
+
+abbrev pub bad_clump : (List ℕ → List ℕ) → List (List ℕ) → Option Damage
+bad_clump score [] = None
+bad_clump score (clump ∷ rest) = option_or (clump_damage score clump) (bad_clump score rest)
+
+-- the head counts as many bytes
+abbrev pub bad_sum : (used : ℕ) → List (List ℕ) → Option Damage
+bad_sum used clumps =
+    let sum = sum_by (λ clump. length clump) clumps in
+    if sum == used then None else Some (numbers used sum)
+
+-- the fields of an entry are those of the clump
+abbrev pub entry_damage : Stored → (entry : List ℕ) → Option Damage
+entry_damage s entry =
+    let size = length s.block in
+    if not (kind_in entry == s.kind) then Some (numbers s.kind (kind_in entry))
+    else if not (size_in_entry entry == size) then Some (numbers size (size_in_entry entry))
+    else if not (uncsize_in entry == size) then Some (numbers size (uncsize_in entry))
+    else if not (bytes_eq (score_in entry) s.score) then Some (scores s.score (score_in entry))
+    else None
+
+-- each entry is that of its clump
+abbrev pub bad_entry : (clumps entries : List (List ℕ)) → Option Damage
+bad_entry [] entries = None
+bad_entry (clump ∷ clumps) [] = None
+bad_entry (clump ∷ clumps) (entry ∷ entries) =
+    option_or (entry_damage (stored_in clump) entry) (bad_entry clumps entries)
+
+-- the chain of the entries is the head's
+abbrev pub chain_of : (List ℕ → List ℕ) → (entries : List (List ℕ)) → List ℕ
+chain_of score entries = fold (λ chain entry. score (chain ++ entry)) (replicate 20 0) entries
+
+abbrev pub bad_chain : (List ℕ → List ℕ) → (entries : List (List ℕ)) → (found : List ℕ) → Option Damage
+bad_chain score entries found =
+    if bytes_eq found (chain_of score entries) then None else Some (scores (chain_of score entries) found)
+
+-- the first that fails, in an arena with this head
+abbrev pub first_damage : (List ℕ → List ℕ) → Region → ArenaHead → (file : List ℕ) → Option Damage
+first_damage score region head file =
+    let clumps = clumps_at region head.clumps file in
+    let entries = entries_at region 0 head.clumps file in
+    option_or (bad_clump score clumps)
+    (option_or (bad_sum head.used clumps)
+    (option_or (bad_entry clumps entries) (bad_chain score entries head.chain.0)))
+
+-- ---- the report
+
+abbrev pub DamageDiffers : Damage → Type 0
+DamageDiffers damage = Differ damage.want damage.found
+
+-- the answer tells of a fault of a disk in this call
+abbrev pub is_fault : CheckErr → Bool
+is_fault Fault = true
+is_fault NoMemory = false
+
+-- The report of arena i says what its head does, and its damage has two values that differ.
+pub record IsReportOf (i : ℕ) (head : ArenaHead) (report : ArenaReport) : Type 0 where
+  pub number : report.number ≡ i
+  pub clumps : report.clumps ≡ head.clumps
+  pub used : report.used ≡ head.used
+  pub sealed : report.sealed ≡ head.sealed
+  pub differs : IfSome report.damage DamageDiffers
+
+-- The damage is the first one there is, and none is told exactly where the region is an arena.
+pub record TellsOf (score : List ℕ → List ℕ) (r : ArenaRegion) (head : ArenaHead) (file : List ℕ)
+    (damage : Option Damage) : Type 0 where
+  pub first : damage ≡ first_damage score r.region head file
+  pub sound : (damage ≡ None) ↔ ((a : Content) × IsArena score r.region r.number a file)
+
+-- the heads are those that the disks have, as mounting finds them
+pub record HasItsHeads {D : Type 0} (disk : DiskOf D) (l : LogState D) : Type 0 where
+  pub names : List (List ℕ)
+  pub fields : List (List ℕ)
+  pub mounted : IsMountedBy names l.layout fields l
+  pub fields_are : AreFields l.layout (map disk.bytes l.disks) fields
+
+-- There is a report of each arena, in order.
+pub record AreReports {D : Type 0} (l : LogState D) (reports : List ArenaReport) : Type 0 where
+  pub many : length reports ≡ length l.layout
+  pub each : (i : ℕ) (found : Found) (report : ArenaReport) → slice_get l.heads i ≡ Some found
+      → slice_get reports i ≡ Some report → IsReportOf i found.head report
+
+-- Each tells of what its disk reads as.
+abbrev pub AreTold : {D : Type 0} → (List ℕ → List ℕ) → DiskOf D → LogState D → List ArenaReport
+    → Type 0
+AreTold score disk l reports = (i : ℕ) (r : ArenaRegion) (found : Found) (file : List ℕ)
+    (report : ArenaReport) → slice_get l.layout i ≡ Some r → slice_get l.heads i ≡ Some found
+    → slice_get (map disk.bytes l.disks) r.part ≡ Some file
+    → slice_get reports i ≡ Some report → TellsOf score r found.head file report.damage

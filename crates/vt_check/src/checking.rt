@@ -1,0 +1,291 @@
+//! Checking the arenas of a log against their heads and directories (venti(8), checkarenas).
+
+ghost use Rattle.std.specs.Prelude.{◌≡◌, ◌+◌, ◌-◌, ◌*◌, ◌^◌, ◌<◌, ◌≤◌, ◌++◌, ℕ, List, All, IsTrue, IfOk, IfErr, IfSome, OnOk, length, slice_get, sum_by, ◌∷◌, []};
+ghost use Rattle.std.specs.Option.{option_or};
+ghost use Rattle.vt_arena.specs.Heads.{fields_of};
+ghost use Rattle.vt_model.specs.declared.TheConstants.{ARENA_HEAD_LEN};
+ghost use Rattle.vt_arena.specs.Layout.{fields_at};
+ghost use Rattle.vt_arena.specs.Places.{arena_room, directory_room};
+ghost use Rattle.vt_arena.specs.declared.head.Found.{Found};
+ghost use Rattle.vt_disk.specs.Disk.{part};
+ghost use Rattle.vt_log.specs.Answers.{OnlyReads};
+ghost use Rattle.vt_log.specs.Faults.{CountsFaults};
+ghost use Rattle.vt_log.specs.Sound.{IsAt};
+ghost use Rattle.vt_part.specs.declared.layout.ArenaRegion.{ArenaRegion};
+ghost use Rattle.vt_check.specs.Checking.{AreReports, AreTold, DamageDiffers, HasItsHeads, TellsOf, bad_chain, bad_entry, bad_sum, is_fault};
+ghost use Rattle.vt_check.specs.Following.{HasFollowed, IsHeadOf, IsWithin, bytes_of};
+ghost use Rattle.vt_check.specs.Reading.{IsNext};
+
+use crate::clumps::{Cut, Followed, MOST_CLUMP, cut_all, test_clumps};
+use std::alloc::Global;
+use std::thread::Threads;
+use vt_arena::ArenaHead;
+use vt_base::{FieldValue, Score, Scorer};
+use vt_disk::Disk;
+use vt_log::Log;
+use vt_model::{ARENA_HEAD_LEN, DIRECTORY_ENTRY_LEN};
+use vt_out::Progress;
+
+/// How many clumps are tested at once at most.
+pub const CLUMPS_AT_ONCE: usize = 4096;
+
+const _: () = prove!(CLUMPS_AT_ONCE == 4096);
+
+/// How many bytes of clumps are in memory at once at most, 8 MiB.
+pub const BYTES_AT_ONCE: usize = 8 << 20;
+
+const _: () = prove!(BYTES_AT_ONCE == 8_388_608);
+
+/// Why arenas weren't checked.
+#[derive(Clone, Copy, Debug, PartialEq, Eq)]
+pub enum CheckErr {
+    /// A call of a disk failed, and its count of faults rose.
+    Fault,
+    NoMemory,
+}
+
+/// What stands where something else should.
+#[derive(Clone, Copy, Debug, PartialEq, Eq)]
+pub struct Damage {
+    pub want: FieldValue,
+    pub found: FieldValue,
+}
+
+impl Damage {
+    ghost use Rattle.vt_check.specs.Checking.{numbers, scores};
+
+    pub(crate) fn of_numbers(want: u64, found: u64) -> Damage
+        ensures { result ≡ numbers want found }
+    {
+        Damage {
+            want: FieldValue::Number(u128::from(want)),
+            found: FieldValue::Number(u128::from(found)),
+        }
+    }
+
+    pub(crate) fn of_scores(want: Score, found: Score) -> Damage
+        ensures { result ≡ scores want.0 found.0 }
+    {
+        Damage {
+            want: FieldValue::Score(want),
+            found: FieldValue::Score(found),
+        }
+    }
+}
+
+/// What is told of an arena: what its head says, and the first damage, if there is any.
+#[derive(Clone, Copy, Debug, PartialEq, Eq)]
+pub struct ArenaReport {
+    /// Over all partitions, from 0.
+    pub number: u32,
+    /// How many blocks it has.
+    pub clumps: u32,
+    /// How many bytes their clumps are.
+    pub used: u64,
+    pub sealed: bool,
+    pub damage: Option<Damage>,
+}
+
+/// What is told of each arena, in order.
+#[derive(Drop)]
+pub struct Report {
+    pub arenas: Vec<ArenaReport>,
+}
+
+/// Checks all arenas of a log, of those blocks that are committed. Of each arena the first of these
+/// tests that fails is told: each clump, how many bytes they are, each directory entry, and the
+/// chain of the entries.
+///
+/// At most 4,096 clumps are in memory at once, and at most 8 MiB of them. Those are tested in
+/// parallel. Two reads are made for each such part of an arena.
+pub fn check<D: Disk, S: Scorer + Sync, G: Progress>(
+    rt: &(impl Threads + Sync),
+    alloc: Global,
+    log: &mut Log<D, S>,
+    scorer: &S,
+    progress: &mut G,
+) -> Result<Report, CheckErr>
+    // There is a report of each arena, in order. A damage has two values of one form that differ.
+    ensures reports { IfOk result (λ report. AreReports log.old report.arenas.items) }
+
+    // It tells of the first damage, and of none exactly where the arena's bytes are one.
+    ensures told { IfOk result (λ report. IsTrue D.tells → HasItsHeads D.Disk log.old
+        → AreTold S.score_of D.Disk log.old report.arenas.items) }
+
+    // The log is only read from, at most twice for each block that its heads count.
+    ensures reads { OnlyReads S.score_of D.Disk
+        (2 * sum_by (λ found. found.head.clumps) log.old.heads) log.old log.new }
+    ensures faults { CountsFaults D.Disk is_fault result log.old.disks log.new.disks }
+{
+    let mut arenas = Vec::new(alloc);
+    let mut room = Room::new(alloc);
+    let all = log.arenas();
+    for number in 0..all {
+        let damage = check_arena(rt, alloc, log, number, &mut room, scorer)?;
+        let head = log.head(number);
+        let report = ArenaReport {
+            number,
+            clumps: head.clumps,
+            used: head.used,
+            sealed: head.sealed,
+            damage,
+        };
+        add(&mut arenas, report)?;
+        progress.report(u64::from(number) + 1, u64::from(all));
+    }
+    Ok(Report { arenas })
+}
+
+fn add(arenas: &mut Vec<ArenaReport>, report: ArenaReport) -> Result<(), CheckErr>
+    ensures added { OnOk result (arenas.new.items ≡ arenas.old.items ++ report ∷ []) }
+    ensures refused { IfErr result (λ bad. bad ≡ CheckErr.NoMemory) }
+{
+    match arenas.push(report) {
+        Ok(()) => Ok(()),
+        Err(_) => Err(CheckErr::NoMemory),
+    }
+}
+
+/// The first damage of an arena.
+fn check_arena<D: Disk, S: Scorer + Sync>(
+    rt: &(impl Threads + Sync),
+    alloc: Global,
+    log: &mut Log<D, S>,
+    arena: u32,
+    room: &mut Room,
+    scorer: &S,
+) -> Result<Option<Damage>, CheckErr>
+    requires { arena < length log.old.layout }
+    ensures differs { IfOk result (λ damage. IfSome damage DamageDiffers) }
+    ensures told { (r : ArenaRegion) (disk : D) (found : Found) → IsTrue D.tells
+        → IsAt log.old arena r disk → slice_get log.old.heads arena ≡ Some found
+        → fields_at r.region (D.bytes disk) ≡ fields_of found.head
+        → IsHeadOf r.number found.head
+        → IfOk result (TellsOf S.score_of r found.head (D.bytes disk)) }
+    ensures reads { (found : Found) × (slice_get log.old.heads arena ≡ Some found)
+        × OnlyReads S.score_of D.Disk (2 * found.head.clumps) log.old log.new }
+    ensures faults { CountsFaults D.Disk is_fault result log.old.disks log.new.disks }
+{
+    let head = log.head(arena);
+    let len = log.arena_len(arena);
+    let mut followed = Followed::nothing();
+    while followed.clumps < head.clumps {
+        room.fill(log, arena, len, &head, &followed)?;
+        let tested = test_clumps(rt, alloc, &room.clumps, &room.cuts, scorer)?;
+        if let Some(damage) = followed.follow(&room.cuts, &tested, scorer)? {
+            return Ok(Some(damage));
+        }
+    }
+    Ok(end_of(&head, &followed))
+}
+
+/// What is wrong where all clumps of an arena with this head were followed, and none is damaged.
+fn end_of(head: &ArenaHead, followed: &Followed) -> Option<Damage>
+    ensures { (score : List ℕ → List ℕ) (clumps entries : List (List ℕ))
+        → HasFollowed score clumps entries followed.now
+        → result ≡ option_or (bad_sum head.now.used clumps)
+        (option_or (bad_entry clumps entries) (bad_chain score entries head.now.chain.0)) }
+{
+    let sum = (followed.used != head.used).then_some(Damage::of_numbers(head.used, followed.used));
+    let chain = (head.chain != followed.chain).then_some(Damage::of_scores(
+        followed.chain,
+        head.chain,
+    ));
+    sum.or(followed.entry).or(chain)
+}
+
+/// Room for what is read of an arena at once.
+#[derive(Drop)]
+struct Room {
+    clumps: Vec<u8>,
+    entries: Vec<u8>,
+    cuts: Vec<Cut>,
+}
+
+impl Room {
+    fn new(alloc: Global) -> Room {
+        Room {
+            clumps: Vec::new(alloc),
+            entries: Vec::new(alloc),
+            cuts: Vec::new(alloc),
+        }
+    }
+
+    /// Reads the clumps of an arena of this length that come next, with their entries.
+    fn fill<D: Disk, S: Scorer>(
+        &mut self,
+        log: &mut Log<D, S>,
+        arena: u32,
+        len: u64,
+        head: &ArenaHead,
+        followed: &Followed,
+    ) -> Result<(), CheckErr>
+        requires arena { arena < length log.old.layout }
+        requires len { (r : ArenaRegion) → slice_get log.old.layout arena ≡ Some r
+            → len ≡ r.region.len }
+        requires most { len ≤ 2 ^ 30 }
+        requires left { followed.now.clumps < head.now.clumps }
+        requires begun { ARENA_HEAD_LEN + followed.now.used ≤ len }
+        requires fit { head.now.used + directory_room head.now.clumps ≤ arena_room len }
+        ensures cuts { OnOk result (All (IsWithin self.new.clumps.items) self.new.cuts.items) }
+        ensures some { OnOk result (0 < length self.new.cuts.items) }
+        ensures few { OnOk result
+            (followed.now.clumps + length self.new.cuts.items ≤ head.now.clumps) }
+        ensures room { OnOk result
+            (ARENA_HEAD_LEN + followed.now.used + bytes_of self.new.cuts.items ≤ len) }
+        ensures next { (r : ArenaRegion) (disk : D) → IsTrue D.tells → IsAt log.old arena r disk
+            → OnOk result (IsNext r.region (D.bytes disk) head.now.clumps followed.now.clumps
+            followed.now.used self.new.clumps.items self.new.cuts.items) }
+        ensures reads { OnlyReads S.score_of D.Disk 2 log.old log.new }
+        ensures faults { CountsFaults D.Disk is_fault result log.old.disks log.new.disks }
+    {
+        let left = len - ARENA_HEAD_LEN as u64 - followed.used;
+        let wanted = head.used.saturating_sub(followed.used) + MOST_CLUMP as u64;
+        let bytes = left.min(wanted).min(BYTES_AT_ONCE as u64);
+        let count = (head.clumps - followed.clumps).min(CLUMPS_AT_ONCE as u32);
+        let at = ARENA_HEAD_LEN as u64 + followed.used;
+        read(log, arena, at, bytes as usize, &mut self.clumps)?;
+        let behind = DIRECTORY_ENTRY_LEN as u64 * (u64::from(followed.clumps) + u64::from(count));
+        let at = len - behind;
+        read(
+            log,
+            arena,
+            at,
+            DIRECTORY_ENTRY_LEN * count as usize,
+            &mut self.entries,
+        )?;
+        cut_all(
+            &self.clumps,
+            bytes < left,
+            &self.entries,
+            count as usize,
+            &mut self.cuts,
+        )
+    }
+}
+
+/// Reads so many bytes of an arena's region, from this offset on, in the place of others.
+fn read<D: Disk, S: Scorer>(
+    log: &mut Log<D, S>,
+    arena: u32,
+    at: u64,
+    len: usize,
+    bytes: &mut Vec<u8>,
+) -> Result<(), CheckErr>
+    requires arena { arena < length log.old.layout }
+    requires within { (r : ArenaRegion) → slice_get log.old.layout arena ≡ Some r
+        → at + len ≤ r.region.len }
+    ensures len { OnOk result (length bytes.new.items ≡ len) }
+    ensures read { (r : ArenaRegion) (disk : D) → IsTrue D.tells → IsAt log.old arena r disk
+        → OnOk result (bytes.new.items ≡ part (r.region.start + at) len (D.bytes disk)) }
+    ensures reads { OnlyReads S.score_of D.Disk 1 log.old log.new }
+    ensures faults { CountsFaults D.Disk is_fault result log.old.disks log.new.disks }
+{
+    let Ok(()) = bytes.resize(len, 0) else {
+        return Err(CheckErr::NoMemory);
+    };
+    match log.bytes(arena, at, bytes) {
+        Ok(()) => Ok(()),
+        Err(_) => Err(CheckErr::Fault),
+    }
+}

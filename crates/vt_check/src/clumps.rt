@@ -1,0 +1,306 @@
+//! Testing clumps in memory, with their directory entries.
+
+ghost use Rattle.std.specs.Prelude.{Bool, ◌≡◌, ◌+◌, ◌-◌, ◌*◌, ◌^◌, ◌<◌, ◌≤◌, ◌∷◌, ◌++◌, [], ℕ, List, All, IsTrue, IfOk, IfErr, OnOk, OnErr, Some, None, MatchOption, length, map, take};
+ghost use Rattle.std.specs.List.{AllZip};
+ghost use Rattle.vt_clump.specs.Clumps.{IsRead};
+ghost use Rattle.vt_clump.specs.declared.header.TheConstants.{HEADER_LEN};
+ghost use Rattle.vt_clump.specs.Spelling.{Stored, size_in, stored_in};
+ghost use Rattle.vt_disk.specs.Disk.{part};
+ghost use Rattle.vt_model.specs.declared.TheConstants.{DIRECTORY_ENTRY_LEN};
+ghost use Rattle.vt_check.specs.Checking.{bad_clump, clump_in, damage_by, entry_damage};
+ghost use Rattle.vt_check.specs.Following.{CutsFirst, HasFollowed, IsCut, IsEntryRead, IsFrontOf, IsSoundClump, IsWithin, TestsAs, bytes_in, bytes_of, entries_in};
+
+use crate::{CheckErr, Damage};
+use rayon::prelude::*;
+use std::alloc::Global;
+use std::thread::Threads;
+use vt_base::{FieldValue, Score, Scorer};
+use vt_clump::{Clump, ClumpBad, Encoding, HEADER_LEN, block_len, unpack};
+use vt_fields::{put, u16_at};
+use vt_model::DIRECTORY_ENTRY_LEN;
+
+/// How many clumps a thread tests at least, where there are as many.
+const LEAST_PIECE: usize = 32;
+
+/// The most bytes that a clump has by its header.
+pub(crate) const MOST_CLUMP: usize = HEADER_LEN + u16::MAX as usize;
+
+const _: () = prove!(MOST_CLUMP == 65_573);
+
+/// A clump within the bytes that were read together, and its directory entry.
+#[derive(Clone, Copy)]
+pub(crate) struct Cut {
+    pub(crate) start: usize,
+    pub(crate) end: usize,
+    pub(crate) entry: [u8; DIRECTORY_ENTRY_LEN],
+}
+
+/// What testing a clump and its entry found.
+#[derive(Clone, Copy)]
+pub(crate) enum Tested {
+    Sound,
+    BadEntry(Damage),
+    BadClump(Damage),
+    NoMemory,
+}
+
+/// How far an arena's clumps were followed: how many they were, how many bytes they had, the first
+/// damage of an entry, and the chain of the entries.
+#[derive(Drop)]
+pub(crate) struct Followed {
+    pub(crate) clumps: u32,
+    pub(crate) used: u64,
+    pub(crate) entry: Option<Damage>,
+    pub(crate) chain: Score,
+}
+
+impl Followed {
+    pub(crate) fn nothing() -> Followed
+        ensures { (score : List ℕ → List ℕ) → HasFollowed score [] [] result }
+    {
+        Followed {
+            clumps: 0,
+            used: 0,
+            entry: None,
+            chain: Score([0; 20]),
+        }
+    }
+
+    /// Goes on behind these clumps, up to the first that is damaged.
+    pub(crate) fn follow<S: Scorer>(
+        &mut self,
+        cuts: &[Cut],
+        tested: &[Tested],
+        scorer: &S,
+    ) -> Result<Option<Damage>, CheckErr>
+        requires many { length tested.now ≡ length cuts.now }
+        requires cuts { All IsCut cuts.now }
+        requires few { self.old.clumps + length cuts.now < 2 ^ 32 }
+        requires small { self.old.used + bytes_of cuts.now < 2 ^ 63 }
+        ensures followed { (window : List ℕ) (clumps entries : List (List ℕ))
+            → HasFollowed S.score_of clumps entries self.old
+            → All (IsWithin window) cuts.now
+            → AllZip (λ cut found. TestsAs S.score_of (bytes_in window cut) cut.entry found)
+            cuts.now tested.now
+            → IfOk result (λ damage. MatchOption damage
+            (HasFollowed S.score_of (clumps ++ map (bytes_in window) cuts.now)
+            (entries ++ map (λ cut. cut.entry) cuts.now) self.new)
+            (λ it. (behind : List (List ℕ)) → bad_clump S.score_of
+            (clumps ++ map (bytes_in window) cuts.now ++ behind) ≡ Some it)) }
+        ensures refused { IfErr result (λ bad. bad ≡ CheckErr.NoMemory) }
+    {
+        for i in 0..cuts.len() {
+            match tested[i] {
+                Tested::Sound => self.step(&cuts[i], None, scorer),
+                Tested::BadEntry(damage) => self.step(&cuts[i], Some(damage), scorer),
+                Tested::BadClump(damage) => return Ok(Some(damage)),
+                Tested::NoMemory => return Err(CheckErr::NoMemory),
+            }
+        }
+        Ok(None)
+    }
+
+    /// Goes on behind a clump with this damage of its entry, if there is any.
+    fn step<S: Scorer>(&mut self, cut: &Cut, damage: Option<Damage>, scorer: &S)
+        requires cut { IsCut cut.now }
+        requires few { self.old.clumps + 1 < 2 ^ 32 }
+        requires small { self.old.used + (cut.now.end - cut.now.start) < 2 ^ 64 }
+        ensures count { self.new.clumps ≡ self.old.clumps + 1 }
+        ensures used { self.new.used ≡ self.old.used + (cut.now.end - cut.now.start) }
+        ensures followed { (clumps entries : List (List ℕ)) (clump : List ℕ)
+            → HasFollowed S.score_of clumps entries self.old
+            → length clump ≡ cut.now.end - cut.now.start → IsSoundClump S.score_of clump
+            → entry_damage (stored_in clump) cut.now.entry ≡ damage
+            → HasFollowed S.score_of (clumps ++ clump ∷ []) (entries ++ cut.now.entry ∷ []) self.new }
+    {
+        let mut bytes = [0; 20 + DIRECTORY_ENTRY_LEN];
+        let at = put(&mut bytes, 0, &self.chain.0);
+        put(&mut bytes, at, &cut.entry);
+        self.chain = scorer.score(&bytes);
+        self.clumps += 1;
+        self.used += (cut.end - cut.start) as u64;
+        self.entry = self.entry.or(damage);
+    }
+}
+
+/// Cuts bytes into clumps, one for each of so many entries, of which the last stands first. Where
+/// more bytes follow, only clumps that surely end among these are cut.
+pub(crate) fn cut_all(
+    bytes: &[u8],
+    more: bool,
+    entries: &[u8],
+    count: usize,
+    cuts: &mut Vec<Cut>,
+) -> Result<(), CheckErr>
+    requires entries { length entries.now ≡ DIRECTORY_ENTRY_LEN * count }
+    requires room { IsTrue more → MOST_CLUMP ≤ length bytes.now }
+    ensures within { All (IsWithin bytes.now) cuts.new.items }
+    ensures sum { bytes_of cuts.new.items ≤ length bytes.now }
+    ensures few { length cuts.new.items ≤ count }
+    ensures some { OnOk result (0 < count → 0 < length cuts.new.items) }
+    ensures first { OnOk result ((all : List ℕ) → IsFrontOf more bytes.now all
+        → CutsFirst bytes.now all cuts.new.items) }
+    ensures entries { OnOk result (map (λ cut. cut.entry) cuts.new.items
+        ++ entries_in (count - length cuts.new.items) entries.now ≡ entries_in count entries.now) }
+    ensures refused { IfErr result (λ bad. bad ≡ CheckErr.NoMemory) }
+{
+    cuts.clear();
+    let least = least_left(more);
+    let mut start = 0;
+    let mut left = count;
+    while left > 0 && bytes.len() - start >= least {
+        left -= 1;
+        let end = start + clump_len(&bytes[start..]);
+        let entry = entry_at(entries, left);
+        push(cuts, Cut { start, end, entry })?;
+        start = end;
+    }
+    Ok(())
+}
+
+/// How many bytes have to be left for a clump that surely ends among them.
+fn least_left(more: bool) -> usize
+    ensures more { more ≡ Bool.true → result ≡ MOST_CLUMP }
+    ensures all { more ≡ Bool.false → result ≡ 0 }
+{
+    if more { MOST_CLUMP } else { 0 }
+}
+
+fn push(cuts: &mut Vec<Cut>, cut: Cut) -> Result<(), CheckErr>
+    ensures pushed { OnOk result (cuts.new.items ≡ cuts.old.items ++ cut ∷ []) }
+    ensures same { OnErr result (cuts.new.items ≡ cuts.old.items) }
+    ensures refused { IfErr result (λ bad. bad ≡ CheckErr.NoMemory) }
+{
+    match cuts.push(cut) {
+        Ok(()) => Ok(()),
+        Err(_) => Err(CheckErr::NoMemory),
+    }
+}
+
+/// Entry i among these bytes.
+fn entry_at(entries: &[u8], i: usize) -> [u8; DIRECTORY_ENTRY_LEN]
+    requires { DIRECTORY_ENTRY_LEN * (i + 1) ≤ length entries.now }
+    ensures entry { result ≡ part (DIRECTORY_ENTRY_LEN * i) DIRECTORY_ENTRY_LEN entries.now }
+    ensures read { IsEntryRead result }
+{
+    let at = DIRECTORY_ENTRY_LEN * i;
+    let mut entry = [0; DIRECTORY_ENTRY_LEN];
+    entry.copy_from_slice(&entries[at..at + DIRECTORY_ENTRY_LEN]);
+    entry
+}
+
+/// How many of these bytes are their first clump: as many as its header says, or all.
+fn clump_len(bytes: &[u8]) -> usize
+    ensures clump { take result bytes.now ≡ clump_in bytes.now }
+    ensures len { result ≡ length (clump_in bytes.now) }
+    ensures small { HEADER_LEN ≤ length bytes.now → size_in bytes.now < 2 ^ 16 }
+{
+    if bytes.len() < HEADER_LEN {
+        return bytes.len();
+    }
+    bytes.len().min(HEADER_LEN + block_len(bytes) as usize)
+}
+
+/// Tests clumps in parallel.
+pub(crate) fn test_clumps<S: Scorer + Sync>(
+    rt: &(impl Threads + Sync),
+    alloc: Global,
+    bytes: &[u8],
+    cuts: &[Cut],
+    scorer: &S,
+) -> Result<Vec<Tested>, CheckErr>
+    requires { All (IsWithin bytes.now) cuts.now }
+    ensures tested { IfOk result (λ tested.
+        AllZip (λ cut found. TestsAs S.score_of (bytes_in bytes.now cut) cut.entry found)
+        cuts.now tested.items) }
+    ensures refused { IfErr result (λ bad. bad ≡ CheckErr.NoMemory) }
+{
+    let tested = cuts
+        .par_iter()
+        .with_min_len(LEAST_PIECE)
+        .map(
+            |cut: &Cut| -> Tested
+                requires { IsWithin bytes.now cut.now }
+                ensures { TestsAs S.score_of (bytes_in bytes.entry.now cut.now) cut.now.entry result }
+            { test_cut(alloc, bytes, cut, scorer) },
+        )
+        .collect(rt, alloc);
+    match tested {
+        Ok(tested) => Ok(tested),
+        Err(_) => Err(CheckErr::NoMemory),
+    }
+}
+
+/// Tests a clump among these bytes, and its entry.
+fn test_cut<S: Scorer>(alloc: Global, bytes: &[u8], cut: &Cut, scorer: &S) -> Tested
+    requires { IsWithin bytes.now cut.now }
+    ensures { TestsAs S.score_of (bytes_in bytes.now cut.now) cut.now.entry result }
+{
+    test_clump(alloc, &bytes[cut.start..cut.end], &cut.entry, scorer)
+}
+
+fn test_clump<S: Scorer>(
+    alloc: Global,
+    bytes: &[u8],
+    entry: &[u8; DIRECTORY_ENTRY_LEN],
+    scorer: &S,
+) -> Tested
+    ensures { TestsAs S.score_of bytes.now entry.now result }
+{
+    let clump = match unpack(alloc, bytes, scorer) {
+        Ok(clump) => clump,
+        Err(bad) => return refusal(bad),
+    };
+    match test_entry(&clump, entry) {
+        Some(damage) => Tested::BadEntry(damage),
+        None => Tested::Sound,
+    }
+}
+
+/// The first field of a directory entry that isn't the clump's.
+fn test_entry(clump: &Clump, entry: &[u8; DIRECTORY_ENTRY_LEN]) -> Option<Damage>
+    ensures { (s : Stored) → IsRead s clump.now → result ≡ entry_damage s entry.now }
+{
+    let kind = u64::from(clump.kind.wire());
+    let size = clump.bytes.len() as u64;
+    let [kind_found, size_found, uncsize_found] = [
+        u64::from(entry[0]),
+        u64::from(u16_at(entry, 1)),
+        u64::from(u16_at(entry, 3)),
+    ];
+    if kind_found != kind {
+        return Some(Damage::of_numbers(kind, kind_found));
+    }
+    if size_found != size {
+        return Some(Damage::of_numbers(size, size_found));
+    }
+    if uncsize_found != size {
+        return Some(Damage::of_numbers(size, uncsize_found));
+    }
+    let mut score = [0; 20];
+    score.copy_from_slice(&entry[5..]);
+    if Score(score) != clump.score {
+        return Some(Damage::of_scores(clump.score, Score(score)));
+    }
+    None
+}
+
+/// What was wanted and what was found, in bytes that are no clump.
+fn refusal(bad: ClumpBad) -> Tested
+    ensures damaged { ¬ (bad ≡ ClumpBad.NoMemory) → result ≡ Tested.BadClump (damage_by bad) }
+    ensures memory { bad ≡ ClumpBad.NoMemory → result ≡ Tested.NoMemory }
+{
+    Tested::BadClump(match bad {
+        ClumpBad::Short => Damage::of_numbers(HEADER_LEN as u64, 0),
+        ClumpBad::Magic(found) => Damage {
+            want: FieldValue::Magic(*b"VCLP"),
+            found: FieldValue::Magic(found),
+        },
+        ClumpBad::Kind(found) => Damage::of_numbers(13, u64::from(found)),
+        ClumpBad::Encoding(Encoding::Compressed) => Damage::of_numbers(1, 2),
+        ClumpBad::Encoding(Encoding::Unknown(found)) => Damage::of_numbers(1, u64::from(found)),
+        ClumpBad::Size { want, found } => Damage::of_numbers(u64::from(want), u64::from(found)),
+        ClumpBad::Score { want, found } => Damage::of_scores(want, found),
+        ClumpBad::NoMemory => return Tested::NoMemory,
+    })
+}

@@ -1,0 +1,10 @@
+//! Checking the arenas of a log (venti(8), checkarenas).
+#![tactic(auto)]
+
+mod checking;
+mod clumps;
+
+pub use checking::{ArenaReport, BYTES_AT_ONCE, CLUMPS_AT_ONCE, CheckErr, Damage, Report, check};
+
+#[cfg(test)]
+mod tests;
