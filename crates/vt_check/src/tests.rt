@@ -107,18 +107,10 @@ fn flush<D: Disk>(log: &mut TestLog<D>) -> Result<(), Fail> {
     Ok(())
 }
 
-/// What these bytes of a log of so many blocks are changed to, and what is told of its arenas then.
-#[derive(Drop)]
-struct Row<'a> {
-    blocks: u32,
-    changes: &'a [(u64, u8)],
-    damage: [Option<Damage>; 3],
-}
-
-/// The log of a row, of which no bytes are changed yet, on its disk.
-fn disk_of_row<D: Disk + Drop>(alloc: Global, row: &Row<'_>, disk: D) -> Result<D, Fail> {
+/// The disk of a log of so many blocks.
+fn written<D: Disk + Drop>(alloc: Global, disk: D, blocks: u32) -> Result<D, Fail> {
     let mut log = format_log(alloc, disk)?;
-    write_blocks(alloc, &mut log, row.blocks)?;
+    write_blocks(alloc, &mut log, blocks)?;
     let part = log.into_devices().pop().ok_or("no partition")?;
     Ok(part.into_devices())
 }
@@ -133,31 +125,32 @@ fn change<D: Disk>(disk: &mut D, changes: &[(u64, u8)]) -> Result<(), Fail> {
     Ok(())
 }
 
+/// What is told of the arenas of a log of so many blocks, of which these bytes are other ones.
 fn check_row<D: Disk + Drop>(
     rt: &(impl Threads + Sync),
     alloc: Global,
-    row: &Row<'_>,
     disk: D,
+    blocks: u32,
+    changes: &[(u64, u8)],
+    damage: &[Option<Damage>],
 ) -> Result<(), Fail> {
-    let mut disk = disk_of_row(alloc, row, disk)?;
-    change(&mut disk, row.changes)?;
+    let mut disk = written(alloc, disk, blocks)?;
+    change(&mut disk, changes)?;
     let mut log = mount_log(alloc, disk)?;
     let Ok(report) = check(rt, alloc, &mut log, &Sha1Scorer, &mut Silent) else {
         return Err("check")?;
     };
-    see(report.arenas.len() == 3, "arenas")?;
-    for (i, arena) in report.arenas.iter().enumerate() {
-        let blocks = row.blocks.saturating_sub(124 * i as u32).min(124);
-        see(arena.number == i as u32, "number")?;
-        see(arena.clumps == blocks, "clumps")?;
+    see(report.arenas.len() == damage.len(), "arenas")?;
+    let mut left = blocks;
+    for (arena, told) in report.arenas.iter().zip(damage) {
+        see(arena.clumps == left.min(124), "clumps")?;
+        see(arena.sealed == (left > 124), "sealed")?;
+        see(arena.damage == *told, "damage")?;
         see(
-            arena.sealed == (row.blocks > 124 * (i as u32 + 1)),
-            "sealed",
+            arena.damage.is_some() || arena.used == 41 * u64::from(arena.clumps),
+            "used",
         )?;
-        see(arena.damage == row.damage[i], "damage")?;
-        if arena.damage.is_none() {
-            see(arena.used == u64::from(blocks) * 41, "used")?;
-        }
+        left = left.saturating_sub(124);
     }
     Ok(())
 }
@@ -221,13 +214,8 @@ fn the_first_damage_is_told(rt: HostRuntime) -> Result<(), Fail> {
         ),
     ];
     for (blocks, changes, damage) in rows {
-        let row = Row {
-            blocks,
-            changes,
-            damage,
-        };
         let disk = MemDisk::<Listed>::failing(alloc, PARTITION, vec![in alloc; u64::MAX]?)?;
-        check_row(&rt, alloc, &row, disk)?;
+        check_row(&rt, alloc, disk, blocks, changes, &damage)?;
     }
     Ok(())
 }
