@@ -1,0 +1,12 @@
+//! Folders that are handed out by name, as a trait, with their fake in memory.
+#![tactic(auto)]
+
+mod folders;
+mod mem_folders;
+mod place;
+
+pub use folders::Folders;
+pub use mem_folders::MemFolders;
+
+#[cfg(test)]
+mod tests;
