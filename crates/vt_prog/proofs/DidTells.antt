@@ -7,7 +7,7 @@ use Rattle.vt_session.specs.declared.Ended.TheVariants as ends
 use Rattle.vt_words.specs.declared.asked.Asked.{Asked}
 use Rattle.vt_words.specs.declared.asked.Asked.TheVariants.{Do, Help, Version, Faulty}
 use Rattle.vt_words.specs.declared.command.Command.{Command}
-use Rattle.vt_words.specs.declared.command.Command.TheVariants.{Session, FormatArenas, FormatSection, FormatFilter, FormatIndex, Read, Write}
+use Rattle.vt_words.specs.declared.command.Command.TheVariants.{Session, FormatArenas, FormatSection, FormatFilter, FormatIndex, Read, Write, Rehearse}
 use Rattle.vt_words.specs.Words.{Asks, AreFaulty, IsFaulty}
 use Rattle.vt_words.proofs.Asking.{alone}
 use Rattle.vt_client.specs.declared.err.ClientErr.TheVariants as errs
@@ -19,6 +19,7 @@ use Rattle.vt_prog.specs.Change.{Work}
 use Rattle.vt_prog.specs.Commands.Fmtarenas.{AsksForNoArenas}
 use Rattle.vt_prog.specs.Commands.Fmtbloom.{AsksForNoFilter}
 use Rattle.vt_prog.specs.Commands.Fmtisect.{AsksForNoSection}
+use Rattle.vt_prog.specs.Commands.Rehearse.{AsksForNoRehearsal, Rehearses}
 use Rattle.vt_prog.specs.Commands.Session.{DoesSession}
 use Rattle.vt_prog.specs.Commands.SessionConf.{DoesSessionConf}
 use Rattle.vt_prog.specs.Failure.{Outcome, HasFailed, HasLinkFailed, server_status, status_of, line_of, line, HasCauseIn}
@@ -27,7 +28,7 @@ use Rattle.vt_prog.specs.Members.{LinkOf}
 use Rattle.vt_prog.specs.Places.{EndsIdle, in_memory}
 use Rattle.vt_prog.specs.Run.{Does, DoesAsked, DoesWords}
 use Rattle.vt_prog.proofs.BlockCauses.{read_never, server_never, write_never}
-use Rattle.vt_prog.proofs.Causes.{formats_never}
+use Rattle.vt_prog.proofs.Causes.{formats_never, printed_never}
 use Rattle.vt_prog.proofs.IndexCauses.{index_never}
 use Rattle.vt_prog.proofs.SessionCauses.{outcome_never, session_conf_never}
 
@@ -90,6 +91,16 @@ filter_words : (size positions : List ℕ) (failure : Failure) → AsksForNoFilt
 filter_words size positions failure why = ⊎_elim
     (λ of_size. number_other _ failure of_size.1) (λ of_positions. number_other _ failure of_positions.2) why
 
+rehearsal_words : (seed count : List ℕ) (failure : Failure) → AsksForNoRehearsal seed count failure → IsOther failure
+rehearsal_words seed count failure why = ⊎_elim
+    (λ of_seed. number_other _ failure of_seed.1) (λ of_count. number_other _ failure of_count.2) why
+
+rehearsal_never : {R K I P D N L : Type 0} (seed rounds : ℕ) (outcome : Outcome) (work : Work R K I P D N L)
+    → Rehearses seed rounds outcome work → status_of outcome ≢ 1
+rehearsal_never seed rounds outcome work does = ⊎_elim
+    (λ made. printed_never _ outcome work.sink made.3)
+    (λ short one. let wrong = ap status_of (sym short.0) ∙ one in cc) does.told
+
 does_never : {R K I P D N L : Type 0} (disk : DiskOf D) (link : LinkOf L) (score : List ℕ → List ℕ) (command : Command) (outcome : Outcome) (work : Work R K I P D N L)
     → Does disk link score command outcome work → status_of outcome ≢ 1
 does_never disk link score (Session store) outcome work does = ⊎_elim
@@ -107,6 +118,9 @@ does_never disk link score (FormatFilter file size positions) outcome work does 
 does_never disk link score (FormatIndex file) outcome work does = index_never disk file outcome work does
 does_never disk link score (Read store score_word kind) outcome work does = read_never score disk link store score_word kind outcome work does
 does_never disk link score (Write store kind) outcome work does = write_never score disk link store kind outcome work does
+does_never disk link score (Rehearse seed count) outcome work does = ⊎_elim
+    (word_never (AsksForNoRehearsal seed count) outcome work (rehearsal_words seed count))
+    (λ x. rehearsal_never x.0 x.1 outcome work x.3) does
 
 pub never_bad : {R K I P D N L : Type 0} (disk : DiskOf D) (link : LinkOf L) (score : List ℕ → List ℕ) (command : Command) (outcome : Outcome) (work : Work R K I P D N L)
     → Does disk link score command outcome work ⊎ EndsIdle (Err NoMemory) outcome work → status_of outcome ≢ 1

@@ -3,6 +3,7 @@ pub mod Fmtbloom
 pub mod Fmtindex
 pub mod Fmtisect
 pub mod Read
+pub mod Rehearse
 pub mod Session
 pub mod SessionConf
 pub mod Write

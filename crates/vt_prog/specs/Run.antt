@@ -4,7 +4,7 @@ use Rattle.vt_disk.specs.Members.{DiskOf}
 use Rattle.vt_words.specs.declared.asked.Asked.{Asked}
 use Rattle.vt_words.specs.declared.asked.Asked.TheVariants.{Do, Help, Version, Faulty}
 use Rattle.vt_words.specs.declared.command.Command.{Command}
-use Rattle.vt_words.specs.declared.command.Command.TheVariants.{Session, FormatArenas, FormatSection, FormatFilter, FormatIndex, Read, Write}
+use Rattle.vt_words.specs.declared.command.Command.TheVariants.{Session, FormatArenas, FormatSection, FormatFilter, FormatIndex, Read, Write, Rehearse}
 use Rattle.vt_words.specs.Words.{Asks}
 use Rattle.vt_prog.specs.Change.{Change, Work, IsIdle, Attempts}
 use Rattle.vt_prog.specs.Failure.{Outcome, status_of, line_of, HasCauseIn}
@@ -17,6 +17,7 @@ use Rattle.vt_prog.specs.Commands.Fmtbloom.{DoesFmtbloom}
 use Rattle.vt_prog.specs.Commands.Fmtindex.{DoesFmtindex}
 use Rattle.vt_prog.specs.Commands.Fmtisect.{DoesFmtisect}
 use Rattle.vt_prog.specs.Commands.Read.{DoesRead}
+use Rattle.vt_prog.specs.Commands.Rehearse.{DoesRehearse}
 use Rattle.vt_prog.specs.Commands.Session.{DoesSession}
 use Rattle.vt_prog.specs.Commands.SessionConf.{DoesSessionConf}
 use Rattle.vt_prog.specs.Commands.Write.{DoesWrite}
@@ -36,6 +37,7 @@ Does disk link score (FormatIndex file) outcome work = DoesFmtindex disk file ou
 Does disk link score (Read store score_word kind) outcome work =
     DoesRead score disk link store score_word kind outcome work
 Does disk link score (Write store kind) outcome work = DoesWrite score disk link store kind outcome work
+Does disk link score (Rehearse seed count) outcome work = DoesRehearse seed count outcome work
 
 -- a text is printed, and nothing else is done
 pub record Shows {R K I P D N L : Type 0} (text : List ℕ) (outcome : Outcome) (work : Work R K I P D N L)

@@ -1,5 +1,5 @@
 -- What the words behind a command's name say.
-use Rattle.std.specs.Prelude.{ℕ, ◌≡◌, ◌≤◌, List, decimal}
+use Rattle.std.specs.Prelude.{ℕ, ◌≡◌, ◌^◌, ◌<◌, ◌≤◌, List, decimal}
 use Rattle.vt_bloom.specs.Size.{IsSize}
 use Rattle.vt_format.specs.declared.TheConstants.{MAX_LEN, MOST_POSITIONS}
 use Rattle.vt_part.specs.Table.{IsArenaSize}
@@ -24,3 +24,13 @@ pub record SaysPositions (word : List ℕ) (positions : ℕ) : Type 0 where
   pub is : word ≡ decimal positions
   pub some : 1 ≤ positions
   pub most : positions ≤ MOST_POSITIONS
+
+-- the number from which the rounds of a rehearsal are drawn
+pub record SaysSeed (word : List ℕ) (x : ℕ) : Type 0 where
+  pub is : word ≡ decimal x
+  pub fits : x < 2 ^ 63
+
+-- how many rounds it has
+pub record SaysCount (word : List ℕ) (rounds : ℕ) : Type 0 where
+  pub is : word ≡ decimal rounds
+  pub fits : rounds < 2 ^ 32

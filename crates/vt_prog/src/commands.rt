@@ -7,6 +7,7 @@ pub mod fmtisect;
 #[cfg(test)]
 mod messages;
 pub mod read;
+pub mod rehearse;
 #[cfg(test)]
 mod runs;
 pub mod session;

@@ -24,6 +24,7 @@ pub use commands::fmtbloom::fmtbloom;
 pub use commands::fmtindex::fmtindex;
 pub use commands::fmtisect::fmtisect;
 pub use commands::read::read;
+pub use commands::rehearse::rehearse;
 pub use commands::session::session;
 pub use commands::write::write;
 pub use failure::{Failure, status};

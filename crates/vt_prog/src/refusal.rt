@@ -5,7 +5,7 @@ ghost use Rattle.vt_prog.specs.Formatting.{IsOfOneFile, IsRefusalOf};
 
 use crate::failure::Failure;
 use crate::host::Host;
-use crate::shown::Shown;
+use crate::shown::{Shown, Unit};
 use vt_base::{MountBad, Text};
 
 /// What is told where the partition of this file is refused, which is the only one. A file of which
@@ -26,7 +26,7 @@ pub fn refused<H: Host>(host: &mut H, file: Text, bad: MountBad) -> Failure
 pub fn name_failed<H: Host>(host: &mut H, file: &Text)
     ensures { H.lent host.new ≡ H.lent host.old }
 {
-    Shown::new(host.terminal()).name(file.as_slice());
+    Shown::new(host.terminal(), Unit::Buckets).name(file.as_slice());
 }
 
 /// What is told where the partition of this file is refused.

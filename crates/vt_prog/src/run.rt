@@ -11,6 +11,7 @@ use crate::commands::fmtbloom::fmtbloom;
 use crate::commands::fmtindex::fmtindex;
 use crate::commands::fmtisect::fmtisect;
 use crate::commands::read::read;
+use crate::commands::rehearse::rehearse;
 use crate::commands::session::session;
 use crate::commands::session_conf::session_conf;
 use crate::commands::write::write;
@@ -33,8 +34,9 @@ use vt_words::{Asked, Command, ask};
 /// `fmtarenas`, `fmtisect` and `fmtbloom` make the file that they name a partition of arenas, an index section or a Bloom
 /// filter, and print a line on the sink. `fmtindex` puts the sections that a configuration names to
 /// use as an index. `read` prints one block of a store, and `write` stores what comes in as one and
-/// prints its score. Help and the version are printed on the sink; where there is no command, short
-/// help goes to the fault sink, in front of the line.
+/// prints its score. `rehearse` rehearses crashes of a store in memory, and prints what the rounds
+/// came to; its scores are by SHA-1, whatever the scorer. Help and the version are printed on the
+/// sink; where there is no command, short help goes to the fault sink, in front of the line.
 pub fn run<R, H: Host, W: AsStr>(rt: &R, alloc: Global, words: &[W], host: &mut H) -> u8
     ensures did { Did H.Parts.Disk.Disk H.Dialer.Link.Link sha1 (map W.text words.now) result
         (work_of H.Source.Source H.Sink.Sink
@@ -151,5 +153,6 @@ fn do_command<H: Host, S: Scorer>(
         Command::FormatIndex { file } => fmtindex(alloc, host, &file, scorer),
         Command::Read { store, score, kind } => read(alloc, host, &store, &score, &kind, scorer),
         Command::Write { store, kind } => write(alloc, host, &store, &kind, scorer),
+        Command::Rehearse { seed, count } => rehearse(alloc, host, &seed, &count),
     }
 }

@@ -4,17 +4,25 @@ use crate::printing::put_pieces;
 use itoa::Buffer;
 use vt_out::{Progress, Sink};
 
+/// What the steps of a command are.
+#[derive(Clone, Copy, Debug)]
+pub enum Unit {
+    Buckets,
+    Rounds,
+}
+
 /// Shows on a terminal, if there is one, how far a command has come. That is no result: no clause
 /// speaks of it, and a terminal that fails changes nothing.
 #[derive(Drop)]
 pub struct Shown<K> {
     terminal: Option<K>,
+    unit: Unit,
 }
 
 impl<K: Sink> Shown<K> {
-    /// On this terminal.
-    pub fn new(terminal: Option<K>) -> Self {
-        Shown { terminal }
+    /// On this terminal, in steps of this kind.
+    pub fn new(terminal: Option<K>, unit: Unit) -> Self {
+        Shown { terminal, unit }
     }
 
     /// Names the file of which a call failed.
@@ -30,7 +38,6 @@ impl<K: Sink> Shown<K> {
             done_digits.format(done).as_bytes(),
             b" of ",
             all_digits.format(all).as_bytes(),
-            b" buckets",
             end,
         ]);
     }
@@ -44,10 +51,11 @@ impl<K: Sink> Shown<K> {
 
 impl<K: Sink> Progress for Shown<K> {
     fn report(&mut self, done: u64, all: u64) {
-        if done == all {
-            self.count(done, all, b"\n");
-        } else {
-            self.count(done, all, b"\r");
+        match (self.unit, done == all) {
+            (Unit::Buckets, false) => self.count(done, all, b" buckets\r"),
+            (Unit::Buckets, true) => self.count(done, all, b" buckets\n"),
+            (Unit::Rounds, false) => self.count(done, all, b" rounds\r"),
+            (Unit::Rounds, true) => self.count(done, all, b" rounds\n"),
         }
     }
 }

@@ -12,7 +12,7 @@ use Rattle.clap.specs.declared.error.kind.ErrorKind.TheVariants.{DisplayHelp, Di
 use Rattle.vt_words.specs.declared.asked.Asked.{Asked}
 use Rattle.vt_words.specs.declared.asked.Asked.TheVariants.{Do, Help, Version, Faulty}
 use Rattle.vt_words.specs.declared.command.Command.{Command}
-use Rattle.vt_words.specs.declared.command.Command.TheVariants.{Session, FormatArenas, FormatSection, FormatFilter, FormatIndex, Read, Write}
+use Rattle.vt_words.specs.declared.command.Command.TheVariants.{Session, FormatArenas, FormatSection, FormatFilter, FormatIndex, Read, Write, Rehearse}
 
 -- a word that a command wants, by the name that help shows
 abbrev pub wanted : Text → Rule
@@ -52,6 +52,9 @@ read =
 abbrev pub write : App
 write = with_word (with_word (new_app (codes "write")) (codes "STORE")) (codes "TYPE")
 
+abbrev pub rehearse : App
+rehearse = with_word (with_word (new_app (codes "rehearse")) (codes "SEED")) (codes "COUNT")
+
 -- the program: one of its commands, or a request for help or the version
 abbrev pub with_settings : Shape → Shape
 with_settings shape = record shape {
@@ -65,8 +68,9 @@ with_settings shape = record shape {
 abbrev pub venti : App
 venti =
     with_subcommand (with_subcommand (with_subcommand (with_subcommand (with_subcommand
-    (with_subcommand (with_subcommand (on_top with_settings (new_app (codes "venti")))
-    session.top) fmtarenas.top) fmtisect.top) fmtbloom.top) fmtindex.top) read.top) write.top
+    (with_subcommand (with_subcommand (with_subcommand (on_top with_settings (new_app (codes "venti")))
+    session.top) fmtarenas.top) fmtisect.top) fmtbloom.top) fmtindex.top) read.top) write.top)
+    rehearse.top
 
 -- ---- what its words ask for
 
@@ -109,6 +113,11 @@ write_of rows =
     option_and_then (λ store. option_and_then (λ kind. Some (Write store kind))
     (first_of (codes "TYPE") rows)) (first_of (codes "STORE") rows)
 
+abbrev pub rehearsal_of : List Row → Option Command
+rehearsal_of rows =
+    option_and_then (λ seed. option_and_then (λ count. Some (Rehearse seed count))
+    (first_of (codes "COUNT") rows)) (first_of (codes "SEED") rows)
+
 -- the command of this name, with the values of its words
 abbrev pub command_of : Text → List Row → Option Command
 command_of name rows =
@@ -119,6 +128,7 @@ command_of name rows =
     else if bytes_eq name (codes "fmtindex") then index_of rows
     else if bytes_eq name (codes "read") then read_of rows
     else if bytes_eq name (codes "write") then write_of rows
+    else if bytes_eq name (codes "rehearse") then rehearsal_of rows
     else None
 
 -- by the subcommand that was met, with its values

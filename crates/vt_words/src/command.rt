@@ -3,7 +3,7 @@
 ghost use Rattle.std.specs.Prelude.{◌≡◌, IfOk};
 ghost use Rattle.clap.specs.Matches.{found_of};
 ghost use Rattle.clap.specs.Walk.{first_of, rows_of};
-ghost use Rattle.vt_words.specs.Words.{command_of, session_of, arenas_of, section_of, filter_of, index_of};
+ghost use Rattle.vt_words.specs.Words.{command_of, session_of, arenas_of, section_of, filter_of, index_of, rehearsal_of};
 ghost use Rattle.vt_words.specs.Words.{read_of, write_of};
 
 use clap::ArgMatches;
@@ -51,6 +51,11 @@ pub enum Command {
         store: Text,
         kind: Text,
     },
+    /// `rehearse SEED COUNT`
+    Rehearse {
+        seed: Text,
+        count: Text,
+    },
 }
 
 /// The command of this name, with the values that clap found, if it is one and has them all.
@@ -75,6 +80,8 @@ pub(crate) fn command_of(
         read_of(alloc, found)
     } else if name == "write" {
         write_of(alloc, found)
+    } else if name == "rehearse" {
+        rehearsal_of(alloc, found)
     } else {
         Ok(None)
     }
@@ -180,6 +187,18 @@ fn write_of(alloc: Global, found: &ArgMatches<'_>) -> Result<Option<Command>, No
         return Ok(None);
     };
     Ok(Some(Command::Write { store, kind }))
+}
+
+fn rehearsal_of(alloc: Global, found: &ArgMatches<'_>) -> Result<Option<Command>, NoMemory>
+    ensures { IfOk result (λ it. it ≡ rehearsal_of (rows_of (found_of found.now))) }
+{
+    let Some(seed) = value_of(alloc, found, "SEED")? else {
+        return Ok(None);
+    };
+    let Some(count) = value_of(alloc, found, "COUNT")? else {
+        return Ok(None);
+    };
+    Ok(Some(Command::Rehearse { seed, count }))
 }
 
 /// The first value of this name, if there is one.

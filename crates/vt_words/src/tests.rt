@@ -15,6 +15,7 @@ fn letter(alloc: Global, words: &[&str]) -> Result<char, Fail> {
         Asked::Do(Command::FormatIndex { .. }) => 'x',
         Asked::Do(Command::Read { .. }) => 'r',
         Asked::Do(Command::Write { .. }) => 'w',
+        Asked::Do(Command::Rehearse { .. }) => 'c',
         Asked::Help(_) => 'h',
         Asked::Version(_) => 'v',
         Asked::Faulty(_) => 'f',
@@ -23,13 +24,15 @@ fn letter(alloc: Global, words: &[&str]) -> Result<char, Fail> {
 
 #[test]
 fn words_ask_for_this(rt: HostRuntime) -> Result<(), Fail> {
-    let cases: [(&[&str], char); 21] = [
+    let cases: [(&[&str], char); 23] = [
         (&["session", ":memory:"], 's'),
         (&["fmtarenas", "a.part", "a0", "40960", "32768"], 'a'),
         (&["fmtisect", "i.part", "i0", "92160"], 'i'),
         (&["fmtbloom", "b.part", "8192", "8"], 'b'),
         (&["fmtindex", "v.conf"], 'x'),
         (&["fmtindex"], 'f'),
+        (&["rehearse", "7", "20000"], 'c'),
+        (&["rehearse", "7"], 'f'),
         (&["read", "v.conf", "vac:00", "13"], 'r'),
         (&["write", "v.conf", "13"], 'w'),
         (&["write", "v.conf"], 'f'),
@@ -71,6 +74,7 @@ fn texts_teach(rt: HostRuntime) -> Result<(), Fail> {
         "fmtisect",
         "fmtbloom",
         "fmtindex",
+        "rehearse",
         "read",
         "write",
         "mkdir store",

@@ -5,7 +5,7 @@ ghost use Rattle.clap.specs.Simple.{on_top};
 ghost use Rattle.clap.specs.Words.{app_of, new_app, shape_of, with_subcommand};
 ghost use Rattle.clap.specs.declared.builder.command.Command.TheViews.{out-Command as fields_of};
 ghost use Rattle.vt_words.specs.Words.{with_settings, with_word, venti};
-ghost use Rattle.vt_words.specs.Words.{session, fmtarenas, fmtisect, fmtbloom, fmtindex, read, write};
+ghost use Rattle.vt_words.specs.Words.{session, fmtarenas, fmtisect, fmtbloom, fmtindex, read, write, rehearse};
 
 use clap::{Arg, Command};
 use std::alloc::{AllocError, Global};
@@ -43,7 +43,8 @@ pub(crate) fn venti<'a>(alloc: Global) -> Result<Command<'a>, AllocError>
     let program = with_command(program, fmtbloom(alloc)?)?;
     let program = with_command(program, fmtindex(alloc)?)?;
     let program = with_command(program, read(alloc)?)?;
-    with_command(program, write(alloc)?)
+    let program = with_command(program, write(alloc)?)?;
+    with_command(program, rehearse(alloc)?)
 }
 
 /// The program without its commands.
@@ -189,4 +190,19 @@ fn write<'a>(alloc: Global) -> Result<Command<'a>, AllocError>
     let command = command_of(alloc, "write", about);
     let command = with_word(alloc, command, "STORE", STORE)?;
     with_word(alloc, command, "TYPE", TYPE)
+}
+
+fn rehearse<'a>(alloc: Global) -> Result<Command<'a>, AllocError>
+    ensures app { IfOk result (λ it. app_of it ≡ rehearse) }
+    ensures local { IfOk result (λ it. (fields_of it).has_globals ≡ false) }
+{
+    let about = "Rehearses crashes of a store in memory, by rounds that are drawn from a number";
+    let command = command_of(alloc, "rehearse", about);
+    let command = with_word(alloc, command, "SEED", "the number, below 2^63")?;
+    with_word(
+        alloc,
+        command,
+        "COUNT",
+        "how many rounds there are, below 2^32",
+    )
 }

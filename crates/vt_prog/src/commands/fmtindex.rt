@@ -12,7 +12,7 @@ use crate::configuration::read_conf;
 use crate::failure::Failure;
 use crate::host::Host;
 use crate::printing::print;
-use crate::shown::Shown;
+use crate::shown::{Shown, Unit};
 use itoa::Buffer;
 use std::alloc::Global;
 use vt_base::{MountBad, NoMemory, Scorer, Text};
@@ -38,7 +38,7 @@ pub fn fmtindex<H: Host, S: Scorer>(
 {
     configurations_number_their_files();
     let conf = read_conf(alloc, host.files(), file)?;
-    let mut shown = Shown::new(host.terminal());
+    let mut shown = Shown::new(host.terminal(), Unit::Buckets);
     index_conf(alloc, host, file, scorer, &conf, &mut shown)
 }
 

@@ -1,4 +1,4 @@
-//! Commands that format: words, what is printed, the status and the line on the fault sink.
+//! Commands that format, and the rehearsal: words, what is printed, the status and the line on the fault sink.
 
 use crate::commands::runs::{
     FILTERED, INDEX, InMemory, TestParts, all_but, confs, make, run_conf, run_over, see, see_ran,
@@ -13,7 +13,7 @@ use vt_parts::Parts;
 type Row = (&'static [&'static str], u8, &'static str, &'static str);
 
 /// Each over what those before it left.
-const ROWS: [Row; 31] = [
+const ROWS: [Row; 39] = [
     // What is made.
     (
         &["fmtarenas", "a.part", "a0", "40960", "32768"],
@@ -131,6 +131,50 @@ const ROWS: [Row; 31] = [
         "",
         "venti: bad number at 1\n",
     ),
+    // Rehearsals.
+    (
+        &["rehearse", "1", "0"],
+        0,
+        "events 0\nwrites 0 accepted 0 held 0\nreads 0 found 0 missing 0\nsyncs 0\ncrashes 0 lost 0\nblocks 0\ncheck ok\n",
+        "",
+    ),
+    (
+        &["rehearse", "1", "1"],
+        0,
+        "events 1\nwrites 0 accepted 0 held 0\nreads 1 found 0 missing 1\nsyncs 0\ncrashes 0 lost 0\nblocks 0\ncheck ok\n",
+        "",
+    ),
+    (
+        &["rehearse", "0", "1"],
+        0,
+        "events 0\nwrites 0 accepted 0 held 0\nreads 0 found 0 missing 0\nsyncs 0\ncrashes 1 lost 0\nblocks 0\ncheck ok\n",
+        "",
+    ),
+    (
+        &["rehearse", "2", "1"],
+        0,
+        "events 1\nwrites 0 accepted 0 held 0\nreads 0 found 0 missing 0\nsyncs 0\ncrashes 0 lost 0\nblocks 0\ncheck ok\n",
+        "",
+    ),
+    (
+        &["rehearse", "9223372036854775807", "0"],
+        0,
+        "events 0\nwrites 0 accepted 0 held 0\nreads 0 found 0 missing 0\nsyncs 0\ncrashes 0 lost 0\nblocks 0\ncheck ok\n",
+        "",
+    ),
+    (
+        &["rehearse", "9223372036854775808", "0"],
+        5,
+        "",
+        "venti: bad number at 0\n",
+    ),
+    (
+        &["rehearse", "1", "4294967296"],
+        5,
+        "",
+        "venti: bad number at 0\n",
+    ),
+    (&["rehearse", "1x", "y"], 5, "", "venti: bad number at 1\n"),
     // What is no command.
     (
         &["fmtbloom", "b.part", "16384"],

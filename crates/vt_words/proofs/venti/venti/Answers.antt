@@ -23,6 +23,8 @@ returns c =
     ∙ ap₂ with_subcommand four (ap top c.in_ok-fmtindex.ensures.app) in
     let six = c.in_ok-program-7.ensures
     ∙ ap₂ with_subcommand five (ap top c.in_ok-read.ensures.app) in
-    IfOk-weaker c.with_command-7.result _ _
-    (λ it adds. adds ∙ ap₂ with_subcommand six (ap top c.in_ok-write.ensures.app))
-    c.with_command-7.ensures
+    let seven = c.in_ok-program-8.ensures
+    ∙ ap₂ with_subcommand six (ap top c.in_ok-write.ensures.app) in
+    IfOk-weaker c.with_command-8.result _ _
+    (λ it adds. adds ∙ ap₂ with_subcommand seven (ap top c.in_ok-rehearse.ensures.app))
+    c.with_command-8.ensures
