@@ -68,7 +68,8 @@ with_settings shape = record shape {
 abbrev pub venti : App
 venti =
     with_subcommand (with_subcommand (with_subcommand (with_subcommand (with_subcommand
-    (with_subcommand (with_subcommand (with_subcommand (on_top with_settings (new_app (codes "venti")))
+    (with_subcommand (with_subcommand (with_subcommand
+    (on_top with_settings (new_app (codes "venti")))
     session.top) fmtarenas.top) fmtisect.top) fmtbloom.top) fmtindex.top) read.top) write.top)
     rehearse.top
 

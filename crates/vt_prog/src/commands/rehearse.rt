@@ -29,7 +29,8 @@ pub fn rehearse<H: Host>(
         (work_of H.Source.Source H.Sink.Sink H.Files.Files
         H.Parts.Parts H.Dialer.Dialer H.Dialer.Link.Link (H.lent host.old) (H.lent host.new)) }
     ensures cause { HasCauseIn H.Parts.Disk.Disk (work_of H.Source.Source H.Sink.Sink H.Files.Files
-        H.Parts.Parts H.Dialer.Dialer H.Dialer.Link.Link (H.lent host.old) (H.lent host.new)) result }
+        H.Parts.Parts H.Dialer.Dialer H.Dialer.Link.Link (H.lent host.old)
+        (H.lent host.new)) result }
     ensures quiet { (H.lent host.new).fault_sink ≡ (H.lent host.old).fault_sink }
 {
     let (seed, rounds) = read_words(seed, count)?;

@@ -1,4 +1,5 @@
-//! Commands that format, and the rehearsal: words, what is printed, the status and the line on the fault sink.
+//! Commands that format, and the rehearsal: words, what is printed, the status and the line on the
+//! fault sink.
 
 use crate::commands::runs::{
     FILTERED, INDEX, InMemory, TestParts, all_but, confs, make, run_conf, run_over, see, see_ran,
@@ -135,31 +136,36 @@ const ROWS: [Row; 39] = [
     (
         &["rehearse", "1", "0"],
         0,
-        "events 0\nwrites 0 accepted 0 held 0\nreads 0 found 0 missing 0\nsyncs 0\ncrashes 0 lost 0\nblocks 0\ncheck ok\n",
+        "events 0\nwrites 0 accepted 0 held 0\nreads 0 found 0 missing 0\n\
+        syncs 0\ncrashes 0 lost 0\nblocks 0\ncheck ok\n",
         "",
     ),
     (
         &["rehearse", "1", "1"],
         0,
-        "events 1\nwrites 0 accepted 0 held 0\nreads 1 found 0 missing 1\nsyncs 0\ncrashes 0 lost 0\nblocks 0\ncheck ok\n",
+        "events 1\nwrites 0 accepted 0 held 0\nreads 1 found 0 missing 1\n\
+        syncs 0\ncrashes 0 lost 0\nblocks 0\ncheck ok\n",
         "",
     ),
     (
         &["rehearse", "0", "1"],
         0,
-        "events 0\nwrites 0 accepted 0 held 0\nreads 0 found 0 missing 0\nsyncs 0\ncrashes 1 lost 0\nblocks 0\ncheck ok\n",
+        "events 0\nwrites 0 accepted 0 held 0\nreads 0 found 0 missing 0\n\
+        syncs 0\ncrashes 1 lost 0\nblocks 0\ncheck ok\n",
         "",
     ),
     (
         &["rehearse", "2", "1"],
         0,
-        "events 1\nwrites 0 accepted 0 held 0\nreads 0 found 0 missing 0\nsyncs 0\ncrashes 0 lost 0\nblocks 0\ncheck ok\n",
+        "events 1\nwrites 0 accepted 0 held 0\nreads 0 found 0 missing 0\n\
+        syncs 0\ncrashes 0 lost 0\nblocks 0\ncheck ok\n",
         "",
     ),
     (
         &["rehearse", "9223372036854775807", "0"],
         0,
-        "events 0\nwrites 0 accepted 0 held 0\nreads 0 found 0 missing 0\nsyncs 0\ncrashes 0 lost 0\nblocks 0\ncheck ok\n",
+        "events 0\nwrites 0 accepted 0 held 0\nreads 0 found 0 missing 0\n\
+        syncs 0\ncrashes 0 lost 0\nblocks 0\ncheck ok\n",
         "",
     ),
     (
