@@ -59,7 +59,7 @@ const ROUNDS: [(u64, u32, Summary); 5] = [
         7,
         2_000,
         Summary {
-            events: 2_382,
+            events: 2_353,
             writes: 772,
             accepted: 119,
             held: 653,
