@@ -404,7 +404,7 @@ fn fails<P: TestParts>(
 type Failing = (usize, u64, &'static str);
 
 const FAILING: [Failing; 3] = [
-    (0, 6, "mmmmooooffffffffffffffww"),
+    (0, 6, "mmmmoooofffffffffffffwww"),
     (1, 30, "mmoooffeeeeeeeeeewww"),
     (2, 4, "mmoooeeeewww"),
 ];
