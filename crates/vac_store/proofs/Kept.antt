@@ -1,0 +1,270 @@
+-- A folder that was archived stands in the store.
+use Rattle.std.proofs.Common.{◌≡◌, ℕ, ◌≤◌, Option, Some, None, Result, Ok, Err, IsTrue, List, [], ◌∷◌, ◌++◌, length, map, take, refl, sym, ◌∙◌, ap, subst, arith, append-nil}
+use Rattle.std.specs.Prelude.{◌+◌, ◌-◌, Bool, IfErr, IfOk, IfSome}
+use Rattle.vt_base.specs.Protocol.{Operation}
+use Rattle.vt_base.specs.declared.why.Why.{Why}
+use Rattle.vt_base.specs.declared.why.Why.TheVariants as whys
+use Rattle.vt_disk.specs.Members.{DiskOf}
+use Rattle.vt_folder.specs.declared.item.Facts.{Facts}
+use Rattle.vt_folder.specs.Items.{Items}
+use Rattle.vt_model.specs.History.{Block, History, held}
+use Rattle.vt_model.specs.Places.{Setup}
+use Rattle.vt_part.specs.Table.{Table}
+use Rattle.vt_tree.specs.declared.err.TreeErr.TheVariants as trees
+use Rattle.vt_answer.specs.Serving.{tells_failure}
+use Rattle.vt_tree.specs.declared.err.BlockErr.{BlockErr}
+use Rattle.vt_tree.specs.Calls.{Call, asked_of}
+use Rattle.vt_tree.specs.Maps.{BlockMap, Maps, with_blocks}
+use Rattle.vt_core.specs.Core.{CoreState, devices_of, history_len, setup_of}
+use Rattle.vt_core.specs.Causes.{IsUndamagedWhy}
+use Rattle.vt_core.specs.Mounting.{AllStandFor, EachStands}
+use Rattle.vt_core.specs.Sound.{IsSound}
+use Rattle.vt_drive.specs.Answers.{KeepsAll}
+use Rattle.vt_drive.specs.Driven.{DrivenState}
+use Rattle.vt_drive.specs.Ending.{EndsFor}
+use Rattle.vt_alone.specs.Sessions.{store_on}
+use Rattle.vt_local.specs.Local.{DoesLocal, HoldsLocal, LocalState}
+use Rattle.vac_model.specs.Archives.{archive_of}
+use Rattle.vac_model.specs.Kept.{archived}
+use Rattle.vac_model.specs.Trees.{IsTreeOf}
+use Rattle.vac_write.specs.declared.archived.Archived.{Archived}
+use Rattle.vac_write.specs.declared.err.VacErr.{VacErr}
+use Rattle.vac_write.specs.declared.err.VacErr.TheVariants.{FolderFault, Tree, BadName, TooDeep, NoMemory}
+use Rattle.vac_write.specs.Archiving.{KeepsArchive, WritesArchive, GivesUpArchive, IsGivenUpAs, refusal_of}
+use Rattle.vac_model.specs.Limits.{first_unfit}
+use Rattle.vac_store.specs.declared.outcome.ArchiveBad.{ArchiveBad}
+use Rattle.vac_store.specs.declared.outcome.StoredArchive.{StoredArchive}
+use Rattle.vac_store.specs.Storing.{ArchivesInto, IsBecause, IsRefusedFor, KeepsFolder, StandsIn, all_written, begun, came_to, told}
+use Rattle.vac_store.proofs.Stays.{archive_keeps}
+use Rattle.vac_store.proofs.Written.{Holds, IsLastRefusal, puts_so}
+
+-- ---- why there is no archive
+
+-- the last refusal is that of the store, and nothing else is told of it
+told_because : (score : List ℕ → List ℕ) (c : Setup) (last : History) (rest : List Block)
+    (seen : Items Facts) (err : VacErr) (refused : Option Why) → IsGivenUpAs err (first_unfit seen)
+    → IfSome (refusal_of err) (λ e. IsLastRefusal score c last rest refused)
+    → IsBecause score c last rest seen (told err refused)
+told_because score c last rest seen FolderFault refused cause because = cause
+told_because score c last rest seen (Tree (trees.Block err)) None cause because = absurd because
+told_because score c last rest seen (Tree (trees.Block err)) (Some why) cause because = because
+told_because score c last rest seen (Tree trees.SourceFault) refused cause because = cause
+told_because score c last rest seen (Tree (trees.BadEntry bad)) refused cause because = cause
+told_because score c last rest seen (Tree (trees.BadBlock depth len)) refused cause because = cause
+told_because score c last rest seen (Tree trees.TooLong) refused cause because = cause
+told_because score c last rest seen (Tree trees.NoMemory) refused cause because = cause
+told_because score c last rest seen (BadName path) refused cause because = cause
+told_because score c last rest seen (TooDeep path) refused cause because = cause
+told_because score c last rest seen NoMemory refused cause because = cause
+
+-- the end of the store's use fails for a failure
+end_fails : {D : Type 0} (disk : DiskOf D) (why : Why) (kept new : CoreState D)
+    → EndsFor disk why kept new → tells_failure why ≡ Bool.true
+end_fails disk whys.DiskFault kept new it = refl
+end_fails disk (whys.Stopped call) kept new it = refl
+end_fails disk (whys.Damaged site want found) kept new it = refl
+end_fails disk whys.NoMemory kept new it = absurd it
+end_fails disk whys.BadType kept new it = absurd it
+end_fails disk whys.TooBig kept new it = absurd it
+end_fails disk whys.TooSmall kept new it = absurd it
+end_fails disk whys.Absent kept new it = absurd it
+end_fails disk whys.Collision kept new it = absurd it
+end_fails disk whys.IndexFull kept new it = absurd it
+end_fails disk whys.ArenasFull kept new it = absurd it
+
+-- nothing is left to be asked for
+abbrev all_asked : Type 0
+all_asked = ◌≡◌ {A = List Operation} [] []
+
+all_put : (put rest blocks : List Block) → put ++ rest ≡ blocks → rest ≡ [] → put ≡ blocks
+all_put put rest blocks are none =
+    sym (append-nil put) ∙ ap (λ (l : List Block). put ++ l) (sym none) ∙ are
+
+module _ {D : Type 0} (score : List ℕ → List ℕ) (disk : DiskOf D)
+    (prefix : (k : CoreState D) (h : History) → IsSound score disk k h
+    → EachStands score disk (setup_of k) k.log.tables k.log.durable (devices_of k) h)
+    (all : (k : CoreState D) (h : History) → IsSound score disk k h → k.log.durable ≡ length h
+    → AllStandFor score disk (setup_of k) k.log.tables (devices_of k) h (length h))
+    (now bsize : ℕ) (is_seen : Items Facts → Type 0) (h : History) (old new : CoreState D)
+    (tells : IsTrue disk.tells) (sound : IsSound score disk old h) where
+  abbrev Does : LocalState (DrivenState D) → Call → LocalState (DrivenState D) → Type 0
+  Does = DoesLocal (store_on score disk)
+
+  abbrev Has : LocalState (DrivenState D) → Maps → Type 0
+  Has = HoldsLocal (store_on score disk) score
+
+  -- what the store holds at first
+  before : Maps
+  before = record { held = held score h; synced = held score (take old.log.durable h) }
+
+  holds_before : Has (begun now old) before
+  unfolding before
+  holds_before = record {
+    scores = λ bytes. refl;
+    alone = refl;
+    history = h;
+    holds_it = (tells, sound);
+    legal = sound.legal;
+    held = λ s kind. refl;
+    number = old.log.durable;
+    is_durable = omega arith;
+    synced = λ s kind. refl;
+  }
+
+  module _ (result : Result StoredArchive ArchiveBad)
+      (it : ArchivesInto score disk now bsize is_seen result old new) where
+    keeps : KeepsAll disk old new
+    keeps = archive_keeps score disk now bsize is_seen result old new it
+
+    module _ (seen : Items Facts) (none_left : Type 0) (err : Option BlockErr)
+        (so : Holds score disk tells (archive_of score bsize seen).blocks none_left err h
+        (begun now old) it.kept) where
+      abbrev last : History
+      last = all_written score (setup_of old) h so.put
+
+      left : IsSound score disk new last
+      left = it.ends.sound last tells so.sound
+
+      stands : EachStands score disk (setup_of old) old.log.tables new.log.durable
+          (devices_of new) last
+      stands = subst (λ (t : List Table). EachStands score disk (setup_of old) t new.log.durable
+          (devices_of new) last) keeps.store.tables
+          (subst (λ (c : Setup). EachStands score disk c new.log.tables new.log.durable
+          (devices_of new) last) keeps.store.setup (prefix new last left))
+
+      abbrev Stored : StoredArchive → Type 0
+      Stored s = (so.rest ≡ []) × StandsIn score bsize seen last s.archived
+          × (length last ≡ length h + s.added)
+          × AllStandFor score disk (setup_of old) old.log.tables (devices_of new) last
+          (length last)
+
+      all_stand : it.closed ≡ Ok tt
+          → AllStandFor score disk (setup_of old) old.log.tables (devices_of new) last (length last)
+      all_stand well = subst (λ (t : List Table). AllStandFor score disk (setup_of old) t
+          (devices_of new) last (length last)) keeps.store.tables
+          (subst (λ (c : Setup). AllStandFor score disk c new.log.tables (devices_of new) last
+          (length last)) keeps.store.setup
+          (all new last left (it.ends.whole last tells so.sound well).durable))
+
+      -- how many blocks are new
+      grown : length last ≡ length h + (history_len new - history_len old)
+      grown = omega (arith, sound.log.front, left.log.front, keeps.store.len)
+
+      keeps_so : (is : is_seen seen)
+          → IfErr result (IsBecause score (setup_of old) last so.rest seen)
+          → IfOk result Stored
+          → KeepsFolder score disk bsize is_seen result h old new
+      keeps_so is because done = record {
+        seen = seen;
+        is = is;
+        put = so.put;
+        rest = so.rest;
+        blocks = so.are;
+        last = last;
+        last_is = refl;
+        sound = left;
+        keeps = keeps;
+        stands = stands;
+        because = because;
+        done = done;
+      }
+
+    -- it was archived
+    module _ (a : Archived)
+        (w : WritesArchive Does Has score (begun now old) it.kept bsize is_seen a) where
+      abbrev blocks : List Block
+      blocks = (archive_of score bsize w.seen).blocks
+
+      so : Holds score disk tells blocks all_asked None h (begun now old) it.kept
+      so = puts_so score disk tells None [] blocks w.calls h (begun now old) it.kept sound w.made
+          w.accepted (append-nil (map asked_of w.calls) ∙ w.asked)
+
+      abbrev added : ℕ
+      added = history_len new - history_len old
+
+      abbrev whole : History
+      whole = all_written score (setup_of old) h so.put
+
+      kept : KeepsArchive Has score it.kept before bsize w.seen
+      kept = w.keeps before holds_before
+
+      same_map : (s : List ℕ) (kind : ℕ) → kept.maps.held s kind ≡ held score whole s kind
+      unfolding before
+      same_map s kind =
+          ap (λ (m : BlockMap). m s kind) kept.held
+          ∙ ap (λ (bs : List Block). with_blocks score bs (held score h) s kind)
+          (sym (all_put so.put so.rest blocks so.are (so.whole refl)))
+          ∙ sym (so.map s kind)
+
+      tree : IsTreeOf (held score whole) a.score.0 (archived w.seen)
+      tree = subst (λ (m : BlockMap). IsTreeOf m a.score.0 (archived w.seen))
+          (λ i s kind. same_map s kind i)
+          (subst (λ (s : List ℕ). IsTreeOf kept.maps.held s (archived w.seen)) (sym w.score)
+          kept.tree)
+
+      -- nothing is left but the end of the store's use
+      because : (closed : Result (Unit {0}) Why) → it.closed ≡ closed
+          → IfErr (came_to (Ok a) it.kept.refused added closed)
+          (IsBecause score (setup_of old) whole so.rest w.seen)
+      because (Ok end) is = tt
+      because (Err why) is = subst (λ (bs : List Block). IsRefusedFor score (setup_of old) whole bs
+          why) (sym (so.whole refl)) (
+            end_fails disk why it.kept.store.core new
+                (subst (λ (r : Result (Unit {0}) Why). IfErr r (λ w. EndsFor disk w
+                it.kept.store.core new)) is it.ends.cause),
+            subst (λ (r : Result (Unit {0}) Why). IfErr r IsUndamagedWhy) is
+                (it.ends.undamaged whole tells so.sound),
+          )
+
+      done : (closed : Result (Unit {0}) Why) → it.closed ≡ closed
+          → IfOk (came_to (Ok a) it.kept.refused added closed) (Stored w.seen all_asked None so)
+      done (Err why) well = tt
+      done (Ok end) well = (
+        so.whole refl,
+        record {
+          fit = w.fit;
+          score_is = w.score;
+          left_out = w.left_out;
+          tree = tree;
+        },
+        grown w.seen all_asked None so,
+        all_stand w.seen all_asked None so well,
+      )
+
+      wrote_so : result ≡ came_to (Ok a) it.kept.refused added it.closed
+          → KeepsFolder score disk bsize is_seen result h old new
+      wrote_so is = keeps_so w.seen all_asked None so w.is
+          (subst (λ (r : Result StoredArchive ArchiveBad). IfErr r
+          (IsBecause score (setup_of old) whole so.rest w.seen)) (sym is)
+          (because it.closed refl))
+          (subst (λ (r : Result StoredArchive ArchiveBad). IfOk r
+          (Stored w.seen all_asked None so)) (sym is) (done it.closed refl))
+
+    -- it was given up
+    gave_so : (err : VacErr) → GivesUpArchive Does Has score (begun now old) it.kept bsize is_seen err
+        → result ≡ Err (told err it.kept.refused)
+        → KeepsFolder score disk bsize is_seen result h old new
+    gave_so err gave is = keeps_so gave.seen (gave.rest ≡ []) (refusal_of err) so gave.is
+        (subst (λ (r : Result StoredArchive ArchiveBad). IfErr r (IsBecause score (setup_of old)
+        (all_written score (setup_of old) h so.put) so.rest gave.seen)) (sym is)
+        (told_because score (setup_of old) (all_written score (setup_of old) h so.put) so.rest
+        gave.seen err it.kept.refused gave.cause so.because))
+        (subst (λ (r : Result StoredArchive ArchiveBad). IfOk r
+        (Stored gave.seen (gave.rest ≡ []) (refusal_of err) so)) (sym is) tt)
+      where
+        so : Holds score disk tells (archive_of score bsize gave.seen).blocks (gave.rest ≡ [])
+            (refusal_of err) h (begun now old) it.kept
+        so = puts_so score disk tells (refusal_of err) gave.rest
+            (archive_of score bsize gave.seen).blocks gave.calls h (begun now old) it.kept sound
+            gave.made gave.refused gave.asked
+
+    pub keeps_folder : KeepsFolder score disk bsize is_seen result h old new
+    keeps_folder = of it.answer it.archives it.gives_up it.result_is
+      where
+        of : (answer : Result Archived VacErr)
+            → IfOk answer (WritesArchive Does Has score (begun now old) it.kept bsize is_seen)
+            → IfErr answer (GivesUpArchive Does Has score (begun now old) it.kept bsize is_seen)
+            → result ≡ came_to answer it.kept.refused (history_len new - history_len old) it.closed
+            → KeepsFolder score disk bsize is_seen result h old new
+        of (Ok a) w gave is = wrote_so a w is
+        of (Err err) w gave is = gave_so err gave is

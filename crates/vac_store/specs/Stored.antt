@@ -1,0 +1,61 @@
+-- A folder that is archived into the store that a configuration names, on partitions that are handed
+-- out by name.
+use Rattle.std.specs.Prelude.{ℕ, ◌≡◌, ◌+◌, ◌≤◌, Result, Ok, Err, IfErr, IfOk, List, [], ◌++◌, length}
+use Rattle.vt_conf.specs.declared.conf.Conf.{Conf}
+use Rattle.vt_disk.specs.Members.{DiskOf}
+use Rattle.vt_folder.specs.declared.item.Facts.{Facts}
+use Rattle.vt_folder.specs.Items.{Items}
+use Rattle.vt_model.specs.History.{Block, History}
+use Rattle.vt_model.specs.Places.{Setup}
+use Rattle.vt_part.specs.Table.{Table}
+use Rattle.vt_parts.specs.Parts.{Standing}
+use Rattle.vt_core.specs.Files.{PerDevice}
+use Rattle.vt_core.specs.Mounting.{AllStandFor, EachStands}
+use Rattle.vt_open.specs.Names.{AreUnder}
+use Rattle.vt_open.specs.Opening.{NamesCause, RefusesStore}
+use Rattle.vt_single.specs.Stored.{Uses}
+use Rattle.vac_model.specs.Archives.{archive_of}
+use Rattle.vac_store.specs.declared.outcome.ArchiveBad.{ArchiveBad}
+use Rattle.vac_store.specs.declared.outcome.ArchiveBad.TheVariants.{Unopened, Folder, Refused}
+use Rattle.vac_store.specs.declared.outcome.StoredArchive.{StoredArchive}
+use Rattle.vac_store.specs.Storing.{ArchivesInto, IsBecause, StandsIn, all_written}
+
+-- the store was opened, a folder was archived into it, with this result, and it was closed
+abbrev pub UsesFor : {D : Type 0} → (List ℕ → List ℕ) → DiskOf D → (told : Type 0) → Conf
+    → (now bsize : ℕ) → (is_seen : Items Facts → Type 0) → Result StoredArchive ArchiveBad
+    → (old new : List ℕ → Standing D) → Type 0
+UsesFor score disk told conf now bsize is_seen result old new =
+    Uses score disk told conf (ArchivesInto score disk now bsize is_seen result) old new
+
+-- That was done, with this result; or the store wasn't opened, for its cause.
+abbrev pub ArchivesStored : {D : Type 0} → (List ℕ → List ℕ) → DiskOf D → (told : Type 0) → Conf
+    → (now bsize : ℕ) → (is_seen : Items Facts → Type 0) → (old new : List ℕ → Standing D)
+    → (faults faults' : ℕ) → Result StoredArchive ArchiveBad → Type 0
+ArchivesStored score disk told conf now bsize is_seen old new faults faults' (Err (Unopened bad)) =
+    RefusesStore score disk told conf old new faults faults' bad × NamesCause bad
+ArchivesStored score disk told conf now bsize is_seen old new faults faults' result =
+    UsesFor score disk told conf now bsize is_seen result old new × (faults' ≡ faults)
+
+-- What it leaves of partitions that read as history `g`: whatever calls failed, and whatever a crash
+-- then leaves of them, they stand for all of it, and for the first blocks of the folder's archive,
+-- each if the model adds it. Where a score is told, they stand for all its blocks, and it is told
+-- how many are new.
+pub record KeepsStored {D : Type 0} (score : List ℕ → List ℕ) (disk : DiskOf D) (conf : Conf)
+    (bsize : ℕ) (is_seen : Items Facts → Type 0) (result : Result StoredArchive ArchiveBad)
+    (new : List ℕ → Standing D) (tables : List Table) (c : Setup) (g : History) : Type 0 where
+  pub seen : Items Facts
+  pub is : is_seen seen
+  pub put : List Block
+  pub rest : List Block
+  pub blocks : put ++ rest ≡ (archive_of score bsize seen).blocks
+  pub last : History
+  pub last_is : last ≡ all_written score c g put
+  pub back : PerDevice D
+  pub under : AreUnder new conf back
+  pub least : ℕ
+  pub all : length g ≤ least
+  pub stands : EachStands score disk c tables least back last
+  pub because : IfErr result (IsBecause score c last rest seen)
+  pub done : IfOk result (λ s. (rest ≡ []) × StandsIn score bsize seen last s.archived
+      × (length last ≡ length g + s.added)
+      × AllStandFor score disk c tables back last (length last))

@@ -1,0 +1,13 @@
+//! Archiving a folder into a store on devices, and into the store that a configuration names, which
+//! is opened for it (vac(1)).
+#![tactic(auto)]
+
+mod laws;
+mod outcome;
+mod stored;
+mod storing;
+
+pub use laws::{archives_are_kept, archives_are_runs, failures_have_causes, stores_keep_archives};
+pub use outcome::{ArchiveBad, StoredArchive};
+pub use stored::archive_stored;
+pub use storing::archive_into;
