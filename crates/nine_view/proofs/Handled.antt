@@ -1,0 +1,126 @@
+-- What is settled, refused or short of memory, as the answer to a request.
+use Rattle.std.proofs.Common.{◌≡◌, ℕ, Option, None, Result, Ok, Err, List, refl, sym, ◌∙◌, ap, subst}
+use Rattle.std.specs.Prelude.{IfSome}
+use Rattle.vt_tree.specs.Calls.{Call}
+use Rattle.vt_tree.specs.Maps.{BlockMap, Maps}
+use Rattle.vac_read.specs.declared.err.VacBad.{VacBad}
+use Rattle.vac_read.specs.declared.err.VacBad.TheVariants.{NoMemory}
+use Rattle.vac_read.specs.Reading.{refusal_of, refused_by}
+use Rattle.vac_read.proofs.Readings.{reads_nothing}
+use Rattle.nine_wire.specs.Messages.{RMessage, r_error}
+use Rattle.nine_view.specs.declared.failure.Denied.{Denied}
+use Rattle.nine_view.specs.declared.failure.Denied.TheVariants.{Refused, Failed}
+use Rattle.nine_view.specs.declared.fid.Fid.{Fid}
+use Rattle.nine_view.specs.declared.refusal.Refusal.{Refusal}
+use Rattle.nine_view.specs.Answers.{Answer, Outcome, refused, settled, sets, walks, reads_file, reads_folder, sets_fid, stays}
+use Rattle.nine_view.specs.Failures.{failure_words}
+use Rattle.nine_view.specs.Handling.{Handles, Sets, SetsFid, Settles, SettlesSo, failure_of}
+use Rattle.nine_view.specs.Known.{Known, IsRight, limit}
+use Rattle.nine_view.specs.Refusals.{words_of}
+use Rattle.nine_view.specs.Replies.{AsksForBytes, IsReply, NeverFails, failed, fails}
+
+module _ {S : Type 0} (does : S → Call → S → Type 0) (holds : S → Maps → Type 0)
+    (score_of : List ℕ → List ℕ) (s : S) (tag : ℕ) where
+  pub settled_so : (old new : Known) (out : List ℕ) (result : Result ℕ Denied) (outcome : Outcome)
+      → Settles tag old new out result outcome
+      → Handles does holds score_of s s tag old new out result (settled outcome)
+  settled_so old new out result outcome so =
+      let none : (f : Option VacBad) → f ≡ None → refused_by (failed f) ≡ None =
+      λ f is. ap (λ (o : Option VacBad). refused_by (failed o)) is in
+      let gives : (map : BlockMap) → IsReply map old (settled outcome) (failure_of result)
+      (record { reply = outcome.reply; known = new }) =
+      λ map. subst (λ (f : Option VacBad). IsReply map old (settled outcome) f
+      (record { reply = outcome.reply; known = new })) (sym so.whole)
+      (ap (λ (k : Known). record { reply = outcome.reply; known = k }) so.known) in
+      record {
+        reply = outcome.reply;
+        says = so.says;
+        reads =
+            reads_nothing does holds score_of s (failed (failure_of result)) _
+            (none (failure_of result) so.whole)
+            (λ map right. (so.right map right, gives map));
+        bytes = tt;
+        still = λ nothing. (refl, gives);
+        whole = λ never. so.whole;
+        failed_so =
+            subst (λ (f : Option VacBad). IfSome f (λ bad.
+            stays new outcome.reply ≡ fails old bad)) (sym so.whole) tt;
+      }
+
+  pub settles : (old new : Known) (out : List ℕ) (result : Result ℕ Denied) (answer : Answer)
+      → SettlesSo tag old new out result answer
+      → Handles does holds score_of s s tag old new out result answer
+  settles old new out result (settled outcome) so = settled_so old new out result outcome so
+  settles old new out result (sets fid f reply) so = absurd so
+  settles old new out result (walks fid from names) so = absurd so
+  settles old new out result (reads_file file at n) so = absurd so
+  settles old new out result (reads_folder fid f reading offset room) so = absurd so
+
+  pub refused_so : (old : Known) (out : List ℕ) (why : Refusal)
+      → Handles does holds score_of s s tag old old out (Err (Refused why)) (refused old why)
+  refused_so old out why =
+      settled_so old old out (Err (Refused why)) _
+      (record { says = refl; known = refl; whole = refl; right = λ map right. right })
+
+  -- memory was short, and nothing has changed
+  pub no_memory : (old : Known) (out : List ℕ) (answer : Answer) → (NeverFails answer → ⊥)
+      → AsksForBytes does holds score_of s s answer
+      → Handles does holds score_of s s tag old old out (Err (Failed NoMemory)) answer
+  no_memory old out answer may bytes = record {
+    reply = r_error (failure_words (limit old) NoMemory);
+    says = refl;
+    reads =
+        reads_nothing does holds score_of s (Err NoMemory) _ refl
+        (λ map right. (right, λ some. absurd (some refl)));
+    bytes = bytes;
+    still = λ nothing. (refl, λ map some. absurd (some refl));
+    whole = λ never. absurd (may never);
+    failed_so = refl;
+  }
+
+  -- a fid was set, or memory was short
+  pub sets_handles : (old new : Known) (out : List ℕ) (result : Result ℕ Denied) (fid : ℕ)
+      (f : Fid) (reply : RMessage) → Sets tag old new out result (sets_fid old fid f reply)
+      → Handles does holds score_of s s tag old new out result (sets fid f reply)
+  sets_handles old new out (Ok len) fid f reply so = record {
+    reply = so.reply;
+    says = so.says;
+    reads = reads_nothing does holds score_of s (Ok tt) _ refl
+        (λ map right. (so.right map right, so.done));
+    bytes = tt;
+    still = λ nothing. (refl, λ map. so.done);
+    whole = λ never. absurd never;
+    failed_so = tt;
+  }
+  sets_handles old new out (Err (Refused why)) fid f reply so = record {
+    reply = so.reply;
+    says = so.says;
+    reads = reads_nothing does holds score_of s (Ok tt) _ refl
+        (λ map right. (so.right map right, so.done));
+    bytes = tt;
+    still = λ nothing. (refl, λ map. so.done);
+    whole = λ never. absurd never;
+    failed_so = tt;
+  }
+  sets_handles old new out (Err (Failed bad)) fid f reply so = record {
+    reply = so.reply;
+    says = so.says;
+    reads = reads_nothing does holds score_of s (Err bad) _ (ap refusal_of so.done.0)
+        (λ map right. (so.right map right, λ some. absurd (some so.done.0)));
+    bytes = tt;
+    still = λ nothing. (refl, λ map some. absurd (some so.done.0));
+    whole = λ never. absurd never;
+    failed_so =
+        ap (λ (r : RMessage). stays new r) so.says
+        ∙ ap (λ (k : Known). stays k (r_error (failure_words (limit old) bad))) so.done.1;
+  }
+
+  -- either of both
+  pub sets_so : (old new : Known) (out : List ℕ) (result : Result ℕ Denied) (answer : Answer)
+      → SetsFid tag old new out result answer
+      → Handles does holds score_of s s tag old new out result answer
+  sets_so old new out result (settled outcome) so = settled_so old new out result outcome so
+  sets_so old new out result (sets fid f reply) so = sets_handles old new out result fid f reply so
+  sets_so old new out result (walks fid from names) so = absurd so
+  sets_so old new out result (reads_file file at n) so = absurd so
+  sets_so old new out result (reads_folder fid f reading offset room) so = absurd so

@@ -1,0 +1,232 @@
+-- What a walk comes to.
+use Rattle.std.proofs.Common.{◌≡◌, ◌≢◌, ◌==◌, ℕ, true, false, Result, Ok, Err, List, [], ◌∷◌, length, refl, sym, ap, subst, arith, eqb-true}
+use Rattle.std.proofs.lemmas.Bool.{eqb-false}
+use Rattle.std.specs.Prelude.{IfErr, IfOk, OnErr, OnOk}
+use Rattle.vt_tree.specs.Calls.{Call}
+use Rattle.vt_tree.specs.Maps.{BlockMap, Maps}
+use Rattle.vac_read.specs.declared.err.VacBad.{VacBad}
+use Rattle.vac_read.specs.declared.err.VacBad.TheVariants.{NoMemory}
+use Rattle.vac_read.specs.Reading.{Reads}
+use Rattle.vac_read.proofs.Readings.{reads_as}
+use Rattle.nine_wire.specs.Messages.{Qid, r_error, r_walk}
+use Rattle.nine_view.specs.declared.failure.Denied.{Denied}
+use Rattle.nine_view.specs.declared.failure.Denied.TheVariants.{Refused, Failed}
+use Rattle.nine_view.specs.declared.place.Place.{Place}
+use Rattle.nine_view.specs.declared.refusal.Refusal.{Refusal}
+use Rattle.nine_view.specs.Answers.{Answer, of_fid, sets, to_names, to_walk, unopened}
+use Rattle.nine_view.specs.Failures.{failure_words}
+use Rattle.nine_view.specs.Handling.{Handles, Says}
+use Rattle.nine_view.specs.Known.{Known, IsRight, IsWay, limit, with_fid}
+use Rattle.nine_view.specs.Refusals.{words_of}
+use Rattle.nine_view.specs.Replies.{AsksForBytes, NeverFails}
+use Rattle.nine_view.specs.Walking.{EndsShort, MayWalk}
+use Rattle.nine_view.specs.Walks.{Walk, Walks, IsLost}
+use Rattle.nine_view.proofs.Handled.{no_memory, refused_so, sets_handles}
+use Rattle.nine_view.proofs.Keeping.{right_with}
+use Rattle.nine_view.proofs.Steps.{a_walk, way_on}
+
+module _ {S W : Type 0} (does : S → Call → S → Type 0) (holds : S → Maps → Type 0)
+    (score_of : List ℕ → List ℕ) (s s' : S) (tag : ℕ) (known : Known) (out : List ℕ)
+    (newfid : ℕ) (from : Place)
+  where
+    -- the archive failed on the way
+    pub walk_failed : (words : List (List ℕ)) (bad : VacBad) → words ≢ []
+        → Reads {X = W} does holds score_of s s' (Err bad)
+        (λ map. bad ≢ NoMemory → IsLost map (Ok from) words bad)
+        → Handles does holds score_of s s' tag known known out (Err (Failed bad))
+        (to_names newfid from words)
+    walk_failed [] bad some reads = absurd (some refl)
+    walk_failed (name ∷ names) bad some reads = record {
+      reply = r_error (failure_words (limit known) bad);
+      says = refl;
+      reads =
+          reads_as does holds score_of s s' (Err bad) (Err bad) _ _ refl reads
+          (λ map lost right. (right, lost));
+      bytes = tt;
+      still = λ nothing. absurd nothing;
+      whole = λ never. absurd never;
+      failed_so = refl;
+    }
+
+    -- memory was short behind it
+    pub walk_unset : (words : List (List ℕ)) (w : W) (P : BlockMap → Type 0) → words ≢ []
+        → Reads does holds score_of s s' (Ok w) P
+        → Handles does holds score_of s s' tag known known out (Err (Failed NoMemory))
+        (to_names newfid from words)
+    walk_unset [] w P some reads = absurd (some refl)
+    walk_unset (name ∷ names) w P some reads = record {
+      reply = r_error (failure_words (limit known) NoMemory);
+      says = refl;
+      reads =
+          reads_as does holds score_of s s' (Ok w) (Err NoMemory) P _ refl reads
+          (λ map told right. (right, λ more. absurd (more refl)));
+      bytes = tt;
+      still = λ nothing. absurd nothing;
+      whole = λ never. absurd never;
+      failed_so = refl;
+    }
+
+    -- the first name leads nowhere
+    pub walk_refused : (words : List (List ℕ)) (w : W) (why : Refusal) → words ≢ []
+        → Reads does holds score_of s s' (Ok w)
+        (λ map. Walks map (Ok from) words (a_walk [] (Err why)))
+        → Handles does holds score_of s s' tag known known out (Err (Refused why))
+        (to_names newfid from words)
+    walk_refused [] w why some reads = absurd (some refl)
+    walk_refused (name ∷ names) w why some reads = record {
+      reply = r_error (words_of why);
+      says = refl;
+      reads =
+          reads_as does holds score_of s s' (Ok w) (Ok tt) _ _ refl reads
+          (λ map walks right. (right, (a_walk [] (Err why), walks, refl)));
+      bytes = tt;
+      still = λ nothing. absurd nothing;
+      whole = λ never. absurd never;
+      failed_so = tt;
+    }
+
+    -- a later one does
+    pub walk_short : (words : List (List ℕ)) (w : W) (qids : List Qid) (why : Refusal) (len : ℕ)
+        → words ≢ [] → qids ≢ [] → Says tag (limit known) out len (r_walk qids)
+        → Reads does holds score_of s s' (Ok w)
+        (λ map. Walks map (Ok from) words (a_walk qids (Err why)))
+        → Handles does holds score_of s s' tag known known out (Ok len)
+        (to_names newfid from words)
+    walk_short [] w qids why len some told says reads = absurd (some refl)
+    walk_short (name ∷ names) w [] why len some told says reads = absurd (told refl)
+    walk_short (name ∷ names) w (qid ∷ qids) why len some told says reads = record {
+      reply = r_walk (qid ∷ qids);
+      says = says;
+      reads =
+          reads_as does holds score_of s s' (Ok w) (Ok tt) _ _ refl reads
+          (λ map walks right. (right, (a_walk (qid ∷ qids) (Err why), walks, refl)));
+      bytes = tt;
+      still = λ nothing. absurd nothing;
+      whole = λ never. absurd never;
+      failed_so = tt;
+    }
+
+    -- all of them lead on
+    pub walk_set : (words : List (List ℕ)) (w : W) (qids : List Qid) (to : Place) (len : ℕ)
+        → words ≢ [] → Says tag (limit known) out len (r_walk qids)
+        → ((map : BlockMap) → IsRight map known → IsWay map known.top from.node from.above)
+        → Reads does holds score_of s s' (Ok w)
+        (λ map. Walks map (Ok from) words (a_walk qids (Ok to)))
+        → Handles does holds score_of s s' tag known
+        (record known { fids = with_fid newfid (unopened to) known.fids }) out (Ok len)
+        (to_names newfid from words)
+    walk_set [] w qids to len some says way reads = absurd (some refl)
+    walk_set (name ∷ names) w qids to len some says way reads = record {
+      reply = r_walk qids;
+      says = says;
+      reads =
+          reads_as does holds score_of s s' (Ok w) (Ok tt) _ _ refl reads
+          (λ map walks right. (
+            right_with map known newfid (unopened to) right (record {
+              way = way_on map known.top (name ∷ names) from qids to (way map right) walks;
+              files = tt;
+            }),
+            (a_walk qids (Ok to), walks, refl),
+          ));
+      bytes = tt;
+      still = λ nothing. absurd nothing;
+      whole = λ never. absurd never;
+      failed_so = tt;
+    }
+
+    -- all of them lead on, and the fid is set there, or memory is short for it
+    pub walk_ends : (words : List (List ℕ)) (w : W) (qids : List Qid) (to : Place) (new : Known)
+        (result : Result ℕ Denied) → words ≢ []
+        → ((map : BlockMap) → IsRight map known → IsWay map known.top from.node from.above)
+        → Reads does holds score_of s s' (Ok w)
+        (λ map. Walks map (Ok from) words (a_walk qids (Ok to)))
+        → OnOk result (new ≡ record known { fids = with_fid newfid (unopened to) known.fids })
+        → IfOk result (λ len. Says tag (limit known) out len (r_walk qids))
+        → IfErr result (λ denied. denied ≡ Failed NoMemory) → OnErr result (new ≡ known)
+        → Handles does holds score_of s s' tag known new out result (to_names newfid from words)
+    walk_ends words w qids to new (Ok len) some way reads set says err same =
+        subst (λ (k : Known). Handles does holds score_of s s' tag known k out (Ok len)
+        (to_names newfid from words)) (sym set)
+        (walk_set words w qids to len some says way reads)
+    walk_ends words w qids to new (Err denied) some way reads set says err same =
+        subst (λ (k : Known). Handles does holds score_of s s' tag known k out (Err denied)
+        (to_names newfid from words)) (sym same)
+        (subst (λ (d : Denied). Handles does holds score_of s s' tag known known out (Err d)
+        (to_names newfid from words)) (sym err)
+        (walk_unset words w _ some reads))
+
+    -- a name leads nowhere
+    pub walk_stops : (words : List (List ℕ)) (w : W) (qids : List Qid) (why : Refusal)
+        (result : Result ℕ Denied) → words ≢ []
+        → EndsShort tag (limit known) out result qids why
+        → Reads does holds score_of s s' (Ok w)
+        (λ map. Walks map (Ok from) words (a_walk qids (Err why)))
+        → Handles does holds score_of s s' tag known known out result (to_names newfid from words)
+    walk_stops words w qids why (Ok len) some ends reads =
+        walk_short words w qids why len some ends.0 ends.1 reads
+    walk_stops words w qids why (Err denied) some ends reads =
+        subst (λ (d : Denied). Handles does holds score_of s s' tag known known out (Err d)
+        (to_names newfid from words)) (sym ends.1)
+        (walk_refused words w why some
+        (subst (λ (l : List Qid). Reads does holds score_of s s' (Ok w)
+        (λ map. Walks map (Ok from) words (a_walk l (Err why)))) ends.0 reads))
+
+pub no_names : (words : List (List ℕ)) → (length words == 0) ≡ true → words ≡ []
+no_names [] none = refl
+no_names (name ∷ names) none =
+    absurd (let e = eqb-true (length (name ∷ names)) 0 none in omega arith)
+
+pub some_names : (words : List (List ℕ)) → (length words == 0) ≡ false → words ≢ []
+some_names words some = λ is. eqb-false (length words) 0 some (ap (λ (l : List (List ℕ)). length l) is)
+
+-- ---- walks that ask for no block
+
+module _ {S : Type 0} (does : S → Call → S → Type 0) (holds : S → Maps → Type 0)
+    (score_of : List ℕ → List ℕ) (s : S) (tag : ℕ) (known : Known) (out : List ℕ) (newfid : ℕ)
+  where
+    -- a walk without names sets a fid at the same place
+    pub walk_still : (from : Place) (new : Known) (result : Result ℕ Denied)
+        → ((map : BlockMap) → IsRight map known → IsWay map known.top from.node from.above)
+        → OnOk result (new ≡ record known { fids = with_fid newfid (unopened from) known.fids })
+        → IfOk result (λ len. Says tag (limit known) out len (r_walk []))
+        → IfErr result (λ denied. denied ≡ Failed NoMemory) → OnErr result (new ≡ known)
+        → Handles does holds score_of s s tag known new out result (to_names newfid from [])
+    walk_still from new (Ok len) way set says err same =
+        subst (λ (k : Known). Handles does holds score_of s s tag known k out (Ok len)
+        (to_names newfid from [])) (sym set)
+        (sets_handles does holds score_of s tag known _ out (Ok len) newfid (unopened from) (r_walk [])
+        (record {
+          reply = r_walk [];
+          says = says;
+          done = refl;
+          right = λ map right. right_with map known newfid (unopened from) right
+              (record { way = way map right; files = tt });
+        }))
+    walk_still from new (Err denied) way set says err same =
+        subst (λ (k : Known). Handles does holds score_of s s tag known k out (Err denied)
+        (to_names newfid from [])) (sym same)
+        (subst (λ (d : Denied). Handles does holds score_of s s tag known known out (Err d)
+        (to_names newfid from [])) (sym err)
+        (no_memory does holds score_of s tag known out _ (λ never. never) tt))
+
+    unset_so : (at : Place) (words : List (List ℕ))
+        → Handles does holds score_of s s tag known known out (Err (Failed NoMemory))
+        (to_names newfid at words)
+    unset_so at [] = no_memory does holds score_of s tag known out _ (λ never. never) tt
+    unset_so at (name ∷ names) =
+        no_memory does holds score_of s tag known out _ (λ never. never) tt
+
+    -- it may not begin
+    pub walk_unbegun : (fid : ℕ) (words : List (List ℕ)) (denied : Denied)
+        → MayWalk known fid newfid (length words) (Err denied)
+        → Handles does holds score_of s s tag known known out (Err denied)
+        (of_fid known fid (to_walk known fid newfid words))
+    walk_unbegun fid words (Refused why) may =
+        subst (λ (a : Answer). Handles does holds score_of s s tag known known out (Err (Refused why)) a)
+        (sym (may words refl)) (refused_so does holds score_of s tag known out why)
+    walk_unbegun fid words (Failed bad) may =
+        let begun = may.1 words refl in
+        subst (λ (b : VacBad). Handles does holds score_of s s tag known known out (Err (Failed b))
+        (of_fid known fid (to_walk known fid newfid words))) (sym may.0)
+        (subst (λ (a : Answer). Handles does holds score_of s s tag known known out
+        (Err (Failed NoMemory)) a) (sym begun.1) (unset_so begun.0 words))

@@ -1,0 +1,103 @@
+-- What those do that answer one request each.
+use Rattle.std.specs.Prelude.{ℕ, ◌≡◌, ◌≢◌, ◌≤◌, IfSome, MatchOption, Option, Some, None, Result, Ok, Err, List, length, take}
+use Rattle.vt_tree.specs.Calls.{Call}
+use Rattle.vt_tree.specs.Maps.{BlockMap, Maps}
+use Rattle.vac_read.specs.declared.err.VacBad.{VacBad}
+use Rattle.vac_read.specs.declared.err.VacBad.TheVariants.{NoMemory}
+use Rattle.vac_read.specs.declared.node.Node.{Node}
+use Rattle.vac_read.specs.Broken.{IsBroken}
+use Rattle.vac_read.specs.Nodes.{Lists}
+use Rattle.vac_read.specs.Reading.{Reads}
+use Rattle.nine_wire.specs.Frames.{spelled}
+use Rattle.nine_wire.specs.Messages.{RMessage, r_error, FitsReply}
+use Rattle.nine_view.specs.declared.failure.Denied.{Denied}
+use Rattle.nine_view.specs.declared.fid.Fid.{Fid}
+use Rattle.nine_view.specs.declared.failure.Denied.TheVariants.{Refused, Failed}
+use Rattle.nine_view.specs.Answers.{Answer, settled, sets, Outcome, stays, sets_fid}
+use Rattle.nine_view.specs.Failures.{failure_words}
+use Rattle.nine_view.specs.Known.{Known, IsRight, limit, with_fid}
+use Rattle.nine_view.specs.Refusals.{words_of}
+use Rattle.nine_view.specs.Replies.{IsReply, AsksForBytes, AsksNothing, NeverFails, failed, fails}
+
+-- a reply stands in front of these bytes, which are so many
+pub record Says (tag limit : ℕ) (out : List ℕ) (len : ℕ) (reply : RMessage) : Type 0 where
+  pub fits : FitsReply reply
+  pub is : take len out ≡ spelled tag reply
+  pub len_is : len ≡ length (spelled tag reply)
+  pub short : len ≤ limit
+
+-- the reply was said, or is an error that is still to be said
+abbrev pub SaysSo : (tag limit : ℕ) → (out : List ℕ) → Result ℕ Denied → RMessage → Type 0
+SaysSo tag limit out (Ok len) reply = Says tag limit out len reply
+SaysSo tag limit out (Err (Refused why)) reply = reply ≡ r_error (words_of why)
+SaysSo tag limit out (Err (Failed bad)) reply = reply ≡ r_error (failure_words limit bad)
+
+-- why the archive failed, if it did
+abbrev pub failure_of : Result ℕ Denied → Option VacBad
+failure_of (Ok len) = None
+failure_of (Err (Refused why)) = None
+failure_of (Err (Failed bad)) = Some bad
+
+-- what is settled was said, or is an error that is still to be said
+pub record Settles (tag : ℕ) (old new : Known) (out : List ℕ) (result : Result ℕ Denied)
+    (outcome : Outcome) : Type 0 where
+  pub says : SaysSo tag (limit old) out result outcome.reply
+  pub known : new ≡ outcome.known
+  pub whole : failure_of result ≡ None
+  pub right : (map : BlockMap) → IsRight map old → IsRight map new
+
+-- a request was answered so
+pub record Handles {S : Type 0} (does : S → Call → S → Type 0) (holds : S → Maps → Type 0)
+    (score_of : List ℕ → List ℕ) (s s' : S) (tag : ℕ) (old new : Known) (out : List ℕ)
+    (result : Result ℕ Denied) (answer : Answer) : Type 0 where
+  pub reply : RMessage
+  pub says : SaysSo tag (limit old) out result reply
+  pub reads : Reads does holds score_of s s' (failed (failure_of result))
+      (λ map. IsRight map old → IsRight map new
+      × IsReply map old answer (failure_of result) (record { reply = reply; known = new }))
+  pub bytes : AsksForBytes does holds score_of s s' answer
+  pub still : AsksNothing answer → (s' ≡ s) × ((map : BlockMap)
+      → IsReply map old answer (failure_of result) (record { reply = reply; known = new }))
+  pub whole : NeverFails answer → failure_of result ≡ None
+  pub failed_so : IfSome (failure_of result) (λ bad. stays new reply ≡ fails old bad)
+
+abbrev pub SettlesSo : (tag : ℕ) → (old new : Known) → (out : List ℕ) → Result ℕ Denied → Answer
+    → Type 0
+SettlesSo tag old new out result (settled outcome) = Settles tag old new out result outcome
+SettlesSo tag old new out result answer = ⊥
+
+-- what the fid's setting came to, for which memory was there, or wasn't
+pub record Sets (tag : ℕ) (old new : Known) (out : List ℕ) (result : Result ℕ Denied)
+    (outcome : Outcome) : Type 0 where
+  pub reply : RMessage
+  pub says : SaysSo tag (limit old) out result reply
+  pub done : MatchOption (failure_of result)
+      (record { reply = reply; known = new } ≡ outcome)
+      (λ bad. (bad ≡ NoMemory) × (new ≡ old))
+  pub right : (map : BlockMap) → IsRight map old → IsRight map new
+
+abbrev pub SetsFid : (tag : ℕ) → (old new : Known) → (out : List ℕ) → Result ℕ Denied → Answer
+    → Type 0
+SetsFid tag old new out result (settled outcome) = Settles tag old new out result outcome
+SetsFid tag old new out result (sets fid f reply) =
+    Sets tag old new out result (sets_fid old fid f reply)
+SetsFid tag old new out result answer = ⊥
+
+-- The files of an open folder are kept, if they weren't: they were listed, unless the archive
+-- failed.
+abbrev pub KeepsFiles : {S : Type 0} → (does : S → Call → S → Type 0) → (holds : S → Maps → Type 0)
+    → (score_of : List ℕ → List ℕ) → (s s' : S) → (old new : Known) → (fid : ℕ) → Fid
+    → Result (Unit {0}) VacBad → Option (List Node) → Type 0
+KeepsFiles does holds score_of s s' old new fid f result (Some files) =
+    (result ≡ Ok tt) × (s' ≡ s) × (new ≡ old)
+KeepsFiles does holds score_of s s' old new fid f (Ok done) None =
+    (files : List Node)
+    × (new ≡ record old {
+      fids = with_fid fid (record f { files = Some files }) old.fids;
+    })
+    × Reads {X = Unit {0}} does holds score_of s s' (Ok done)
+    (λ map. Lists map f.node.stored files)
+KeepsFiles does holds score_of s s' old new fid f (Err bad) None =
+    (new ≡ old)
+    × Reads {X = Unit {0}} does holds score_of s s' (Err bad)
+    (λ map. bad ≢ NoMemory → IsBroken map f.node.stored bad)

@@ -1,0 +1,58 @@
+-- What a view of an archive knows between two messages of its client.
+use Rattle.std.specs.Prelude.{ℕ, ◌≡◌, ◌==◌, ⊤, if◌then◌else◌, Bool, is_some, Option, Some, None, unwrap_or, List, [], ◌∷◌, find}
+use Rattle.std.specs.List.{AllByRecursion}
+use Rattle.std.specs.Option.{option_map}
+use Rattle.vt_tree.specs.Maps.{BlockMap}
+use Rattle.vac_read.specs.declared.node.Node.{Node}
+use Rattle.vac_read.specs.Nodes.{Finds, Lists}
+use Rattle.nine_view.specs.declared.TheConstants.{MAX_MESSAGE}
+use Rattle.nine_view.specs.declared.fid.Fid.{Fid}
+
+-- the top folder; the agreed size of messages, where a version is agreed; and the fids that the
+-- client has set, each with its file
+pub record Known : Type 0 where
+  pub top : Node
+  pub msize : Option ℕ
+  pub fids : List (ℕ × Fid)
+
+-- the most bytes that a message may have now
+abbrev pub limit : Known → ℕ
+limit known = unwrap_or known.msize MAX_MESSAGE
+
+-- ---- fids
+
+abbrev pub fid_at : (fid : ℕ) → List (ℕ × Fid) → Option Fid
+fid_at fid fids = option_map (λ e. e.1) (find (λ e. e.0 == fid) fids)
+
+abbrev pub is_known : (fid : ℕ) → List (ℕ × Fid) → Bool
+is_known fid fids = is_some (fid_at fid fids)
+
+-- with this fid set, whether it was or not
+abbrev pub with_fid : (fid : ℕ) → Fid → List (ℕ × Fid) → List (ℕ × Fid)
+with_fid fid f [] = (fid, f) ∷ []
+with_fid fid f (e ∷ fids) = if e.0 == fid then (fid, f) ∷ fids else e ∷ with_fid fid f fids
+
+abbrev pub without_fid : (fid : ℕ) → List (ℕ × Fid) → List (ℕ × Fid)
+without_fid fid [] = []
+without_fid fid (e ∷ fids) = if e.0 == fid then fids else e ∷ without_fid fid fids
+
+-- ---- what is right by an archive
+
+-- a file is found in the folder above it, that one in the next, and the last is the top folder
+abbrev pub IsWay : BlockMap → (top node : Node) → (above : List Node) → Type 0
+IsWay map top node [] = node ≡ top
+IsWay map top node (up ∷ above) =
+    ((name : List ℕ) × Finds map up.stored name (Some node)) × IsWay map top up above
+
+-- the files that are kept of an open folder are those in it
+abbrev pub AreFiles : BlockMap → Node → Option (List Node) → Type 0
+AreFiles map node None = ⊤
+AreFiles map node (Some files) = Lists map node.stored files
+
+pub record IsRightFid (map : BlockMap) (top : Node) (f : Fid) : Type 0 where
+  pub way : IsWay map top f.node f.above
+  pub files : AreFiles map f.node f.files
+
+-- what a view knows of the files of its fids is what the archive has
+abbrev pub IsRight : BlockMap → Known → Type 0
+IsRight map known = AllByRecursion (λ e. IsRightFid map known.top e.1) known.fids

@@ -1,0 +1,12 @@
+pub mod Failures
+pub mod Files
+pub mod Known
+pub mod Refusals
+pub mod Walks
+pub mod Answers
+pub mod Replies
+pub mod Serving
+pub mod Kept
+pub mod Handling
+pub mod Walking
+pub mod Hearing

@@ -1,0 +1,65 @@
+-- What the steps of a walk tell.
+use Rattle.std.specs.Prelude.{ℕ, ◌≡◌, ◌≢◌, ◌<◌, ◌^◌, map, MatchBool, true, false, Option, Some, None, Result, Ok, Err, List, [], length}
+use Rattle.std.specs.List.{AllByRecursion}
+use Rattle.std.specs.Str.{bytes_eq}
+use Rattle.vt_tree.specs.Maps.{BlockMap}
+use Rattle.vac_read.specs.declared.err.VacBad.{VacBad}
+use Rattle.vac_read.specs.declared.err.VacBad.TheVariants.{NoMemory}
+use Rattle.vac_read.specs.Broken.{IsUnfound}
+use Rattle.vac_read.specs.Reading.{Answers}
+use Rattle.nine_wire.specs.declared.stat.Qid as wire
+use Rattle.nine_wire.specs.Messages.{Qid, r_walk}
+use Rattle.nine_wire.specs.Views.{qid_of as wire_qid}
+use Rattle.nine_view.specs.declared.failure.Denied.{Denied}
+use Rattle.nine_view.specs.declared.failure.Denied.TheVariants.{Refused, Failed}
+use Rattle.nine_view.specs.declared.place.Place.{Place}
+use Rattle.nine_view.specs.declared.refusal.Refusal.{Refusal}
+use Rattle.nine_view.specs.declared.walking.Walked.{Walked}
+use Rattle.nine_view.specs.Answers.{Answer, of_fid, to_walk, to_names, refused}
+use Rattle.nine_view.specs.Files.{IsTold}
+use Rattle.nine_view.specs.Handling.{Says}
+use Rattle.nine_view.specs.Known.{Known}
+use Rattle.nine_view.specs.Walks.{Walk, Walks, IsLost, StepsTo, dots}
+
+pub record IsToldPlace (at : Place) : Type 0 where
+  pub node : IsTold at.node
+  pub above : AllByRecursion IsTold at.above
+
+-- the numbers of files have room in a message
+abbrev pub AreQids : List wire.Qid → Type 0
+AreQids qids = AllByRecursion (λ q. q.path < 2 ^ 64) (map wire_qid qids)
+
+-- the qids on the way were told, or, where there are none, why the first name leads nowhere
+abbrev pub EndsShort : (tag limit : ℕ) → (out : List ℕ) → Result ℕ Denied → (qids : List Qid)
+    → Refusal → Type 0
+EndsShort tag limit out (Ok len) qids why = (qids ≢ []) × Says tag limit out len (r_walk qids)
+EndsShort tag limit out (Err denied) qids why = (qids ≡ []) × (denied ≡ Refused why)
+
+-- a walk of these names begins there, or is refused
+abbrev pub MayWalk : Known → (fid newfid names : ℕ) → Result Place Denied → Type 0
+MayWalk known fid newfid names (Ok at) =
+    (words : List (List ℕ)) → length words ≡ names
+    → of_fid known fid (to_walk known fid newfid words) ≡ to_names newfid at words
+MayWalk known fid newfid names (Err (Refused why)) =
+    (words : List (List ℕ)) → length words ≡ names
+    → of_fid known fid (to_walk known fid newfid words) ≡ refused known why
+MayWalk known fid newfid names (Err (Failed bad)) =
+    (bad ≡ NoMemory) × ((words : List (List ℕ)) → length words ≡ names
+    → (at : Place) × (of_fid known fid (to_walk known fid newfid words) ≡ to_names newfid at words))
+
+-- why it can't be told where one name leads
+abbrev pub StepIsLost : BlockMap → Place → (name : List ℕ) → VacBad → Type 0
+StepIsLost map at name bad =
+    (bytes_eq name dots ≡ false) × IsUnfound map at.node.stored name bad
+
+abbrev pub TellsStep : Place → (name : List ℕ) → Result (Result Place Refusal) VacBad → BlockMap
+    → Type 0
+TellsStep at name result map = Answers result (StepsTo map at name) (StepIsLost map at name)
+
+abbrev pub walk_of : Walked → Walk
+walk_of walked = record { qids = map wire_qid walked.qids.items; end = walked.end }
+
+abbrev pub TellsWalk : Place → (names : List (List ℕ)) → Result Walked VacBad → BlockMap → Type 0
+TellsWalk from names result map =
+    Answers result (λ walked. Walks map (Ok from) names (walk_of walked))
+    (IsLost map (Ok from) names)

@@ -1,0 +1,185 @@
+//! Reading files and folders (read(5)).
+
+ghost use Rattle.std.specs.Prelude.{◌≡◌, ◌≢◌, ◌==◌, ◌&&◌, ◌+◌, ◌≤◌, not, nat_lt, List, Some};
+ghost use Rattle.std.specs.Prelude.{IfNone, IfSome, IsSome, length, drop};
+ghost use Rattle.vac_read.specs.declared.node.Node.{Node};
+ghost use Rattle.nine_view.specs.declared.fid.Fid.{Fid};
+ghost use Rattle.nine_view.specs.declared.fid.Reading.{Reading};
+ghost use Rattle.nine_view.specs.Answers.{first_file, of_fid, reads_files, to_folder, to_read};
+ghost use Rattle.nine_view.specs.Handling.{Handles, KeepsFiles, Settles};
+ghost use Rattle.nine_view.specs.Known.{fid_at, limit};
+
+use crate::failure::{Denied, first};
+use crate::fids::Fids;
+use crate::stats::put_files;
+use crate::{Reading, Refusal, View};
+use nine_wire::{Reply, encode};
+use std::alloc::Global;
+use vac_read::{Node, Stored, VacBad, list, read};
+use vt_tree::Blocks;
+
+impl View {
+    /// Answers a read of at most so many bytes.
+    pub(crate) fn read<B: Blocks>(
+        &mut self,
+        alloc: Global,
+        blocks: &mut B,
+        tag: u16,
+        fid: u32,
+        offset: u64,
+        room: u32,
+        out: &mut [u8],
+    ) -> Result<usize, Denied>
+        requires room { room + 24 ≤ limit self.old }
+        requires agreed { IsSome self.old.msize }
+        requires out { length out.old ≡ 65536 }
+        ensures { Handles B.does B.holds B.score_of blocks.old blocks.new tag self.old self.new
+            out.new result
+            (of_fid self.old fid (λ f. to_read self.old fid offset room f f.reading)) }
+    {
+        let Some(f) = self.fids.get(fid) else {
+            return Err(Refusal::UnknownFid.into());
+        };
+        let Some(reading) = f.reading else {
+            return Err(Refusal::FidNotOpen.into());
+        };
+        match f.node.stored {
+            Stored::File(_) => {
+                let bytes = read(alloc, blocks, &f.node, offset, room)?;
+                let told = first(bytes.as_slice(), room as usize);
+                Ok(encode(tag, &Reply::Read(told), out))
+            }
+            Stored::Folder { .. } => {
+                if is_bad_offset(&reading, offset) {
+                    return Err(Refusal::BadOffset.into());
+                }
+                self.read_folder(alloc, blocks, tag, fid, offset, room as usize, out)
+            }
+        }
+    }
+
+    /// Answers a read of an open folder, of which the files are kept once they are listed.
+    fn read_folder<B: Blocks>(
+        &mut self,
+        alloc: Global,
+        blocks: &mut B,
+        tag: u16,
+        fid: u32,
+        offset: u64,
+        room: usize,
+        out: &mut [u8],
+    ) -> Result<usize, Denied>
+        requires room { room + 24 ≤ limit self.old }
+        requires out { length out.old ≡ 65536 }
+        ensures { (f : Fid) (r : Reading) → fid_at fid self.old.fids ≡ Some f
+            → f.reading ≡ Some r → Handles B.does B.holds B.score_of blocks.old blocks.new tag
+            self.old self.new out.new result
+            (to_folder self.old fid f r offset room f.files) }
+    {
+        self.list_files(alloc, blocks, fid)?;
+        self.tell_files(tag, fid, offset, room, out)
+    }
+
+    /// Lists the files of an open folder, unless they are kept.
+    fn list_files<B: Blocks>(
+        &mut self,
+        alloc: Global,
+        blocks: &mut B,
+        fid: u32,
+    ) -> Result<(), VacBad>
+        ensures keeps { (f : Fid) → fid_at fid self.old.fids ≡ Some f
+            → KeepsFiles B.does B.holds B.score_of blocks.old blocks.new
+            self.old self.new fid f result f.files }
+        ensures msize { self.new.msize ≡ self.old.msize }
+    {
+        let Some(f) = self.fids.get(fid) else {
+            return Ok(());
+        };
+        if f.files.is_some() {
+            return Ok(());
+        }
+        let files = list(alloc, blocks, &f.node)?;
+        self.fids.keep(fid, files);
+        Ok(())
+    }
+
+    /// Tells of the files of an open folder, from its start on or from where the last read ended.
+    fn tell_files(
+        &mut self,
+        tag: u16,
+        fid: u32,
+        offset: u64,
+        room: usize,
+        out: &mut [u8],
+    ) -> Result<usize, Denied>
+        requires room { room + 24 ≤ limit self.old }
+        requires out { length out.old ≡ 65536 }
+        ensures { (f : Fid) (r : Reading) (files : List Node) → fid_at fid self.old.fids ≡ Some f
+            → f.reading ≡ Some r → f.files ≡ Some files
+            → Settles tag self.old self.new out.new result
+            (reads_files self.old fid f r offset room files) }
+    {
+        let Some((files, reading)) = listed(&self.fids, fid) else {
+            return Err(Refusal::FidNotOpen.into());
+        };
+        let all = count_of(files);
+        let from = first_file(&reading, offset);
+        let (count, len) = put_files(behind(files, from), room, &mut self.stats);
+        if is_small(count, from, all) {
+            return Err(Refusal::SmallCount.into());
+        }
+        let reading = Reading {
+            next: from + count,
+            offset: u128::from(offset) + len as u128,
+        };
+        self.fids.set_reading(fid, reading);
+        Ok(encode(tag, &Reply::Read(&self.stats[..len]), out))
+    }
+}
+
+/// The files of an open folder, where they are kept, and how far it was read.
+fn listed(fids: &Fids, fid: u32) -> Option<(&[Node], Reading)>
+    ensures some { IfSome result (λ l. (f : Fid) × (fid_at fid fids.now ≡ Some f)
+        × (f.files ≡ Some l.0.now) × (f.reading ≡ Some l.1)) }
+    ensures none { IfNone result ((f : Fid) (r : Reading) (files : List Node)
+        → fid_at fid fids.now ≡ Some f → f.reading ≡ Some r → f.files ≢ Some files) }
+{
+    let f = fids.get(fid)?;
+    let files = f.files.as_ref()?;
+    let reading = f.reading?;
+    Some((files.as_slice(), reading))
+}
+
+/// Whether a folder is read neither from its start nor from where the last read ended.
+fn is_bad_offset(reading: &Reading, offset: u64) -> bool
+    ensures { result ≡ (not (offset == 0) && not (offset == reading.now.offset)) }
+{
+    offset != 0 && u128::from(offset) != reading.offset
+}
+
+/// The number of the file with which a read begins: the first one, or the next.
+fn first_file(reading: &Reading, offset: u64) -> usize
+    ensures { result ≡ first_file reading.now offset }
+{
+    if offset == 0 { 0 } else { reading.next }
+}
+
+/// Whether there are files from this number on, of so many, and not one of them was told.
+fn is_small(count: usize, from: usize, files: usize) -> bool
+    ensures { result ≡ (count == 0 && nat_lt from files) }
+{
+    count == 0 && from < files
+}
+
+fn count_of(files: &[Node]) -> usize
+    ensures { result ≡ length files.now }
+{
+    files.len()
+}
+
+/// The files from this number on.
+fn behind(files: &[Node], from: usize) -> &[Node]
+    ensures { result.now ≡ drop from files.now }
+{
+    &files[from.min(files.len())..]
+}

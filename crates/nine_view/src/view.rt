@@ -1,0 +1,65 @@
+//! What a view of an archive keeps.
+
+ghost use Rattle.std.specs.Prelude.{◌≡◌, ◌≤◌, None, [], IfOk, unwrap_or};
+ghost use Rattle.nine_view.specs.Files.{IsTold};
+ghost use Rattle.nine_view.specs.Known.{limit};
+
+use crate::MAX_MESSAGE;
+use crate::fids::Fids;
+use std::alloc::Global;
+use std::marker::Model;
+use vac_read::{Archive, Node};
+use vt_base::NoMemory;
+
+/// An archive as a tree of files, and what its client has said so far: the size of messages that
+/// is agreed, and the fids that it has set.
+#[derive(Drop)]
+pub struct View {
+    pub(crate) top: Node,
+    pub(crate) msize: Option<u32>,
+    pub(crate) fids: Fids,
+    /// Room for what a folder tells of its files.
+    pub(crate) stats: Vec<u8>,
+}
+
+impl Model for View {
+    ghost use Rattle.std.specs.Prelude.{◌≡◌, length};
+    ghost use Rattle.nine_view.specs.Known.{Known};
+
+    ghost Value = { Known };
+
+    ghost use Rattle.nine_view.specs.Kept.{IsKept};
+
+    ghost view = { λ v. record { top = v.top; msize = v.msize; fids = v.fids } };
+
+    ghost invariant = { λ v. (length v.stats.items ≡ 65536)
+        × IsKept (record { top = v.top; msize = v.msize; fids = v.fids }) };
+}
+
+impl View {
+    /// No version is agreed, and no fid is set. The buffer's memory is taken here.
+    pub fn new(alloc: Global, archive: Archive) -> Result<Self, NoMemory>
+        requires { IsTold archive.top }
+        ensures { IfOk result (λ view.
+            view ≡ record { top = archive.top; msize = None; fids = [] }) }
+    {
+        Ok(View {
+            top: archive.top,
+            msize: None,
+            fids: Fids::new(alloc),
+            stats: vec![in alloc; 0; MAX_MESSAGE]?,
+        })
+    }
+
+    /// The most bytes that a message may have now.
+    pub fn limit(&self) -> usize
+        ensures is { result ≡ limit self.now }
+        ensures least { 256 ≤ result }
+        ensures most { result ≤ 65536 }
+    {
+        match self.msize {
+            Some(msize) => msize as usize,
+            None => MAX_MESSAGE,
+        }
+    }
+}
