@@ -1,5 +1,5 @@
 -- Calls of a store of blocks, as what the store is asked for.
-use Rattle.std.proofs.Common.{◌≡◌, List, [], ◌∷◌, Result, ap}
+use Rattle.std.proofs.Common.{List, [], ◌∷◌, Result}
 use Rattle.vt_base.specs.Protocol.{Operation, RMessage}
 use Rattle.vt_base.specs.declared.why.Why.{Why}
 use Rattle.vt_local.specs.Members.{StoreOf}
@@ -16,7 +16,8 @@ module _ {S : Type 0} (T : StoreOf S) where
   one_asked l l' (sync answer) d = d.once
 
   -- each call asks the store for one thing, and nothing else is asked for
-  unfoldable pub asked_so : (l l' : LocalState S) (calls : List Call) → Makes (DoesLocal T) l calls l'
+  unfoldable pub asked_so : (l l' : LocalState S) (calls : List Call)
+      → Makes (DoesLocal T) l calls l'
       → (asked : List (Operation × Result RMessage Why)) × DoesCalls T l.store asked l'.store
   asked_so l l' [] same = ([], λ i. (same i).store)
   asked_so l l' (call ∷ calls) made =

@@ -1,9 +1,9 @@
 -- Why a store failed while a folder was archived into it, whatever its devices hold.
-use Rattle.std.proofs.Common.{◌≡◌, inl, inr, ℕ, ◌<◌, ◌^◌, ◌-◌, Bool, cond, Option, Some, None, Result, Ok, Err, List, [], ◌∷◌, ◌++◌, refl, sym, ◌∙◌, ap, subst}
+use Rattle.std.proofs.Common.{◌≡◌, inl, inr, ℕ, ◌<◌, ◌^◌, ◌-◌, Bool, cond, Option, Some, None, Result, Ok, Err, List, [], ◌∷◌, refl, sym, ◌∙◌, ap, subst}
 use Rattle.std.specs.List.{All}
 use Rattle.std.specs.Option.{option_or}
-use Rattle.std.specs.Prelude.{IfErr, IfOk, IfSome}
-use Rattle.vt_base.specs.Protocol.{Operation, RMessage}
+use Rattle.std.specs.Prelude.{IfErr, IfSome}
+use Rattle.vt_base.specs.Protocol.{RMessage}
 use Rattle.vt_base.specs.declared.why.Why.{Why}
 use Rattle.vt_disk.specs.Members.{DiskOf}
 use Rattle.vt_folder.specs.declared.item.Facts.{Facts}
@@ -14,7 +14,7 @@ use Rattle.vt_tree.specs.Calls.{Call, get, put, sync, refusal_of}
 use Rattle.vt_tree.specs.Making.{Makes, EndsBy}
 use Rattle.vt_local.specs.Members.{StoreOf}
 use Rattle.vt_answer.specs.Serving.{failure_of, tells_failure}
-use Rattle.vt_answer.specs.Taking.{DoesCalls, DoesSome, first_told}
+use Rattle.vt_answer.specs.Taking.{DoesSome, first_told}
 use Rattle.vt_core.specs.Core.{CoreState, history_len, stops_of}
 use Rattle.vt_alone.specs.Sessions.{FailsFor, MakesRun, at_time, store_on}
 use Rattle.vt_alone.proofs.Causes.{by_failure, if_closed, if_failure}
@@ -23,7 +23,7 @@ use Rattle.vt_local.specs.Local.{DoesLocal, HoldsLocal, LocalState, StandsFor, r
 use Rattle.vac_write.specs.declared.archived.Archived.{Archived}
 use Rattle.vac_write.specs.declared.err.VacErr.{VacErr}
 use Rattle.vac_write.specs.declared.err.VacErr.TheVariants.{FolderFault, Tree, BadName, TooDeep, NoMemory}
-use Rattle.vac_write.specs.Archiving.{WritesArchive, GivesUpArchive}
+use Rattle.vac_write.specs.Archiving.{GivesUpArchive}
 use Rattle.vac_store.specs.declared.outcome.ArchiveBad.{ArchiveBad}
 use Rattle.vac_store.specs.declared.outcome.StoredArchive.{StoredArchive}
 use Rattle.vac_store.specs.Storing.{ArchivesInto, FailsAs, begun, came_to, told}
@@ -123,8 +123,9 @@ module _ {D : Type 0} (score : List ℕ → List ℕ) (disk : DiskOf D)
       (run_tells disk fits score it.kept.store.core new end_run) it.ends.cause
 
   pub archive_fails : IfErr result (λ bad. FailsAs disk bad old new)
-  archive_fails = subst (λ (r : Result StoredArchive ArchiveBad). IfErr r (λ bad. FailsAs disk bad old new))
-      (sym it.result_is) (of it.answer (history_len new - history_len old) it.gives_up it.closed closed_fails)
+  archive_fails = subst (λ (r : Result StoredArchive ArchiveBad).
+      IfErr r (λ bad. FailsAs disk bad old new)) (sym it.result_is)
+      (of it.answer (history_len new - history_len old) it.gives_up it.closed closed_fails)
     where
       given : (err : VacErr) (refused : Option Why)
           → GivesUpArchive (DoesLocal (store_on score disk))

@@ -1,5 +1,5 @@
 -- A folder that was archived stands in the store.
-use Rattle.std.proofs.Common.{◌≡◌, ℕ, ◌≤◌, Option, Some, None, Result, Ok, Err, IsTrue, List, [], ◌∷◌, ◌++◌, length, map, take, refl, sym, ◌∙◌, ap, subst, arith, append-nil}
+use Rattle.std.proofs.Common.{◌≡◌, ℕ, Option, Some, None, Result, Ok, Err, IsTrue, List, [], ◌++◌, length, map, take, refl, sym, ◌∙◌, ap, subst, arith, append-nil}
 use Rattle.std.specs.Prelude.{◌+◌, ◌-◌, Bool, IfErr, IfOk, IfSome}
 use Rattle.vt_base.specs.Protocol.{Operation}
 use Rattle.vt_base.specs.declared.why.Why.{Why}
@@ -241,7 +241,8 @@ module _ {D : Type 0} (score : List ℕ → List ℕ) (disk : DiskOf D)
           (Stored w.seen all_asked None so)) (sym is) (done it.closed refl))
 
     -- it was given up
-    gave_so : (err : VacErr) → GivesUpArchive Does Has score (begun now old) it.kept bsize is_seen err
+    gave_so : (err : VacErr)
+        → GivesUpArchive Does Has score (begun now old) it.kept bsize is_seen err
         → result ≡ Err (told err it.kept.refused)
         → KeepsFolder score disk bsize is_seen result h old new
     gave_so err gave is = keeps_so gave.seen (gave.rest ≡ []) (refusal_of err) so gave.is

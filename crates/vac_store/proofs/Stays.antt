@@ -1,5 +1,5 @@
 -- What archiving a folder leaves as it is, and that it is a run of events.
-use Rattle.std.proofs.Common.{◌≡◌, ℕ, List, [], ◌∷◌, None, Result, Ok, Err, refl}
+use Rattle.std.proofs.Common.{ℕ, List, None, Result, Ok, Err, refl}
 use Rattle.std.specs.Prelude.{IfErr, IfOk}
 use Rattle.vt_base.specs.Protocol.{Operation, RMessage}
 use Rattle.vt_base.specs.declared.why.Why.{Why}
@@ -11,12 +11,11 @@ use Rattle.vt_tree.specs.Making.{Makes}
 use Rattle.vt_answer.specs.Taking.{DoesCalls, DoesSome, first_told}
 use Rattle.vt_core.specs.Core.{CoreState}
 use Rattle.vt_drive.specs.Answers.{KeepsAll}
-use Rattle.vt_drive.specs.Driven.{DrivenState}
 use Rattle.vt_drive.proofs.WorkDone.{keeps_on}
 use Rattle.vt_alone.specs.Sessions.{MakesRun, at_time, store_on}
 use Rattle.vt_alone.proofs.Keeps.{asked_keeps}
 use Rattle.vt_alone.proofs.Runs.{calls_run, run_more}
-use Rattle.vt_local.specs.Local.{DoesLocal, HoldsLocal, LocalState}
+use Rattle.vt_local.specs.Local.{DoesLocal, HoldsLocal}
 use Rattle.vac_write.specs.declared.archived.Archived.{Archived}
 use Rattle.vac_write.specs.declared.err.VacErr.{VacErr}
 use Rattle.vac_write.specs.Archiving.{WritesArchive, GivesUpArchive}
@@ -26,8 +25,8 @@ use Rattle.vac_store.specs.Storing.{ArchivesInto, begun}
 use Rattle.vac_store.proofs.Asked.{asked_so}
 
 module _ {D : Type 0} (score : List ℕ → List ℕ) (disk : DiskOf D) (now bsize : ℕ)
-    (is_seen : Items Facts → Type 0) (result : Result StoredArchive ArchiveBad) (old new : CoreState D)
-    (it : ArchivesInto score disk now bsize is_seen result old new) where
+    (is_seen : Items Facts → Type 0) (result : Result StoredArchive ArchiveBad)
+    (old new : CoreState D) (it : ArchivesInto score disk now bsize is_seen result old new) where
   -- what was asked of the store, whatever came of it
   abbrev Asked : Type 0
   Asked = (calls : List Call)

@@ -46,10 +46,12 @@ pub stored_so : {D : Type 0} (score : List ℕ → List ℕ) (disk : DiskOf D) (
     (result : Result StoredArchive ArchiveBad)
     → UsesFor score disk open_told conf now bsize is_seen result old new → faults' ≡ faults
     → ArchivesStored score disk open_told conf now bsize is_seen old new faults faults' result
-stored_so score disk open_told conf now bsize is_seen old new faults faults' (Ok s) x same = (x, same)
-stored_so score disk open_told conf now bsize is_seen old new faults faults' (Err (Folder err)) x same =
-    (x, same)
-stored_so score disk open_told conf now bsize is_seen old new faults faults' (Err (Refused why)) x same =
-    (x, same)
-stored_so score disk open_told conf now bsize is_seen old new faults faults' (Err (Unopened bad)) x same =
-    absurd (came_opened x.does.answer x.does.kept.refused _ x.does.closed bad x.does.result_is)
+stored_so score disk open_told conf now bsize is_seen old new faults faults'
+    (Ok s) x same = (x, same)
+stored_so score disk open_told conf now bsize is_seen old new faults faults'
+    (Err (Folder err)) x same = (x, same)
+stored_so score disk open_told conf now bsize is_seen old new faults faults'
+    (Err (Refused why)) x same = (x, same)
+stored_so score disk open_told conf now bsize is_seen old new faults faults'
+    (Err (Unopened bad)) x same = absurd (came_opened x.does.answer x.does.kept.refused _
+    x.does.closed bad x.does.result_is)

@@ -1,7 +1,7 @@
 -- What a store holds behind the calls of an archiving.
-use Rattle.std.proofs.Common.{◌≡◌, ◌⊎◌, ⊎_elim, inl, inr, ℕ, Bool, true, Option, Some, None, Result, Ok, Err, IsTrue, List, [], ◌∷◌, ◌++◌, map, refl, sym, ◌∙◌, ap, subst}
+use Rattle.std.proofs.Common.{◌≡◌, ⊎_elim, inl, inr, ℕ, Option, Some, None, Result, Ok, Err, IsTrue, List, [], ◌∷◌, ◌++◌, map, refl, sym, ◌∙◌, ap, subst}
 use Rattle.std.specs.Prelude.{IfSome}
-use Rattle.vt_base.specs.Protocol.{Operation, RMessage, read, write, sync as sync_all, r_sync, r_write, r_refused, text_of}
+use Rattle.vt_base.specs.Protocol.{Operation, RMessage, write, sync as sync_all, r_sync, r_write, r_refused, text_of}
 use Rattle.vt_base.specs.declared.score.Score.{Score}
 use Rattle.vt_base.specs.declared.why.Why.{Why}
 use Rattle.vt_disk.specs.Members.{DiskOf}
@@ -10,7 +10,7 @@ use Rattle.vt_model.specs.History.{Accepted, Block, History, held}
 use Rattle.vt_model.specs.Places.{Setup}
 use Rattle.vt_model.proofs.Added.{added-refused}
 use Rattle.vt_tree.specs.declared.err.BlockErr.{BlockErr}
-use Rattle.vt_tree.specs.Calls.{Call, get, put, sync, asked_of, write_of, refusal_of}
+use Rattle.vt_tree.specs.Calls.{Call, get, put, sync, asked_of, write_of}
 use Rattle.vt_tree.specs.Making.{Makes, EndsBy}
 use Rattle.vt_tree.specs.MapLaws.{Same, block_same}
 use Rattle.vt_tree.specs.Maps.{with_block, with_blocks}
@@ -20,7 +20,7 @@ use Rattle.vt_core.specs.Sound.{IsSound}
 use Rattle.vt_drive.specs.Driven.{DrivenState, DoesRequest}
 use Rattle.vt_alone.specs.Sessions.{store_on}
 use Rattle.vt_single.specs.Single.{HasFailed, written_to}
-use Rattle.vt_single.proofs.Goes.{Goes, GoesOnTo, goes}
+use Rattle.vt_single.proofs.Goes.{Goes, goes}
 use Rattle.vt_local.specs.Local.{DoesLocal, LocalState, refused_after}
 use Rattle.vac_store.specs.Storing.{IsRefusedFor, all_written}
 use Rattle.vac_store.proofs.Last.{IsLastOr, ends_so, not_ended}
@@ -62,7 +62,8 @@ module _ {D : Type 0} (score : List ℕ → List ℕ) (disk : DiskOf D) (tells :
       it.stands it.once in
       of (goes score disk m reply l.store l'.store h tells sound refl request) request
     where
-      of : Goes score disk (write b.kind b.bytes) (Ok (r_write given.0)) h l.store.core l'.store.core
+      of : Goes score disk (write b.kind b.bytes) (Ok (r_write given.0)) h l.store.core
+          l'.store.core
           → DoesRequest score disk (write b.kind b.bytes) (Ok (r_write given.0)) l.store l'.store
           → TakesIn b h l l'
       of went request = ⊎_elim
@@ -135,8 +136,8 @@ module _ {D : Type 0} (score : List ℕ → List ℕ) (disk : DiskOf D) (tells :
 
   -- ---- all of them
 
-  -- What the store holds behind calls, of which the first so many blocks were taken in, and the last
-  -- was refused so, if it was.
+  -- What the store holds behind calls, of which the first so many blocks were taken in, and the
+  -- last was refused so, if it was.
   pub record Holds (blocks : List Block) (none_left : Type 0) (err : Option BlockErr) (h : History)
       (l l' : State) : Type 0 where
     pub put : List Block
@@ -174,7 +175,8 @@ module _ {D : Type 0} (score : List ℕ → List ℕ) (disk : DiskOf D) (tells :
   -- one more in front
   holds_more : (b : Block) (blocks : List Block) (none_left : Type 0) (err : Option BlockErr)
       (h : History) (l mid l' : State) → TakesIn b h l mid
-      → Holds blocks none_left err (written_to score (setup_of l.store.core) h b.kind b.bytes) mid l'
+      → Holds blocks none_left err (written_to score (setup_of l.store.core) h b.kind b.bytes) mid
+      l'
       → Holds (b ∷ blocks) none_left err h l l'
   holds_more b blocks none_left err h l mid l' first then =
       let more = written_to score (setup_of l.store.core) h b.kind b.bytes in record {
@@ -240,8 +242,8 @@ module _ {D : Type 0} (score : List ℕ → List ℕ) (disk : DiskOf D) (tells :
       holds_none [] (rest ≡ []) err h l l' (λ none. refl)
       (subst (λ (x : State). IsSound score disk x.store.core h) (sym stays)
       (of call made.1 two.0))
-      (subst (λ (x : State). IfSome err (λ e. IsLastRefusal score (setup_of l.store.core) h [] x.refused))
-      (sym stays) (why call made.1 two.0 (ends_so err call calls ends)))
+      (subst (λ (x : State). IfSome err (λ e. IsLastRefusal score (setup_of l.store.core) h []
+      x.refused)) (sym stays) (why call made.1 two.0 (ends_so err call calls ends)))
     where
       of : (x : Call) → DoesLocal (store_on score disk) l x made.0 → asked_of x ≡ sync_all
           → IsSound score disk made.0.store.core h
@@ -336,7 +338,9 @@ module _ {D : Type 0} (score : List ℕ → List ℕ) (disk : DiskOf D) (tells :
             holds_none (b ∷ blocks) (rest ≡ []) err h l l'
             (λ none. absurd (some_left end.0 left none))
             (subst (λ (y : State). IsSound score disk y.store.core h) (ended end.0) it.sound)
-            (some_refused err (IsLastRefusal score (setup_of l.store.core) h (b ∷ blocks) l'.refused)
-            (subst (λ (y : State). IsLastRefusal score (setup_of l.store.core) h (b ∷ blocks) y.refused)
+            (some_refused err
+            (IsLastRefusal score (setup_of l.store.core) h (b ∷ blocks) l'.refused)
+            (subst (λ (y : State). IsLastRefusal score (setup_of l.store.core) h (b ∷ blocks)
+            y.refused)
             (ended end.0) it.because))
       ]

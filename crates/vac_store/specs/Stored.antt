@@ -1,6 +1,6 @@
 -- A folder that is archived into the store that a configuration names, on partitions that are handed
 -- out by name.
-use Rattle.std.specs.Prelude.{ℕ, ◌≡◌, ◌+◌, ◌≤◌, Result, Ok, Err, IfErr, IfOk, List, [], ◌++◌, length}
+use Rattle.std.specs.Prelude.{ℕ, ◌≡◌, ◌+◌, ◌≤◌, Result, Err, IfErr, IfOk, List, [], ◌++◌, length}
 use Rattle.vt_conf.specs.declared.conf.Conf.{Conf}
 use Rattle.vt_disk.specs.Members.{DiskOf}
 use Rattle.vt_folder.specs.declared.item.Facts.{Facts}
@@ -16,7 +16,7 @@ use Rattle.vt_open.specs.Opening.{NamesCause, RefusesStore}
 use Rattle.vt_single.specs.Stored.{Uses}
 use Rattle.vac_model.specs.Archives.{archive_of}
 use Rattle.vac_store.specs.declared.outcome.ArchiveBad.{ArchiveBad}
-use Rattle.vac_store.specs.declared.outcome.ArchiveBad.TheVariants.{Unopened, Folder, Refused}
+use Rattle.vac_store.specs.declared.outcome.ArchiveBad.TheVariants.{Unopened}
 use Rattle.vac_store.specs.declared.outcome.StoredArchive.{StoredArchive}
 use Rattle.vac_store.specs.Storing.{ArchivesInto, IsBecause, StandsIn, all_written}
 

@@ -24,7 +24,7 @@ use Rattle.vac_model.specs.Limits.{Unfit, first_unfit}
 use Rattle.vac_model.specs.Trees.{IsTreeOf}
 use Rattle.vac_write.specs.declared.archived.Archived.{Archived}
 use Rattle.vac_write.specs.declared.err.VacErr.{VacErr}
-use Rattle.vac_write.specs.declared.err.VacErr.TheVariants.{FolderFault, Tree, BadName, TooDeep, NoMemory}
+use Rattle.vac_write.specs.declared.err.VacErr.TheVariants.{FolderFault, Tree}
 use Rattle.vac_write.specs.Archiving.{WritesArchive, GivesUpArchive, IsGivenUpAs}
 use Rattle.vac_store.specs.declared.outcome.ArchiveBad.{ArchiveBad}
 use Rattle.vac_store.specs.declared.outcome.ArchiveBad.TheVariants.{Unopened, Folder, Refused}

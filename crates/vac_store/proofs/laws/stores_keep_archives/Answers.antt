@@ -1,9 +1,9 @@
 -- the store that was opened has the log of its partitions
-use Rattle.std.proofs.Common.{◌≡◌, List, Result, [], ◌+◌, arith, length, subst}
+use Rattle.std.proofs.Common.{◌≡◌, List, [], ◌+◌, arith, length, subst}
 use Rattle.std.specs.Prelude.{IfErr, IfOk}
 use Rattle.vt_model.specs.Places.{Setup}
 use Rattle.vt_part.specs.Table.{Table}
-use Rattle.vt_core.specs.Core.{devices_of, setup_of}
+use Rattle.vt_core.specs.Core.{devices_of}
 use Rattle.vt_core.specs.Mounting.{AllStandFor, EachStands}
 use Rattle.vac_store.specs.Storing.{IsBecause, StandsIn, all_written}
 use Rattle.vac_store.proofs.laws.stores_keep_archives.Goals as goal

@@ -1,5 +1,5 @@
 -- a run of events keeps how many devices there are; the partitions are those that were handed out
-use Rattle.std.proofs.Common.{◌≡◌, ◌∙◌}
+use Rattle.std.proofs.Common.{◌∙◌}
 use Rattle.std.specs.Prelude.{IsTrue}
 use Rattle.vt_core.specs.Core.{devices_of}
 use Rattle.vt_open.specs.Names.{files_of}

@@ -1,5 +1,5 @@
 -- what was asked of the store, and the end of its use behind that
-use Rattle.std.proofs.Common.{◌≡◌, ◌-◌, ℕ, None, Option, Result, ◌∙◌, ap}
+use Rattle.std.proofs.Common.{◌-◌, ℕ, None, Option, ◌∙◌, ap}
 use Rattle.vt_base.specs.declared.why.Why.{Why}
 use Rattle.vt_core.specs.Core.{history_len}
 use Rattle.vt_drive.specs.Driven.{DrivenState}
