@@ -1,0 +1,359 @@
+//! Folders in memory become archives, with scores from an encoder of its own.
+
+use crate::items::{Sample, facts, file, folder, items_of, link, long_named, nested};
+use std::alloc::Global;
+use std::test::Fail;
+use vac_write::{Archived, Paths, VacErr, archive};
+use vt_base::{Failed, NoMemory, Sha1Scorer, Text, parse_score};
+use vt_folder::{Folder, Item, ItemKind, Listing, MemContent, MemFolder, MemItem};
+use vt_out::OutErr;
+use vt_tree::{BlockErr, Blocks, MemBlocks, TreeErr};
+
+/// Archives a folder in blocks of this size, or of the nearest that may be. It is generic, so that no
+/// clause is looked at with the folder and the blocks in memory.
+fn archived<F: Folder, B: Blocks>(
+    alloc: Global,
+    folder: &mut F,
+    blocks: &mut B,
+    bsize: u16,
+) -> Result<Archived, VacErr> {
+    archive(alloc, folder, blocks, bsize.clamp(512, 53_248))
+}
+
+/// What an archiving left.
+#[derive(Clone, Copy, Debug, PartialEq, Eq)]
+struct Left {
+    /// How many blocks were put, how many are held, and how many of these are synced.
+    puts: usize,
+    held: usize,
+    synced: usize,
+    /// How many bytes are held.
+    bytes: usize,
+    /// How many calls of the folder were made, and how many have failed.
+    calls: u64,
+    folder_faults: u64,
+    /// How many calls of the store have failed.
+    block_faults: u64,
+}
+
+fn left_of(folder: &MemFolder, blocks: &MemBlocks<Sha1Scorer>) -> Left {
+    let mut bytes = 0usize;
+    for block in blocks.blocks() {
+        bytes = bytes.saturating_add(block.bytes.len());
+    }
+    Left {
+        puts: blocks.puts().len(),
+        held: blocks.blocks().len(),
+        synced: blocks.synced(),
+        bytes,
+        calls: folder.calls(),
+        folder_faults: folder.faults(),
+        block_faults: blocks.faults(),
+    }
+}
+
+/// Archives items, where these calls of their folder and of the store fail.
+fn archive_items(
+    alloc: Global,
+    items: Vec<MemItem>,
+    bsize: u16,
+    failing: Vec<u64>,
+    failing_blocks: Vec<u64>,
+) -> (Result<Archived, VacErr>, Left) {
+    let mut folder = MemFolder::new(alloc, items).in_pieces(300).failing(failing);
+    let mut blocks = MemBlocks::new(alloc, Sha1Scorer).failing(failing_blocks);
+    let result = archived(alloc, &mut folder, &mut blocks, bsize);
+    (result, left_of(&folder, &blocks))
+}
+
+/// Archives items twice, and gives the second answer, and how many blocks were put and are held.
+fn archive_again(
+    alloc: Global,
+    items: Vec<MemItem>,
+    bsize: u16,
+) -> (Result<Archived, VacErr>, usize, usize) {
+    let mut folder = MemFolder::new(alloc, items);
+    let mut blocks = MemBlocks::new(alloc, Sha1Scorer);
+    let _first = archived(alloc, &mut folder, &mut blocks, bsize);
+    let second = archived(alloc, &mut folder, &mut blocks, bsize);
+    (second, blocks.puts().len(), blocks.blocks().len())
+}
+
+/// The paths, with a space behind each.
+fn listed(alloc: Global, paths: &Paths) -> Result<Vec<u8>, NoMemory> {
+    let mut names = Vec::new(alloc);
+    for path in paths.as_slice() {
+        names.extend_from_slice(path.as_slice())?;
+        names.push(b' ')?;
+    }
+    Ok(names)
+}
+
+/// A folder, the block size, the archive's score, how many blocks are put, of how many bytes, and
+/// what is skipped.
+type Row = (Sample, u16, &'static str, usize, usize, &'static str);
+
+const ROWS: [Row; 7] = [
+    (
+        Sample::Empty,
+        8192,
+        "bc0134b39e3f1c437bec79b6dcbfc5a24a26b717",
+        2,
+        380,
+        "",
+    ),
+    (
+        Sample::Small,
+        8192,
+        "cfd1270f57bb4fddde84a62de63149f0b829e079",
+        7,
+        633,
+        "",
+    ),
+    (
+        Sample::Mixed,
+        8192,
+        "f4e513de3e771f6dae341b6a9c77d12905a18b97",
+        9,
+        842,
+        "a/z link ",
+    ),
+    (
+        Sample::Mixed,
+        512,
+        "159080d05780d243b708b40e733da7819f33294e",
+        9,
+        842,
+        "a/z link ",
+    ),
+    (
+        Sample::Large,
+        512,
+        "9993562da0e9f62cba7d38a5ef966eac5e9a303e",
+        51,
+        22_020,
+        "",
+    ),
+    (
+        Sample::Large,
+        53_248,
+        "3d911ade61fdc03dacf1dfb0dff3fa897ffd22f8",
+        8,
+        22_636,
+        "",
+    ),
+    (
+        Sample::Many,
+        512,
+        "3396a1f077b4d3dcd52d93f4cbbfbed3efd22834",
+        51,
+        3470,
+        "",
+    ),
+];
+
+/// Whether the folder's archive is the known one, and the same again puts the same, of which nothing
+/// is new.
+fn is_known(alloc: Global, row: Row) -> Result<bool, Fail> {
+    let (which, bsize, score, puts, bytes, skipped) = row;
+    let none = Vec::new(alloc);
+    let items = items_of(alloc, which)?;
+    let (first, left) = archive_items(alloc, items, bsize, none, Vec::new(alloc));
+    let (second, puts_twice, held) = archive_again(alloc, items_of(alloc, which)?, bsize);
+    let Ok(found) = first else {
+        return Ok(false);
+    };
+    let Ok(again) = second else {
+        return Ok(false);
+    };
+    let names = listed(alloc, &found.skipped)?;
+    Ok(
+        Ok(found.score) == parse_score(score.as_bytes())
+            && (left.puts, left.held, left.synced, left.bytes) == (puts, puts, puts, bytes)
+            && names.as_slice() == skipped.as_bytes()
+            && again.score == found.score
+            && (puts_twice, held) == (puts.saturating_mul(2), puts),
+    )
+}
+
+#[test]
+fn archives_have_their_scores(rt: HostRuntime) -> Result<(), Fail> {
+    for row in ROWS {
+        assert!(rt; is_known(rt.alloc(), row)?, "{:?}", row.0);
+    }
+    Ok(())
+}
+
+/// Why these items aren't archived.
+fn refusal(alloc: Global, items: Vec<MemItem>) -> Option<VacErr> {
+    archive_items(alloc, items, 8192, Vec::new(alloc), Vec::new(alloc))
+        .0
+        .err()
+}
+
+/// Whether a folder of the item, a link `c`, and the file `c` where there are two, is refused for
+/// the item of this path; or archived, where there is none.
+fn is_refused_for(
+    alloc: Global,
+    name: &[u8],
+    owner: &[u8],
+    path: Option<&[u8]>,
+) -> Result<bool, Fail> {
+    let about = facts(alloc, name, 0, 0, owner, owner)?;
+    let item = MemItem::File(about, MemContent::from_vec(Vec::new(alloc)));
+    let inside = vec![in alloc; link(alloc, b"c")?, item]?;
+    let items = vec![in alloc; file(alloc, b"e", 0, b"")?, folder(alloc, b"d", inside)?]?;
+    Ok(match (refusal(alloc, items), path) {
+        (None, None) => true,
+        (Some(VacErr::BadName(found)), Some(path)) => found.as_slice() == path,
+        _ => false,
+    })
+}
+
+#[test]
+fn items_that_cannot_be_archived_are_named(rt: HostRuntime) -> Result<(), Fail> {
+    let alloc = rt.alloc();
+    let long = vec![in alloc; b'n'; 256]?;
+    let long_path = [b"d/".as_slice(), &long];
+    let long_path = long_path.concat(alloc)?;
+    for (name, owner, path) in [
+        (b"".as_slice(), b"u".as_slice(), Some(b"d/".as_slice())),
+        (b"a/b", b"u", Some(b"d/a/b")),
+        (b"a\0", b"u", Some(b"d/a\0")),
+        (b"c", b"u", Some(b"d/c")),
+        (&long, b"u", Some(&long_path)),
+        (b"a", &long, Some(b"d/a")),
+        (&long[1..], &long[1..], None),
+        (b"\xff", b"", None),
+    ] {
+        assert!(rt; is_refused_for(alloc, name, owner, path)?, "{name:?}");
+    }
+    Ok(())
+}
+
+/// Where reading fails, so many files with long names are given up for that, if their metadata isn't
+/// too long; and nothing was put.
+fn is_told(alloc: Global, count: u32, fits: bool) -> Result<bool, Fail> {
+    let items = long_named(alloc, count)?;
+    let failing = vec![in alloc; 1]?;
+    let (result, left) = archive_items(alloc, items, 8192, failing, Vec::new(alloc));
+    Ok(
+        left.puts == 0
+            && match result {
+                Err(VacErr::FolderFault) => fits,
+                Err(VacErr::Tree(TreeErr::TooLong)) => !fits,
+                _ => false,
+            },
+    )
+}
+
+#[test]
+fn metadata_and_depth_have_their_limits(rt: HostRuntime) -> Result<(), Fail> {
+    let alloc = rt.alloc();
+    // Metadata has 2^24 bytes at most.
+    assert!(rt; is_told(alloc, 21_183, true)?);
+    assert!(rt; is_told(alloc, 21_184, false)?);
+    assert!(rt; refusal(alloc, nested(alloc, 256)?).is_none());
+    let Some(VacErr::TooDeep(path)) = refusal(alloc, nested(alloc, 257)?) else {
+        return Err("not too deep".into());
+    };
+    assert_eq!(rt; path.len(), 2 * 257 - 1);
+    assert!(rt; path.as_slice().starts_with(b"d/d/d/"));
+    Ok(())
+}
+
+/// Whether archiving is given up where this call of the folder fails, as its last one.
+fn folder_fails_at(alloc: Global, call: u64) -> Result<bool, Fail> {
+    let items = items_of(alloc, Sample::Small)?;
+    let failing = vec![in alloc; call]?;
+    let (result, left) = archive_items(alloc, items, 8192, failing, Vec::new(alloc));
+    Ok(
+        matches!(result, Err(VacErr::FolderFault))
+            && (left.calls, left.folder_faults, left.synced) == (call.saturating_add(1), 1, 0),
+    )
+}
+
+/// Whether it is given up where this call of the store fails, as its last one.
+fn blocks_fail_at(alloc: Global, call: u64) -> Result<bool, Fail> {
+    let items = items_of(alloc, Sample::Small)?;
+    let failing = vec![in alloc; call]?;
+    let (result, left) = archive_items(alloc, items, 8192, Vec::new(alloc), failing);
+    Ok(
+        matches!(result, Err(VacErr::Tree(TreeErr::Block(BlockErr::Fault))))
+            && (left.puts as u64, left.block_faults, left.synced) == (call, 1, 0),
+    )
+}
+
+#[test]
+fn archiving_is_given_up_where_a_call_fails(rt: HostRuntime) -> Result<(), Fail> {
+    // Two folders are listed, and two files read, one of them twice.
+    for call in 0..5 {
+        assert!(rt; folder_fails_at(rt.alloc(), call)?, "{call}");
+    }
+    // Seven blocks are put, and then all is committed.
+    for call in 0..8 {
+        assert!(rt; blocks_fail_at(rt.alloc(), call)?, "{call}");
+    }
+    Ok(())
+}
+
+/// A folder of one file, of which each read gives one byte, up to the fourth, which gives none.
+#[derive(Drop)]
+struct Growing {
+    reads: u8,
+}
+
+impl Folder for Growing {
+    ghost use Rattle.std.specs.Prelude.{false};
+    ghost use Rattle.std.proofs.Common.{arith};
+    ghost use Rattle.vt_folder.specs.Items.{none};
+
+    ghost tells = { false };
+
+    ghost holds = { λ _. none };
+
+    ghost faults = { λ _. 0 };
+
+    ghost holds_bytes = { λ _. tt };
+
+    ghost faults_fit = { λ _. Prim.omega arith };
+
+    fn list(&mut self, alloc: Global, _path: &[Text]) -> Result<Listing, OutErr> {
+        match growing_file(alloc) {
+            Ok(item) => match Vec::from_array(alloc, [item]) {
+                Ok(items) => Ok(Listing::from_vec(items)),
+                Err(_) => Err(OutErr::NoMemory),
+            },
+            Err(_) => Err(OutErr::NoMemory),
+        }
+    }
+
+    fn read(&mut self, _path: &[Text], _at: u64, buf: &mut [u8]) -> Result<usize, Failed> {
+        self.reads = self.reads.saturating_add(1);
+        if buf.is_empty() || self.reads == 4 {
+            return Ok(0);
+        }
+        buf[0] = b'a' + (self.reads - 1) % 26;
+        Ok(1)
+    }
+}
+
+fn growing_file(alloc: Global) -> Result<Item, NoMemory> {
+    facts(alloc, b"f", 0o644, 0, b"u", b"g")?.listed(alloc, ItemKind::File)
+}
+
+#[test]
+fn a_file_is_what_its_reads_gave(rt: HostRuntime) -> Result<(), Fail> {
+    let alloc = rt.alloc();
+    let mut growing = Growing { reads: 0 };
+    let mut blocks = MemBlocks::new(alloc, Sha1Scorer);
+    let grown = archived(alloc, &mut growing, &mut blocks, 8192);
+    let still = vec![in alloc; file(alloc, b"f", 0o644, b"abc")?]?;
+    let (whole, _) = archive_items(alloc, still, 8192, Vec::new(alloc), Vec::new(alloc));
+    match (grown, whole) {
+        (Ok(grown), Ok(whole)) => assert_eq!(rt; grown.score, whole.score),
+        _ => return Err("not archived".into()),
+    }
+    assert_eq!(rt; growing.reads, 4);
+    Ok(())
+}
