@@ -20,7 +20,7 @@ use Rattle.vt_isect.specs.Section.{SectionState}
 use Rattle.vt_isect.specs.Writeback.{Advances as SectionAdvances}
 use Rattle.vt_isect.specs.declared.head.Head.{Head}
 use Rattle.vt_isect.specs.declared.phase.Phase.{Phase}
-use Rattle.vt_isect.specs.declared.phase.Phase.TheVariants.{Rest, ReadSelector, ReadFrame, ChangeBucket, ChangeHead}
+use Rattle.vt_isect.specs.declared.phase.Phase.TheVariants.{Rest, ReadSelector, ReadFrame, WriteFrame, SyncFrames, WriteSelector, SyncSelectors, ChangeHead}
 use Rattle.vt_isect.specs.declared.bad.ShardErr.{ShardErr}
 use Rattle.vt_isect.specs.declared.bad.ShardErr.TheVariants.{Fault, Damaged, Stopped}
 use Rattle.vt_twin.specs.declared.step.Step.{Step}
@@ -240,28 +240,40 @@ list_stop : {D : Type 0} (p : Phase) (t : SectionState D) → (without_list p t)
 list_stop Rest t = refl
 list_stop ReadSelector t = refl
 list_stop (ReadFrame s) t = refl
-list_stop ChangeBucket t = refl
+list_stop (WriteFrame s) t = refl
+list_stop SyncFrames t = refl
+list_stop (WriteSelector j) t = refl
+list_stop SyncSelectors t = refl
 list_stop ChangeHead t = refl
 
 pub list_head : {D : Type 0} (p : Phase) (t : SectionState D) → (without_list p t).head ≡ t.head
 list_head Rest t = refl
 list_head ReadSelector t = refl
 list_head (ReadFrame s) t = refl
-list_head ChangeBucket t = refl
+list_head (WriteFrame s) t = refl
+list_head SyncFrames t = refl
+list_head (WriteSelector j) t = refl
+list_head SyncSelectors t = refl
 list_head ChangeHead t = refl
 
 pub list_next : {D : Type 0} (p : Phase) (t : SectionState D) → (without_list p t).next ≡ t.next
 list_next Rest t = refl
 list_next ReadSelector t = refl
 list_next (ReadFrame s) t = refl
-list_next ChangeBucket t = refl
+list_next (WriteFrame s) t = refl
+list_next SyncFrames t = refl
+list_next (WriteSelector j) t = refl
+list_next SyncSelectors t = refl
 list_next ChangeHead t = refl
 
 at_rest_or_not : (p : Phase) → (p ≡ Rest) ⊎ (p ≢ Rest)
 at_rest_or_not Rest = inl refl
 at_rest_or_not ReadSelector = inr (λ e. cc)
 at_rest_or_not (ReadFrame s) = inr (λ e. cc)
-at_rest_or_not ChangeBucket = inr (λ e. cc)
+at_rest_or_not (WriteFrame s) = inr (λ e. cc)
+at_rest_or_not SyncFrames = inr (λ e. cc)
+at_rest_or_not (WriteSelector j) = inr (λ e. cc)
+at_rest_or_not SyncSelectors = inr (λ e. cc)
 at_rest_or_not ChangeHead = inr (λ e. cc)
 
 -- none of them stops but at a disk fault

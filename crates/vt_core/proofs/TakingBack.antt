@@ -21,12 +21,11 @@ use Rattle.vt_icache.specs.Index.{IndexState, dirty_info, entry_in}
 use Rattle.vt_isect.specs.Faults.{NamesDamage, damage_of, is_fault}
 use Rattle.vt_isect.specs.Layout.{InRange, IsPlaceOf}
 use Rattle.vt_isect.specs.Merging.{HasKey, IsDamage, IsFaulty}
-use Rattle.vt_isect.specs.Section.{SectionState, IsAtRest, IsChanging}
+use Rattle.vt_isect.specs.Section.{SectionState, IsAtRest, IsChanging, PutsEntries}
 use Rattle.vt_isect.specs.declared.TheConstants.{FRAME_LEN, HEAD_PLACE_LEN, BUCKET_PLACE_LEN}
 use Rattle.vt_isect.specs.declared.bad.ShardErr.{ShardErr}
 use Rattle.vt_isect.specs.declared.bad.ShardErr.TheVariants.{Fault, Damaged, Stopped}
 use Rattle.vt_isect.specs.declared.head.Head.{Head}
-use Rattle.vt_isect.specs.declared.phase.Phase.TheVariants.{Rest, ChangeBucket}
 use Rattle.vt_model.specs.History.{History}
 use Rattle.vt_model.specs.Places.{Setup, bucket_of}
 use Rattle.vt_shard.specs.Looking.{Looks, LooksUp, ReadsBucket, looked}
@@ -149,7 +148,7 @@ abbrev place_of_bucket : ℕ → Region
 place_of_bucket j = record { start = HEAD_PLACE_LEN + BUCKET_PLACE_LEN * j; len = BUCKET_PLACE_LEN }
 
 not_changing : {D : Type 0} (t : SectionState D) (n : ℕ) → IsAtRest t → ¬ IsChanging t n
-not_changing t n rest changing = let e : Rest ≡ ChangeBucket = sym rest ∙ changing.0 in absurd (cc)
+not_changing t n rest changing = subst PutsEntries rest changing.1.0
 
 module _ {D : Type 0} (disk : DiskOf D) (apart : IsUnambiguous) (old new : ShardState D) (n : ℕ)
     (range : InRange old.section.head old.section.buckets n) (tells : IsTrue disk.tells)

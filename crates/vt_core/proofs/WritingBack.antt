@@ -1,15 +1,15 @@
 -- A shard that writes all its dirty entries back, while a log is read back.
-use Rattle.std.proofs.Common.{◌≡◌, ◌≢◌, ◌⊎◌, ⊎_elim, inl, inr, ℕ, ◌<◌, ◌≤◌, List, [], ◌∷◌, length, Option, Some, None, refl, sym, ◌∙◌, ap, subst, arith}
+use Rattle.std.proofs.Common.{◌≡◌, ◌≢◌, ◌⊎◌, ⊎_elim, inl, inr, ℕ, ◌+◌, ◌%◌, ◌<◌, ◌≤◌, List, [], ◌∷◌, length, Option, Some, None, refl, sym, ◌∙◌, ap, subst, arith}
 use Rattle.std.specs.Prelude.{max, IsTrue, IsSome, ⊤, Result, Ok, Err}
 use Rattle.std.specs.List.{Contains}
 use Rattle.vt_base.specs.declared.place.Info.{Info}
 use Rattle.vt_disk.specs.Members.{DiskOf}
-use Rattle.vt_isect.specs.Section.{SectionState, IsAtRest, group_of}
+use Rattle.vt_isect.specs.Section.{SectionState, IsAtRest, entering}
 use Rattle.vt_isect.specs.Writeback.{Advances as SectionAdvances, NextPhase}
 use Rattle.vt_isect.specs.declared.bad.ShardErr.{ShardErr}
 use Rattle.vt_isect.specs.declared.bad.ShardErr.TheVariants.{Fault, Damaged, Stopped}
 use Rattle.vt_isect.specs.declared.phase.Phase.{Phase}
-use Rattle.vt_isect.specs.declared.phase.Phase.TheVariants.{Rest, ReadSelector, ReadFrame, ChangeBucket, ChangeHead}
+use Rattle.vt_isect.specs.declared.phase.Phase.TheVariants.{Rest, ReadSelector, ReadFrame, WriteFrame, SyncFrames, WriteSelector, SyncSelectors, ChangeHead}
 use Rattle.vt_model.specs.History.{History}
 use Rattle.vt_model.specs.Places.{Setup, bucket_count, crowd}
 use Rattle.vt_model.specs.declared.TheConstants.{BUCKET_ROOM}
@@ -85,7 +85,10 @@ list_same : {D : Type 0} (p : Phase) (t : SectionState D)
 list_same Rest t = (refl, refl, refl, refl)
 list_same ReadSelector t = (refl, refl, refl, refl)
 list_same (ReadFrame s) t = (refl, refl, refl, refl)
-list_same ChangeBucket t = (refl, refl, refl, refl)
+list_same (WriteFrame s) t = (refl, refl, refl, refl)
+list_same SyncFrames t = (refl, refl, refl, refl)
+list_same (WriteSelector j) t = (refl, refl, refl, refl)
+list_same SyncSelectors t = (refl, refl, refl, refl)
 list_same ChangeHead t = (refl, refl, refl, refl)
 
 -- the head stays, where the next one is the same
@@ -109,13 +112,19 @@ step_goes Done old new it = it.2.stopped
 pub goes_on : {D : Type 0} (p : Phase) (old new : SectionState D) → NextPhase p old new → new.phase ≢ Rest
 goes_on Rest old new it rest = absurd it
 goes_on ReadSelector old new it rest = let e : ReadFrame it.0.0 ≡ Rest = sym it.0.1 ∙ rest in absurd (cc)
-goes_on (ReadFrame s) old new it rest = let e : ChangeBucket ≡ Rest = sym it.0 ∙ rest in absurd (cc)
-goes_on ChangeBucket old new it rest = ⊎_elim
-    (λ more. let e : ChangeBucket ≡ Rest = sym more.1 ∙ rest in absurd (cc))
-    (λ next. ⊎_elim
-    (λ group. let e : ReadSelector ≡ Rest = sym group.0 ∙ rest in absurd (cc))
+goes_on (ReadFrame s) old new it rest = let e : WriteFrame (s % 2) ≡ Rest = sym it.0 ∙ rest in absurd (cc)
+goes_on (WriteFrame s) old new it rest = ⊎_elim
+    (λ next. let e : ReadSelector ≡ Rest = sym next.1.0 ∙ rest in absurd (cc))
+    (λ full. let e : SyncFrames ≡ Rest = sym full.0 ∙ rest in absurd (cc))
+    it.1
+goes_on SyncFrames old new it rest = let e : WriteSelector 0 ≡ Rest = sym it.0 ∙ rest in absurd (cc)
+goes_on (WriteSelector j) old new it rest = ⊎_elim
+    (λ more. let e : WriteSelector (j + 1) ≡ Rest = sym more.1 ∙ rest in absurd (cc))
+    (λ last. let e : SyncSelectors ≡ Rest = sym last.1 ∙ rest in absurd (cc))
+    it.1
+goes_on SyncSelectors old new it rest = ⊎_elim
+    (λ group. let e : ReadSelector ≡ Rest = sym group.0.0 ∙ rest in absurd (cc))
     (λ head. let e : ChangeHead ≡ Rest = sym head.0 ∙ rest in absurd (cc))
-    next.1)
     it
 goes_on ChangeHead old new it rest = let e : ChangeHead ≡ Rest = sym it.1 ∙ rest in absurd (cc)
 
@@ -212,7 +221,7 @@ module _ {D : Type 0} (disk : DiskOf D) (old now next : ShardState D) (was : IsW
       tells (Damaged bucket want found) t read =
           let phase = t.advances.section.1.0 in
           let it = read.damaged phase.0 (λ e. cc) was.stopped phase.1 in
-          tells_bucket now.section.bucket (group_of now.section) it.0 (Damaged bucket want found) it.1 read.names
+          tells_bucket now.section.bucket (entering now.section) it.0 (Damaged bucket want found) it.1 read.names
       tells (Stopped n) t read = inl refl
 
 -- ---- how it ends

@@ -19,7 +19,7 @@ use Rattle.vt_isect.specs.Agreement.{AgreesWith, KnownAgrees}
 use Rattle.vt_isect.specs.Head.{IsHeadFrame}
 use Rattle.vt_isect.specs.Layout.{IsSection, head_place, buckets_in}
 use Rattle.vt_isect.specs.Section.{SectionState, mounted}
-use Rattle.vt_isect.specs.Sound.{Known, DiskHolds, all_known}
+use Rattle.vt_isect.specs.Sound.{Known, DiskHolds, all_known, nothing_known}
 use Rattle.vt_bloom.specs.Bits.{Filter}
 use Rattle.vt_bloom.specs.Bloom.{BloomState, HasCounts, IsSound as IsSoundBloom}
 use Rattle.vt_bloom.specs.Frame.{Saved, HasSaved}
@@ -59,6 +59,7 @@ pub record IsOpened {D : Type 0} (disk : DiskOf D) (device : D) (s : SectionStat
   pub some : 0 < s.buckets
   pub head : IsTrue disk.tells
       → IsHeadFrame s.name s.head (current_frame head_place FRAME_LEN (disk.bytes device))
+  pub holds : IsTrue disk.tells → DiskHolds disk s nothing_known
   pub only : (name : List ℕ) (head : Head) → IsTrue disk.tells
       → IsHeadFrame name head (current_frame head_place FRAME_LEN (disk.bytes device))
       → (s.name ≡ name) × (s.head ≡ head)

@@ -1,7 +1,7 @@
 //! The store, and its events.
 
-ghost use Rattle.std.specs.Prelude.{◌≡◌, ◌-◌, ◌<◌, ◌≤◌, ℕ, All, IfOk, OnErr, Some, length, slice_get};
-ghost use Rattle.std.specs.List.{Contains};
+ghost use Rattle.std.specs.Prelude.{◌≡◌, ◌≢◌, ◌-◌, ◌<◌, ◌≤◌, ℕ, All, IfOk, OnErr, Some, length, slice_get};
+ghost use Rattle.std.specs.List.{AllPairs, Contains};
 ghost use Rattle.vt_base.specs.Bytes.{AreBytes};
 ghost use Rattle.vt_base.specs.declared.place.Info.{Info};
 ghost use Rattle.vt_log.specs.Log.{front};
@@ -168,6 +168,8 @@ impl<D: Disk, S: Scorer> Core<D, S> {
         requires { shard < length self.now.shards }
         ensures count { (s : ShardState D) → slice_get self.now.shards shard ≡ Some s
             → result ≡ ROOM - length s.index.dirty }
+        ensures apart { (s : ShardState D) → slice_get self.now.shards shard ≡ Some s
+            → AllPairs (λ a b. a.key ≢ b.key) s.index.dirty }
         ensures accepted { (s : ShardState D) (info : Info)
             → slice_get self.now.shards shard ≡ Some s → Contains s.index.dirty info
             → info.number < front self.now.log }

@@ -207,11 +207,12 @@ fn stops<T: TestStore>(alloc: Global, device: usize) -> Result<u64, &'static str
 /// How many calls of the partition, of each section and of the filter come. Mounting makes four of
 /// the partition, and three of each other disk. A block takes six calls of the log, two that read
 /// its bucket, and six that write it back; the first section gets one block, and the second one
-/// two, of which one is written back. Twice each mark is raised, by four calls.
+/// two of one bucket, of which one is written back, and whose frame is known for the other. Twice
+/// each mark is raised, by four calls.
 const CALLS: [u64; 4] = [
     4 + 3 * 6,
     3 + 2 + 6 + 2 * 4,
-    3 + 2 * 2 + 6 + 2 * 4,
+    3 + 2 + 1 + 6 + 2 * 4,
     3 + 2 * 4,
 ];
 

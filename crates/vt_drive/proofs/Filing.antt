@@ -12,9 +12,10 @@ use Rattle.std.proofs.lemmas.List.Sorted.{length_permutation}
 use Rattle.vt_base.specs.declared.place.Info.{Info}
 use Rattle.vt_disk.specs.Members.{DiskOf}
 use Rattle.vt_icache.specs.Index.{entries_below, entry_of, is_below}
+use Rattle.vt_isect.specs.declared.groups.Member.{Member}
 use Rattle.vt_isect.specs.declared.head.Head.{Head}
 use Rattle.vt_isect.specs.declared.phase.Phase.{Phase}
-use Rattle.vt_isect.specs.declared.phase.Phase.TheVariants.{Rest, ReadSelector, ReadFrame, ChangeBucket, ChangeHead}
+use Rattle.vt_isect.specs.declared.phase.Phase.TheVariants.{Rest, ReadSelector, ReadFrame, WriteFrame, SyncFrames, WriteSelector, SyncSelectors, ChangeHead}
 use Rattle.vt_isect.specs.Section.{SectionState, entries_of}
 use Rattle.vt_isect.specs.Writeback.{BeginsBehind, calls_left, most_calls}
 use Rattle.vt_twin.specs.declared.step.Step.{Step}
@@ -37,7 +38,10 @@ list_phase : {D : Type 0} (p : Phase) (t : SectionState D) → (without_list p t
 list_phase Rest t = refl
 list_phase ReadSelector t = refl
 list_phase (ReadFrame s) t = refl
-list_phase ChangeBucket t = refl
+list_phase (WriteFrame s) t = refl
+list_phase SyncFrames t = refl
+list_phase (WriteSelector j) t = refl
+list_phase SyncSelectors t = refl
 list_phase ChangeHead t = refl
 
 -- What is known of a shard behind a call that went well.
@@ -170,7 +174,7 @@ advance_less {D} durable before after it =
 -- a writeback begins
 begun_left : {D : Type 0} (t : SectionState D) (many : ℕ) → length (entries_of t) ≤ many → BeginsBehind 0 t → calls_left t < 6 * many + 5
 begun_left t many few begins = ⊎_elim
-    (λ group. subst (λ (p : Phase). most_calls p t < 6 * many + 5) (sym group.0) (omega (arith, few, group.2, group.3.within)))
+    (λ group. subst (λ (p : Phase). most_calls p t < 6 * many + 5) (sym group.0.0) (omega (arith, few, group.0.2, group.0.3.within, ap (λ (l : List Member). length l) group.2)))
     (λ head. subst (λ (p : Phase). most_calls p t < 6 * many + 5) (sym head.0) (omega arith))
     begins
 

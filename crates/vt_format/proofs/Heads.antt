@@ -10,7 +10,7 @@ use Rattle.vt_disk.proofs.Calls.{changes_then}
 use Rattle.vt_isect.specs.declared.bad.ShardErr.{ShardErr}
 use Rattle.vt_isect.specs.declared.bad.ShardErr.TheVariants.{Fault, Damaged, Stopped}
 use Rattle.vt_isect.specs.declared.phase.Phase.{Phase}
-use Rattle.vt_isect.specs.declared.phase.Phase.TheVariants.{Rest, ReadFrame, ChangeBucket, ChangeHead}
+use Rattle.vt_isect.specs.declared.phase.Phase.TheVariants.{Rest, ReadFrame, SyncSelectors, ChangeHead}
 use Rattle.vt_isect.specs.Layout.{head_place}
 use Rattle.vt_isect.specs.Section.{SectionState}
 use Rattle.vt_isect.specs.Sound.{DiskHolds, Known, nothing_known}
@@ -52,7 +52,7 @@ module _ {D : Type 0} (disk : DiskOf D) (forget : Forgets disk) (begun t u : Sec
   stays r keeps known first sound =
       let kept = keeps known sound in
       forget u kept.0 known
-      (λ n entries is. kept.1.kept n first (λ completes. let no : ChangeHead ≡ ChangeBucket = sym way ∙ completes.1 in absurd (cc)) ∙ is)
+      (λ n entries is. kept.1.kept n first (λ completes. let no : ChangeHead ≡ SyncSelectors = sym way ∙ completes.1 in absurd (cc)) ∙ is)
       kept.2
 
   nothing : (step : Step) → Keeps disk (Ok step) t u → DiskHolds disk t nothing_known → DiskHolds disk u nothing_known

@@ -8,11 +8,11 @@ use Rattle.vt_bucket.specs.Frame.{IsFrame}
 use Rattle.vt_disk.specs.Members.{DiskOf}
 use Rattle.vt_isect.specs.declared.bad.ShardErr.{ShardErr}
 use Rattle.vt_isect.specs.declared.head.Head.{Head}
-use Rattle.vt_isect.specs.declared.phase.Phase.TheVariants.{Rest, ChangeBucket, ChangeHead}
+use Rattle.vt_isect.specs.declared.phase.Phase.TheVariants.{Rest, ChangeHead}
 use Rattle.vt_isect.specs.declared.TheConstants.{FRAME_LEN}
 use Rattle.vt_isect.specs.Head.{IsHeadFrame}
 use Rattle.vt_isect.specs.Layout.{InRange, IsSection, head_place}
-use Rattle.vt_isect.specs.Section.{SectionState}
+use Rattle.vt_isect.specs.Section.{SectionState, PutsEntries}
 use Rattle.vt_isect.specs.Sound.{DiskHolds, IsWhole, Known, LeavesHead, LeavesSection, nothing_known}
 use Rattle.vt_twin.specs.Frames.{current_frame}
 use Rattle.vt_format.specs.Usage.{ChangesHead, IsInUse, IsMidway, StopsHead, cleared, head_in}
@@ -27,7 +27,7 @@ some_is {A = A} o x is = subst (λ (p : Option A). IsSome p) (sym is) refl
 module _ {D : Type 0} (disk : DiskOf D)
     (crash : (t : SectionState D) (known : Known) → DiskHolds disk t known → IsWhole t known → t.next.first ≡ t.head.first
     → (file : List ℕ) → disk.images t.disk file → LeavesSection t known file)
-    (t : SectionState D) (phase : t.phase ≢ ChangeBucket) (first : t.next.first ≡ t.head.first) where
+    (t : SectionState D) (phase : ¬ PutsEntries t.phase) (first : t.next.first ≡ t.head.first) where
   -- what a crash leaves of a section that is known to have no entries
   leaves_empty : DiskHolds disk t (cleared t.head.first t.buckets) → (c : List ℕ) → disk.images t.disk c
       → (head : Head) × LeavesHead t head × IsSection t.name head t.buckets (λ n. []) c
@@ -44,7 +44,7 @@ module _ {D : Type 0} (disk : DiskOf D)
               let bucket = it.2.bucket n within in
               let here : InRange t.head t.buckets n =
               (subst (λ (k : ℕ). k ≤ n) same within.0, subst (λ (k : ℕ). n < k + t.buckets) same within.1) in
-              let none : it.1 n ≡ [] = ⊎_elim (λ is. is) (λ way. absurd (phase way.0.0))
+              let none : it.1 n ≡ [] = ⊎_elim (λ is. is) (λ way. absurd (phase way.0.1.0))
               (it.4 n [] here (known_there t.head.first t.buckets n here.0 here.1)) in
               (bucket.0, bucket.1, subst (λ (entries : List Entry). IsFrame n entries (current_frame bucket.0 FRAME_LEN c)) none bucket.2);
         },
@@ -61,7 +61,7 @@ module _ {D : Type 0} (disk : DiskOf D)
   empty : DiskHolds disk t (cleared t.head.first t.buckets) → (c : List ℕ) → disk.images t.disk c
       → IsSection t.name t.head t.buckets (λ n. []) c
   empty sound c left =
-      let it = leaves_empty disk crash t (λ changes. let no : Rest ≡ ChangeBucket = sym rest ∙ changes in absurd (cc))
+      let it = leaves_empty disk crash t (λ puts. subst PutsEntries rest puts)
       (ap (λ h. h.first) next) sound c left in
       subst (λ (h : Head). IsSection t.name h t.buckets (λ n. []) c) (head_at_rest t rest it.0 it.1) it.2
 
@@ -154,7 +154,7 @@ module _ {D : Type 0} (disk : DiskOf D) (first total : ℕ) (old a b : SectionSt
       subst (λ (k : ℕ). DiskHolds disk new (cleared k new.buckets)) firsts
       (subst (λ (k : ℕ). DiskHolds disk new (cleared a.head.first k)) (one.buckets ∙ sym buckets) (it.keeps (cleared a.head.first a.buckets) told sound)) in
       let left_section = leaves_empty disk crash new
-      (λ changes. let no : ChangeHead ≡ ChangeBucket = sym it.phase ∙ changes in absurd (cc))
+      (λ puts. subst PutsEntries it.phase puts)
       (ap (λ h. h.first) next ∙ sym (ap (λ h. h.first) head)) held c left in
       let whole : IsSection old.name left_section.0 old.buckets (λ n. []) c =
       subst (λ (k : ℕ). IsSection old.name left_section.0 k (λ n. []) c) buckets

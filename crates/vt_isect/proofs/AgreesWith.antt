@@ -15,7 +15,7 @@ use Rattle.vt_isect.specs.declared.phase.Phase.TheVariants.{ChangeHead}
 use Rattle.vt_isect.specs.Agreement.{IsEntryOf, IsOfBlock, HasBlock, IsInBucket, AgreesWith, IsCovered, NoOthers, KnownAgrees}
 use Rattle.vt_isect.specs.Layout.{InRange}
 use Rattle.vt_isect.specs.Merging.{Merges}
-use Rattle.vt_isect.specs.Section.{SectionState, HasBucket, IsChanging, IsOfGroup, IsTodo, entries_of}
+use Rattle.vt_isect.specs.Section.{SectionState, PutsEntries, IsChanging, IsOfGroup, IsTodo, entries_of}
 use Rattle.vt_isect.specs.Sound.{Known, LeavesSection}
 use Rattle.vt_isect.proofs.AreNext.{of_group}
 
@@ -52,28 +52,28 @@ same_block score c h keys i k e f one two key =
     (cases_order i k)
 
 module _ {D : Type 0} (score : List ℕ → List ℕ) (c : Setup) (h : History) (t : SectionState D) (known : Known) (agrees : KnownAgrees score c h t known) where
-  -- the entries of the group are of the bucket under way
-  group_blocks : HasBucket t.phase → (n : ℕ) → n ≡ t.bucket → (entry : Entry) → IsOfGroup t entry
+  -- the entries of the group are of their buckets
+  group_blocks : PutsEntries t.phase → (n : ℕ) → (entry : Entry) → IsOfGroup t n entry
       → IsOfBlock score c h entry × (bucket_of (bucket_count c) entry.key.score.0 ≡ n)
-  group_blocks phase n here entry of = (
-    agrees.todo entry (phase, of_group t.written t.begun (entries_of t) entry of.0),
-    sym (ap (λ (k : ℕ). bucket_of k entry.key.score.0) agrees.total) ∙ of.1 ∙ sym here,
+  group_blocks phase n entry of = (
+    agrees.todo entry (phase, of_group t.written t.framed (entries_of t) entry of.0),
+    sym (ap (λ (k : ℕ). bucket_of k entry.key.score.0) agrees.total) ∙ of.1,
   )
 
   -- a merged bucket has blocks of the history
-  pub merged_blocks : HasBucket t.phase → (n : ℕ) → n ≡ t.bucket → InRange t.head t.buckets n → (old new : List Entry) → known n ≡ Some old → Merges old (IsOfGroup t) new
+  pub merged_blocks : PutsEntries t.phase → (n : ℕ) → InRange t.head t.buckets n → (old new : List Entry) → known n ≡ Some old → Merges old (IsOfGroup t n) new
       → (entry : Entry) → Contains new entry → IsOfBlock score c h entry × (bucket_of (bucket_count c) entry.key.score.0 ≡ n)
-  merged_blocks phase n here within old new is merges entry has = ⊎_elim
-      (λ (of : IsOfGroup t entry). group_blocks phase n here entry of)
+  merged_blocks phase n within old new is merges entry has = ⊎_elim
+      (λ (of : IsOfGroup t n entry). group_blocks phase n entry of)
       (λ was. agrees.blocks n old entry within is was.0)
       (merges.from entry has)
 
   -- and has the block of each entry that it had or got
-  pub merged_has : HasBucket t.phase → (n : ℕ) → n ≡ t.bucket → InRange t.head t.buckets n → (old new : List Entry) → known n ≡ Some old → Merges old (IsOfGroup t) new
-      → (i : ℕ) (entry : Entry) → IsEntryOf score c h i entry → Contains old entry ⊎ IsOfGroup t entry → HasBlock score c h (Contains new) i
-  merged_has phase n here within old new is merges i entry of has =
+  pub merged_has : PutsEntries t.phase → (n : ℕ) → InRange t.head t.buckets n → (old new : List Entry) → known n ≡ Some old → Merges old (IsOfGroup t n) new
+      → (i : ℕ) (entry : Entry) → IsEntryOf score c h i entry → Contains old entry ⊎ IsOfGroup t n entry → HasBlock score c h (Contains new) i
+  merged_has phase n within old new is merges i entry of has =
       let other = merges.keeps entry has in
-      let block = merged_blocks phase n here within old new is merges other.0 other.1 in
+      let block = merged_blocks phase n within old new is merges other.0 other.1 in
       let same : block.0.0 ≡ i = same_block score c h agrees.keys block.0.0 i other.0 entry block.0.1 of other.2 in
       (other.0, other.1, subst (λ (k : ℕ). IsEntryOf score c h k other.0) same block.0.1)
 
@@ -85,25 +85,22 @@ module _ {D : Type 0} (score : List ℕ → List ℕ) (c : Setup) (h : History) 
         of None is some = absurd (false≢true some)
         of (Some old) is some = (old, is)
 
-    has_bucket : (n : ℕ) → IsChanging t n → HasBucket t.phase
-    has_bucket n way = subst HasBucket (sym way.0) tt
-
     blocks : (n : ℕ) (entry : Entry) → InRange t.head t.buckets n → Contains (left.1 n) entry
         → IsOfBlock score c h entry × (bucket_of (bucket_count c) entry.key.score.0 ≡ n)
     blocks n entry within has =
         let old = some_of n within in
         ⊎_elim
         (λ (same : left.1 n ≡ old.0). agrees.blocks n old.0 entry within old.1 (subst (λ (l : List Entry). Contains l entry) same has))
-        (λ (merged : IsChanging t n × Merges old.0 (IsOfGroup t) (left.1 n)).
-        merged_blocks (has_bucket n merged.0) n merged.0.1 within old.0 (left.1 n) old.1 merged.1 entry has)
+        (λ (merged : IsChanging t n × Merges old.0 (IsOfGroup t n) (left.1 n)).
+        merged_blocks merged.0.1.0 n within old.0 (left.1 n) old.1 merged.1 entry has)
         (left.4 n old.0 within old.1)
 
     kept : (n i : ℕ) → InRange t.head t.buckets n → (old : List Entry) → known n ≡ Some old → (entry : Entry) → Contains old entry → IsEntryOf score c h i entry
         → HasBlock score c h (Contains (left.1 n)) i
     kept n i within old is entry has of = ⊎_elim
         (λ (same : left.1 n ≡ old). (entry, subst (λ (l : List Entry). Contains l entry) (sym same) has, of))
-        (λ (merged : IsChanging t n × Merges old (IsOfGroup t) (left.1 n)).
-        merged_has (has_bucket n merged.0) n merged.0.1 within old (left.1 n) is merged.1 i entry of (inl has))
+        (λ (merged : IsChanging t n × Merges old (IsOfGroup t n) (left.1 n)).
+        merged_has merged.0.1.0 n within old (left.1 n) is merged.1 i entry of (inl has))
         (left.4 n old within is)
 
     covered : (others : Entry → Type 0) (mark : ℕ) → ((entry : Entry) → ¬ others entry) → IsCovered score c h t known others mark
@@ -119,8 +116,8 @@ module _ {D : Type 0} (score : List ℕ → List ℕ) (c : Setup) (h : History) 
     no_todo : t.phase ≡ ChangeHead → (entry : Entry) → ¬ IsTodo t entry
     no_todo way entry todo = no_bucket t.phase way todo.0
       where
-        no_bucket : (p : Phase) → p ≡ ChangeHead → HasBucket p → ⊥
-        no_bucket p is has = subst HasBucket is has
+        no_bucket : (p : Phase) → p ≡ ChangeHead → PutsEntries p → ⊥
+        no_bucket p is has = subst PutsEntries is has
 
     -- what the head is for the marks
     pub leaves_agree : left.0.state ≡ 1 → AgreesWith score c h t.buckets left.0 left.1

@@ -1,14 +1,13 @@
 -- The entries of a writeback: those that are in their buckets, the group under way, and the rest.
-use Rattle.std.proofs.Common.{◌≡◌, ◌⊎◌, inl, inr, ⊎_elim, ℕ, ◌<◌, ◌≤◌, List, [], ◌∷◌, ◌++◌, length, get_or, take, drop, take-append-drop, length-take, Some, sym, ap, ◌∙◌, subst, arith}
-use Rattle.std.specs.Prelude.{slice_get}
+use Rattle.std.proofs.Common.{◌≡◌, ◌≢◌, ◌⊎◌, inl, inr, ⊎_elim, ℕ, ◌+◌, ◌^◌, ◌<◌, ◌≤◌, Bool, true, false, if◌then◌else◌, List, [], ◌∷◌, ◌++◌, length, get_or, take, drop, take-append-drop, length-take, length-drop, Option, Some, None, sym, ap, ◌∙◌, subst, arith}
+use Rattle.std.specs.Prelude.{nat_le}
 use Rattle.std.specs.List.{Contains}
 use Rattle.std.proofs.lemmas.Bool.{cases_lt}
-use Rattle.std.proofs.lemmas.List.{drop_all, drop-append-le, take_all}
-use Rattle.std.proofs.lemmas.Option.{slice_get-get_or}
+use Rattle.std.proofs.lemmas.List.{drop_all, drop-append-le, get_or-drop, get_or_default, take_all}
 use Rattle.std.proofs.lemmas.List.Elements.{Contains-append_left, Contains-append_right, Contains-append_cases, Contains-push_cases}
 use Rattle.vt_base.specs.declared.place.Entry.{Entry}
 use Rattle.vt_model.specs.Places.{bucket_of}
-use Rattle.vt_isect.specs.Section.{SectionState, AreNext, HasBucket, entries_of}
+use Rattle.vt_isect.specs.Entries.{IsOrdered, turn}
 
 pub dropped : (n : ℕ) (xs : List Entry) (entry : Entry) → Contains (drop n xs) entry
     → Contains xs entry
@@ -85,26 +84,31 @@ own_more total bucket front y here before entry has = ⊎_elim
     subst (λ (e : Entry). bucket_of total e.key.score.0 ≡ bucket) is here)
     (Contains-push_cases front y entry has)
 
--- while a bucket is under way, these entries are on the way into it
-abbrev pub HasGroup : {D : Type 0} → SectionState D → Type 0
-HasGroup t = HasBucket t.phase → AreNext t.head.total t.bucket t.written t.begun (entries_of t)
+-- ---- the order of the entries
 
--- ---- the next group, behind those that are written
+turns_apart : (behind : Option ℕ) (a b : ℕ) → a < 2 ^ 32 → b < 2 ^ 32 → turn behind a ≡ turn behind b → a ≡ b
+turns_apart None a b low less same = same
+turns_apart (Some last) a b low less same = by (nat_le a last) (nat_le b last) same
+  where
+    by : (p q : Bool) → (if p then a + 2 ^ 32 else a) ≡ (if q then b + 2 ^ 32 else b) → a ≡ b
+    by true true is = omega (arith, is)
+    by true false is = absurd (omega (arith, is, low, less))
+    by false true is = absurd (omega (arith, is, low, less))
+    by false false is = is
 
--- the first of them is one of all
-pub first_of : (from : ℕ) (xs : List Entry) (y : Entry) → from < length xs → y ≡ get_or xs from y
-    → Contains xs y
-first_of from xs y lt is = (from, lt, sym is)
-
--- some are on the way
-pub some_begun : (total bucket from begun : ℕ) (xs : List Entry) (y : Entry) → from < length xs
-    → y ≡ get_or xs from y → bucket_of total y.key.score.0 ≡ bucket
-    → AreNext total bucket from begun xs → from < begun
-some_begun total bucket from begun xs y lt is here next = ⊎_elim
-    (λ (some : from < begun). some)
-    (λ (none : begun ≤ from).
-    let at : slice_get xs from ≡ Some y =
-    slice_get-get_or xs from y lt ∙ ap (λ (e : Entry). Some e) (sym is) in
-    let same : from ≡ begun = omega (arith, none, next.order) in
-    absurd (next.all y (subst (λ (n : ℕ). slice_get xs n ≡ Some y) same at) here))
-    (cases_lt from begun)
+-- behind an entry of another bucket there is none of this one, which stands before it
+pub none_later : (total : ℕ) (behind : Option ℕ) (xs : List Entry) → IsOrdered total behind xs → (first i : ℕ) (d : Entry)
+    → first ≤ i → i < length xs
+    → bucket_of total (get_or xs first d).key.score.0 < 2 ^ 32 → bucket_of total (get_or xs i d).key.score.0 < 2 ^ 32
+    → bucket_of total (get_or xs i d).key.score.0 ≢ bucket_of total (get_or xs first d).key.score.0
+    → (entry : Entry) → Contains (drop i xs) entry → bucket_of total entry.key.score.0 ≢ bucket_of total (get_or xs first d).key.score.0
+none_later total behind xs ordered first i d before within low less other entry has same =
+    let k = has.0 in
+    let lt : i + k < length xs = omega (arith, has.1, within, length-drop i xs) in
+    let is : get_or xs (i + k) d ≡ entry =
+    sym (get_or-drop i xs k d) ∙ get_or_default (drop i xs) k d entry has.1 ∙ has.2 in
+    let one = ordered first i d before within in
+    let two = ordered i (i + k) d (omega arith) lt in
+    let last = ap (λ (e : Entry). turn behind (bucket_of total e.key.score.0)) is in
+    let back = ap (turn behind) same in
+    other (turns_apart behind _ _ less low (omega (arith, one, two, last, back)))

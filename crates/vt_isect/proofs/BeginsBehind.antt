@@ -18,7 +18,7 @@ use Rattle.vt_isect.specs.Sound.{Known, IsSoundSection}
 use Rattle.vt_isect.specs.Writeback.{BeginsBehind}
 use Rattle.vt_isect.proofs.AreNext.{dropped}
 use Rattle.vt_isect.proofs.Heads.{frame_has}
-use Rattle.vt_isect.proofs.IsSoundSection.{section_moves, head_begins}
+use Rattle.vt_isect.proofs.IsSoundSection.{bucket_begins, head_begins}
 use Rattle.vt_isect.proofs.Follows.{covers_more}
 
 -- what is known agrees with the head that begins to be written
@@ -41,14 +41,14 @@ agrees_begins score c h t next hw known agrees first total cover =
     }
 
 -- and with the entries that begin to be written
-agrees_file : {D : Type 0} (score : List ℕ → List ℕ) (c : Setup) (h : History) (t : SectionState D) (mark : ℕ) (p : Phase) (es : EntriesState) (w g b : ℕ) (hw : TwinState) (known : Known)
-    → ((entry : Entry) → Contains es.items entry → IsTodo (record t { next = record t.head { mark = mark }; phase = p; entries = Some es; written = w; begun = g; bucket = b; head_twin = hw }) entry)
+agrees_file : {D : Type 0} (score : List ℕ → List ℕ) (c : Setup) (h : History) (t : SectionState D) (mark : ℕ) (p : Phase) (es : EntriesState) (w f g b k : ℕ) (hw : TwinState) (known : Known)
+    → ((entry : Entry) → Contains es.items entry → IsTodo (record t { next = record t.head { mark = mark }; phase = p; entries = Some es; written = w; framed = f; begun = g; bucket = b; most = k; head_twin = hw }) entry)
     → KnownAgrees score c h t known
     → ((entry : Entry) → Contains es.items entry → IsOfBlock score c h entry)
     → (t.head.state ≡ 1 → IsCovered score c h t known (Contains es.items) mark)
-    → KnownAgrees score c h (record t { next = record t.head { mark = mark }; phase = p; entries = Some es; written = w; begun = g; bucket = b; head_twin = hw }) known
-agrees_file score c h t mark p es w g b hw known forth agrees of cover =
-    let v = record t { next = record t.head { mark = mark }; phase = p; entries = Some es; written = w; begun = g; bucket = b; head_twin = hw } in
+    → KnownAgrees score c h (record t { next = record t.head { mark = mark }; phase = p; entries = Some es; written = w; framed = f; begun = g; bucket = b; most = k; head_twin = hw }) known
+agrees_file score c h t mark p es w f g b k hw known forth agrees of cover =
+    let v = record t { next = record t.head { mark = mark }; phase = p; entries = Some es; written = w; framed = f; begun = g; bucket = b; most = k; head_twin = hw } in
     record {
       keys = agrees.keys;
       total = agrees.total;
@@ -62,21 +62,31 @@ agrees_file score c h t mark p es w g b hw known forth agrees of cover =
     }
 
 -- the section whose entries are to be written
-abbrev given : {D : Type 0} → SectionState D → (mark : ℕ) → EntriesState → SectionState D
-given t mark es = record t { next = record t.head { mark = mark }; entries = Some es }
+abbrev given : {D : Type 0} → SectionState D → (mark most : ℕ) → EntriesState → SectionState D
+given t mark most es = record t { next = record t.head { mark = mark }; entries = Some es; most = most }
 
 -- what begins, of the first group or of the head
 abbrev pub Begins : {D : Type 0} → (t : SectionState D) (mark : ℕ) (es : EntriesState) (v : SectionState D) → Type 0
-Begins t mark es v = (v ≡ record (given t mark es) { phase = ReadSelector; written = 0; begun = v.begun; bucket = v.bucket })
-    ⊎ (v ≡ record (given t mark es) { phase = ChangeHead; written = 0; begun = 0; head_twin = with_change (encoded t.name (record t.head { mark = mark })) t.head_twin })
+Begins t mark es v = (v ≡ record (given t mark v.most es) { phase = ReadSelector; written = 0; framed = 0; begun = v.begun; bucket = v.bucket })
+    ⊎ (v ≡ record (given t mark v.most es) { phase = ChangeHead; written = 0; head_twin = with_change (encoded t.name (record t.head { mark = mark })) t.head_twin })
+
+-- the same with the count that was set
+pub begins_of : {D : Type 0} (t : SectionState D) (mark most : ℕ) (es : EntriesState) (v : SectionState D)
+    → (v ≡ record (given t mark most es) { phase = ReadSelector; written = 0; framed = 0; begun = v.begun; bucket = v.bucket })
+    ⊎ (v ≡ record (given t mark most es) { phase = ChangeHead; written = 0; head_twin = with_change (encoded t.name (record t.head { mark = mark })) t.head_twin })
+    → Begins t mark es v
+begins_of t mark most es v (inl e) =
+    inl (subst (λ (m : ℕ). v ≡ record (given t mark m es) { phase = ReadSelector; written = 0; framed = 0; begun = v.begun; bucket = v.bucket }) (sym (ap (λ x. x.most) e)) e)
+begins_of t mark most es v (inr e) =
+    inr (subst (λ (m : ℕ). v ≡ record (given t mark m es) { phase = ChangeHead; written = 0; head_twin = with_change (encoded t.name (record t.head { mark = mark })) t.head_twin }) (sym (ap (λ x. x.most) e)) e)
 
 -- where the head begins, there are no entries
 pub no_entries : {D : Type 0} (t : SectionState D) (mark : ℕ) (es : EntriesState) (v : SectionState D) → BeginsBehind 0 v
-    → v ≡ record (given t mark es) { phase = ChangeHead; written = 0; begun = 0; head_twin = with_change (encoded t.name (record t.head { mark = mark })) t.head_twin }
+    → v ≡ record (given t mark v.most es) { phase = ChangeHead; written = 0; head_twin = with_change (encoded t.name (record t.head { mark = mark })) t.head_twin }
     → (entry : Entry) → ¬ Contains es.items entry
 no_entries t mark es v begins e entry has =
     let at = subst (λ x. BeginsBehind 0 x) e begins in
-    ⊎_elim (λ here. let q = here.0 in cc) (λ there. omega (arith, there.3, has.1)) at
+    ⊎_elim (λ here. let q = here.0.0 in cc) (λ there. omega (arith, there.3, has.1)) at
 
 pub file_agrees : {D : Type 0} (score : List ℕ → List ℕ) (c : Setup) (h : History) (t : SectionState D) (mark : ℕ) (es : EntriesState) (v : SectionState D) (known : Known)
     → BeginsBehind 0 v → Begins t mark es v
@@ -86,20 +96,20 @@ pub file_agrees : {D : Type 0} (score : List ℕ → List ℕ) (c : Setup) (h : 
     → KnownAgrees score c h v known
 file_agrees score c h t mark es v known begins (inl e) agrees of cover =
     subst (λ x. KnownAgrees score c h x known) (sym e)
-    (agrees_file score c h t mark ReadSelector es 0 v.begun v.bucket t.head_twin known (λ entry has. (tt, has)) agrees of cover)
+    (agrees_file score c h t mark ReadSelector es 0 0 v.begun v.bucket v.most t.head_twin known (λ entry has. (tt, has)) agrees of cover)
 file_agrees score c h t mark es v known begins (inr e) agrees of cover =
     subst (λ x. KnownAgrees score c h x known) (sym e)
-    (agrees_file score c h t mark ChangeHead es 0 0 t.bucket (with_change (encoded t.name (record t.head { mark = mark })) t.head_twin) known
+    (agrees_file score c h t mark ChangeHead es 0 t.framed t.begun t.bucket v.most (with_change (encoded t.name (record t.head { mark = mark })) t.head_twin) known
     (λ entry has. absurd (no_entries t mark es v begins e entry has)) agrees of cover)
 
 pub file_sound : {D : Type 0} (t : SectionState D) (mark : ℕ) (es : EntriesState) (v : SectionState D) (known : Known) (read : List ℕ) (images : List ℕ → Type 0)
-    → t.phase ≡ Rest → length t.name ≡ 64 → mark < 2 ^ 64 → Begins t mark es v
+    → t.phase ≡ Rest → t.group ≡ [] → length t.name ≡ 64 → mark < 2 ^ 64 → Begins t mark es v
     → IsSoundSection t known read images → IsSoundSection v known read images
-file_sound t mark es v known read images rest len low (inl e) sound =
+file_sound t mark es v known read images rest none len low (inl e) sound =
     subst (λ x. IsSoundSection x known read images) (sym e)
-    (section_moves t t.disk (record t.head { mark = mark }) ReadSelector (Some es) 0 v.begun v.bucket t.calls t.bucket_twin t.stopped known read read images images
-    (λ q. cc) (λ q. cc) (λ q. cc) (λ q. cc) refl (λ c left. left) (λ k r way. absurd (cc)) sound)
-file_sound t mark es v known read images rest len low (inr e) sound =
+    (bucket_begins t (record (given t mark v.most es) { phase = ReadSelector; written = 0; framed = 0; begun = v.begun; bucket = v.bucket }) known read images
+    refl refl refl refl rest refl none (λ goes. goes) sound)
+file_sound t mark es v known read images rest none len low (inr e) sound =
     let was = sound.head.fits in
     let fits : IsHead (record t.head { mark = mark }) = record {
       state = was.state;
@@ -109,7 +119,9 @@ file_sound t mark es v known read images rest len low (inr e) sound =
       mark = low;
     } in
     subst (λ x. IsSoundSection x known read images) (sym e)
-    (head_begins t (record t.head { mark = mark }) (Some es) 0 0 (encoded t.name (record t.head { mark = mark })) known read images (λ q. cc) (λ q. cc) (frame_has t.name (record t.head { mark = mark }) fits len) sound)
+    (head_begins t (record (given t mark v.most es) { phase = ChangeHead; written = 0; head_twin = with_change (encoded t.name (record t.head { mark = mark })) t.head_twin })
+    (encoded t.name (record t.head { mark = mark })) known read images refl refl refl refl rest refl
+    (frame_has t.name (record t.head { mark = mark }) fits len) (λ goes. goes) sound)
 
 -- entries one after another
 pub in_range_none : (head : Head) (buckets : ℕ) (entries : List Entry) → entries ≡ [] → AreInRange head buckets entries

@@ -1,5 +1,5 @@
 -- How many device calls are left.
-use Rattle.std.proofs.Common.{◌≡◌, ◌≢◌, ⊎_elim, ℕ, ◌+◌, ◌-◌, ◌*◌, ◌<◌, ◌≤◌, List, [], length, Option, Some, None, Result, Ok, Err, refl, ap, subst, arith}
+use Rattle.std.proofs.Common.{◌≡◌, ◌≢◌, ⊎_elim, ℕ, ◌+◌, ◌-◌, ◌*◌, ◌%◌, ◌<◌, ◌≤◌, List, [], ◌∷◌, length, length-append, Option, Some, None, Result, Ok, Err, refl, ap, arith}
 use Rattle.std.specs.Prelude.{IfErr, OnOk}
 use Rattle.std.specs.Option.{option_map_or}
 use Rattle.vt_twin.specs.Twin.{Change, TwinState, calls_made}
@@ -7,11 +7,12 @@ use Rattle.vt_twin.specs.declared.step.Step.{Step}
 use Rattle.vt_twin.specs.declared.step.Step.TheVariants.{More, Done}
 use Rattle.vt_isect.specs.declared.bad.ShardErr.{ShardErr}
 use Rattle.vt_isect.specs.declared.bad.ShardErr.TheVariants.{Fault, Damaged, Stopped}
+use Rattle.vt_isect.specs.declared.groups.Member.{Member}
 use Rattle.vt_isect.specs.declared.phase.Phase.{Phase}
-use Rattle.vt_isect.specs.declared.phase.Phase.TheVariants.{Rest, ReadSelector, ReadFrame, ChangeBucket, ChangeHead}
-use Rattle.vt_isect.specs.Entries.{EntriesState}
-use Rattle.vt_isect.specs.Section.{SectionState, HasFrames, IsLent}
-use Rattle.vt_isect.specs.Writeback.{Advances, BeginsBehind, BeginsGroup, BeginsHead, GoesOn, NextPhase, SameGroup, calls_left, later, most_calls}
+use Rattle.vt_isect.specs.declared.phase.Phase.TheVariants.{Rest, ReadSelector, ReadFrame, WriteFrame, SyncFrames, WriteSelector, SyncSelectors, ChangeHead}
+use Rattle.vt_isect.specs.Entries.{EntriesState, items_of}
+use Rattle.vt_isect.specs.Section.{SectionState, HasHeadFrame, IsLent}
+use Rattle.vt_isect.specs.Writeback.{Advances, BeginsBehind, BeginsBucket, BeginsGroup, BeginsHead, GoesOn, NextPhase, SameGroup, calls_left, later, most_calls}
 
 -- what is left where this is done next
 left_as : {D : Type 0} (t : SectionState D) (q : Phase) → t.phase ≡ q → calls_left t ≡ most_calls q t
@@ -24,37 +25,35 @@ lent_made t lent = of t.change lent
     of None lent = absurd lent
     of (Some it) lent = lent.1
 
--- a change under way has made fewer than four
-pub bucket_made : (p : Phase) (head bucket : TwinState) (a b : Option (List ℕ))
-    → HasFrames p head bucket a b → p ≡ ChangeBucket → calls_made bucket < 4
-bucket_made p head bucket a b frames is =
-    lent_made bucket (subst (λ (q : Phase). HasFrames q head bucket a b) is frames).2
-
-pub head_made : (p : Phase) (head bucket : TwinState) (a b : Option (List ℕ))
-    → HasFrames p head bucket a b → p ≡ ChangeHead → calls_made head < 4
-head_made p head bucket a b frames is =
-    lent_made head (subst (λ (q : Phase). HasFrames q head bucket a b) is frames).0
+-- a change of the head under way has made fewer than four
+pub head_made : {D : Type 0} (t : SectionState D) (buffer : Option (List ℕ)) → HasHeadFrame t buffer → t.phase ≡ ChangeHead → calls_made t.head_twin < 4
+head_made t buffer frame is = lent_made t.head_twin (frame.lent is)
 
 -- as many entries stand behind it
 same_later : {D : Type 0} (old new : SectionState D) → GoesOn old new → SameGroup old new
     → later new ≡ later old
 same_later old new goes same =
-    λ i. length (option_map_or (λ entries. entries.items) (goes.section.entries i) [])
+    λ i. length (items_of (goes.section.entries i))
     - same.begun i
 
--- behind a group that is written there are fewer, or the head is left
-begins_lower : {D : Type 0} (old new : SectionState D) → GoesOn old new
-    → BeginsBehind old.begun new → calls_left new + 2 ≤ 6 * later old + 6
-begins_lower old new goes begins =
-    let list = ap (λ (o : Option EntriesState). length (option_map_or (λ entries. entries.items) o []))
-    goes.section.entries in
-    ⊎_elim
-    (λ (here : BeginsGroup old.begun new).
+-- behind a bucket that is written there are fewer
+bucket_lower : {D : Type 0} (old new : SectionState D) (more : ℕ) → GoesOn old new → BeginsBucket old.begun new → length new.group ≡ more
+    → calls_left new + 6 ≤ 6 * later old + more + 10
+bucket_lower old new more goes here many =
+    let list = ap (λ (o : Option EntriesState). length (items_of o)) goes.section.entries in
     let left = left_as new ReadSelector here.0 in
     let from = here.1 in
     let some = here.2 in
     let within = here.3.within in
-    omega (arith, left, list, from, some, within))
+    omega (arith, left, list, from, some, within, many)
+
+-- behind a group that is written there are fewer, or the head is left
+begins_lower : {D : Type 0} (old new : SectionState D) → GoesOn old new
+    → BeginsBehind old.begun new → calls_left new < 6 * later old + 5
+begins_lower old new goes begins = ⊎_elim
+    (λ (here : BeginsGroup old.begun new).
+    let lower = bucket_lower old new 0 goes here.0 (ap (λ (l : List Member). length l) here.2) in
+    omega (arith, lower))
     (λ (there : BeginsHead old.begun new).
     let left = left_as new ChangeHead there.0 in
     let none = there.4 in
@@ -63,62 +62,77 @@ begins_lower old new goes begins =
 
 -- a step leaves fewer
 more_lower : {D : Type 0} (old new : SectionState D) (q : Phase) → GoesOn old new
-    → NextPhase q old new → (q ≡ ChangeBucket → calls_made old.bucket_twin < 4)
+    → NextPhase q old new → ((j : ℕ) → q ≡ WriteSelector j → j < length old.group)
     → (q ≡ ChangeHead → calls_made old.head_twin < 4) → calls_left new < most_calls q old
-more_lower old new Rest goes next bucket head = absurd next
-more_lower old new ReadSelector goes next bucket head =
+more_lower old new Rest goes next members head = absurd next
+more_lower old new ReadSelector goes next members head =
     let left = left_as new (ReadFrame next.0.0) next.0.1 in
     let same = same_later old new goes next.1 in
-    omega (arith, left, same)
-more_lower old new (ReadFrame s) goes next bucket head =
-    let left = left_as new ChangeBucket next.0 in
-    let same = same_later old new goes next.2 in
-    let none = next.1 in
-    omega (arith, left, same, none)
-more_lower old new ChangeBucket goes next bucket head = ⊎_elim
+    omega (arith, left, same, ap (λ (l : List Member). length l) next.1.group)
+more_lower old new (ReadFrame s) goes next members head =
+    let left = left_as new (WriteFrame (s % 2)) next.0 in
+    let same = same_later old new goes next.1 in
+    omega (arith, left, same, ap (λ (l : List Member). length l) next.1.group)
+more_lower old new (WriteFrame s) goes next members head =
+    let one : Member = record { bucket = old.bucket; current = s } in
+    let many : length new.group ≡ length old.group + 1 = omega (arith, ap (λ (l : List Member). length l) next.0.group, length-append old.group (one ∷ [])) in
+    ⊎_elim
+    (λ here.
+    let lower = bucket_lower old new (length old.group + 1) goes here.1 many in
+    omega (arith, lower))
+    (λ there.
+    let left = left_as new SyncFrames there.0 in
+    let list = ap (λ (o : Option EntriesState). length (items_of o)) goes.section.entries in
+    omega (arith, left, list, there.2, many))
+    next.1
+more_lower old new SyncFrames goes next members head =
+    let left = left_as new (WriteSelector 0) next.0 in
+    let same = same_later old new goes next.1 in
+    omega (arith, left, same, ap (λ (l : List Member). length l) next.1.group)
+more_lower old new (WriteSelector j) goes next members head =
+    let same = same_later old new goes next.0 in
+    let many = ap (λ (l : List Member). length l) next.0.group in
+    let at = members j refl in
+    ⊎_elim
     (λ on.
-    let left = left_as new ChangeBucket on.1 in
-    let same = same_later old new goes on.3 in
-    let one = ap calls_made on.2 in
-    let low = bucket refl in
-    omega (arith, left, same, one, low))
-    (λ behind.
-    let lower = begins_lower old new goes behind.1 in
-    let made = behind.0 in
-    omega (arith, lower, made))
-    next
-more_lower old new ChangeHead goes next bucket head =
+    let left = left_as new (WriteSelector (j + 1)) on.1 in
+    omega (arith, left, same, many, on.0))
+    (λ last.
+    let left = left_as new SyncSelectors last.1 in
+    omega (arith, left, same, many, at))
+    next.1
+more_lower old new SyncSelectors goes next members head = begins_lower old new goes next
+more_lower old new ChangeHead goes next members head =
     let left = left_as new ChangeHead next.1 in
     let one = ap calls_made next.2 in
     let low = head refl in
     omega (arith, left, one, low)
 
 pub advance_lower : {D : Type 0} (result : Result Step ShardErr) (old new : SectionState D)
-    → Advances result old new → (old.phase ≡ ChangeBucket → calls_made old.bucket_twin < 4)
+    → Advances result old new → ((j : ℕ) → old.phase ≡ WriteSelector j → j < length old.group)
     → (old.phase ≡ ChangeHead → calls_made old.head_twin < 4)
     → OnOk result (calls_left new < calls_left old)
-advance_lower (Ok More) old new step bucket head =
-    more_lower old new old.phase step.0 step.2 bucket head
-advance_lower (Ok Done) old new step bucket head =
+advance_lower (Ok More) old new step members head =
+    more_lower old new old.phase step.0 step.2 members head
+advance_lower (Ok Done) old new step members head =
     let left = left_as new Rest step.2.phase in
     let was = left_as old ChangeHead step.0 in
     let made = step.1 in
     omega (arith, left, was, made)
-advance_lower (Err bad) old new step bucket head = tt
+advance_lower (Err bad) old new step members head = tt
 
 -- what begins
 pub begun_left : {D : Type 0} (t : SectionState D) (entries : EntriesState) → BeginsBehind 0 t
     → t.entries ≡ Some entries → calls_left t ≤ 6 * length entries.items + 4
 begun_left t entries begins is =
-    let list = ap (λ (o : Option EntriesState). length (option_map_or (λ entries. entries.items) o []))
-    is in
+    let list = ap (λ (o : Option EntriesState). length (items_of o)) is in
     ⊎_elim
     (λ (here : BeginsGroup 0 t).
-    let left = left_as t ReadSelector here.0 in
-    let from = here.1 in
-    let some = here.2 in
-    let within = here.3.within in
-    omega (arith, left, list, from, some, within))
+    let left = left_as t ReadSelector here.0.0 in
+    let from = here.0.1 in
+    let some = here.0.2 in
+    let within = here.0.3.within in
+    omega (arith, left, list, from, some, within, ap (λ (l : List Member). length l) here.2))
     (λ (there : BeginsHead 0 t).
     let left = left_as t ChangeHead there.0 in
     let none = there.4 in
@@ -131,14 +145,15 @@ head_left t is none = let left = left_as t ChangeHead is in omega (arith, left, 
 
 -- something is under way where calls are left
 pub some_left : {D : Type 0} (t : SectionState D) (q : Phase) → t.phase ≡ q
-    → (q ≡ ChangeBucket → calls_made t.bucket_twin < 4)
     → (q ≡ ChangeHead → calls_made t.head_twin < 4) → q ≢ Rest → 0 < calls_left t
-some_left t Rest is bucket head other = absurd (other refl)
-some_left t ReadSelector is bucket head other = let left = left_as t ReadSelector is in omega (arith, left)
-some_left t (ReadFrame s) is bucket head other = let left = left_as t (ReadFrame s) is in omega (arith, left)
-some_left t ChangeBucket is bucket head other =
-    let left = left_as t ChangeBucket is in let low = bucket refl in omega (arith, left, low)
-some_left t ChangeHead is bucket head other =
+some_left t Rest is head other = absurd (other refl)
+some_left t ReadSelector is head other = let left = left_as t ReadSelector is in omega (arith, left)
+some_left t (ReadFrame s) is head other = let left = left_as t (ReadFrame s) is in omega (arith, left)
+some_left t (WriteFrame s) is head other = let left = left_as t (WriteFrame s) is in omega (arith, left)
+some_left t SyncFrames is head other = let left = left_as t SyncFrames is in omega (arith, left)
+some_left t (WriteSelector j) is head other = let left = left_as t (WriteSelector j) is in omega (arith, left)
+some_left t SyncSelectors is head other = let left = left_as t SyncSelectors is in omega (arith, left)
+some_left t ChangeHead is head other =
     let left = left_as t ChangeHead is in let low = head refl in omega (arith, left, low)
 
 pub none_left : {D : Type 0} (t : SectionState D) → t.phase ≡ Rest → calls_left t ≡ 0

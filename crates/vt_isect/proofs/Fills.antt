@@ -20,11 +20,11 @@ use Rattle.vt_twin.specs.Formatting.{EndsFormat, TouchedByFirst}
 use Rattle.vt_twin.specs.Frames.{HasRoom, frame_of, frame_start, named_number, current_frame, selector_of, selector_start, selector_len}
 use Rattle.vt_twin.proofs.Places.{frame_inside, selector_inside, frame_same, named_same}
 use Rattle.vt_isect.specs.declared.head.Head.{Head}
-use Rattle.vt_isect.specs.declared.phase.Phase.TheVariants.{Rest, ChangeBucket}
+use Rattle.vt_isect.specs.declared.phase.Phase.TheVariants.{Rest}
 use Rattle.vt_isect.specs.Agreement.{KnownAgrees, IsOfBlock}
 use Rattle.vt_isect.specs.Filling.{AreCleared, Fills, HasSelectorOf, InBuckets, IsAmong, Reads, with_buckets}
 use Rattle.vt_isect.specs.Layout.{head_place, IsPlaceOf, InRange}
-use Rattle.vt_isect.specs.Section.{SectionState}
+use Rattle.vt_isect.specs.Section.{SectionState, PutsEntries}
 use Rattle.vt_isect.specs.Sound.{Known, DiskHolds, IsSoundSection, with_bucket, nothing_known}
 use Rattle.vt_isect.proofs.WithBucket.{settled_holds, with_here, with_there}
 use Rattle.vt_isect.proofs.Places.{one_place, head_apart, places_apart}
@@ -141,6 +141,8 @@ less_sound t known knows read images less sound = record {
   head_rest = sound.head_rest;
   head_changing = sound.head_changing;
   selector = sound.selector;
+  current = sound.current;
+  made = λ s entries phase is. sound.made s entries phase (less t.bucket entries is);
   bucket = λ n entries within is. sound.bucket n entries within (less n entries is);
 }
 
@@ -161,7 +163,9 @@ synced_sound t d known read reads images after same among sound = record {
   head = sound.head;
   head_rest = sound.head_rest;
   head_changing = sound.head_changing;
-  selector = λ s region phase place. rw same (sound.selector s region phase place);
+  selector = λ s phase region place. rw same (sound.selector s phase region place);
+  current = λ s phase region place. rw same (sound.current s phase region place);
+  made = sound.made;
   bucket = λ n entries within is.
       let it = sound.bucket n entries within is in
       record {
@@ -173,13 +177,23 @@ synced_sound t d known read reads images after same among sound = record {
         sound = reads_sound it.twin it.region it.frame _ _ _ _ same among it.sound;
         spelled = it.spelled;
         rest = it.rest;
-        changing = it.changing;
+        changing = λ j m of at.
+            let come = it.changing j m of at in
+            record {
+              current = come.current;
+              made = come.made;
+              goes = come.goes;
+              whole = come.whole;
+              new = come.new;
+              spelled = come.spelled;
+              merges = come.merges;
+            };
       };
 }
 
 -- what is known is read
 pub known_reads : {D : Type 0} (t : SectionState D) (known : Known) (read : List ℕ) (images : List ℕ → Type 0)
-    → t.phase ≢ ChangeBucket → images read → IsSoundSection t known read images → ReadsAt t known read
+    → ¬ PutsEntries t.phase → images read → IsSoundSection t known read images → ReadsAt t known read
 known_reads t known read images still is_image sound n entries within is =
     let it = sound.bucket n entries within is in (
       it.region,
@@ -187,13 +201,13 @@ known_reads t known read images still is_image sound n entries within is =
       reads_known t known n entries read (current_frame it.region 8192 read) images sound is_image within is
           (λ region place. record {
             rest = λ no. ap (λ (r : Region). current_frame r 8192 read) (one_place (n - t.head.first) it.region region it.place place);
-            changing = λ way. absurd (still way.0);
+            changing = λ m of. absurd (still of.0);
           }),
     )
 
 -- behind a sync, what is read is known
 pub settled_sound : {D : Type 0} (t : SectionState D) (known knows : Known) (read : List ℕ) (images : List ℕ → Type 0)
-    → t.phase ≢ ChangeBucket → Only read images → IsSoundSection t known read images → ReadsAt t knows read
+    → ¬ PutsEntries t.phase → Only read images → IsSoundSection t known read images → ReadsAt t knows read
     → IsSoundSection t knows read images
 settled_sound t known knows read images still only sound reads = record {
   head_frame = sound.head_frame;
@@ -203,9 +217,11 @@ settled_sound t known knows read images still only sound reads = record {
   head_rest = sound.head_rest;
   head_changing = sound.head_changing;
   selector = sound.selector;
+  current = sound.current;
+  made = λ s entries phase is. absurd (still (subst PutsEntries (sym phase) tt));
   bucket = λ n entries within is.
       let it = reads n entries within is in
-      settled_holds t n it.0 entries read images (λ way. still way.0) it.1 only it.2;
+      settled_holds t n it.0 entries read images (λ way. still way.1.0) it.1 only it.2;
 }
 
 -- what is written at the head's place
@@ -492,8 +508,8 @@ synced_writes disk t u d first count writes reads =
 -- buckets that were cleared, behind a sync
 module _ {D : Type 0} (t u : SectionState D) (d : D) (first count : ℕ) (read mid reads : List ℕ) (images between after : List ℕ → Type 0)
     (same : u ≡ record t { disk = u.disk }) (rest : t.phase ≡ Rest) (bytes_are : reads ≡ mid) (among : AreAmong after between) where
-  still : u.phase ≢ ChangeBucket
-  still way = let e : u.phase ≡ Rest = ap (λ x. x.phase) same ∙ rest in cc
+  still : ¬ PutsEntries u.phase
+  still way = subst PutsEntries (ap (λ x. x.phase) same ∙ rest) way
 
   pub synced_reads : (known : Known) → ReadsAt u known mid → ReadsAt (record u { disk = d }) known reads
   synced_reads known it = rw bytes_are it
@@ -506,7 +522,7 @@ module _ {D : Type 0} (t u : SectionState D) (d : D) (first count : ℕ) (read m
       settled_sound (record u { disk = d }) (with_buckets first count None known) (with_buckets first count (Some []) known) reads after still only
       (synced_sound u d (with_buckets first count None known) mid reads between after bytes_are among (others sound))
       (synced_reads (with_buckets first count (Some []) known)
-      (cleared (known_reads t known read images (λ e. let q = rest in cc) is_image sound)))
+      (cleared (known_reads t known read images (λ way. subst PutsEntries rest way) is_image sound)))
 
   pub synced_empty : Only reads after → (ReadsAt t nothing_known read → ReadsAt u (with_buckets first count (Some []) nothing_known) mid)
       → t.head.first ≤ first → first + count ≤ t.head.first + t.buckets

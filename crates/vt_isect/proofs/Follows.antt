@@ -1,5 +1,5 @@
 -- What the steps of a writeback keep.
-use Rattle.std.proofs.Common.{◌≡◌, inl, inr, ⊎_elim, ℕ, ◌+◌, ◌-◌, ◌*◌, ◌%◌, List, get_or, drop, Option, Result, refl, sym, ◌∙◌, ap, subst, arith, lit<}
+use Rattle.std.proofs.Common.{◌≡◌, ◌⊎◌, inl, inr, ⊎_elim, ℕ, ◌+◌, ◌-◌, ◌*◌, ◌%◌, List, get_or, drop, Result, refl, sym, ◌∙◌, ap, subst, arith, lit<}
 use Rattle.std.proofs.lemmas.List.{get_or-take, get_or-drop}
 use Rattle.vt_disk.specs.declared.region.Region.{Region}
 use Rattle.vt_disk.specs.Disk.{AreAmong, ChangesAt, SameBut, part}
@@ -10,12 +10,11 @@ use Rattle.std.specs.List.{Contains}
 use Rattle.vt_base.specs.declared.place.Entry.{Entry}
 use Rattle.vt_model.specs.History.{History}
 use Rattle.vt_model.specs.Places.{Setup}
-use Rattle.vt_twin.specs.Twin.{TwinState}
 use Rattle.vt_twin.specs.declared.step.Step.{Step}
 use Rattle.vt_isect.specs.declared.bad.ShardErr.{ShardErr}
 use Rattle.vt_isect.specs.declared.head.Head.{Head}
 use Rattle.vt_isect.specs.declared.phase.Phase.{Phase}
-use Rattle.vt_isect.specs.declared.phase.Phase.TheVariants.{Rest, ReadFrame, ChangeBucket, ChangeHead}
+use Rattle.vt_isect.specs.declared.phase.Phase.TheVariants.{ReadFrame, WriteFrame, ChangeHead}
 use Rattle.vt_isect.specs.Agreement.{IsCovered, NoOthers, KnownAgrees}
 use Rattle.vt_isect.specs.Layout.{head_place, InRange, IsPlaceOf}
 use Rattle.vt_isect.specs.Section.{SectionState, IsTodo}
@@ -56,43 +55,40 @@ covers_more score c h t u known others more mark head buckets grow cover = recor
       (it.0, ⊎_elim (λ (has : Contains entries it.0). inl has) (λ (other : others it.0). inr (grow it.0 other)) it.1, it.2);
 }
 
--- the same is under way
-pub agrees_moves : {D : Type 0} (score : List ℕ → List ℕ) (c : Setup) (h : History) (t : SectionState D) (d : D) (phase : Phase) (bucket calls : ℕ) (bucket_twin head_twin : TwinState) (stopped : Option ℕ) (known : Known)
-    → ((entry : Entry) → IsTodo (record t { disk = d; phase = phase; bucket = bucket; bucket_twin = bucket_twin; head_twin = head_twin; calls = calls; stopped = stopped }) entry → IsTodo t entry)
-    → ((entry : Entry) → IsTodo t entry → IsTodo (record t { disk = d; phase = phase; bucket = bucket; bucket_twin = bucket_twin; head_twin = head_twin; calls = calls; stopped = stopped }) entry)
-    → KnownAgrees score c h t known
-    → KnownAgrees score c h (record t { disk = d; phase = phase; bucket = bucket; bucket_twin = bucket_twin; head_twin = head_twin; calls = calls; stopped = stopped }) known
-agrees_moves score c h t d phase bucket calls bucket_twin head_twin stopped known back forth agrees =
-    let u = record t { disk = d; phase = phase; bucket = bucket; bucket_twin = bucket_twin; head_twin = head_twin; calls = calls; stopped = stopped } in
-    record {
-      keys = agrees.keys;
-      total = agrees.total;
-      same_first = agrees.same_first;
-      same_total = agrees.same_total;
-      whole = agrees.whole;
-      blocks = agrees.blocks;
-      todo = λ entry way. agrees.todo entry (back entry way);
-      filed = λ live. covers_more score c h t u known NoOthers NoOthers t.head.mark refl refl (λ e no. no) (agrees.filed live);
-      coming = λ live. covers_more score c h t u known (IsTodo t) (IsTodo u) t.next.mark refl refl forth (agrees.coming live);
-    }
+-- the same is under way, or nothing any more
+pub agrees_as : {D : Type 0} (score : List ℕ → List ℕ) (c : Setup) (h : History) (t u : SectionState D) (known : Known)
+    → u.head ≡ t.head → u.buckets ≡ t.buckets → ((u.next ≡ t.next) × ((entry : Entry) → IsTodo t entry → IsTodo u entry)) ⊎ (u.next ≡ t.head)
+    → ((entry : Entry) → IsTodo u entry → IsTodo t entry)
+    → KnownAgrees score c h t known → KnownAgrees score c h u known
+agrees_as score c h t u known head buckets next back agrees = record {
+  keys = agrees.keys;
+  total = ap (λ (x : Head). x.total) head ∙ agrees.total;
+  same_first = ⊎_elim
+      (λ e. ap (λ (x : Head). x.first) e.0 ∙ agrees.same_first ∙ sym (ap (λ (x : Head). x.first) head))
+      (λ (e : u.next ≡ t.head). ap (λ (x : Head). x.first) (e ∙ sym head))
+      next;
+  same_total = ⊎_elim
+      (λ e. ap (λ (x : Head). x.total) e.0 ∙ agrees.same_total ∙ sym (ap (λ (x : Head). x.total) head))
+      (λ (e : u.next ≡ t.head). ap (λ (x : Head). x.total) (e ∙ sym head))
+      next;
+  whole = λ n within. agrees.whole n (here n within);
+  blocks = λ n entries entry within is has. agrees.blocks n entries entry (here n within) is has;
+  todo = λ entry way. agrees.todo entry (back entry way);
+  filed = λ live. subst (λ (m : ℕ). IsCovered score c h u known NoOthers m) (sym (ap (λ (x : Head). x.mark) head))
+      (filed (sym (ap (λ (x : Head). x.state) head) ∙ live));
+  coming = λ live. ⊎_elim
+      (λ e. subst (λ (m : ℕ). IsCovered score c h u known (IsTodo u) m) (sym (ap (λ (x : Head). x.mark) e.0))
+      (covers_more score c h t u known (IsTodo t) (IsTodo u) t.next.mark head buckets e.1 (agrees.coming (sym (ap (λ (x : Head). x.state) e.0) ∙ live))))
+      (λ (e : u.next ≡ t.head). subst (λ (m : ℕ). IsCovered score c h u known (IsTodo u) m) (sym (ap (λ (x : Head). x.mark) e))
+      (covers_more score c h u u known NoOthers (IsTodo u) t.head.mark refl refl (λ entry none. absurd none) (filed (sym (ap (λ (x : Head). x.state) e) ∙ live))))
+      next;
+}
+  where
+    here : (n : ℕ) → InRange u.head u.buckets n → InRange t.head t.buckets n
+    here n within = subst (λ (x : Head). InRange x t.buckets n) head (subst (λ (b : ℕ). InRange u.head b n) buckets within)
 
--- nothing is under way any more, and the head stays
-pub agrees_ends : {D : Type 0} (score : List ℕ → List ℕ) (c : Setup) (h : History) (t : SectionState D) (d : D) (calls : ℕ) (known : Known)
-    → KnownAgrees score c h t known
-    → KnownAgrees score c h (record t { disk = d; next = t.head; phase = Rest; calls = calls }) known
-agrees_ends score c h t d calls known agrees =
-    let u = record t { disk = d; next = t.head; phase = Rest; calls = calls } in
-    record {
-      keys = agrees.keys;
-      total = agrees.total;
-      same_first = refl;
-      same_total = refl;
-      whole = agrees.whole;
-      blocks = agrees.blocks;
-      todo = λ entry way. absurd way.0;
-      filed = λ live. covers_more score c h t u known NoOthers NoOthers t.head.mark refl refl (λ e no. no) (agrees.filed live);
-      coming = λ live. covers_more score c h t u known NoOthers (IsTodo u) t.head.mark refl refl (λ e no. absurd no) (agrees.filed live);
-    }
+    filed : t.head.state ≡ 1 → IsCovered score c h u known NoOthers t.head.mark
+    filed live = covers_more score c h t u known NoOthers NoOthers t.head.mark head buckets (λ e no. no) (agrees.filed live)
 
 pub same_selector : (a b : ℕ) → ReadFrame a ≡ ReadFrame b → a ≡ b
 same_selector a b is = cc
@@ -127,9 +123,9 @@ images_wider P Q wider images after changes c left =
     let it = changes c left in
     (it.0, it.1, same_wider P Q wider it.0 c it.2)
 
-pub place_written : {D : Type 0} (t : SectionState D) (region : Region) → t.phase ≡ ChangeBucket → IsPlaceOf (t.bucket - t.head.first) region
+pub place_written : {D : Type 0} (t : SectionState D) (region : Region) (s : ℕ) → t.phase ≡ WriteFrame s → IsPlaceOf (t.bucket - t.head.first) region
     → (i : ℕ) → Inside region i → MayWrite t.phase t i
-place_written t region phase place i inside = subst (λ (p : Phase). MayWrite p t i) (sym phase) (region, place, inside)
+place_written t region s phase place i inside = subst (λ (p : Phase). MayWrite p t i) (sym phase) (region, place, inside)
 
 pub head_written : {D : Type 0} (t : SectionState D) → t.phase ≡ ChangeHead → (i : ℕ) → Inside head_place i → MayWrite t.phase t i
 head_written t phase i inside = subst (λ (p : Phase). MayWrite p t i) (sym phase) inside

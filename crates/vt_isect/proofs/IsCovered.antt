@@ -1,8 +1,7 @@
 -- Marks that are covered stay so.
-use Rattle.std.proofs.Common.{◌≡◌, ◌⊎◌, inl, inr, ⊎_elim, ℕ, ◌+◌, ◌<◌, ◌≤◌, List, [], drop, Option, Some, None, Result, Ok, Err, refl, sym, ◌∙◌, ap, subst, arith}
+use Rattle.std.proofs.Common.{◌≡◌, ◌⊎◌, inl, inr, ⊎_elim, ℕ, ◌+◌, ◌<◌, ◌≤◌, List, drop, take, Option, Some, None, Result, Ok, Err, refl, sym, ◌∙◌, ap, subst, arith}
 use Rattle.std.specs.Prelude.{IsSome, OnOk}
 use Rattle.std.specs.List.{Contains}
-use Rattle.std.specs.Option.{option_map_or}
 use Rattle.std.proofs.lemmas.Bool.{false≢true}
 use Rattle.vt_base.specs.declared.place.Entry.{Entry}
 use Rattle.vt_model.specs.History.{History, Accepted}
@@ -13,25 +12,26 @@ use Rattle.vt_twin.specs.declared.step.Step.TheVariants.{More, Done}
 use Rattle.vt_isect.specs.declared.bad.ShardErr.{ShardErr}
 use Rattle.vt_isect.specs.declared.head.Head.{Head}
 use Rattle.vt_isect.specs.declared.phase.Phase.{Phase}
-use Rattle.vt_isect.specs.declared.phase.Phase.TheVariants.{Rest, ReadSelector, ReadFrame, ChangeBucket, ChangeHead}
+use Rattle.vt_isect.specs.declared.phase.Phase.TheVariants.{Rest, ReadSelector, ReadFrame, WriteFrame, SyncFrames, WriteSelector, SyncSelectors, ChangeHead}
 use Rattle.vt_isect.specs.Agreement.{IsEntryOf, HasBlock, IsInBucket, IsCovered, NoOthers, KnownAgrees}
-use Rattle.vt_isect.specs.Entries.{EntriesState}
+use Rattle.vt_isect.specs.Entries.{EntriesState, items_of}
 use Rattle.vt_isect.specs.Head.{encoded}
 use Rattle.vt_isect.specs.Layout.{InRange}
-use Rattle.vt_isect.specs.Section.{SectionState, AreNext, HasBucket, IsOfGroup, IsTodo, entries_of, group_of, bucket_number}
+use Rattle.vt_isect.specs.Section.{SectionState, HasGroup, IsChanging, IsGroup, IsOfGroup, IsTodo, PutsEntries, bucket_number, entries_of}
 use Rattle.vt_isect.specs.Sound.{Known}
-use Rattle.vt_isect.specs.Writeback.{Advances, BeginsBehind, BeginsGroup, BeginsHead, Completes, Follows, GoesOn, KeepsCovered, NextPhase, SameGroup}
+use Rattle.vt_isect.specs.Writeback.{Advances, BeginsBehind, BeginsGroup, BeginsHead, Completes, Follows, GoesOn, KeepsCovered, NextPhase}
 use Rattle.vt_isect.proofs.AgreesWith.{merged_has}
-use Rattle.vt_isect.proofs.AreNext.{HasGroup, group_or_behind, none_behind}
+use Rattle.vt_isect.proofs.AreNext.{group_or_behind, none_behind}
 use Rattle.vt_isect.proofs.BeginsBehind.{Begins, no_entries}
 use Rattle.vt_isect.proofs.Follows.{covers_more}
+use Rattle.vt_isect.proofs.Members.{Groups}
 use Rattle.vt_isect.proofs.WithinCall.{Stands, stands, completes_or}
 
 -- ---- a step
 
 module _ {D : Type 0} (score : List ℕ → List ℕ) (c : Setup) (h : History) (t u : SectionState D)
     (known knows : Known) (agrees : KnownAgrees score c h t known)
-    (group : HasGroup t) where
+    (group : Groups t) where
   some_same : (a b : List Entry) → Some a ≡ Some b → a ≡ b
   some_same a b e = cc
 
@@ -54,7 +54,7 @@ module _ {D : Type 0} (score : List ℕ → List ℕ) (c : Setup) (h : History) 
     -- each of the others is put into the bucket that is completed, or is among more
     covers : (others more : Entry → Type 0) (mark : ℕ)
         → ((n i : ℕ) (entry : Entry) → IsInBucket score c h n i → IsEntryOf score c h i entry
-        → others entry → (Completes result t n × IsOfGroup t entry) ⊎ more entry)
+        → others entry → (Completes result t n × IsOfGroup t n entry) ⊎ more entry)
         → IsCovered score c h t known others mark → IsCovered score c h u knows more mark
     covers others more mark split cover = record {
       fits = cover.fits;
@@ -67,7 +67,7 @@ module _ {D : Type 0} (score : List ℕ → List ℕ) (c : Setup) (h : History) 
           ⊎_elim
           (λ (has : Contains entries it.0). (it.0, inl has, it.2))
           (λ (other : others it.0). ⊎_elim
-          (λ (put : Completes result t n × IsOfGroup t it.0). absurd (not_done put.0))
+          (λ (put : Completes result t n × IsOfGroup t n it.0). absurd (not_done put.0))
           (λ (m : more it.0). (it.0, inr m, it.2))
           (split n i it.0 at it.2 other))
           it.1)
@@ -97,11 +97,11 @@ module _ {D : Type 0} (score : List ℕ → List ℕ) (c : Setup) (h : History) 
                 let new = follows.merged n old first done was in
                 let same : new.0 ≡ entries = some_same new.0 entries (sym new.1 ∙ is) in
                 let it = cover.has n i old within was below at in
-                let put : Contains old it.0 ⊎ IsOfGroup t it.0
+                let put : Contains old it.0 ⊎ IsOfGroup t n it.0
                 → HasBlock score c h (λ entry. Contains entries entry ⊎ more entry) i =
                 λ of.
-                let found = merged_has score c h t known agrees (subst HasBucket (sym done.1) tt) n
-                done.3 within old new.0 was new.2 i it.0 it.2 of in (
+                let found = merged_has score c h t known agrees (subst PutsEntries (sym done.1) tt) n
+                within old new.0 was new.2 i it.0 it.2 of in (
                   found.0,
                   inl (subst (λ (l : List Entry). Contains l found.0) same found.1),
                   found.2,
@@ -109,61 +109,67 @@ module _ {D : Type 0} (score : List ℕ → List ℕ) (c : Setup) (h : History) 
                 ⊎_elim
                 (λ (has : Contains old it.0). put (inl has))
                 (λ (other : others it.0). ⊎_elim
-                (λ (of : Completes result t n × IsOfGroup t it.0). put (inr of.1))
+                (λ (of : Completes result t n × IsOfGroup t n it.0). put (inr of.1))
                 (λ (m : more it.0). (it.0, inr m, it.2))
                 (split n i it.0 at it.2 other))
                 it.1
 
   -- the entries stay
   listed : GoesOn t u → entries_of u ≡ entries_of t
-  listed goes = ap (λ (o : Option EntriesState). option_map_or (λ entries. entries.items) o [])
-      goes.section.entries
+  listed goes = ap (λ (o : Option EntriesState). items_of o) goes.section.entries
 
   -- what is still to be put is so after a step, or the step completes its bucket
-  still : GoesOn t u → HasBucket u.phase → SameGroup t u → (entry : Entry) → IsTodo t entry
+  still : GoesOn t u → PutsEntries u.phase → u.written ≡ t.written → (entry : Entry) → IsTodo t entry
       → IsTodo u entry
   still goes has same entry way = (
     has,
-    subst (λ (k : ℕ). Contains (drop k (entries_of u)) entry) (sym same.written)
+    subst (λ (k : ℕ). Contains (drop k (entries_of u)) entry) (sym same)
         (subst (λ (l : List Entry). Contains (drop t.written l) entry) (sym (listed goes)) way.1),
   )
 
-  behind_todo : AreNext t.head.total t.bucket t.written t.begun (entries_of t) → GoesOn t u → BeginsBehind t.begun u → (entry : Entry)
-      → IsTodo t entry → Contains (group_of t) entry ⊎ IsTodo u entry
-  behind_todo next goes begins entry way = ⊎_elim
-      (λ (of : Contains (group_of t) entry). inl of)
-      (λ (rest : Contains (drop t.begun (entries_of t)) entry).
+  behind_todo : IsGroup t → t.framed ≡ t.begun → GoesOn t u → BeginsBehind t.begun u → (entry : Entry)
+      → IsTodo t entry → Contains (drop t.written (take t.framed (entries_of t))) entry ⊎ IsTodo u entry
+  behind_todo it whole goes begins entry way = ⊎_elim
+      (λ (of : Contains (drop t.written (take t.framed (entries_of t))) entry). inl of)
+      (λ (rest : Contains (drop t.framed (entries_of t)) entry).
       let has : Contains (drop t.begun (entries_of u)) entry =
       subst (λ (l : List Entry). Contains (drop t.begun l) entry) (sym (listed goes))
-      rest in
+      (subst (λ (k : ℕ). Contains (drop k (entries_of t)) entry) whole rest) in
       ⊎_elim
       (λ (here : BeginsGroup t.begun u). inr (
-        subst HasBucket (sym here.0) tt,
+        subst PutsEntries (sym here.0.0) tt,
         subst (λ (k : ℕ). Contains (drop k (entries_of u)) entry) (sym here.1) has,
       ))
       (λ (there : BeginsHead t.begun u).
       absurd (none_behind t.begun (entries_of u) (omega (arith, there.3)) entry has))
       begins)
-      (group_or_behind t.written t.begun (entries_of t) next.order next.within entry way.1)
+      (group_or_behind t.written t.framed (entries_of t) it.order.0 (omega (arith, it.order)) entry way.1)
 
   split_more : (q : Phase) → t.phase ≡ q → GoesOn t u → NextPhase q t u → (n i : ℕ) (entry : Entry)
       → IsInBucket score c h n i → IsEntryOf score c h i entry → IsTodo t entry
-      → (Completes (Ok More) t n × IsOfGroup t entry) ⊎ IsTodo u entry
+      → (Completes (Ok More) t n × IsOfGroup t n entry) ⊎ IsTodo u entry
   split_more Rest is goes next n i entry at of way = absurd next
   split_more ReadSelector is goes next n i entry at of way =
-      inr (still goes (subst HasBucket (sym next.0.1) tt) next.1 entry way)
+      inr (still goes (subst PutsEntries (sym next.0.1) tt) next.1.written entry way)
   split_more (ReadFrame s) is goes next n i entry at of way =
-      inr (still goes (subst HasBucket (sym next.0) tt) next.2 entry way)
-  split_more ChangeBucket is goes next n i entry at of way = ⊎_elim
-      (λ on. inr (still goes (subst HasBucket (sym on.1) tt) on.3 entry way))
-      (λ last. ⊎_elim
-      (λ (has : Contains (group_of t) entry).
-      let here = (group (subst HasBucket (sym is) tt)).own entry has in
-      inl ((refl, is, last.0, sym (its_bucket n i entry of at) ∙ here), (has, here)))
+      inr (still goes (subst PutsEntries (sym next.0) tt) next.1.written entry way)
+  split_more (WriteFrame s) is goes next n i entry at of way = inr (still goes
+      (⊎_elim (λ here. subst PutsEntries (sym here.1.0) tt) (λ there. subst PutsEntries (sym there.0) tt) next.1)
+      next.0.written entry way)
+  split_more SyncFrames is goes next n i entry at of way =
+      inr (still goes (subst PutsEntries (sym next.0) tt) next.1.written entry way)
+  split_more (WriteSelector j) is goes next n i entry at of way = inr (still goes
+      (⊎_elim (λ on. subst PutsEntries (sym on.1) tt) (λ last. subst PutsEntries (sym last.1) tt) next.1)
+      next.0.written entry way)
+  split_more SyncSelectors is goes next n i entry at of way =
+      let it = group (subst PutsEntries (sym is) tt) in
+      ⊎_elim
+      (λ (has : Contains (drop t.written (take t.framed (entries_of t))) entry).
+      let number = its_bucket n i entry of at in
+      inl ((refl, is, subst (IsChanging t) number (it.own entry has)), (has, number)))
       (λ (todo : IsTodo u entry). inr todo)
-      (behind_todo (group (subst HasBucket (sym is) tt)) goes last.1 entry way))
-      next
-  split_more ChangeHead is goes next n i entry at of way = absurd (subst HasBucket is way.0)
+      (behind_todo it (it.whole (subst HasGroup (sym is) tt)).1 goes next entry way)
+  split_more ChangeHead is goes next n i entry at of way = absurd (subst PutsEntries is way.0)
 
   todo_kept : (result : Result Step ShardErr) → Advances result t u
       → Follows result t u known knows → (mark : ℕ)
@@ -172,7 +178,7 @@ module _ {D : Type 0} (score : List ℕ → List ℕ) (c : Setup) (h : History) 
   todo_kept (Ok More) steps follows mark = covers (Ok More) steps follows (IsTodo t) (IsTodo u) mark
       (split_more t.phase refl steps.0 steps.2)
   todo_kept (Ok Done) steps follows mark = covers (Ok Done) steps follows (IsTodo t) (IsTodo u) mark
-      (λ n i entry at of way. absurd (subst HasBucket steps.0 way.0))
+      (λ n i entry at of way. absurd (subst PutsEntries steps.0 way.0))
   todo_kept (Err bad) steps follows mark = tt
 
   pub covered_kept : (result : Result Step ShardErr) → Advances result t u
@@ -196,8 +202,10 @@ file_covers score c h t mark es v known covered begins (inl e) cover =
       phase = ReadSelector;
       entries = Some es;
       written = 0;
+      framed = 0;
       begun = v.begun;
       bucket = v.bucket;
+      most = v.most;
     } in
     subst (λ x. IsCovered score c h x known (IsTodo x) covered) (sym e)
     (covers_more score c h t w known (Contains es.items) (IsTodo w) covered refl refl
@@ -209,7 +217,7 @@ file_covers score c h t mark es v known covered begins (inr e) cover =
       phase = ChangeHead;
       entries = Some es;
       written = 0;
-      begun = 0;
+      most = v.most;
       head_twin = with_change (encoded t.name next) t.head_twin;
     } in
     subst (λ x. IsCovered score c h x known (IsTodo x) covered) (sym e)
@@ -224,4 +232,4 @@ pub covered_at_rest : {D : Type 0} (score : List ℕ → List ℕ) (c : Setup) (
     → IsCovered score c h t known (IsTodo t) mark → IsCovered score c h t known NoOthers mark
 covered_at_rest score c h t known mark rest cover =
     covers_more score c h t t known (IsTodo t) NoOthers mark refl refl
-    (λ entry way. subst HasBucket rest way.0) cover
+    (λ entry way. subst PutsEntries rest way.0) cover

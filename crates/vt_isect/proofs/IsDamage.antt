@@ -18,17 +18,26 @@ use Rattle.vt_isect.specs.declared.phase.Phase.TheVariants.{ReadFrame}
 use Rattle.vt_isect.specs.Agreement.{IsOfBlock, KnownAgrees}
 use Rattle.vt_isect.specs.Layout.{IsPlaceOf, InRange}
 use Rattle.vt_isect.specs.Merging.{IsDamage, IsFaulty, IsOverfull, Joined}
-use Rattle.vt_isect.specs.Section.{SectionState, HasBucket, bucket_number, entries_of, group_of}
+use Rattle.vt_isect.specs.Section.{SectionState, HasBucket, IsGroup, PutsEntries, bucket_number, entering, entries_of}
 use Rattle.vt_isect.specs.Sound.{Known, IsSoundSection}
-use Rattle.vt_isect.proofs.AreNext.{of_group}
+use Rattle.vt_isect.proofs.AreNext.{behind, of_group}
 use Rattle.vt_isect.proofs.Crowd.{blocks_most}
+use Rattle.vt_isect.proofs.Members.{under_way_apart}
 use Rattle.vt_twin.proofs.Changes.{begun_bound, none_made}
 use Rattle.vt_twin.proofs.Sound.{rests_fresh}
 
 module _ {D : Type 0} (score : List ℕ → List ℕ) (c : Setup) (h : History) (t : SectionState D)
     (known : Known) (agrees : KnownAgrees score c h t known) (s : ℕ) (phase : t.phase ≡ ReadFrame s)
-    (within : InRange t.head t.buckets t.bucket)
-    (own : (entry : Entry) → Contains (group_of t) entry → bucket_number t entry ≡ t.bucket) where
+    (group : IsGroup t) where
+  has_bucket : HasBucket t.phase
+  has_bucket = subst HasBucket (sym phase) tt
+
+  within : InRange t.head t.buckets t.bucket
+  within = group.bucket has_bucket
+
+  own : (entry : Entry) → Contains (entering t) entry → bucket_number t entry ≡ t.bucket
+  own entry of = (group.next has_bucket).2.own entry of
+
   -- the frame that the selector names has what is known of the bucket
   frame_known : (entries : List Entry) (read : List ℕ) (images : List ℕ → Type 0)
       → images read → IsSoundSection t known read images → known t.bucket ≡ Some entries
@@ -36,14 +45,14 @@ module _ {D : Type 0} (score : List ℕ → List ℕ) (c : Setup) (h : History) 
       × IsFrame t.bucket entries (frame_of region 8192 (s % 2) read)
   frame_known entries read images is_image sound is =
       let it = sound.bucket t.bucket entries within is in
-      let none = it.rest (λ way. let e = way.0 in cc) in
+      let none = it.rest (under_way_apart t group has_bucket) in
       let few : ¬ HasBegunSelector it.twin = λ begun.
       omega (arith, begun, begun_bound it.twin, none_made it.twin none) in
       let named : named_number it.region 8192 read ≡ it.twin.current =
       ap (λ (k : ℕ). named_number it.region k read) (sym it.frame_len)
       ∙ it.sound.named few read is_image in
       let current : it.twin.current ≡ s % 2 =
-      sym named ∙ sound.selector s it.region phase it.place in
+      sym named ∙ sound.selector s phase it.region it.place in
       let rests : IsSound (fresh 8192 (s % 2)) it.region it.frame read images =
       subst (λ (k : ℕ). IsSound (fresh 8192 k) it.region it.frame read images) current
       (subst (λ (k : ℕ). IsSound (fresh k it.twin.current) it.region it.frame read images)
@@ -56,12 +65,12 @@ module _ {D : Type 0} (score : List ℕ → List ℕ) (c : Setup) (h : History) 
 
   -- what the bucket has and gets are blocks of it
   joined_blocks : (entries : List Entry) → known t.bucket ≡ Some entries → (entry : Entry)
-      → Joined entries (Contains (group_of t)) entry
+      → Joined entries (Contains (entering t)) entry
       → IsOfBlock score c h entry × (bucket_of (bucket_count c) entry.key.score.0 ≡ t.bucket)
   joined_blocks entries is entry joined = ⊎_elim
       (λ (has : Contains entries entry). agrees.blocks t.bucket entries entry within is has)
-      (λ (of : Contains (group_of t) entry). (
-        agrees.todo entry (subst HasBucket (sym phase) tt, of_group t.written t.begun (entries_of t) entry of),
+      (λ (of : Contains (entering t) entry). (
+        agrees.todo entry (subst PutsEntries (sym phase) tt, behind t.written t.framed (entries_of t) group.order.0 (omega (arith, group.order)) entry (of_group t.framed t.begun (entries_of t) entry of)),
         ap (λ (k : ℕ). bucket_of k entry.key.score.0) (sym agrees.total) ∙ own entry of,
       ))
       joined
@@ -69,11 +78,11 @@ module _ {D : Type 0} (score : List ℕ → List ℕ) (c : Setup) (h : History) 
   not_damaged : (frame : List ℕ) (bad : ShardErr) (entries : List Entry)
       → known t.bucket ≡ Some entries → IsFrame t.bucket entries frame
       → crowd score (bucket_count c) h t.bucket ≤ 263
-      → ¬ IsDamage t.bucket (group_of t) frame bad
+      → ¬ IsDamage t.bucket (entering t) frame bad
   not_damaged frame bad entries is spelled room damage = ⊎_elim
       (λ (faulty : IsFaulty t.bucket frame bad).
       accepted faulty.0 t.bucket entries frame spelled faulty.1)
-      (λ (full : IsOverfull t.bucket (group_of t) frame bad).
+      (λ (full : IsOverfull t.bucket (entering t) frame bad).
       let same : full.0 ≡ entries =
       (one_frame t.bucket t.bucket full.0 entries frame full.1 spelled).1 in
       let keys = full.3 in
@@ -86,7 +95,7 @@ module _ {D : Type 0} (score : List ℕ → List ℕ) (c : Setup) (h : History) 
   pub no_damage : (read : List ℕ) (images : List ℕ → Type 0) → images read
       → IsSoundSection t known read images
       → ((n : ℕ) → crowd score (bucket_count c) h n ≤ 263) → (bad : ShardErr)
-      → (bad ≢ Fault → (frame : List ℕ) × IsDamage t.bucket (group_of t) frame bad
+      → (bad ≢ Fault → (frame : List ℕ) × IsDamage t.bucket (entering t) frame bad
       × ((region : Region) → IsPlaceOf (t.bucket - t.head.first) region
       → frame ≡ frame_of region 8192 (s % 2) read))
       → (bad ≡ Fault) ⊎ ((n : ℕ) × (bad ≡ Stopped n))

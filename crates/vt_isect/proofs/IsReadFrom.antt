@@ -5,23 +5,23 @@ use Rattle.vt_bucket.specs.Frame.{IsFrame}
 use Rattle.vt_disk.specs.declared.region.Region.{Region}
 use Rattle.vt_disk.specs.Disk.{part}
 use Rattle.vt_twin.specs.Frames.{frame_of, current_frame, named_number}
-use Rattle.vt_twin.specs.Twin.{TwinState}
+use Rattle.vt_isect.specs.declared.groups.Member.{Member}
 use Rattle.vt_isect.specs.Layout.{IsPlaceOf, InRange}
-use Rattle.vt_isect.specs.Section.{SectionState, IsChanging}
+use Rattle.vt_isect.specs.Section.{SectionState, IsChanging, IsMember}
 use Rattle.vt_isect.specs.Sound.{Known, IsReadFrom, IsSoundSection}
-use Rattle.vt_isect.proofs.LeavesSection.{changing}
+use Rattle.vt_isect.proofs.Members.{Stands, standing}
 use Rattle.vt_twin.proofs.Changes.{begun_bound, none_made}
 use Rattle.vt_isect.proofs.Places.{one_place}
 
 -- what was read at the number of the current frame
 pub reads_from : {D : Type 0} (t : SectionState D) (n current : ℕ) (place region : Region) (file frame : List ℕ) → IsPlaceOf (n - t.head.first) place → IsPlaceOf (n - t.head.first) region
     → frame ≡ part (place.start + 8192 * current) 8192 file
-    → (IsChanging t n → current ≡ t.bucket_twin.current)
+    → ((m : Member) → IsMember t n m → current ≡ m.current)
     → (¬ IsChanging t n → current ≡ named_number region 8192 file)
     → IsReadFrom t n region file frame
 reads_from t n current place region file frame here there is in_change at_rest = record {
   rest = λ still. at region ∙ ap (λ (k : ℕ). frame_of region 8192 k file) (at_rest still);
-  changing = λ way. at region ∙ ap (λ (k : ℕ). frame_of region 8192 k file) (in_change way);
+  changing = λ m of. at region ∙ ap (λ (k : ℕ). frame_of region 8192 k file) (in_change m of);
 }
   where
     at : (r : Region) → frame ≡ frame_of region 8192 current file
@@ -38,14 +38,14 @@ reads_known t known n entries file frame images sound is_image within is from =
     let kept = it.sound.kept file is_image in
     subst (λ (f : List ℕ). IsFrame n entries f)
     (⊎_elim
-    (λ (way : IsChanging t n).
-    sym (read.changing way
-    ∙ ap (λ (w : TwinState). frame_of it.region 8192 w.current file) (sym (it.changing way).0)
+    (λ (way : Stands t n).
+    sym (read.changing way.1 way.3
+    ∙ ap (λ (k : ℕ). frame_of it.region 8192 k file) (sym (it.changing way.0 way.1 way.3 way.2).current)
     ∙ ap (λ (k : ℕ). frame_of it.region k it.twin.current file) (sym it.frame_len) ∙ kept))
     (λ (still : ¬ IsChanging t n).
     let named = it.sound.named (λ begun. omega (arith, begun, begun_bound it.twin, none_made it.twin (it.rest still))) file is_image in
     sym (read.rest still
     ∙ ap (λ (k : ℕ). current_frame it.region k file) (sym it.frame_len)
     ∙ ap (λ (k : ℕ). frame_of it.region it.twin.frame_len k file) named ∙ kept))
-    (changing t n))
+    (standing t n))
     it.spelled

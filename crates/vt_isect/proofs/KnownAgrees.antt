@@ -4,7 +4,7 @@ use Rattle.vt_model.specs.History.{History}
 use Rattle.vt_model.specs.Places.{Setup}
 use Rattle.vt_isect.specs.declared.phase.Phase.TheVariants.{Rest}
 use Rattle.vt_isect.specs.Agreement.{NoOthers, KnownAgrees}
-use Rattle.vt_isect.specs.Section.{SectionState, HasBucket, IsTodo}
+use Rattle.vt_isect.specs.Section.{SectionState, PutsEntries, IsTodo}
 use Rattle.vt_isect.specs.Sound.{Known}
 use Rattle.vt_isect.proofs.Follows.{covers_more}
 
@@ -35,7 +35,7 @@ agrees_idle score c h t known rest agrees =
       same_total = agrees.same_total;
       whole = agrees.whole;
       blocks = agrees.blocks;
-      todo = λ entry way. absurd (subst HasBucket rest way.0);
+      todo = λ entry way. absurd (subst PutsEntries rest way.0);
       filed = λ live. covers_more score c h t u known NoOthers NoOthers t.head.mark refl refl (λ e none. none) (agrees.filed live);
-      coming = λ live. covers_more score c h t u known (IsTodo t) (IsTodo u) t.next.mark refl refl (λ e way. absurd (subst HasBucket rest way.0)) (agrees.coming live);
+      coming = λ live. covers_more score c h t u known (IsTodo t) (IsTodo u) t.next.mark refl refl (λ e way. absurd (subst PutsEntries rest way.0)) (agrees.coming live);
     }

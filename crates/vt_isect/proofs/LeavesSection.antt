@@ -1,7 +1,7 @@
 -- What the images of a sound section are.
 use Rattle.std.proofs.Common.{◌≡◌, ◌≢◌, ◌⊎◌, inl, inr, ⊎_elim, ℕ, ◌+◌, ◌-◌, ◌<◌, ◌≤◌, List, [], Option, Some, None, refl, sym, ◌∙◌, ap, subst, arith}
 use Rattle.std.specs.Prelude.{IsSome}
-use Rattle.std.proofs.lemmas.Bool.{cases_lt, cases_eq, false≢true}
+use Rattle.std.proofs.lemmas.Bool.{cases_lt, false≢true}
 use Rattle.vt_base.specs.declared.place.Entry.{Entry}
 use Rattle.vt_bucket.specs.Frame.{IsFrame}
 use Rattle.vt_disk.specs.declared.region.Region.{Region}
@@ -11,33 +11,27 @@ use Rattle.vt_twin.specs.Sound.{HasBegunSelector}
 use Rattle.vt_twin.proofs.Steps.{sound_gives}
 use Rattle.vt_isect.specs.declared.head.Head.{Head}
 use Rattle.vt_isect.specs.declared.phase.Phase.{Phase}
-use Rattle.vt_isect.specs.declared.phase.Phase.TheVariants.{Rest, ReadSelector, ReadFrame, ChangeBucket, ChangeHead}
+use Rattle.vt_isect.specs.declared.phase.Phase.TheVariants.{Rest, ReadSelector, ReadFrame, WriteFrame, SyncFrames, WriteSelector, SyncSelectors, ChangeHead}
 use Rattle.vt_isect.specs.Head.{IsHeadFrame}
 use Rattle.vt_isect.specs.Layout.{head_place, IsPlaceOf, InRange}
 use Rattle.vt_isect.specs.Merging.{Merges}
 use Rattle.vt_isect.specs.Section.{SectionState, IsChanging, IsOfGroup}
 use Rattle.vt_isect.specs.Sound.{Known, IsWhole, HoldsBucket, IsSoundSection, LeavesHead, LeavesSection}
 use Rattle.vt_twin.proofs.Changes.{begun_bound, none_made}
-
-pub is_changing_phase : (p : Phase) → (p ≡ ChangeBucket) ⊎ (p ≢ ChangeBucket)
-is_changing_phase Rest = inr (λ e. cc)
-is_changing_phase ReadSelector = inr (λ e. cc)
-is_changing_phase (ReadFrame s) = inr (λ e. cc)
-is_changing_phase ChangeBucket = inl refl
-is_changing_phase ChangeHead = inr (λ e. cc)
+use Rattle.vt_isect.proofs.Members.{Stands, standing}
 
 is_head_phase : (p : Phase) → (p ≡ ChangeHead) ⊎ (p ≢ ChangeHead)
 is_head_phase Rest = inr (λ e. cc)
 is_head_phase ReadSelector = inr (λ e. cc)
 is_head_phase (ReadFrame s) = inr (λ e. cc)
-is_head_phase ChangeBucket = inr (λ e. cc)
+is_head_phase (WriteFrame s) = inr (λ e. cc)
+is_head_phase SyncFrames = inr (λ e. cc)
+is_head_phase (WriteSelector j) = inr (λ e. cc)
+is_head_phase SyncSelectors = inr (λ e. cc)
 is_head_phase ChangeHead = inl refl
 
 pub changing : {D : Type 0} (t : SectionState D) (n : ℕ) → IsChanging t n ⊎ ¬ IsChanging t n
-changing t n = ⊎_elim
-    (λ (yes : t.phase ≡ ChangeBucket). ⊎_elim (λ (here : n ≡ t.bucket). inl (yes, here)) (λ (there : n ≡ t.bucket → ⊥). inr (λ both. there both.1)) (cases_eq n t.bucket))
-    (λ (no : t.phase ≢ ChangeBucket). inr (λ both. no both.0))
-    (is_changing_phase t.phase)
+changing t n = ⊎_elim (λ (it : Stands t n). inl (it.1, it.3)) (λ still. inr still) (standing t n)
 
 -- the section has a bucket of this number, or hasn't
 pub in_range : (head : Head) (buckets n : ℕ) → InRange head buckets n ⊎ ¬ InRange head buckets n
@@ -54,7 +48,7 @@ module _ {D : Type 0} (t : SectionState D) (known : Known) (read : List ℕ) (im
   -- what stands in a bucket of an image
   abbrev InBucket : ℕ → List Entry → Type 0
   InBucket n es = ((region : Region) × IsPlaceOf (n - t.head.first) region × IsFrame n es (current_frame region 8192 c))
-      × ((old : List Entry) → known n ≡ Some old → (es ≡ old) ⊎ (IsChanging t n × Merges old (IsOfGroup t) es))
+      × ((old : List Entry) → known n ≡ Some old → (es ≡ old) ⊎ (IsChanging t n × Merges old (IsOfGroup t n) es))
 
   some_same : (a b : List Entry) → Some a ≡ Some b → a ≡ b
   some_same a b e = cc
@@ -74,16 +68,16 @@ module _ {D : Type 0} (t : SectionState D) (known : Known) (read : List ℕ) (im
       ))
       (λ (new : HasBegunSelector it.twin × (current_frame it.region it.twin.frame_len c ≡ next_frame it.twin)).
       ⊎_elim
-      (λ (way : IsChanging t n).
-      let coming = it.changing way in (
-        coming.1,
+      (λ (way : Stands t n).
+      let come = it.changing way.0 way.1 way.3 way.2 in (
+        come.new,
         (
-          (it.region, it.place, subst (λ (f : List ℕ). IsFrame n coming.1 f) (sym (at (next_frame it.twin) new.1)) coming.2),
-          λ other e. inr (way, subst (λ (o : List Entry). Merges o (IsOfGroup t) coming.1) (some_same old other (sym is ∙ e)) coming.3),
+          (it.region, it.place, subst (λ (f : List ℕ). IsFrame n come.new f) (sym (at (next_frame it.twin) new.1)) come.spelled),
+          λ other e. inr ((way.1, way.3), subst (λ (o : List Entry). Merges o (IsOfGroup t n) come.new) (some_same old other (sym is ∙ e)) come.merges),
         ),
       ))
       (λ (no : ¬ IsChanging t n). absurd (omega (arith, new.0, begun_bound it.twin, none_made it.twin (it.rest no))))
-      (changing t n))
+      (standing t n))
       gives
 
   in_bucket : (n : ℕ) (k : Option (List Entry)) → known n ≡ k → IsSome k → InRange t.head t.buckets n → (es : List Entry) × InBucket n es

@@ -1,10 +1,15 @@
 pub mod Places
+pub mod Remembers
 pub mod IsSoundSection
+pub mod Twins
+pub mod Members
+pub mod Joining
+pub mod Selecting
+pub mod Settling
 pub mod LeavesSection
 pub mod AgreesWith
 pub mod Merges
 pub mod Heads
-pub mod HasFrames
 pub mod Follows
 pub mod Keeps
 pub mod WithinCall

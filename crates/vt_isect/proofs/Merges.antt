@@ -14,7 +14,6 @@ use Rattle.vt_bucket.specs.Order.{IsAscending}
 use Rattle.vt_base.specs.Key.{key_cmp}
 use Rattle.vt_bucket.proofs.Keys.{equal_keys, not_below_itself, turned}
 use Rattle.vt_isect.specs.Merging.{Merges, HasKey, HasKeys, IsAbsent, Joined}
-use Rattle.vt_isect.specs.Section.{SectionState, IsOfGroup, bucket_number, group_of}
 
 -- two keys are the same or aren't
 pub decide_keys : (a b : Key) → (a ≡ b) ⊎ (a ≢ b)
@@ -265,15 +264,3 @@ pub first_of_rest : (xs : List Entry) (i : ℕ) (y : Entry) → i < length xs �
 first_of_rest xs i y within is =
     subst (λ (l : List Entry). Contains l y) (sym (drop-cons xs i y within))
     (zero, omega arith, is)
-
--- the group of the bucket under way
-pub merges_group : {D : Type 0} (t : SectionState D) (group : List Entry) → group ≡ group_of t
-    → ((entry : Entry) → Contains (group_of t) entry → bucket_number t entry ≡ t.bucket)
-    → (old new : List Entry) → Merges old (Contains group) new → Merges old (IsOfGroup t) new
-merges_group t group is own old new it =
-    merges_same (Contains group) (IsOfGroup t)
-    (λ entry. (
-      λ has. let here = subst (λ (l : List Entry). Contains l entry) is has in (here, own entry here),
-      λ of. subst (λ (l : List Entry). Contains l entry) (sym is) of.0,
-    ))
-    old new it

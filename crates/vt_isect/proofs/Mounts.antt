@@ -27,7 +27,7 @@ module _ {D : Type 0} (d : D) (buckets : ℕ) (name : List ℕ) (head : Head) (n
   t = mounted d buckets name head number
 
   still : (n : ℕ) → ¬ IsChanging t n
-  still n way = let e = way.0 in cc
+  still n way = absurd way.1.0
 
   place_of : (n : ℕ) → InRange head buckets n → (region : Region) × IsPlaceOf (n - head.first) region
   place_of n within = (
@@ -46,7 +46,9 @@ module _ {D : Type 0} (d : D) (buckets : ℕ) (name : List ℕ) (head : Head) (n
     head = frame;
     head_rest = λ no. refl;
     head_changing = λ way. absurd (cc);
-    selector = λ s region way. absurd (cc);
+    selector = λ s way. absurd (cc);
+    current = λ s way. absurd (cc);
+    made = λ s entries way. absurd (cc);
     bucket = λ n entries within is.
         let at = place_of n within in
         settled_holds t n at.0 entries read images (still n) at.1 only (are n at.0 entries within at.1 is);

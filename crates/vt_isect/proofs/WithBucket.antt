@@ -11,7 +11,7 @@ use Rattle.vt_twin.specs.Frames.{frame_of, named_number, current_frame}
 use Rattle.vt_twin.specs.Twin.{fresh}
 use Rattle.vt_isect.specs.declared.phase.Phase.TheVariants.{Rest}
 use Rattle.vt_isect.specs.Layout.{head_place, IsPlaceOf, InRange}
-use Rattle.vt_isect.specs.Section.{SectionState, IsChanging}
+use Rattle.vt_isect.specs.Section.{SectionState, IsChanging, PutsEntries}
 use Rattle.vt_isect.specs.Sound.{Known, HoldsBucket, IsSoundSection, with_bucket}
 use Rattle.vt_isect.proofs.IsSoundSection.{others_pass, bucket_passes}
 use Rattle.vt_isect.proofs.Places.{head_room, place_room, head_apart, places_apart}
@@ -49,14 +49,14 @@ settled_holds t n region entries reads after still place only spelled = record {
   };
   spelled = spelled;
   rest = λ no. refl;
-  changing = λ way. absurd (still way);
+  changing = λ j m of at. absurd (still (m, of));
 }
 
 module _ {D : Type 0} (t : SectionState D) (d : D) (n : ℕ) (region : Region) (size : ℕ) (read reads : List ℕ) (images after : List ℕ → Type 0)
     (rest : t.phase ≡ Rest) (room : 24576 + 16896 * t.buckets ≤ size) (in_it : InRange t.head t.buckets n)
     (place : IsPlaceOf (n - t.head.first) region) (same : SameBut (Inside region) read reads) (changes : ChangesWithin region images after) where
   still : (k : ℕ) → ¬ IsChanging t k
-  still k way = let e = way.0 in cc
+  still k way = subst PutsEntries rest way.1.0
 
   known_sound : (known knows : Known) → ((k : ℕ) → k ≢ n → knows k ≡ known k)
       → ((entries : List Entry) → knows n ≡ Some entries → HoldsBucket (record t { disk = d }) n entries reads after)
@@ -69,10 +69,12 @@ module _ {D : Type 0} (t : SectionState D) (d : D) (n : ℕ) (region : Region) (
     head = sound.head;
     head_rest = sound.head_rest;
     head_changing = sound.head_changing;
-    selector = λ s r way. absurd (cc);
+    selector = λ s way. absurd (cc);
+    current = λ s way. absurd (cc);
+    made = λ s entries way. absurd (cc);
     bucket = λ k entries within is. ⊎_elim
         (λ (same_n : k ≡ n). subst (λ (m : ℕ). HoldsBucket (record t { disk = d }) m entries reads after) (sym same_n) (here entries (sym (ap knows same_n) ∙ is)))
-        (λ (there : k ≢ n). bucket_passes t (record t { disk = d }) k entries read reads images after (still k) (still k) refl
+        (λ (there : k ≢ n). bucket_passes t (record t { disk = d }) k entries read reads images after (still k) (still k) refl (λ goes. goes)
         (λ r at. others_pass r region size read reads images after (place_room 8192 size t.buckets t.head k r refl room within at)
         (λ i in_region in_r. places_apart (n - t.head.first) (k - t.head.first) region r place at
         (λ e. there (omega (arith, e, within.0, in_it.0))) i in_region in_r) same changes)

@@ -1,26 +1,26 @@
 -- What a crash within a step leaves.
 use Rattle.std.proofs.Common.{◌≡◌, ◌≢◌, ◌⊎◌, inl, inr, ⊎_elim, ℕ, ◌+◌, ◌<◌, ◌≤◌, List, Option, Some, None, Result, Ok, Err, refl, sym, ◌∙◌, ap, subst}
 use Rattle.std.specs.Prelude.{IsSome}
-use Rattle.std.proofs.lemmas.Bool.{cases_eq, false≢true}
+use Rattle.std.proofs.lemmas.Bool.{false≢true}
 use Rattle.vt_base.specs.declared.place.Entry.{Entry}
 use Rattle.vt_disk.specs.Disk.{WithinCall}
 use Rattle.vt_model.specs.History.{History}
 use Rattle.vt_model.specs.Places.{Setup}
-use Rattle.vt_twin.specs.Twin.{calls_made}
 use Rattle.vt_twin.specs.declared.step.Step.{Step}
 use Rattle.vt_twin.specs.declared.step.Step.TheVariants.{More, Done}
 use Rattle.vt_isect.specs.declared.bad.ShardErr.{ShardErr}
 use Rattle.vt_isect.specs.declared.bad.ShardErr.TheVariants.{Fault, Damaged, Stopped}
 use Rattle.vt_isect.specs.declared.head.Head.{Head}
-use Rattle.vt_isect.specs.declared.phase.Phase.TheVariants.{ChangeBucket}
+use Rattle.vt_isect.specs.declared.phase.Phase.{Phase}
+use Rattle.vt_isect.specs.declared.phase.Phase.TheVariants.{Rest, ReadSelector, ReadFrame, WriteFrame, SyncFrames, WriteSelector, SyncSelectors, ChangeHead}
 use Rattle.vt_isect.specs.Agreement.{KnownAgrees, LeavesAgreeing}
 use Rattle.vt_isect.specs.Layout.{InRange}
-use Rattle.vt_isect.specs.Section.{SectionState}
+use Rattle.vt_isect.specs.Section.{SectionState, IsChanging}
 use Rattle.vt_isect.specs.Sound.{Known, IsWhole, IsSoundSection, LeavesSection}
 use Rattle.vt_isect.specs.Writeback.{Advances, Completes, EndsWith, Follows, GoesOn}
 use Rattle.vt_isect.proofs.AgreesWith.{leaves_agree}
 use Rattle.vt_isect.proofs.Follows.{KeepsAt}
-use Rattle.vt_isect.proofs.LeavesSection.{leaves, is_changing_phase}
+use Rattle.vt_isect.proofs.LeavesSection.{leaves, changing}
 
 -- what a step leaves of where the section stands
 pub record Stands {D : Type 0} (t u : SectionState D) : Type 0 where
@@ -62,14 +62,27 @@ is_more (Ok More) = inl refl
 is_more (Ok Done) = inr (λ e. cc)
 is_more (Err e) = inr (λ q. cc)
 
+is_selector_sync : (p : Phase) → (p ≡ SyncSelectors) ⊎ (p ≢ SyncSelectors)
+is_selector_sync Rest = inr (λ e. cc)
+is_selector_sync ReadSelector = inr (λ e. cc)
+is_selector_sync (ReadFrame s) = inr (λ e. cc)
+is_selector_sync (WriteFrame s) = inr (λ e. cc)
+is_selector_sync SyncFrames = inr (λ e. cc)
+is_selector_sync (WriteSelector j) = inr (λ e. cc)
+is_selector_sync SyncSelectors = inl refl
+is_selector_sync ChangeHead = inr (λ e. cc)
+
 pub completes_or : {D : Type 0} (result : Result Step ShardErr) (t : SectionState D) (n : ℕ) → Completes result t n ⊎ ¬ Completes result t n
 completes_or result t n = ⊎_elim
     (λ (a : result ≡ Ok More). ⊎_elim
-    (λ (b : t.phase ≡ ChangeBucket). ⊎_elim
-    (λ (d : calls_made t.bucket_twin ≡ 3). ⊎_elim (λ (e : n ≡ t.bucket). inl (a, b, d, e)) (λ (e : n ≢ t.bucket). inr (λ it. e it.3)) (cases_eq n t.bucket))
-    (λ (d : calls_made t.bucket_twin ≢ 3). inr (λ it. d it.2)) (cases_eq (calls_made t.bucket_twin) 3))
-    (λ (b : t.phase ≢ ChangeBucket). inr (λ it. b it.1)) (is_changing_phase t.phase))
-    (λ (a : result ≢ Ok More). inr (λ it. a it.0)) (is_more result)
+    (λ (b : t.phase ≡ SyncSelectors). ⊎_elim
+    (λ (way : IsChanging t n). inl (a, b, way))
+    (λ (still : ¬ IsChanging t n). inr (λ it. still it.2))
+    (changing t n))
+    (λ (b : t.phase ≢ SyncSelectors). inr (λ it. b it.1))
+    (is_selector_sync t.phase))
+    (λ (a : result ≢ Ok More). inr (λ it. a it.0))
+    (is_more result)
 
 module _ {D : Type 0} (result : Result Step ShardErr) (t u : SectionState D) (read reads : List ℕ) (images after : List ℕ → Type 0)
     (keeps : KeepsAt result t u read images reads after) (steps : Advances result t u) where

@@ -1,24 +1,24 @@
 -- The entries that a step puts into their buckets.
-use Rattle.std.proofs.Common.{◌≡◌, ⊎_elim, ℕ, take, drop, Result, Ok, Err, refl, sym, ap, subst}
+use Rattle.std.proofs.Common.{◌≡◌, ⊎_elim, ℕ, take, drop, Result, Ok, Err, refl, sym, ◌∙◌, ap, subst}
 use Rattle.std.specs.Prelude.{◌↔◌}
 use Rattle.std.specs.List.{Contains}
 use Rattle.vt_base.specs.declared.place.Entry.{Entry}
-use Rattle.vt_twin.specs.Twin.{calls_made}
 use Rattle.vt_twin.specs.declared.step.Step.{Step}
 use Rattle.vt_twin.specs.declared.step.Step.TheVariants.{More, Done}
 use Rattle.vt_isect.specs.declared.bad.ShardErr.{ShardErr}
 use Rattle.vt_isect.specs.declared.bad.ShardErr.TheVariants.{Fault, Damaged, Stopped}
 use Rattle.vt_isect.specs.declared.phase.Phase.{Phase}
-use Rattle.vt_isect.specs.declared.phase.Phase.TheVariants.{Rest, ReadSelector, ReadFrame, ChangeBucket, ChangeHead}
-use Rattle.vt_isect.specs.Section.{SectionState, HasBucket, IsOfGroup, bucket_number, entries_of, group_of}
+use Rattle.vt_isect.specs.declared.phase.Phase.TheVariants.{Rest, ReadSelector, ReadFrame, WriteFrame, SyncFrames, WriteSelector, SyncSelectors, ChangeHead}
+use Rattle.vt_isect.specs.Section.{SectionState, HasGroup, IsOfGroup, PutsEntries, bucket_number, entries_of}
 use Rattle.vt_isect.specs.Writeback.{Advances, BeginsGroup, BeginsHead, Completes, NextPhase, WritesBack}
-use Rattle.vt_isect.proofs.AreNext.{HasGroup, none_written}
+use Rattle.vt_isect.proofs.AreNext.{none_written}
+use Rattle.vt_isect.proofs.Members.{Groups}
 
-module _ {D : Type 0} (old new : SectionState D) (group : HasGroup old) (entry : Entry) where
+module _ {D : Type 0} (old new : SectionState D) (group : Groups old) (entry : Entry) where
   -- what the step writes back
   abbrev Wrote : Result Step ShardErr → Type 0
   Wrote result = WritesBack old new entry
-      ↔ (Completes result old (bucket_number old entry) × IsOfGroup old entry)
+      ↔ (Completes result old (bucket_number old entry) × IsOfGroup old (bucket_number old entry) entry)
 
   -- nothing, where as many are written and no bucket is completed
   nothing : (result : Result Step ShardErr) → new.written ≡ old.written
@@ -29,40 +29,39 @@ module _ {D : Type 0} (old new : SectionState D) (group : HasGroup old) (entry :
     λ done. absurd (never done.0),
   )
 
-  -- the group, where its bucket is completed
-  all : old.phase ≡ ChangeBucket → calls_made old.bucket_twin ≡ 3
-      → new.written ≡ old.begun → Wrote (Ok More)
-  all phase made behind = (
-    λ wrote.
-        let has : Contains (group_of old) entry =
-        subst (λ (n : ℕ). Contains (drop old.written (take n (entries_of old))) entry) behind wrote in
-        let here = (group (subst HasBucket (sym phase) tt)).own entry has in
-        ((refl, phase, made, here), (has, here)),
-    λ done. subst (λ (n : ℕ). Contains (drop old.written (take n (entries_of old))) entry)
-        (sym behind) done.1.0,
-  )
+  -- those of the group, where its buckets are completed
+  all : old.phase ≡ SyncSelectors → new.written ≡ old.begun → Wrote (Ok More)
+  all phase behind =
+      let it = group (subst PutsEntries (sym phase) tt) in
+      let upto : new.written ≡ old.framed = behind ∙ sym (it.whole (subst HasGroup (sym phase) tt)).1 in (
+        λ wrote.
+            let has : Contains (drop old.written (take old.framed (entries_of old))) entry =
+            subst (λ (n : ℕ). Contains (drop old.written (take n (entries_of old))) entry) upto wrote in
+            ((refl, phase, it.own entry has), (has, refl)),
+        λ done. subst (λ (n : ℕ). Contains (drop old.written (take n (entries_of old))) entry)
+            (sym upto) done.1.0,
+      )
 
   more : (q : Phase) → old.phase ≡ q → NextPhase q old new → Wrote (Ok More)
   more Rest is next = absurd next
   more ReadSelector is next = nothing (Ok More) next.1.written (λ done. let e = done.1 in cc)
-  more (ReadFrame s) is next = nothing (Ok More) next.2.written (λ done. let e = done.1 in cc)
-  more ChangeBucket is next = ⊎_elim
-      (λ on. nothing (Ok More) on.3.written (λ done. on.0 done.2))
-      (λ last. all is last.0 (⊎_elim
+  more (ReadFrame s) is next = nothing (Ok More) next.1.written (λ done. let e = done.1 in cc)
+  more (WriteFrame s) is next = nothing (Ok More) next.0.written (λ done. let e = done.1 in cc)
+  more SyncFrames is next = nothing (Ok More) next.1.written (λ done. let e = done.1 in cc)
+  more (WriteSelector j) is next = nothing (Ok More) next.0.written (λ done. let e = done.1 in cc)
+  more SyncSelectors is next = all is (⊎_elim
       (λ (here : BeginsGroup old.begun new). here.1)
       (λ (there : BeginsHead old.begun new). there.1)
-      last.1))
-      next
+      next)
   more ChangeHead is next = nothing (Ok More) next.3.written (λ done. let e = done.1 in cc)
 
   pub wrote_is : (result : Result Step ShardErr) → Advances result old new → Wrote result
   wrote_is (Ok More) steps = more old.phase refl steps.2
-  wrote_is (Ok Done) steps =
-      nothing (Ok Done) steps.2.group.written (λ done. let e = done.0 in cc)
+  wrote_is (Ok Done) steps = nothing (Ok Done) steps.2.written (λ done. let e = done.0 in cc)
   wrote_is (Err Fault) steps = nothing (Err Fault)
-      (⊎_elim (λ end. end.1.group.written) (λ stop. stop.3.written) steps)
+      (⊎_elim (λ end. end.1.written) (λ stop. stop.3.written) steps)
       (λ done. let e = done.0 in cc)
   wrote_is (Err (Damaged b want found)) steps = nothing (Err (Damaged b want found))
-      steps.1.group.written (λ done. let e = done.0 in cc)
+      steps.1.written (λ done. let e = done.0 in cc)
   wrote_is (Err (Stopped n)) steps = nothing (Err (Stopped n))
       (ap (λ x. x.written) steps.1) (λ done. let e = done.0 in cc)

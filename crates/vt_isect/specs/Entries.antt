@@ -1,5 +1,6 @@
 -- A list of entries as its calls see it.
-use Rattle.std.specs.Prelude.{◌≡◌, ℕ, ◌+◌, ◌^◌, nat_le, if◌then◌else◌, Option, Some, None, List}
+use Rattle.std.specs.Prelude.{◌≡◌, ℕ, ◌+◌, ◌^◌, nat_le, if◌then◌else◌, Option, Some, None, List, []}
+use Rattle.std.specs.Option.{option_map_or}
 use Rattle.std.specs.List.Sorted.{IsNonDecreasingBy, IsPermutation}
 use Rattle.vt_base.specs.declared.place.Entry.{Entry}
 use Rattle.vt_model.specs.Places.{bucket_of}
@@ -8,6 +9,10 @@ use Rattle.vt_model.specs.Places.{bucket_of}
 pub record EntriesState : Type 0 where
   pub items : List Entry
   pub room : ℕ
+
+-- the entries, or none where there is no list
+abbrev pub items_of : Option EntriesState → List Entry
+items_of entries = option_map_or (λ list. list.items) entries []
 
 -- When a bucket has its turn in a writeback that begins behind one: those of higher numbers come
 -- first, in the order of their numbers, and then the others.

@@ -5,6 +5,7 @@ pub mod Filling
 pub mod Head
 pub mod Layout
 pub mod Merging
+pub mod Remembered
 pub mod Section
 pub mod Sound
 pub mod View

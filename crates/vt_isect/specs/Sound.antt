@@ -1,19 +1,22 @@
 -- What a disk holds for a section, and what a crash leaves of it.
-use Rattle.std.specs.Prelude.{◌≡◌, ◌≢◌, ◌⊎◌, ◌==◌, ℕ, ◌-◌, ◌%◌, List, Option, Some, None, IsSome, if◌then◌else◌}
+use Rattle.std.specs.Prelude.{◌≡◌, ◌≢◌, ◌⊎◌, ◌==◌, ℕ, ◌-◌, ◌%◌, nat_lt, List, length, Option, Some, None, IsSome, slice_get, if◌then◌else◌}
+use Rattle.std.specs.List.{Contains}
 use Rattle.vt_base.specs.declared.place.Entry.{Entry}
 use Rattle.vt_bucket.specs.Frame.{IsFrame}
 use Rattle.vt_disk.specs.declared.region.Region.{Region}
 use Rattle.vt_disk.specs.Members.{DiskOf}
 use Rattle.vt_twin.specs.Frames.{frame_of, named_number, current_frame}
-use Rattle.vt_twin.specs.Twin.{TwinState, next_frame}
+use Rattle.vt_twin.specs.Twin.{TwinState, calls_made, next_frame}
 use Rattle.vt_twin.specs.Sound.{IsSound, HasBegunSelector}
 use Rattle.vt_isect.specs.declared.TheConstants.{FRAME_LEN}
+use Rattle.vt_isect.specs.declared.groups.Member.{Member}
 use Rattle.vt_isect.specs.declared.head.Head.{Head}
-use Rattle.vt_isect.specs.declared.phase.Phase.TheVariants.{ReadFrame, ChangeHead}
+use Rattle.vt_isect.specs.declared.phase.Phase.{Phase}
+use Rattle.vt_isect.specs.declared.phase.Phase.TheVariants.{Rest, ReadSelector, ReadFrame, WriteFrame, SyncFrames, WriteSelector, SyncSelectors, ChangeHead}
 use Rattle.vt_isect.specs.Head.{IsHeadFrame}
 use Rattle.vt_isect.specs.Layout.{head_place, IsPlaceOf, InRange, IsSection}
 use Rattle.vt_isect.specs.Merging.{Merges}
-use Rattle.vt_isect.specs.Section.{SectionState, IsOfGroup, IsChanging}
+use Rattle.vt_isect.specs.Section.{SectionState, IsChanging, IsMember, IsOfGroup, entering}
 
 -- What is known of the buckets, by their numbers: the entries of a bucket, or nothing.
 abbrev pub Known : Type 0
@@ -33,8 +36,32 @@ with_bucket number entries known n = if n == number then entries else known n
 abbrev pub IsWhole : {D : Type 0} → SectionState D → Known → Type 0
 IsWhole t known = (n : ℕ) → InRange t.head t.buckets n → IsSome (known n)
 
--- Bucket n has these entries in its current frame in every image. Where its frame is being changed,
--- the new one has the group under way in it.
+-- How many of the four calls of its change have succeeded for member j of the group: its frame's
+-- write, a sync, its selector's write, a sync. Each sync is one for all members.
+abbrev pub made_of : Phase → (j : ℕ) → ℕ
+made_of Rest j = 0
+made_of ReadSelector j = 1
+made_of (ReadFrame selector) j = 1
+made_of (WriteFrame current) j = 1
+made_of SyncFrames j = 1
+made_of (WriteSelector member) j = if nat_lt j member then 3 else 2
+made_of SyncSelectors j = 3
+made_of ChangeHead j = 0
+
+-- The change of bucket n, which is member j of the group and has had these entries, has come so
+-- far. The frame that it gets has the entries of the group in it, too.
+pub record HasCome {D : Type 0} (t : SectionState D) (n : ℕ) (entries : List Entry)
+    (twin : TwinState) (j : ℕ) (member : Member) : Type 0 where
+  pub current : twin.current ≡ member.current
+  pub made : calls_made twin ≡ made_of t.phase j
+  pub goes : t.stopped ≡ None → twin.stopped ≡ None
+  pub whole : length (next_frame twin) ≡ FRAME_LEN
+  pub new : List Entry
+  pub spelled : IsFrame n new (next_frame twin)
+  pub merges : Merges entries (IsOfGroup t n) new
+
+-- Bucket n has these entries in its current frame in every image. Where it is one of the group, the
+-- frame that it gets is written.
 pub record HoldsBucket {D : Type 0} (t : SectionState D) (n : ℕ) (entries : List Entry)
     (read : List ℕ) (images : List ℕ → Type 0) : Type 0 where
   pub region : Region
@@ -45,15 +72,26 @@ pub record HoldsBucket {D : Type 0} (t : SectionState D) (n : ℕ) (entries : Li
   pub sound : IsSound twin region frame read images
   pub spelled : IsFrame n entries frame
   pub rest : ¬ IsChanging t n → twin.change ≡ None
-  pub changing : IsChanging t n → (twin ≡ t.bucket_twin)
-      × (new : List Entry) × IsFrame n new (next_frame twin) × Merges entries (IsOfGroup t) new
+  pub changing : (j : ℕ) (member : Member) → IsMember t n member
+      → slice_get t.group j ≡ Some member → HasCome t n entries twin j member
 
 -- The frame that is read of bucket n, at this place: the current one or, while it is being changed,
 -- the one that was current before.
 pub record IsReadFrom {D : Type 0} (t : SectionState D) (n : ℕ) (region : Region)
     (file frame : List ℕ) : Type 0 where
   pub rest : ¬ IsChanging t n → frame ≡ current_frame region FRAME_LEN file
-  pub changing : IsChanging t n → frame ≡ frame_of region FRAME_LEN t.bucket_twin.current file
+  pub changing : (member : Member) → IsMember t n member
+      → frame ≡ frame_of region FRAME_LEN member.current file
+
+-- the selector of the bucket under way still names this frame
+abbrev pub StillNames : {D : Type 0} → SectionState D → (number : ℕ) → (file : List ℕ) → Type 0
+StillNames t number file = (region : Region) → IsPlaceOf (t.bucket - t.head.first) region
+    → named_number region FRAME_LEN file ≡ number
+
+-- the frame that the bucket under way gets has the entries that are put into it, too
+abbrev pub IsMade : {D : Type 0} → SectionState D → (entries : List Entry) → Type 0
+IsMade t entries =
+    (new : List Entry) × IsFrame t.bucket new t.frame × Merges entries (Contains (entering t)) new
 
 -- A disk, by what it reads as and by its images, is sound for a section of which so much is known.
 pub record IsSoundSection {D : Type 0} (t : SectionState D) (known : Known) (read : List ℕ)
@@ -65,8 +103,10 @@ pub record IsSoundSection {D : Type 0} (t : SectionState D) (known : Known) (rea
   pub head_rest : t.phase ≢ ChangeHead → t.head_twin.change ≡ None
   pub head_changing : t.phase ≡ ChangeHead → IsHeadFrame t.name t.next (next_frame t.head_twin)
   -- the selector that was read is still the one that stands there
-  pub selector : (s : ℕ) (region : Region) → t.phase ≡ ReadFrame s
-      → IsPlaceOf (t.bucket - t.head.first) region → named_number region FRAME_LEN read ≡ s % 2
+  pub selector : (s : ℕ) → t.phase ≡ ReadFrame s → StillNames t (s % 2) read
+  pub current : (s : ℕ) → t.phase ≡ WriteFrame s → StillNames t s read
+  pub made : (s : ℕ) (entries : List Entry) → t.phase ≡ WriteFrame s
+      → known t.bucket ≡ Some entries → IsMade t entries
   pub bucket : (n : ℕ) (entries : List Entry) → InRange t.head t.buckets n
       → known n ≡ Some entries → HoldsBucket t n entries read images
 
@@ -81,10 +121,10 @@ LeavesHead t head = (head ≡ t.head)
     ⊎ ((t.phase ≡ ChangeHead) × HasBegunSelector t.head_twin × (head ≡ t.next))
 
 -- What a crash leaves is a section with the old head or, while that changes, the next one, and with
--- the entries that are known or, in the bucket that changes, these with the group under way.
+-- the entries that are known or, in a bucket of the group, these with the group's, too.
 abbrev pub LeavesSection : {D : Type 0} → SectionState D → Known → (file : List ℕ) → Type 0
 LeavesSection t known file = (head : Head) × (entries : ℕ → List Entry)
     × IsSection t.name head t.buckets entries file
     × LeavesHead t head
     × ((n : ℕ) (old : List Entry) → InRange t.head t.buckets n → known n ≡ Some old
-    → (entries n ≡ old) ⊎ (IsChanging t n × Merges old (IsOfGroup t) (entries n)))
+    → (entries n ≡ old) ⊎ (IsChanging t n × Merges old (IsOfGroup t n) (entries n)))

@@ -13,10 +13,13 @@ state_of s = record {
   phase = s.phase;
   entries = s.entries;
   written = s.written;
+  framed = s.framed;
   begun = s.begun;
   bucket = s.bucket;
+  frame = s.frame.items;
+  group = s.group.items;
+  most = s.most;
   head_twin = s.head_twin;
-  bucket_twin = s.bucket_twin;
   calls = s.calls;
   stopped = s.stopped;
 }

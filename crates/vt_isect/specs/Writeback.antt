@@ -1,19 +1,21 @@
 -- The steps of a writeback and of a change of the head.
-use Rattle.std.specs.Prelude.{◌≡◌, ◌≢◌, ◌⊎◌, ⊤, ◌+◌, ◌-◌, ◌*◌, ◌%◌, ◌<◌, ℕ, List, length, take, drop, Some, None, Result, Ok, Err, OnOk}
+use Rattle.std.specs.Prelude.{◌≡◌, ◌≢◌, ◌⊎◌, ⊤, ◌+◌, ◌-◌, ◌*◌, ◌%◌, ◌<◌, ℕ, List, [], ◌∷◌, ◌++◌, length, take, drop, slice_get, Some, None, Result, Ok, Err, OnOk}
 use Rattle.std.specs.List.{Contains}
 use Rattle.vt_base.specs.declared.place.Entry.{Entry}
 use Rattle.vt_twin.specs.Calls.{bytes_after, IsSync}
+use Rattle.vt_twin.specs.Frames.{with_frame, with_selector}
 use Rattle.vt_twin.specs.Twin.{TwinState, calls_made, next_frame, after_call, one_more}
 use Rattle.vt_twin.specs.declared.step.Step.{Step}
 use Rattle.vt_twin.specs.declared.step.Step.TheVariants.{More, Done}
 use Rattle.vt_isect.specs.declared.TheConstants.{FRAME_LEN}
 use Rattle.vt_isect.specs.declared.bad.ShardErr.{ShardErr}
 use Rattle.vt_isect.specs.declared.bad.ShardErr.TheVariants.{Fault, Damaged, Stopped}
+use Rattle.vt_isect.specs.declared.groups.Member.{Member}
 use Rattle.vt_isect.specs.declared.head.Head.{Head}
 use Rattle.vt_isect.specs.declared.phase.Phase.{Phase}
-use Rattle.vt_isect.specs.declared.phase.Phase.TheVariants.{Rest, ReadSelector, ReadFrame, ChangeBucket, ChangeHead}
+use Rattle.vt_isect.specs.declared.phase.Phase.TheVariants.{Rest, ReadSelector, ReadFrame, WriteFrame, SyncFrames, WriteSelector, SyncSelectors, ChangeHead}
 use Rattle.vt_isect.specs.Head.{encoded}
-use Rattle.vt_isect.specs.Section.{SectionState, AreNext, IsOfGroup, IsTodo, entries_of}
+use Rattle.vt_isect.specs.Section.{SectionState, AreNext, IsChanging, IsOfGroup, IsTodo, entries_of}
 use Rattle.vt_disk.specs.declared.region.Region.{Region}
 use Rattle.vt_disk.specs.Members.{DiskOf}
 use Rattle.vt_disk.specs.Region.{Inside}
@@ -28,13 +30,17 @@ use Rattle.vt_model.specs.Places.{Setup}
 abbrev pub later : {D : Type 0} → SectionState D → ℕ
 later t = length (entries_of t) - t.begun
 
--- How many device calls what is under way makes at most: six for each bucket and four for the head,
--- and no more buckets come than there are entries for them.
+-- How many device calls what is under way makes at most: for each bucket two reads and two writes,
+-- for each group two syncs, and four for the head. No more buckets come than there are entries for
+-- them, and no more groups than buckets.
 abbrev pub most_calls : {D : Type 0} → Phase → SectionState D → ℕ
 most_calls Rest t = 0
-most_calls ReadSelector t = 6 * later t + 10
-most_calls (ReadFrame s) t = 6 * later t + 9
-most_calls ChangeBucket t = 6 * later t + 8 - calls_made t.bucket_twin
+most_calls ReadSelector t = 6 * later t + length t.group + 10
+most_calls (ReadFrame s) t = 6 * later t + length t.group + 9
+most_calls (WriteFrame s) t = 6 * later t + length t.group + 8
+most_calls SyncFrames t = 6 * later t + length t.group + 6
+most_calls (WriteSelector j) t = 6 * later t + (length t.group - j) + 5
+most_calls SyncSelectors t = 6 * later t + 5
 most_calls ChangeHead t = 4 - calls_made t.head_twin
 
 abbrev pub calls_left : {D : Type 0} → SectionState D → ℕ
@@ -45,17 +51,21 @@ pub record IsOfSection {D : Type 0} (old new : SectionState D) : Type 0 where
   pub buckets : new.buckets ≡ old.buckets
   pub name : new.name ≡ old.name
   pub entries : new.entries ≡ old.entries
+  pub most : new.most ≡ old.most
 
--- as many entries are written, and the same bucket is or was under way
+-- the same group and the same bucket are under way
 pub record SameGroup {D : Type 0} (old new : SectionState D) : Type 0 where
   pub written : new.written ≡ old.written
+  pub framed : new.framed ≡ old.framed
   pub begun : new.begun ≡ old.begun
   pub bucket : new.bucket ≡ old.bucket
+  pub group : new.group ≡ old.group
 
 -- nothing is under way any more, and this is the head
 pub record EndsWith {D : Type 0} (head : Head) (old new : SectionState D) : Type 0 where
   pub section : IsOfSection old new
-  pub group : SameGroup old new
+  pub written : new.written ≡ old.written
+  pub group : new.group ≡ []
   pub head_is : new.head ≡ head
   pub next_is : new.next ≡ head
   pub phase : new.phase ≡ Rest
@@ -69,16 +79,20 @@ pub record GoesOn {D : Type 0} (old new : SectionState D) : Type 0 where
   pub next_is : new.next ≡ old.next
   pub calls : new.calls ≡ one_more old.calls
 
--- Behind the first so many entries, which are written, the bucket of the next ones is under way. It
--- takes some, and all that stand next to each other.
+-- Behind the first so many entries, which are written or in frames of the group, the bucket of the
+-- next ones is under way. It takes some, and all that there are.
+abbrev pub BeginsBucket : {D : Type 0} → (from : ℕ) → SectionState D → Type 0
+BeginsBucket from t = (t.phase ≡ ReadSelector) × (t.framed ≡ from) × (from < t.begun)
+    × AreNext t.head.total t.bucket t.framed t.begun (entries_of t)
+
+-- So many entries are written, and the next group begins.
 abbrev pub BeginsGroup : {D : Type 0} → (from : ℕ) → SectionState D → Type 0
-BeginsGroup from t = (t.phase ≡ ReadSelector) × (t.written ≡ from) × (from < t.begun)
-    × AreNext t.head.total t.bucket t.written t.begun (entries_of t)
+BeginsGroup from t = BeginsBucket from t × (t.written ≡ from) × (t.group ≡ [])
 
 -- So many entries are written, which are all, and the head is under way: its change to the frame
 -- that is written of the next one.
 abbrev pub BeginsHead : {D : Type 0} → (from : ℕ) → SectionState D → Type 0
-BeginsHead from t = (t.phase ≡ ChangeHead) × (t.written ≡ from) × (t.begun ≡ from)
+BeginsHead from t = (t.phase ≡ ChangeHead) × (t.written ≡ from) × (t.group ≡ [])
     × (length (entries_of t) ≡ from) × (calls_made t.head_twin ≡ 0)
     × (next_frame t.head_twin ≡ encoded t.name t.next)
 
@@ -86,20 +100,33 @@ BeginsHead from t = (t.phase ≡ ChangeHead) × (t.written ≡ from) × (t.begun
 abbrev pub BeginsBehind : {D : Type 0} → (from : ℕ) → SectionState D → Type 0
 BeginsBehind from t = BeginsGroup from t ⊎ BeginsHead from t
 
+-- The bucket under way, whose current frame has this number, is one of the group now.
+pub record Joins {D : Type 0} (current : ℕ) (old new : SectionState D) : Type 0 where
+  pub group : new.group ≡ old.group ++ record { bucket = old.bucket; current = current } ∷ []
+  pub written : new.written ≡ old.written
+
+-- The group is whole: it has as many buckets as it may have, or no entries are left.
+abbrev pub IsFull : {D : Type 0} → SectionState D → Type 0
+IsFull t = (length t.group ≡ t.most) ⊎ (length (entries_of t) ≡ t.begun)
+
 -- What the next call does after this one: a bucket's selector is read, then the frame that it
--- names, and the four calls of the change from that to the new one follow; behind the last of the
--- entries come those of the head.
+-- names, and its idle frame is written; so for each bucket of a group. Then one sync is made for
+-- them, the selector of each is written, and one sync is made for these; behind the last of the
+-- entries come the calls of the head.
 abbrev pub NextPhase : {D : Type 0} → Phase → (old new : SectionState D) → Type 0
 NextPhase Rest old new = ⊥
 NextPhase ReadSelector old new =
     ((s : ℕ) × (new.phase ≡ ReadFrame s)) × SameGroup old new
-NextPhase (ReadFrame s) old new =
-    (new.phase ≡ ChangeBucket) × (calls_made new.bucket_twin ≡ 0) × SameGroup old new
-    × (new.bucket_twin.current ≡ s % 2)
-NextPhase ChangeBucket old new =
-    ((calls_made old.bucket_twin ≢ 3) × (new.phase ≡ ChangeBucket)
-    × (new.bucket_twin ≡ after_call old.bucket_twin) × SameGroup old new)
-    ⊎ ((calls_made old.bucket_twin ≡ 3) × BeginsBehind old.begun new)
+NextPhase (ReadFrame s) old new = (new.phase ≡ WriteFrame (s % 2)) × SameGroup old new
+NextPhase (WriteFrame s) old new = Joins s old new
+    × (((length new.group < new.most) × BeginsBucket old.begun new)
+    ⊎ ((new.phase ≡ SyncFrames) × (new.framed ≡ old.begun) × (new.begun ≡ old.begun)
+    × IsFull new))
+NextPhase SyncFrames old new = (new.phase ≡ WriteSelector 0) × SameGroup old new
+NextPhase (WriteSelector j) old new = SameGroup old new
+    × (((j + 1 < length new.group) × (new.phase ≡ WriteSelector (j + 1)))
+    ⊎ ((j + 1 ≡ length new.group) × (new.phase ≡ SyncSelectors)))
+NextPhase SyncSelectors old new = BeginsBehind old.begun new
 NextPhase ChangeHead old new =
     (calls_made old.head_twin ≢ 3) × (new.phase ≡ ChangeHead)
     × (new.head_twin ≡ after_call old.head_twin) × SameGroup old new
@@ -109,16 +136,27 @@ abbrev pub IsRead : Phase → Type 0
 IsRead Rest = ⊥
 IsRead ReadSelector = ⊤
 IsRead (ReadFrame s) = ⊤
-IsRead ChangeBucket = ⊥
+IsRead (WriteFrame s) = ⊥
+IsRead SyncFrames = ⊥
+IsRead (WriteSelector j) = ⊥
+IsRead SyncSelectors = ⊥
 IsRead ChangeHead = ⊥
 
--- what the next call may write: the place of the bucket under way, or that of the head
+-- the place of bucket n
+abbrev pub InBucket : {D : Type 0} → SectionState D → (n i : ℕ) → Type 0
+InBucket t n i = (region : Region) × IsPlaceOf (n - t.head.first) region × Inside region i
+
+-- what the next call may write: the place of the bucket under way, that of a bucket of the group,
+-- or that of the head
 abbrev pub MayWrite : {D : Type 0} → Phase → SectionState D → (i : ℕ) → Type 0
 MayWrite Rest t i = ⊥
 MayWrite ReadSelector t i = ⊥
 MayWrite (ReadFrame s) t i = ⊥
-MayWrite ChangeBucket t i =
-    (region : Region) × IsPlaceOf (t.bucket - t.head.first) region × Inside region i
+MayWrite (WriteFrame s) t i = InBucket t t.bucket i
+MayWrite SyncFrames t i = ⊥
+MayWrite (WriteSelector j) t i =
+    (member : Member) × (slice_get t.group j ≡ Some member) × InBucket t member.bucket i
+MayWrite SyncSelectors t i = ⊥
 MayWrite ChangeHead t i = Inside head_place i
 
 -- what a read gives after the next call of the change under way in this region
@@ -126,22 +164,30 @@ abbrev pub read_after : TwinState → Region → (read : List ℕ) → List ℕ
 read_after twin region read =
     bytes_after (calls_made twin) region FRAME_LEN twin.current (next_frame twin) read
 
--- What the next call writes, where it succeeds: the first call of a change writes its frame, the
--- third the selector that names it, and no other call writes.
+-- What the next call writes, where it succeeds: an idle frame, the selector that names it, or what
+-- the change of the head writes.
 abbrev pub Writes : {D : Type 0} → Phase → SectionState D → (read reads : List ℕ) → Type 0
 Writes Rest t read reads = ⊥
 Writes ReadSelector t read reads = reads ≡ read
 Writes (ReadFrame s) t read reads = reads ≡ read
-Writes ChangeBucket t read reads = (region : Region) → IsPlaceOf (t.bucket - t.head.first) region
-    → reads ≡ read_after t.bucket_twin region read
+Writes (WriteFrame s) t read reads = (region : Region) → IsPlaceOf (t.bucket - t.head.first) region
+    → reads ≡ with_frame region FRAME_LEN (1 - s) t.frame read
+Writes SyncFrames t read reads = reads ≡ read
+Writes (WriteSelector j) t read reads = (member : Member) (region : Region)
+    → slice_get t.group j ≡ Some member → IsPlaceOf (member.bucket - t.head.first) region
+    → reads ≡ with_selector region FRAME_LEN (1 - member.current) read
+Writes SyncSelectors t read reads = reads ≡ read
 Writes ChangeHead t read reads = reads ≡ read_after t.head_twin head_place read
 
--- the next call is a sync: the second of a change, or the fourth
+-- the next call is a sync: of the group's frames, of its selectors, or one of the head's change
 abbrev pub Syncs : {D : Type 0} → Phase → SectionState D → Type 0
 Syncs Rest t = ⊥
 Syncs ReadSelector t = ⊥
 Syncs (ReadFrame s) t = ⊥
-Syncs ChangeBucket t = IsSync (calls_made t.bucket_twin)
+Syncs (WriteFrame s) t = ⊥
+Syncs SyncFrames t = ⊤
+Syncs (WriteSelector j) t = ⊥
+Syncs SyncSelectors t = ⊤
 Syncs ChangeHead t = IsSync (calls_made t.head_twin)
 
 -- A fault in a read ends the writeback. One in a write or sync stops the section at that call.
@@ -161,24 +207,23 @@ Advances (Err (Damaged bucket want found)) old new =
     ((s : ℕ) × (old.phase ≡ ReadFrame s)) × EndsWith old.head old new
 Advances (Err (Stopped n)) old new = (old.stopped ≡ Some n) × (new ≡ old)
 
--- the last call of the change of bucket n, where it succeeds
+-- the sync of the selectors, where it succeeds: the changes of all buckets of the group end
 abbrev pub Completes : {D : Type 0} → Result Step ShardErr → SectionState D → (n : ℕ) → Type 0
-Completes result old n = (result ≡ Ok More) × (old.phase ≡ ChangeBucket)
-    × (calls_made old.bucket_twin ≡ 3) × (n ≡ old.bucket)
+Completes result old n = (result ≡ Ok More) × (old.phase ≡ SyncSelectors) × IsChanging old n
 
 -- the step put this entry into its bucket, where it is whatever a crash leaves
 abbrev pub WritesBack : {D : Type 0} → (old new : SectionState D) → Entry → Type 0
 WritesBack old new entry = Contains (drop old.written (take new.written (entries_of old))) entry
 
--- What is known after a step, while the section has the same buckets: the bucket that it completed
--- has the group in it, and each other one what it had.
+-- What is known after a step, while the section has the same buckets: each bucket that it completed
+-- has the group's entries in it, and each other one what it had.
 pub record Follows {D : Type 0} (result : Result Step ShardErr) (old new : SectionState D)
     (known knows : Known) : Type 0 where
   pub kept : (n : ℕ) → new.head.first ≡ old.head.first → ¬ Completes result old n
       → knows n ≡ known n
   pub merged : (n : ℕ) (entries : List Entry) → new.head.first ≡ old.head.first
       → Completes result old n → known n ≡ Some entries
-      → (merged : List Entry) × (knows n ≡ Some merged) × Merges entries (IsOfGroup old) merged
+      → (merged : List Entry) × (knows n ≡ Some merged) × Merges entries (IsOfGroup old n) merged
 
 -- The disk stays sound for the section, and what is known goes on to agree with each history that
 -- it agreed with.

@@ -1,8 +1,7 @@
 //! A list of entries.
 
-ghost use Rattle.std.specs.Prelude.{◌≡◌, [], vec_capacity};
-ghost use Rattle.std.specs.Option.{option_map_or};
-ghost use Rattle.vt_isect.specs.Entries.{turn};
+ghost use Rattle.std.specs.Prelude.{◌≡◌, vec_capacity};
+ghost use Rattle.vt_isect.specs.Entries.{items_of, turn};
 
 use crate::place::bucket_number;
 use std::marker::Model;
@@ -74,7 +73,7 @@ fn turn(behind: Option<u32>, bucket: u32) -> u64
 
 /// The entries, or none where there is no list.
 pub fn items(entries: &Option<Entries>) -> &[Entry]
-    ensures { result.now ≡ option_map_or (λ list. list.items) entries.now [] }
+    ensures { result.now ≡ items_of entries.now }
 {
     match entries {
         Some(list) => list.as_slice(),

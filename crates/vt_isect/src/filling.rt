@@ -158,10 +158,13 @@ impl<D: Disk> Section<D> {
         ensures faults { CountsFault is_fault result
             (D.faults self.old.disk) (D.faults self.new.disk) }
     {
-        let place = bucket_place(bucket.number() - self.head.first);
+        let index = bucket.number() - self.head.first;
+        let place = bucket_place(index);
         let mut frame = [0; FRAME_LEN];
         bucket.encode(&mut frame);
+        self.frames[index as usize] = None;
         write_bucket(&mut self.disk, place, &frame)?;
+        self.frames[index as usize] = Some(0);
         Ok(())
     }
 }

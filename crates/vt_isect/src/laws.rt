@@ -10,12 +10,11 @@ ghost use Rattle.vt_model.specs.Legal.{HasOtherKey};
 ghost use Rattle.vt_model.specs.Places.{Setup, bucket_count, bucket_of, crowd};
 ghost use Rattle.vt_twin.specs.Frames.{current_frame};
 ghost use Rattle.vt_isect.specs.declared.head.Head.{Head};
-ghost use Rattle.vt_isect.specs.declared.phase.Phase.TheVariants.{ChangeBucket};
 ghost use Rattle.vt_isect.specs.Agreement.{IsEntryOf, IsOfBlock, HasBlock, IsInBucket, IsCovered, NoOthers, AgreesWith, KnownAgrees, LeavesAgreeing};
 ghost use Rattle.vt_isect.specs.Filling.{Reads};
 ghost use Rattle.vt_isect.specs.Head.{IsHeadFrame};
 ghost use Rattle.vt_isect.specs.Layout.{head_place, InRange, IsSection};
-ghost use Rattle.vt_isect.specs.Section.{SectionState, IsAtRest, IsTodo};
+ghost use Rattle.vt_isect.specs.Section.{SectionState, IsAtRest, IsTodo, PutsEntries};
 ghost use Rattle.vt_isect.specs.Sound.{Known, IsWhole, DiskHolds, LeavesHead, LeavesSection};
 ghost use Rattle.vt_base.specs.declared.place.Entry.{Entry};
 
@@ -23,7 +22,7 @@ use crate::FRAME_LEN;
 use vt_disk::Disk;
 
 /// Between two calls a crash leaves a section: with the head or, while that changes, the next one,
-/// and with the entries that are known or, in the bucket that changes, these with its new ones. In
+/// and with the entries that are known or, in a bucket of the group, these with its new ones. In
 /// state 1 it agrees with each history with which what is known does. Whatever is known, its head
 /// is one of the two, and the next one only behind a sync.
 pub fn images_agree<D: Disk>()
@@ -64,14 +63,14 @@ pub fn soundness_is_kept<D: Disk>()
         → KnownAgrees score c h t known }
 {}
 
-/// What is known of a bucket is read, unless that is being changed, and behind a sync what is read
-/// is known. A change of the head leaves what is read, so that its first sync settles all buckets
-/// that were filled before it.
+/// What is known of a bucket is read while no entries are put into buckets, and behind a sync what
+/// is read is known. A change of the head leaves what is read, so that its first sync settles all
+/// buckets that were filled before it.
 pub fn what_is_read_is_settled<D: Disk>()
-    ensures read { (t : SectionState D) (known : Known) → IsTrue D.tells → t.phase ≢ ChangeBucket
+    ensures read { (t : SectionState D) (known : Known) → IsTrue D.tells → ¬ PutsEntries t.phase
         → DiskHolds D.Disk t known
         → Reads D.Disk t known }
-    ensures settled { (t : SectionState D) (known knows : Known) → t.phase ≢ ChangeBucket
+    ensures settled { (t : SectionState D) (known knows : Known) → ¬ PutsEntries t.phase
         → IsTrue D.tells → IsSynced D.Disk t.disk
         → DiskHolds D.Disk t known
         → Reads D.Disk t knows

@@ -1,6 +1,6 @@
 //! A section of the index: a head, and buckets that hold the entries of blocks. Entries are written
-//! back bucket by bucket and the head's mark is raised behind them, one device call at a time, so
-//! that whatever a crash leaves has for each block below the mark its entry.
+//! back to groups of buckets and the head's mark is raised behind them, one device call at a time,
+//! so that whatever a crash leaves has for each block below the mark its entry.
 #![tactic(auto)]
 
 mod bad;
@@ -20,6 +20,7 @@ mod writeback;
 pub use bad::{Field, SectBad, ShardErr};
 pub use entries::Entries;
 pub use formatting::format;
+pub use groups::Member;
 pub use head::Head;
 pub use laws::{
     agreement_grows, agreement_is_kept, blocks_are_counted, images_agree, one_key_has_one_entry,
@@ -55,6 +56,12 @@ const _: () = prove!(LEAST_LEN == 41_472);
 pub const FIELDS_LEN: usize = 4 + 2 + 1 + NAME_LEN + 4 + 4 + 4 + 8;
 
 const _: () = prove!(FIELDS_LEN == 91);
+
+/// How many buckets are written back together at most, behind one sync of their frames and one of
+/// their selectors.
+pub const GROUP_MAX: usize = 64;
+
+const _: () = prove!(GROUP_MAX == 64);
 
 #[cfg(test)]
 mod tests;

@@ -1,6 +1,6 @@
 //! Finding the section of a disk.
 
-ghost use Rattle.std.specs.Prelude.{◌≡◌, ◌⊎◌, ⊤, ◌+◌, ◌-◌, ◌*◌, ◌<◌, ◌≤◌, ℕ, List, None, Some, IsTrue, IfOk, IfErr, OnOk, MatchResult, length};
+ghost use Rattle.std.specs.Prelude.{◌≡◌, ◌⊎◌, ⊤, ◌+◌, ◌-◌, ◌*◌, ◌<◌, ◌≤◌, ℕ, List, [], None, Some, IsTrue, IfOk, IfErr, OnOk, MatchResult, length, replicate, vec_capacity};
 ghost use Rattle.vt_base.specs.Faults.{HasCause, CountsFault};
 ghost use Rattle.vt_base.specs.declared.place.Entry.{Entry};
 ghost use Rattle.vt_bucket.specs.Frame.{IsFrame};
@@ -20,11 +20,12 @@ ghost use Rattle.vt_isect.specs.Section.{mounted, disk_after};
 ghost use Rattle.vt_isect.specs.Sound.{Known, all_known, DiskHolds};
 
 use crate::bad::SectBad;
+use crate::groups::Member;
 use crate::head::{Head, decode_head};
 use crate::phase::Phase;
 use crate::place::{buckets_in, head_place};
 use crate::section::Section;
-use crate::{FRAME_LEN, LEAST_LEN};
+use crate::{FRAME_LEN, GROUP_MAX, LEAST_LEN};
 use std::alloc::Global;
 use vt_base::Failed;
 use vt_disk::{Disk, NAME_LEN};
@@ -33,7 +34,8 @@ use vt_twin::Twin;
 /// Finds the section of a disk: syncs, and reads its head. A refusal hands the disk back. What the
 /// head says of its state, its place among the sections and its mark is for the caller to judge.
 ///
-/// It takes the memory of two frames, one for the head and one for a bucket.
+/// It takes the memory of two frames, one for the head and one for a bucket, of a group of buckets,
+/// and of which frame of each bucket is current.
 pub fn mount<D: Disk>(alloc: Global, mut disk: D) -> Result<Section<D>, (SectBad, D)>
     // It finds the head that is there, and is at rest.
     ensures head { IfOk result (λ it. IsTrue D.tells
@@ -106,7 +108,11 @@ pub struct Opened {
     /// The frame of the head.
     pub head_frame: Vec<u8>,
     /// Room for the frame of a bucket.
-    pub bucket_frame: Vec<u8>,
+    pub frame: Vec<u8>,
+    /// Room for a group of buckets.
+    pub group: Vec<Member>,
+    /// Of no bucket it is known which frame is current.
+    pub frames: Vec<Option<u8>>,
 }
 
 /// Syncs, and reads the head.
@@ -118,7 +124,11 @@ fn open<D: Disk>(alloc: Global, disk: &mut D) -> Result<Opened, SectBad>
         → IsSound it.twin head_place (current_frame head_place FRAME_LEN (D.bytes disk.old))
         (D.bytes disk.new) (D.images disk.new)) }
     ensures frames { IfOk result (λ it. (length it.head_frame.items ≡ FRAME_LEN)
-        × (length it.bucket_frame.items ≡ FRAME_LEN)) }
+        × (it.frame.items ≡ replicate FRAME_LEN 0)) }
+    ensures group { IfOk result (λ it. (it.group.items ≡ [])
+        × (GROUP_MAX ≤ vec_capacity it.group)) }
+    ensures current { IfOk result (λ it. it.frames.items
+        ≡ replicate (buckets_in (D.size disk.old)) None) }
     ensures name { IfOk result (λ it. length it.name ≡ NAME_LEN) }
     ensures room { OnOk result (LEAST_LEN ≤ D.size disk.old) }
     ensures settled { MatchResult result (λ _. ⊤) TellsOfHead → IsSynced D.Disk disk.new }
@@ -144,7 +154,9 @@ fn open<D: Disk>(alloc: Global, disk: &mut D) -> Result<Opened, SectBad>
         });
     }
     let mut head_frame = vec![in alloc; 0; FRAME_LEN]?;
-    let bucket_frame = vec![in alloc; 0; FRAME_LEN]?;
+    let frame = vec![in alloc; 0; FRAME_LEN]?;
+    let group = Vec::with_capacity(alloc, GROUP_MAX)?;
+    let frames = vec![in alloc; None; buckets_in(len) as usize]?;
     let twin = read_head(disk, &mut head_frame)?;
     match decode_head(&head_frame, len) {
         Ok(found) => {
@@ -154,7 +166,9 @@ fn open<D: Disk>(alloc: Global, disk: &mut D) -> Result<Opened, SectBad>
                 name,
                 head,
                 head_frame,
-                bucket_frame,
+                frame,
+                group,
+                frames,
             })
         }
         Err(bad) => Err(bad),

@@ -9,8 +9,14 @@ pub enum Phase {
     ReadSelector,
     /// It reads that bucket's current frame, which a selector with this first byte names.
     ReadFrame(u8),
-    /// It is one of the four calls that change the bucket's frame.
-    ChangeBucket,
-    /// It is one of the four that change the head's.
+    /// It writes that bucket's idle frame, beside the current one of this number.
+    WriteFrame(u8),
+    /// It syncs the frames of the group.
+    SyncFrames,
+    /// It writes the selector of this member of the group, counted from 0.
+    WriteSelector(usize),
+    /// It syncs the selectors of the group.
+    SyncSelectors,
+    /// It is one of the four that change the head's frame.
     ChangeHead,
 }

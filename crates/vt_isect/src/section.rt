@@ -1,6 +1,6 @@
 //! A section that is mounted.
 
-ghost use Rattle.std.specs.Prelude.{◌≡◌, ◌≢◌, ◌↔◌, ◌+◌, ◌-◌, ◌*◌, ◌^◌, ◌<◌, ◌≤◌, ℕ, List, length, IsTrue, IfOk, IfErr, IfSome, IsOk, OnOk, None, Some};
+ghost use Rattle.std.specs.Prelude.{◌≡◌, ◌≢◌, ◌⊎◌, ◌↔◌, ◌+◌, ◌-◌, ◌*◌, ◌^◌, ◌<◌, ◌≤◌, ℕ, List, [], length, replicate, IsTrue, IfOk, IfErr, IfSome, IsOk, OnOk, None, Some, vec_capacity};
 ghost use Rattle.std.specs.List.{Contains};
 ghost use Rattle.vt_base.specs.Faults.{HasCause, CountsFault};
 ghost use Rattle.vt_base.specs.declared.place.Entry.{Entry};
@@ -12,6 +12,7 @@ ghost use Rattle.vt_model.specs.History.{History};
 ghost use Rattle.vt_model.specs.Places.{Setup};
 ghost use Rattle.vt_twin.specs.Frames.{current_frame, named_number};
 ghost use Rattle.vt_twin.specs.Twin.{fresh, calls_made, next_frame};
+ghost use Rattle.vt_isect.specs.declared.groups.Member.{Member};
 ghost use Rattle.vt_isect.specs.Agreement.{KnownAgrees, IsCovered, IsOfBlock, NoOthers};
 ghost use Rattle.vt_isect.specs.Head.{IsHeadFrame, encoded};
 ghost use Rattle.vt_isect.specs.Layout.{IsPlaceOf, InRange};
@@ -21,12 +22,13 @@ ghost use Rattle.vt_isect.specs.Merging.{IsFaulty};
 
 use crate::bad::ShardErr;
 use crate::entries::{Entries, items};
+use crate::groups::{Member, member_of};
 use crate::head::Head;
 use crate::merging::decode_bucket;
 use crate::mounting::Opened;
 use crate::phase::Phase;
 use crate::place::{bucket_number, bucket_place};
-use crate::{BUCKET_PLACE_LEN, FRAME_LEN, HEAD_PLACE_LEN};
+use crate::{BUCKET_PLACE_LEN, FRAME_LEN, GROUP_MAX, HEAD_PLACE_LEN};
 use std::marker::Model;
 use std::sync::ledger::Ledger;
 use vt_base::{Entry, Failed};
@@ -51,20 +53,29 @@ pub struct Section<D: Disk> {
     pub(crate) entries: Option<Entries>,
     /// How many of the entries are in their buckets: the first ones.
     pub(crate) written: usize,
+    /// How many are there or in a frame of the group.
+    pub(crate) framed: usize,
     /// How many are there or on the way into the bucket under way.
     pub(crate) begun: usize,
     /// The number of the bucket under way, over all sections.
     pub(crate) bucket: u32,
+    /// The frame that it gets.
+    pub(crate) frame: Vec<u8>,
+    /// The buckets whose idle frames were written and wait for one sync.
+    pub(crate) group: Vec<Member>,
+    /// How many these may be.
+    pub(crate) most: usize,
     pub(crate) head_twin: Twin,
-    pub(crate) bucket_twin: Twin,
-    /// The buffers of the frames, but where a change has them.
+    /// The buffer of the head's frame, but where a change has it.
     pub(crate) head_frame: Option<Vec<u8>>,
-    pub(crate) bucket_frame: Option<Vec<u8>>,
+    /// The number of each bucket's current frame, once that was read or written.
+    pub(crate) frames: Vec<Option<u8>>,
     pub(crate) calls: u64,
     pub(crate) stopped: Option<u64>,
 }
 
 impl<D: Disk> Model for Section<D> {
+    ghost use Rattle.std.specs.Prelude.{vec_capacity};
     ghost use Rattle.std.specs.Option.{option_map};
     ghost use Rattle.vt_isect.specs.Section.{SectionState, IsWell};
 
@@ -74,14 +85,14 @@ impl<D: Disk> Model for Section<D> {
 
     ghost view = { state_of };
 
-    ghost invariant = { λ s. IsWell (D.size s.disk) (state_of s)
+    ghost invariant = { λ s. IsWell D.Disk (D.size s.disk) (state_of s)
         (option_map (λ frame. frame.items) s.head_frame)
-        (option_map (λ frame. frame.items) s.bucket_frame) };
+        (vec_capacity s.group) s.frames.items };
 }
 
 impl<D: Disk> Section<D> {
-    ghost use Rattle.vt_isect.specs.declared.phase.Phase.TheVariants.{Rest, ReadSelector, ChangeBucket, ChangeHead};
-    ghost use Rattle.vt_isect.specs.Section.{SectionState, AreInRange, IsAtRest, IsChanging, IsIdle, IsTodo, bucket_under_way, entries_of, mounted, HasBucket};
+    ghost use Rattle.vt_isect.specs.declared.phase.Phase.TheVariants.{Rest, ReadSelector, ChangeHead};
+    ghost use Rattle.vt_isect.specs.Section.{SectionState, AreInRange, IsAtRest, IsChanging, IsIdle, IsMember, IsTodo, PutsEntries, bucket_under_way, entries_of, most_after, mounted};
     ghost use Rattle.vt_isect.specs.Sound.{Known, DiskHolds, IsReadFrom};
     ghost use Rattle.vt_isect.specs.Writeback.{BeginsBehind, calls_left, later};
 
@@ -90,7 +101,9 @@ impl<D: Disk> Section<D> {
         requires room { HEAD_PLACE_LEN + BUCKET_PLACE_LEN * buckets ≤ D.size disk }
         requires name { length opened.name ≡ NAME_LEN }
         requires head_frame { length opened.head_frame.items ≡ FRAME_LEN }
-        requires bucket_frame { length opened.bucket_frame.items ≡ FRAME_LEN }
+        requires frame { opened.frame.items ≡ replicate FRAME_LEN 0 }
+        requires group { (opened.group.items ≡ []) × (GROUP_MAX ≤ vec_capacity opened.group) }
+        requires frames { opened.frames.items ≡ replicate buckets None }
         requires twin { opened.twin ≡ fresh FRAME_LEN opened.twin.current }
         ensures { result ≡ mounted disk buckets opened.name opened.head opened.twin.current }
     {
@@ -99,7 +112,9 @@ impl<D: Disk> Section<D> {
             name,
             head,
             head_frame,
-            bucket_frame,
+            frame,
+            group,
+            frames,
         } = opened;
         Section {
             disk,
@@ -110,12 +125,15 @@ impl<D: Disk> Section<D> {
             phase: Phase::Rest,
             entries: None,
             written: 0,
+            framed: 0,
             begun: 0,
             bucket: 0,
+            frame,
+            group,
+            most: GROUP_MAX,
             head_twin: twin,
-            bucket_twin: Twin::resume(FRAME_LEN as u64, 0),
             head_frame: Some(head_frame),
-            bucket_frame: Some(bucket_frame),
+            frames,
             calls: 0,
             stopped: None,
         }
@@ -186,30 +204,35 @@ impl<D: Disk> Section<D> {
         ensures in_range { IfSome result (InRange self.now.head self.now.buckets) }
     {
         match self.phase {
-            Phase::ReadSelector | Phase::ReadFrame(_) | Phase::ChangeBucket => Some(self.bucket),
-            Phase::Rest | Phase::ChangeHead => None,
+            Phase::ReadSelector | Phase::ReadFrame(_) | Phase::WriteFrame(_) => Some(self.bucket),
+            _ => None,
         }
     }
 
-    /// How many device calls what is under way makes at most: four for the head, and six for each
-    /// bucket. There are no more of these than entries behind the bucket under way, and that one.
+    /// How many device calls what is under way makes at most: four for the head, two syncs for each
+    /// group, and two reads and two writes for each bucket. There are no more of these than entries
+    /// behind the bucket under way, and that one.
     pub fn calls_left(&self) -> u64
         ensures { result ≡ calls_left self.now }
     {
+        let group = self.group.len() as u64;
         match self.phase {
             Phase::Rest => 0,
-            Phase::ReadSelector => 6 * self.later() + 10,
-            Phase::ReadFrame(_) => 6 * self.later() + 9,
-            Phase::ChangeBucket => 6 * self.later() + 4 + self.bucket_twin.calls_left(),
+            Phase::ReadSelector => 6 * self.later() + group + 10,
+            Phase::ReadFrame(_) => 6 * self.later() + group + 9,
+            Phase::WriteFrame(_) => 6 * self.later() + group + 8,
+            Phase::SyncFrames => 6 * self.later() + group + 6,
+            Phase::WriteSelector(member) => 6 * self.later() + (group - member as u64) + 5,
+            Phase::SyncSelectors => 6 * self.later() + 5,
             Phase::ChangeHead => self.head_twin.calls_left(),
         }
     }
 
     /// How many entries stand behind those of the bucket under way.
     fn later(&self) -> u64
-        requires { HasBucket self.now.phase }
+        requires { PutsEntries self.now.phase }
         ensures later { result ≡ later self.now }
-        ensures most { 6 * result + 10 < 2 ^ 64 }
+        ensures most { 6 * result + GROUP_MAX + 10 < 2 ^ 64 }
     {
         (items(&self.entries).len() - self.begun) as u64
     }
@@ -226,7 +249,7 @@ impl<D: Disk> Section<D> {
     /// theirs that stand between the count before it and the one behind it.
     pub fn written(&self) -> usize
         ensures count { result ≡ self.now.written }
-        ensures most { HasBucket self.now.phase → result ≤ length (entries_of self.now) }
+        ensures most { PutsEntries self.now.phase → result ≤ length (entries_of self.now) }
     {
         self.written
     }
@@ -247,8 +270,9 @@ impl<D: Disk> Section<D> {
 
     /// The entries of a bucket, by its number over all sections.
     ///
-    /// It reads the bucket's selector and then the frame that this names, and no other. While a
-    /// bucket is being changed it gives what the bucket had before.
+    /// It reads the bucket's current frame, and no other, and before it the selector that names
+    /// this, unless that was read or written before. While a bucket is being changed it gives what
+    /// the bucket had before.
     pub fn bucket<L: Ledger>(
         &mut self,
         number: u32,
@@ -290,10 +314,11 @@ impl<D: Disk> Section<D> {
         ensures least_cost { steps.old ≤ steps.new }
         ensures most_cost { steps.new ≤ steps.old + 1 }
 
-        // It reads the selector, but of a bucket that is being changed, and counts a step exactly
-        // where it reads a frame.
+        // It reads the selector once at most, and never of a bucket that is being changed, and
+        // counts a step exactly where it reads a frame.
         ensures calls { ¬ IsChanging self.old number
-            → MadeCalls D.Disk (1 + (steps.new - steps.old)) self.old.disk self.new.disk }
+            → MadeCalls D.Disk (steps.new - steps.old) self.old.disk self.new.disk
+            ⊎ MadeCalls D.Disk (1 + (steps.new - steps.old)) self.old.disk self.new.disk }
         ensures calls_of_change { IsChanging self.old number
             → MadeCalls D.Disk 1 self.old.disk self.new.disk × (steps.new ≡ steps.old + 1) }
     {
@@ -314,6 +339,9 @@ impl<D: Disk> Section<D> {
     /// of their buckets, first those of the buckets behind this one and then the others; of two
     /// with one key one is kept. Entries of an earlier writeback that `idle` hasn't handed back are
     /// freed.
+    ///
+    /// Up to 64 buckets are written together, and one at a time where the last writeback ended
+    /// early at a bucket: so a damaged one keeps no other from being written.
     pub fn begin_file(&mut self, mut entries: Entries, mark: u64, behind: Option<u32>)
         requires rest { IsAtRest self.old }
         requires in_range { AreInRange self.old.head self.old.buckets entries.items }
@@ -327,10 +355,13 @@ impl<D: Disk> Section<D> {
           phase = self.new.phase;
           entries = self.new.entries;
           written = self.new.written;
+          framed = self.new.framed;
           begun = self.new.begun;
           bucket = self.new.bucket;
+          most = self.new.most;
           head_twin = self.new.head_twin;
         } }
+        ensures most { self.new.most ≡ most_after behind }
         ensures sound { (known : Known) → IsTrue D.tells → DiskHolds D.Disk self.old known
             → DiskHolds D.Disk self.new known }
 
@@ -351,6 +382,7 @@ impl<D: Disk> Section<D> {
         let next = Head { mark, ..self.head };
         entries.order(self.head.total, behind);
         self.entries = Some(entries);
+        self.most = if behind.is_some() { 1 } else { GROUP_MAX };
         self.go_on(0, next);
     }
 
@@ -411,25 +443,32 @@ impl<D: Disk> Section<D> {
     fn current_number(&mut self, number: u32) -> Result<u8, Failed>
         requires { InRange self.old.head self.old.buckets number }
         ensures bound { IfOk result (λ current. current < 2) }
-        ensures changing { IfOk result (λ current. IsChanging self.old number
-            → current ≡ self.old.bucket_twin.current) }
+        ensures changing { (member : Member) → IfOk result (λ current.
+            IsMember self.old number member → current ≡ member.current) }
         ensures named { IfOk result (λ current. IsTrue D.tells → ¬ IsChanging self.old number
             → (region : Region) → IsPlaceOf (number - self.old.head.first) region
             → current ≡ named_number region FRAME_LEN (D.bytes self.old.disk)) }
         ensures same { self.new ≡ record self.old { disk = self.new.disk } }
         ensures reads { OnlyReads D.Disk 1 self.old.disk self.new.disk }
         ensures calls { ¬ IsChanging self.old number
-            → MadeCalls D.Disk 1 self.old.disk self.new.disk }
+            → (IsOk result × (self.new ≡ self.old))
+            ⊎ MadeCalls D.Disk 1 self.old.disk self.new.disk }
         ensures of_change { IsChanging self.old number
             → IsOk result × (self.new ≡ self.old) }
         ensures cause { HasCause result (D.faults self.old.disk) (D.faults self.new.disk) }
     {
-        if self.phase == Phase::ChangeBucket && self.bucket == number {
-            return Ok(self.bucket_twin.current());
+        if let Some(member) = member_of(&self.group, number) {
+            return Ok(member.current);
+        }
+        let index = number - self.head.first;
+        if let Some(current) = self.frames[index as usize] {
+            return Ok(current);
         }
         let mut selector = [0];
-        let place = bucket_place(number - self.head.first);
+        let place = bucket_place(index);
         place.read_at(&mut self.disk, 2 * FRAME_LEN as u64, &mut selector)?;
-        Ok(selector[0] % 2)
+        let current = selector[0] % 2;
+        self.frames[index as usize] = Some(current);
+        Ok(current)
     }
 }

@@ -117,12 +117,13 @@ fn finish<D: Disk>(section: &mut Section<D>, calls: u64) -> Result<(), Fail> {
     see(section.calls_left() == 0, "no end")
 }
 
-/// Changes the head to this state and mark, with two buckets over all sections.
+/// Changes the head to this state and mark, of the only section.
 fn change_head<D: Disk>(section: &mut Section<D>, state: u8, mark: u64) -> Result<(), Fail> {
-    if section.is_changing() || section.buckets() != 2 {
+    if section.is_changing() {
         return Err("no change may begin".into());
     }
-    section.begin_head(state, 0, 2, mark);
+    let buckets = section.buckets();
+    section.begin_head(state, 0, buckets, mark);
     finish(section, 4)
 }
 
@@ -132,29 +133,40 @@ fn clear<D: Disk>(
     first: u32,
     count: u32,
 ) -> Result<Result<(), ShardErr>, Fail> {
-    let is_there = section.head().first == 0 && first < 2 && count <= 2 - first;
-    if section.is_changing() || section.buckets() != 2 || !is_there {
+    let buckets = section.buckets();
+    let is_there = section.head().first == 0 && first < buckets && count <= buckets - first;
+    if section.is_changing() || !is_there {
         return Err("no buckets to clear".into());
     }
     Ok(section.clear(first, count))
 }
 
-/// A section that is put to use with two empty buckets.
+/// A section that is put to use with empty buckets.
 fn live<D: Disk + Drop>(alloc: Global, disk: D) -> Result<Section<D>, Fail> {
     let mut section = fresh(alloc, disk)?;
     change_head(&mut section, 2, 0)?;
-    see(clear(&mut section, 0, 2)? == Ok(()), "not cleared")?;
+    let buckets = section.buckets();
+    see(clear(&mut section, 0, buckets)? == Ok(()), "not cleared")?;
     change_head(&mut section, 1, 0)?;
     Ok(section)
 }
 
-/// Begins to write the three entries back.
-fn begin<D: Disk>(alloc: Global, section: &mut Section<D>) -> Result<(), Fail> {
-    let entries = three(alloc)?;
+/// Begins to write these entries back.
+fn put<D: Disk>(
+    section: &mut Section<D>,
+    entries: Entries,
+    behind: Option<u32>,
+) -> Result<(), Fail> {
     if section.is_changing() || !section.has_buckets(entries.as_slice()) {
         return Err("no writeback may begin".into());
     }
-    section.begin_file(entries, 3, None);
+    section.begin_file(entries, 3, behind);
+    Ok(())
+}
+
+/// Begins to write the three entries back.
+fn begin<D: Disk>(alloc: Global, section: &mut Section<D>) -> Result<(), Fail> {
+    put(section, three(alloc)?, None)?;
     see(section.calls_left() == 16, "another count of calls")?;
     see(section.bucket_under_way() == Some(0), "no bucket 0")
 }
@@ -233,7 +245,7 @@ fn stop<D: Disk>(section: &mut Section<D>, call: u64, fails: bool) -> Result<(),
     }
     see(answer == Err(ShardErr::Fault), "no fault")?;
     // The first two calls of a bucket read, and end a writeback where they fail.
-    if call < 2 || call == 6 || call == 7 {
+    if call < 2 || call == 3 || call == 4 {
         return see(!section.is_changing(), "a read doesn't end it");
     }
     let stopped = call.saturating_add(FIRST_ADVANCE);
@@ -250,21 +262,20 @@ fn written<D: Disk + Drop>(alloc: Global, disk: D, call: u64, fails: bool) -> Re
     Ok(section.into_devices())
 }
 
-/// What is left by a crash after each call, in the four modes, where it is done and where it fails.
-/// The new selectors are 1, so that a5 names the new frame.
-const WRITEBACK: [[[u8; 4]; 2]; 16] = [
+/// What is left by a crash after each call, in the four modes, where it is done and where it fails:
+/// of each bucket two reads and the write of a frame, a sync, two selectors, and a sync; and four
+/// of the head. The new selectors are 1, so that a5 names the new frame.
+const WRITEBACK: [[[u8; 4]; 2]; 14] = [
+    [*b"0000", *b"0000"],
+    [*b"0000", *b"0000"],
+    [*b"0000", *b"0000"],
     [*b"0000", *b"0000"],
     [*b"0000", *b"0000"],
     [*b"0000", *b"0000"],
     [*b"0000", *b"0000"],
     [*b"0111", *b"0001"],
-    [*b"1111", *b"0111"],
-    [*b"1111", *b"1111"],
-    [*b"1111", *b"1111"],
-    [*b"1111", *b"1111"],
-    [*b"1111", *b"1111"],
-    [*b"1222", *b"1112"],
-    [*b"2222", *b"1222"],
+    [*b"0222", *b"0112"],
+    [*b"2222", *b"0222"],
     [*b"2222", *b"2222"],
     [*b"2222", *b"2222"],
     [*b"2333", *b"2223"],
@@ -295,15 +306,18 @@ fn a_writeback_is_stopped_anywhere(rt: HostRuntime) -> Result<(), Fail> {
     Ok(())
 }
 
-/// Writes the three entries back, and looks both buckets up while the first is written.
+/// Writes the three entries back, and looks both buckets up while they are written.
 fn write_three<D: Disk>(alloc: Global, section: &mut Section<D>) -> Result<(), Fail> {
     begin(alloc, section)?;
-    see(step_after(section, 4)? == Ok(Step::More), "no step")?;
-    see(level(section)? == b'0', "the new frame is looked up")?;
-    see(step(section)? == Ok(Step::More), "no step")?;
-    see(section.written() == 2, "another count of entries")?;
+    see(step_after(section, 2)? == Ok(Step::More), "no step")?;
     see(section.bucket_under_way() == Some(1), "no bucket 1")?;
-    finish(section, 10)?;
+    see(step_after(section, 5)? == Ok(Step::More), "no step")?;
+    see(section.bucket_under_way().is_none(), "a bucket")?;
+    see(section.written() == 0, "another count of entries")?;
+    see(level(section)? == b'0', "a new frame is looked up")?;
+    see(step(section)? == Ok(Step::More), "no step")?;
+    see(section.written() == 3, "another count of entries")?;
+    finish(section, 4)?;
     see(level(section)? == b'3', "not all is written")
 }
 
@@ -463,15 +477,40 @@ fn fill_fresh<D: Disk + Drop>(alloc: Global, disk: D) -> Result<Result<(), Shard
 
 #[test]
 fn buckets_are_filled_and_cleared(rt: HostRuntime) -> Result<(), Fail> {
-    // Each call fails in turn: two of filling, two of the look-up, three of clearing.
-    for failing in 6..14 {
+    // Each call fails in turn: two of filling, one of the look-up, three of clearing.
+    for failing in 6..13 {
         let found = fill_fresh(rt.alloc(), disk(rt.alloc(), LEN, failing)?)?;
-        let wanted = if failing < 13 {
+        let wanted = if failing < 12 {
             Err(ShardErr::Fault)
         } else {
             Ok(())
         };
         see(found == wanted, "another answer")?;
+    }
+    Ok(())
+}
+
+/// Whether each of three look-ups of a bucket behind mounting is answered.
+fn look_thrice<D: Disk + Drop>(alloc: Global, disk: D) -> Result<[bool; 3], Fail> {
+    let mut section = mounted(alloc, live(alloc, disk)?.into_devices())?;
+    let first = bucket(&mut section, 1)?.is_ok();
+    let second = bucket(&mut section, 1)?.is_ok();
+    Ok([first, second, bucket(&mut section, 1)?.is_ok()])
+}
+
+#[test]
+fn a_selector_is_read_once(rt: HostRuntime) -> Result<(), Fail> {
+    // Each call of the look-ups fails in turn, and none: the first reads the selector and the
+    // frame, and another one the frame alone, where the first has read the selector.
+    for (failing, wanted) in [
+        (22, [false, true, true]),
+        (23, [false, true, true]),
+        (24, [true, false, true]),
+        (25, [true, true, false]),
+        (26, [true, true, true]),
+    ] {
+        let found = look_thrice(rt.alloc(), disk(rt.alloc(), LEN, failing)?)?;
+        see(found == wanted, "another look-up")?;
     }
     Ok(())
 }
@@ -525,6 +564,72 @@ fn damage_is_told_with_both_values(rt: HostRuntime) -> Result<(), Fail> {
         see(told == Some(bad), "another damage")?;
     }
     Ok(())
+}
+
+/// Where bucket 1 is damaged, a writeback of both ends with neither written. The next one begins
+/// behind it, and writes bucket 0 by itself before it ends.
+fn beside_damage<D: Disk + Drop>(alloc: Global, disk: D) -> Result<(), Fail> {
+    let mut disk = live(alloc, disk)?.into_devices();
+    if disk.len() != LEN {
+        return Err("a length".into());
+    }
+    disk.write_at(41_472, b"W")?;
+    let mut section = mounted(alloc, disk)?;
+    begin(alloc, &mut section)?;
+    see(step_after(&mut section, 4)?.is_err(), "no damage")?;
+    see(
+        section.written() == 0 && has(&mut section, 0, &[])?,
+        "a part of a group",
+    )?;
+    put(&mut section, three(alloc)?, Some(1))?;
+    see(step_after(&mut section, 7)?.is_err(), "no damage")?;
+    see(
+        section.written() == 2 && has(&mut section, 0, &[9, 7])?,
+        "bucket 0 isn't written",
+    )
+}
+
+#[test]
+fn a_damaged_bucket_keeps_no_other_from_being_written(rt: HostRuntime) -> Result<(), Fail> {
+    beside_damage(rt.alloc(), disk(rt.alloc(), LEN, NEVER)?)
+}
+
+/// How many buckets a section of this length has, which is one group and two buckets.
+const MANY: u32 = 66;
+
+const MANY_LEN: u64 = 1_139_712;
+
+/// An entry of each bucket but the last.
+fn one_of_each(alloc: Global) -> Result<Entries, Fail> {
+    let mut list = Vec::with_capacity(alloc, 65)?;
+    for number in 0..MANY - 1 {
+        let mut one = entry(0, 0, number);
+        one.key.score.0[..4].copy_from_slice(&(number * 65_075_263).to_be_bytes());
+        list.push(one)?;
+    }
+    Ok(Entries::from_vec(list))
+}
+
+/// Writes to 65 buckets, which are two groups: two reads and two writes for each of them, two syncs
+/// for each group, and the four calls of the head.
+fn write_many<D: Disk + Drop>(alloc: Global, disk: D) -> Result<(), Fail> {
+    let mut section = live(alloc, disk)?;
+    see(section.buckets() == MANY, "other buckets")?;
+    put(&mut section, one_of_each(alloc)?, None)?;
+    finish(&mut section, 268)?;
+    see(
+        has(&mut section, 0, &[0])? && has(&mut section, 63, &[63])?,
+        "the first group",
+    )?;
+    see(
+        has(&mut section, 64, &[64])? && has(&mut section, 65, &[])?,
+        "the second",
+    )
+}
+
+#[test]
+fn a_group_is_full(rt: HostRuntime) -> Result<(), Fail> {
+    write_many(rt.alloc(), disk(rt.alloc(), MANY_LEN, NEVER)?)
 }
 
 #[test]

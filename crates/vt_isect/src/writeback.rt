@@ -1,6 +1,6 @@
 //! The device calls of a writeback and of a change of the head.
 
-ghost use Rattle.std.specs.Prelude.{◌≡◌, ◌≢◌, ◌⊎◌, ◌↔◌, ◌+◌, ◌-◌, ◌%◌, ◌<◌, ◌≤◌, ℕ, List, length, IsTrue, IsSome, IfOk, IfErr, OnOk, None, Some, Ok, Err};
+ghost use Rattle.std.specs.Prelude.{◌≡◌, ◌≢◌, ◌⊎◌, ◌↔◌, ◌+◌, ◌-◌, ◌%◌, ◌<◌, ◌≤◌, ℕ, List, [], length, IsTrue, IsSome, IfOk, IfErr, OnOk, Option, None, Some, Ok, Err};
 ghost use Rattle.std.specs.Option.{option_map};
 ghost use Rattle.vt_base.specs.Faults.{CountsFault};
 ghost use Rattle.vt_base.specs.declared.place.Entry.{Entry};
@@ -9,9 +9,11 @@ ghost use Rattle.vt_disk.specs.Disk.{WithinCall};
 ghost use Rattle.vt_disk.specs.declared.region.Region.{Region};
 ghost use Rattle.vt_model.specs.History.{History};
 ghost use Rattle.vt_model.specs.Places.{Setup, bucket_count, crowd};
-ghost use Rattle.vt_twin.specs.Frames.{frame_of as twin_frame};
-ghost use Rattle.vt_twin.specs.Twin.{calls_made, next_frame, with_change};
+ghost use Rattle.vt_twin.specs.Frames.{frame_of as twin_frame, selector_bytes};
+ghost use Rattle.vt_twin.specs.Twin.{calls_made, with_change};
+ghost use Rattle.vt_isect.specs.declared.phase.Phase.TheVariants.{WriteSelector, SyncSelectors};
 ghost use Rattle.vt_isect.specs.Agreement.{KnownAgrees, LeavesAgreeing};
+ghost use Rattle.vt_isect.specs.Entries.{IsOrdered};
 ghost use Rattle.vt_isect.specs.Faults.{NamesDamage, is_fault};
 ghost use Rattle.vt_isect.specs.Head.{IsHead, encoded};
 ghost use Rattle.vt_isect.specs.Layout.{IsPlaceOf};
@@ -20,36 +22,37 @@ ghost use Rattle.vt_isect.specs.Merging.{IsMerged, IsDamage};
 use crate::FRAME_LEN;
 use crate::bad::ShardErr;
 use crate::entries::items;
-use crate::groups::group_end;
+use crate::groups::{Member, bucket_behind};
 use crate::head::{Head, encode_head};
 use crate::merging::read_merged;
 use crate::phase::Phase;
-use crate::place::{bucket_number, bucket_place, head_place};
+use crate::place::{bucket_place, head_place};
 use crate::section::Section;
 use vt_base::{Bytes, Failed};
-use vt_disk::Disk;
+use vt_disk::{Disk, SECTOR_LEN};
 use vt_model::BUCKET_ROOM;
-use vt_twin::{Step, Twin};
+use vt_twin::Step;
 
 impl<D: Disk> Section<D> {
-    ghost use Rattle.vt_isect.specs.declared.phase.Phase.TheVariants.{Rest, ReadSelector, ReadFrame, ChangeBucket, ChangeHead};
-    ghost use Rattle.vt_isect.specs.Section.{AreInRange, bucket_number as number_of, entries_of, group_of, IsAtRest, IsOfGroup};
+    ghost use Rattle.vt_isect.specs.declared.phase.Phase.TheVariants.{Rest, ReadSelector, ReadFrame, WriteFrame, SyncFrames, WriteSelector, SyncSelectors, ChangeHead};
+    ghost use Rattle.vt_isect.specs.Section.{AreInRange, IsAtRest, IsOfGroup, PutsEntries, bucket_number as number_of, entering, entries_of};
     ghost use Rattle.vt_isect.specs.Sound.{Known, DiskHolds, LeavesSection, IsWhole};
-    ghost use Rattle.vt_isect.specs.Writeback.{Advances, BeginsBehind, Completes, Follows, IsRead, Keeps, KeepsCovered, MayWrite, Syncs, Writes, WritesBack, calls_left};
+    ghost use Rattle.vt_isect.specs.Writeback.{Advances, BeginsBehind, Completes, Follows, Joins, Keeps, KeepsCovered, MayWrite, NextPhase, Syncs, Writes, WritesBack, calls_left};
 
-    /// Makes one device call of what is under way. Of a writeback, for each bucket: it reads the
-    /// selector, reads the current frame, and makes the four calls of the change to one with the
-    /// bucket's entries; and then the four of the change of the head.
+    /// Makes one device call of what is under way. Of a writeback, for each bucket of a group: it
+    /// reads the selector, reads the current frame, and writes the idle one with the bucket's
+    /// entries, too. Then it syncs these frames, writes the selector of each, and syncs those.
+    /// Behind the last group come the four calls of the change of the head.
     ///
     /// Done is the answer to the last of them. A fault in a read and a damaged bucket end the
-    /// writeback: the buckets that were changed stay so, and the head stays as it was. A fault in a
-    /// write or a sync stops the section: from then on the answer is Stopped with the number of
-    /// that call, and nothing is done.
+    /// writeback: the groups that were completed stay so, the buckets of the one under way are as
+    /// they were, and so is the head. A fault in a write or a sync stops the section: from then on
+    /// the answer is Stopped with the number of that call, and nothing is done.
     pub fn advance(&mut self) -> Result<Step, ShardErr>
         requires under_way { ¬ IsAtRest self.old }
 
-        // The disk stays sound: the bucket that the step completes has its entries in it, and each
-        // other bucket is known as before.
+        // The disk stays sound: each bucket that the step completes has its entries in it, and each
+        // other one is known as before.
         ensures sound { IsTrue D.tells → Keeps D.Disk result self.old self.new }
 
         // A crash at any moment of it leaves a section as it is before the step or after it.
@@ -76,8 +79,7 @@ impl<D: Disk> Section<D> {
             → Follows result self.old self.new known knows
             → KeepsCovered score c h result self.old self.new known knows }
 
-        // What it writes, and that it syncs: behind the second call of a change and behind the
-        // fourth, a crash leaves what a read gives.
+        // What it writes, and that it syncs: behind that a crash leaves what a read gives.
         ensures written { IsTrue D.tells → OnOk result (Writes self.old.phase self.old
             (D.bytes self.old.disk) (D.bytes self.new.disk)) }
         ensures settled { Syncs self.old.phase self.old
@@ -91,22 +93,22 @@ impl<D: Disk> Section<D> {
         ensures stopped { (n : ℕ)
             → (result ≡ Err (ShardErr.Stopped n)) ↔ (self.old.stopped ≡ Some n) }
 
-        // The entries that it puts into their buckets are those of the bucket that it completes.
+        // The entries that it puts into their buckets are those of the buckets that it completes.
         ensures wrote { (entry : Entry) → WritesBack self.old self.new entry
-            ↔ (Completes result self.old (number_of self.old entry) × IsOfGroup self.old entry) }
+            ↔ (Completes result self.old (number_of self.old entry)
+            × IsOfGroup self.old (number_of self.old entry) entry) }
 
         // The frame that it begins to write has the entries of the frame that it read, and those of
         // the writeback that belong to the bucket. Damage is that of the frame that it read.
         ensures merged { (s : ℕ) → OnOk result (self.old.phase ≡ ReadFrame s
-            → (read : List ℕ) × IsMerged self.old.bucket (group_of self.old)
-            read (next_frame self.new.bucket_twin)
+            → (read : List ℕ) × IsMerged self.old.bucket (entering self.old) read self.new.frame
             × ((region : Region) → IsTrue D.tells
             → IsPlaceOf (self.old.bucket - self.old.head.first) region
             → read ≡ twin_frame region FRAME_LEN (s % 2) (D.bytes self.old.disk))) }
         ensures differs { IfErr result NamesDamage }
         ensures damaged { (s : ℕ) → IfErr result (λ bad. bad ≢ ShardErr.Fault
             → self.old.stopped ≡ None → self.old.phase ≡ ReadFrame s
-            → (read : List ℕ) × IsDamage self.old.bucket (group_of self.old) read bad
+            → (read : List ℕ) × IsDamage self.old.bucket (entering self.old) read bad
             × ((region : Region) → IsTrue D.tells
             → IsPlaceOf (self.old.bucket - self.old.head.first) region
             → read ≡ twin_frame region FRAME_LEN (s % 2) (D.bytes self.old.disk))) }
@@ -128,7 +130,8 @@ impl<D: Disk> Section<D> {
             → MadeCalls D.Disk 1 self.old.disk self.new.disk }
         ensures untouched { IsSome self.old.stopped → self.new ≡ self.old }
 
-        // Nothing changes but the place of the bucket under way, or that of the head.
+        // Nothing changes but the place of the bucket under way, of one of the group, or of the
+        // head.
         ensures writes { WritesAt D.Disk (MayWrite self.old.phase self.old) 1
             self.old.disk self.new.disk }
     {
@@ -139,7 +142,10 @@ impl<D: Disk> Section<D> {
             Phase::Rest => unreachable!(),
             Phase::ReadSelector => self.read_selector(),
             Phase::ReadFrame(selector) => self.read_frame(selector),
-            Phase::ChangeBucket => self.change_bucket(),
+            Phase::WriteFrame(current) => self.write_frame(current),
+            Phase::SyncFrames => self.sync_frames(),
+            Phase::WriteSelector(member) => self.write_selector(member),
+            Phase::SyncSelectors => self.sync_selectors(),
             Phase::ChangeHead => self.change_head(),
         }
     }
@@ -188,55 +194,44 @@ impl<D: Disk> Section<D> {
         ensures writes { WritesAt D.Disk (MayWrite self.old.phase self.old) 1
             self.old.disk self.new.disk }
         ensures merged { OnOk result ((read : List ℕ)
-            × IsMerged self.old.bucket (group_of self.old)
-            read (next_frame self.new.bucket_twin)
+            × IsMerged self.old.bucket (entering self.old) read self.new.frame
             × ((region : Region) → IsTrue D.tells
             → IsPlaceOf (self.old.bucket - self.old.head.first) region
             → read ≡ twin_frame region FRAME_LEN (selector % 2) (D.bytes self.old.disk))) }
         ensures damaged { IfErr result (λ bad. bad ≢ ShardErr.Fault
-            → (read : List ℕ) × IsDamage self.old.bucket (group_of self.old) read bad
+            → (read : List ℕ) × IsDamage self.old.bucket (entering self.old) read bad
             × ((region : Region) → IsTrue D.tells
             → IsPlaceOf (self.old.bucket - self.old.head.first) region
             → read ≡ twin_frame region FRAME_LEN (selector % 2) (D.bytes self.old.disk))) }
     {
         self.calls = self.calls.saturating_add(1);
-        let place = bucket_place(self.bucket - self.head.first);
-        let Some(mut frame) = self.bucket_frame.take() else {
-            unreachable!()
-        };
         let merged = read_merged(
             &mut self.disk,
-            place,
+            bucket_place(self.bucket - self.head.first),
             selector,
             self.bucket,
-            &items(&self.entries)[self.written..self.begun],
-            &mut frame,
+            &items(&self.entries)[self.framed..self.begun],
+            &mut self.frame,
         );
         match merged {
             Ok(()) => {
-                self.bucket_twin = Twin::resume(FRAME_LEN as u64, selector);
-                self.bucket_twin.begin(Bytes::from_vec(frame));
-                self.phase = Phase::ChangeBucket;
+                self.phase = Phase::WriteFrame(selector % 2);
                 Ok(Step::More)
             }
             Err(bad) => {
-                self.bucket_frame = Some(frame);
                 self.end();
                 Err(bad)
             }
         }
     }
 
-    /// Makes a call of the change of the bucket under way. Behind the last one the next bucket is
-    /// under way, or the head.
-    fn change_bucket(&mut self) -> Result<Step, ShardErr>
-        requires phase { self.old.phase ≡ ChangeBucket }
+    /// Writes the idle frame of the bucket under way, which is one of the group then.
+    fn write_frame(&mut self, current: u8) -> Result<Step, ShardErr>
+        requires phase { self.old.phase ≡ WriteFrame current }
         requires goes { self.old.stopped ≡ None }
         ensures sound { IsTrue D.tells → Keeps D.Disk result self.old self.new }
         ensures written { IsTrue D.tells → OnOk result (Writes self.old.phase self.old
             (D.bytes self.old.disk) (D.bytes self.new.disk)) }
-        ensures settled { Syncs self.old.phase self.old
-            → OnOk result (IsSynced D.Disk self.new.disk) }
         ensures steps { Advances result self.old self.new }
         ensures faults { CountsFault is_fault result
             (D.faults self.old.disk) (D.faults self.new.disk) }
@@ -248,18 +243,111 @@ impl<D: Disk> Section<D> {
         let call = self.calls;
         self.calls = call.saturating_add(1);
         let place = bucket_place(self.bucket - self.head.first);
-        match self.bucket_twin.advance(&mut self.disk, place) {
-            Ok(Step::More) => Ok(Step::More),
-            Ok(Step::Done) => {
-                self.bucket_frame = memory_of(self.bucket_twin.idle());
-                let from = self.begun;
-                let next = self.next;
-                self.next = self.head;
-                self.phase = Phase::Rest;
-                self.go_on(from, next);
+        let idle = FRAME_LEN as u64 * u64::from(1 - current);
+        match place.write_at(&mut self.disk, idle, &self.frame) {
+            Ok(()) => {
+                self.join(current);
                 Ok(Step::More)
             }
-            Err(_) => {
+            Err(Failed) => {
+                self.stopped = Some(call);
+                Err(ShardErr::Fault)
+            }
+        }
+    }
+
+    /// Syncs the frames of the group.
+    fn sync_frames(&mut self) -> Result<Step, ShardErr>
+        requires phase { self.old.phase ≡ SyncFrames }
+        requires goes { self.old.stopped ≡ None }
+        ensures sound { IsTrue D.tells → Keeps D.Disk result self.old self.new }
+        ensures written { IsTrue D.tells → OnOk result (Writes self.old.phase self.old
+            (D.bytes self.old.disk) (D.bytes self.new.disk)) }
+        ensures settled { OnOk result (IsSynced D.Disk self.new.disk) }
+        ensures steps { Advances result self.old self.new }
+        ensures faults { CountsFault is_fault result
+            (D.faults self.old.disk) (D.faults self.new.disk) }
+        ensures calls { MadeCalls D.Disk 1 self.old.disk self.new.disk }
+        ensures writes { WritesAt D.Disk (MayWrite self.old.phase self.old) 1
+            self.old.disk self.new.disk }
+        ensures refused { IfErr result (λ bad. bad ≡ ShardErr.Fault) }
+    {
+        let call = self.calls;
+        self.calls = call.saturating_add(1);
+        match self.disk.sync() {
+            Ok(()) => {
+                self.phase = Phase::WriteSelector(0);
+                Ok(Step::More)
+            }
+            Err(Failed) => {
+                self.stopped = Some(call);
+                Err(ShardErr::Fault)
+            }
+        }
+    }
+
+    /// Writes the selector of a member of the group.
+    fn write_selector(&mut self, member: usize) -> Result<Step, ShardErr>
+        requires phase { self.old.phase ≡ WriteSelector member }
+        requires goes { self.old.stopped ≡ None }
+        ensures sound { IsTrue D.tells → Keeps D.Disk result self.old self.new }
+        ensures written { IsTrue D.tells → OnOk result (Writes self.old.phase self.old
+            (D.bytes self.old.disk) (D.bytes self.new.disk)) }
+        ensures steps { Advances result self.old self.new }
+        ensures faults { CountsFault is_fault result
+            (D.faults self.old.disk) (D.faults self.new.disk) }
+        ensures calls { MadeCalls D.Disk 1 self.old.disk self.new.disk }
+        ensures writes { WritesAt D.Disk (MayWrite self.old.phase self.old) 1
+            self.old.disk self.new.disk }
+        ensures refused { IfErr result (λ bad. bad ≡ ShardErr.Fault) }
+    {
+        let call = self.calls;
+        self.calls = call.saturating_add(1);
+        let Member { bucket, current } = self.group[member];
+        let selector = selector_naming(1 - current);
+        let index = bucket - self.head.first;
+        let place = bucket_place(index);
+        match place.write_at(&mut self.disk, 2 * FRAME_LEN as u64, &selector) {
+            Ok(()) => {
+                self.frames[index as usize] = Some(1 - current);
+                self.phase = behind_selector(member, self.group.len());
+                Ok(Step::More)
+            }
+            Err(Failed) => {
+                self.frames[index as usize] = None;
+                self.stopped = Some(call);
+                Err(ShardErr::Fault)
+            }
+        }
+    }
+
+    /// Syncs the selectors of the group. Behind that its entries are in their buckets, and the next
+    /// group is under way, or the head.
+    fn sync_selectors(&mut self) -> Result<Step, ShardErr>
+        requires phase { self.old.phase ≡ SyncSelectors }
+        requires goes { self.old.stopped ≡ None }
+        ensures sound { IsTrue D.tells → Keeps D.Disk result self.old self.new }
+        ensures written { IsTrue D.tells → OnOk result (Writes self.old.phase self.old
+            (D.bytes self.old.disk) (D.bytes self.new.disk)) }
+        ensures settled { OnOk result (IsSynced D.Disk self.new.disk) }
+        ensures steps { Advances result self.old self.new }
+        ensures faults { CountsFault is_fault result
+            (D.faults self.old.disk) (D.faults self.new.disk) }
+        ensures calls { MadeCalls D.Disk 1 self.old.disk self.new.disk }
+        ensures writes { WritesAt D.Disk (MayWrite self.old.phase self.old) 1
+            self.old.disk self.new.disk }
+        ensures refused { IfErr result (λ bad. bad ≡ ShardErr.Fault) }
+    {
+        let call = self.calls;
+        self.calls = call.saturating_add(1);
+        match self.disk.sync() {
+            Ok(()) => {
+                let next = self.next;
+                self.end();
+                self.go_on(self.begun, next);
+                Ok(Step::More)
+            }
+            Err(Failed) => {
                 self.stopped = Some(call);
                 Err(ShardErr::Fault)
             }
@@ -302,10 +390,11 @@ impl<D: Disk> Section<D> {
 
     /// Nothing is under way any more, and the head stays.
     fn end(&mut self)
-        requires phase { IsRead self.old.phase }
+        requires phase { PutsEntries self.old.phase }
         requires goes { self.old.stopped ≡ None }
-        ensures { self.new ≡ record self.old { next = self.old.head; phase = Rest } }
+        ensures { self.new ≡ record self.old { next = self.old.head; phase = Rest; group = [] } }
     {
+        self.group.clear();
         self.next = self.head;
         self.phase = Phase::Rest;
     }
@@ -315,37 +404,68 @@ impl<D: Disk> Section<D> {
     pub(crate) fn go_on(&mut self, from: usize, next: Head)
         requires rest { self.old.phase ≡ Rest }
         requires in_range { AreInRange self.old.head self.old.buckets (entries_of self.old) }
+        requires ordered { (behind : Option ℕ)
+            × IsOrdered self.old.head.total behind (entries_of self.old) }
         requires from { from ≤ length (entries_of self.old) }
         ensures begins { BeginsBehind from self.new }
         ensures same { (self.new ≡ record self.old {
           next = next;
           phase = ReadSelector;
           written = from;
+          framed = from;
           begun = self.new.begun;
           bucket = self.new.bucket;
         }) ⊎ (self.new ≡ record self.old {
           next = next;
           phase = ChangeHead;
           written = from;
-          begun = from;
           head_twin = with_change (encoded self.old.name next) self.old.head_twin;
         }) }
         ensures fits { self.new.phase ≡ ChangeHead → IsHead next }
     {
         self.written = from;
-        let entries = items(&self.entries);
-        match entries.get(from) {
-            Some(entry) => {
-                let bucket = bucket_number(self.head.total, &entry.key.score);
-                self.begun = group_end(entries, self.head.total, bucket, from);
+        match bucket_behind(&self.entries, self.head.total, from) {
+            Some((bucket, end)) => {
                 self.next = next;
+                self.framed = from;
+                self.begun = end;
                 self.bucket = bucket;
                 self.phase = Phase::ReadSelector;
             }
-            None => {
-                self.begun = from;
-                self.begin_next(next);
-            }
+            None => self.begin_next(next),
+        }
+    }
+
+    /// The bucket under way, whose current frame has this number, is one of the group. The next one
+    /// is under way, or where the group is full or no entries are left the sync of its frames.
+    fn join(&mut self, current: u8)
+        requires phase { self.old.phase ≡ WriteFrame current }
+        ensures group { Joins current self.old self.new }
+        ensures goes { NextPhase (WriteFrame current) self.old self.new }
+        ensures same { self.new ≡ record self.old {
+          phase = self.new.phase;
+          framed = self.old.begun;
+          begun = self.new.begun;
+          bucket = self.new.bucket;
+          group = self.new.group;
+        } }
+    {
+        let member = Member {
+            bucket: self.bucket,
+            current,
+        };
+        let Ok(()) = self.group.push(member) else {
+            unreachable!()
+        };
+        self.framed = self.begun;
+        self.phase = Phase::SyncFrames;
+        if self.group.len() == self.most {
+            return;
+        }
+        if let Some((bucket, end)) = bucket_behind(&self.entries, self.head.total, self.begun) {
+            self.begun = end;
+            self.bucket = bucket;
+            self.phase = Phase::ReadSelector;
         }
     }
 
@@ -366,6 +486,28 @@ impl<D: Disk> Section<D> {
         self.next = next;
         self.head_twin.begin(Bytes::from_vec(frame));
         self.phase = Phase::ChangeHead;
+    }
+}
+
+/// A selector that names this frame.
+fn selector_naming(number: u8) -> [u8; SECTOR_LEN]
+    ensures { result ≡ selector_bytes number SECTOR_LEN }
+{
+    let mut selector = [0; SECTOR_LEN];
+    selector[0] = number;
+    selector
+}
+
+/// What comes behind the write of a member's selector, in a group of so many.
+fn behind_selector(member: usize, many: usize) -> Phase
+    requires { member < many }
+    ensures { ((member + 1 < many) × (result ≡ WriteSelector (member + 1)))
+        ⊎ ((member + 1 ≡ many) × (result ≡ SyncSelectors)) }
+{
+    if member + 1 < many {
+        Phase::WriteSelector(member + 1)
+    } else {
+        Phase::SyncSelectors
     }
 }
 

@@ -11,7 +11,7 @@ use Rattle.vt_isect.specs.declared.phase.Phase.TheVariants.{Rest, ChangeHead}
 use Rattle.vt_isect.specs.Agreement.{IsCovered, KnownAgrees, NoOthers}
 use Rattle.vt_isect.specs.Filling.{Reads, with_buckets}
 use Rattle.vt_isect.specs.Layout.{InRange}
-use Rattle.vt_isect.specs.Section.{HasBucket, IsTodo, SectionState}
+use Rattle.vt_isect.specs.Section.{IsTodo, PutsEntries, SectionState}
 use Rattle.vt_isect.specs.Sound.{DiskHolds, Known, nothing_known}
 use Rattle.vt_model.specs.History.{History}
 use Rattle.vt_model.specs.Places.{Setup, bucket_count}
@@ -58,10 +58,10 @@ module _ {D : Type 0} (score : List ℕ → List ℕ) (disk : DiskOf D) (c : Set
 
 -- nothing is still to be put into a bucket
 none_at_rest : {D : Type 0} (t : SectionState D) → t.phase ≡ Rest → (entry : Entry) → IsTodo t entry → ⊥
-none_at_rest t rest entry todo = subst (λ (p : Phase). HasBucket p) rest todo.0
+none_at_rest t rest entry todo = subst (λ (p : Phase). PutsEntries p) rest todo.0
 
 none_at_head : {D : Type 0} (t : SectionState D) → t.phase ≡ ChangeHead → (entry : Entry) → IsTodo t entry → ⊥
-none_at_head t change entry todo = subst (λ (p : Phase). HasBucket p) change todo.0
+none_at_head t change entry todo = subst (λ (p : Phase). PutsEntries p) change todo.0
 
 pub same_then : {D : Type 0} (disk : DiskOf D) (a b c : SectionState D) → IsSameSection disk a b → IsSameSection disk b c → IsSameSection disk a c
 same_then disk a b c one two = record { name = two.name ∙ one.name; buckets = two.buckets ∙ one.buckets; size = two.size ∙ one.size }

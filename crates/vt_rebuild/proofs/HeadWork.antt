@@ -5,7 +5,7 @@ use Rattle.vt_base.specs.declared.place.Entry.{Entry}
 use Rattle.vt_disk.specs.Calls.{IsSynced, MadeCalls}
 use Rattle.vt_disk.specs.Members.{DiskOf}
 use Rattle.vt_isect.specs.declared.phase.Phase.{Phase}
-use Rattle.vt_isect.specs.declared.phase.Phase.TheVariants.{Rest, ReadFrame, ChangeBucket, ChangeHead}
+use Rattle.vt_isect.specs.declared.phase.Phase.TheVariants.{Rest, ReadFrame, SyncSelectors, ChangeHead}
 use Rattle.vt_isect.specs.Section.{SectionState}
 use Rattle.vt_isect.specs.Sound.{DiskHolds, Known, nothing_known}
 use Rattle.vt_isect.specs.declared.bad.ShardErr.{ShardErr}
@@ -55,7 +55,7 @@ module _ {D : Type 0} (disk : DiskOf D) (forget : Forgets disk) (begun t u : Sec
   stays step keeps known first sound =
       let kept = keeps known sound in
       forget u kept.0 known
-      (λ n entries is. kept.1.kept n first (λ completes. let no : ChangeHead ≡ ChangeBucket = sym way ∙ completes.1 in absurd (cc)) ∙ is)
+      (λ n entries is. kept.1.kept n first (λ completes. let no : ChangeHead ≡ SyncSelectors = sym way ∙ completes.1 in absurd (cc)) ∙ is)
       kept.2
 
   nothing : (step : Step) → Keeps disk (Ok step) t u → DiskHolds disk t nothing_known → DiskHolds disk u nothing_known
@@ -120,7 +120,7 @@ module _ {D : Type 0} (disk : DiskOf D) (forget : Forgets disk) (begun t u : Sec
         keeps = λ known told sound.
             let kept = keeps told known (it.before way known told sound) in
             forget u kept.0 known
-            (λ n entries is. kept.1.kept n (ap (λ h. h.first) goes.1.head_is) (λ completes. let no : ChangeHead ≡ ChangeBucket = sym way ∙ completes.1 in absurd (cc)) ∙ is)
+            (λ n entries is. kept.1.kept n (ap (λ h. h.first) goes.1.head_is) (λ completes. let no : ChangeHead ≡ SyncSelectors = sym way ∙ completes.1 in absurd (cc)) ∙ is)
             kept.2;
       })
       moves

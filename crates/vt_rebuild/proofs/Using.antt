@@ -1,12 +1,11 @@
 -- A section whose buckets are settled by a sync, and whose head then says that it is in use.
-use Rattle.std.proofs.Common.{◌≡◌, ◌≢◌, inl, inr, ℕ, [], None, Some, sym, ◌∙◌, ap}
+use Rattle.std.proofs.Common.{◌≡◌, inl, inr, ℕ, [], None, Some, sym, ◌∙◌, ap, subst}
 use Rattle.std.specs.Prelude.{IsTrue}
 use Rattle.vt_disk.specs.Calls.{IsSynced}
 use Rattle.vt_disk.specs.Members.{DiskOf}
 use Rattle.vt_isect.specs.declared.head.Head.{Head}
-use Rattle.vt_isect.specs.declared.phase.Phase.TheVariants.{Rest, ChangeBucket}
 use Rattle.vt_isect.specs.Filling.{Reads, with_buckets}
-use Rattle.vt_isect.specs.Section.{IsAtRest, SectionState}
+use Rattle.vt_isect.specs.Section.{IsAtRest, PutsEntries, SectionState}
 use Rattle.vt_isect.specs.Sound.{DiskHolds, Known, nothing_known}
 use Rattle.vt_rebuild.specs.Building.{StopsInUse}
 use Rattle.vt_rebuild.specs.Heads.{HasHead, StopsAtHead}
@@ -15,7 +14,7 @@ use Rattle.vt_rebuild.proofs.HeadWork.{Forgets}
 
 -- behind a sync what is read is known
 abbrev pub Settles : {D : Type 0} → DiskOf D → Type 0
-Settles {D} disk = (t : SectionState D) (known knows : Known) → t.phase ≢ ChangeBucket → IsTrue disk.tells → IsSynced disk t.disk
+Settles {D} disk = (t : SectionState D) (known knows : Known) → ¬ PutsEntries t.phase → IsTrue disk.tells → IsSynced disk t.disk
     → DiskHolds disk t known → Reads disk t knows → DiskHolds disk t knows
 
 module _ {D : Type 0} (disk : DiskOf D) (forget : Forgets disk) (first : ℕ) (old mid : SectionState D) (rest : IsAtRest old)
@@ -40,7 +39,7 @@ module _ {D : Type 0} (disk : DiskOf D) (forget : Forgets disk) (first : ℕ) (o
       (read : (known : Known) → IsTrue disk.tells → Reads disk old known → Reads disk mid (with_buckets first 0 (Some []) known)) where
     pub knows : (known : Known) → IsTrue disk.tells → DiskHolds disk old nothing_known → Reads disk old known → DiskHolds disk mid known
     knows known tells was reads =
-        settle mid nothing_known known (λ change. let no : Rest ≡ ChangeBucket = sym rest ∙ sym (ap (λ (t : SectionState D). t.phase) same) ∙ change in cc) tells settled
+        settle mid nothing_known known (λ puts. subst PutsEntries (ap (λ (t : SectionState D). t.phase) same ∙ rest) puts) tells settled
         (still_holds nothing_known tells was)
         (λ n entries within is. read known tells reads n entries within (none_among first n (Some []) known ∙ is))
 

@@ -1,23 +1,30 @@
 -- What a session that asks is told by a store in memory, and what that leaves.
-use Rattle.std.proofs.Common.{◌≡◌, ◌≢◌, ◌⊎◌, ⊎_elim, inl, inr, ◌+◌, ◌-◌, ◌*◌, ◌<◌, ◌≤◌, ℕ, zero, suc, Bool, true, false, cond, List, [], ◌∷◌, ◌++◌, length, map, take, drop, Option, Some, None, Result, Ok, Err, refl, sym, ◌∙◌, ap, subst, arith, replicate, get_or}
-use Rattle.std.proofs.lemmas.Bool.{cases_eq}
-use Rattle.std.proofs.lemmas.List.{length-append, length-drop, length-map, map-append, take-map, get_or-take, length-take}
-use Rattle.std.proofs.lemmas.List.Elements.{All-push, All-take, Contains-get_or}
+use Rattle.std.proofs.Common.{◌≡◌, ◌≢◌, ◌⊎◌, ⊎_elim, inl, inr, ◌+◌, ◌-◌, ◌<◌, ◌≤◌, ℕ, zero, suc, Bool, true, false, cond, List, [], ◌∷◌, ◌++◌, length, map, take, drop, Option, Some, None, Result, Ok, Err, refl, sym, ◌∙◌, ap, subst, arith, replicate, get_or}
+use Rattle.std.proofs.lemmas.Bool.{cases_eq, eqb-true}
+use Rattle.std.proofs.lemmas.Bool.Decides.{Decides-eqb}
+use Rattle.std.proofs.lemmas.List.{length-append, length-drop, length-map, map-append, take-map, get_or-map, get_or-take, length-take}
+use Rattle.std.proofs.lemmas.List.Elements.{All-contains, All-push, All-take, Contains-get_or}
 use Rattle.std.proofs.lemmas.List.Quantifiers.{all_pairs_push}
-use Rattle.std.proofs.lemmas.Option.{same_Some}
+use Rattle.std.proofs.lemmas.Map.Made.{IsDistinct-from_AllPairs}
+use Rattle.std.proofs.lemmas.Map.Steps.{length-le_from_distinct_below}
+use Rattle.std.proofs.lemmas.Map.Views.{Contains-from_any}
+use Rattle.std.proofs.lemmas.Option.{same_Some, slice_get_within}
 use Rattle.std.specs.List.{All, AllPairs, Contains}
-use Rattle.std.specs.Prelude.{◌==◌, ⊤, IsSome, MatchBool, max, slice_get, slice_set}
+use Rattle.std.specs.Prelude.{◌==◌, eqb, ⊤, IsSome, MatchBool, slice_get, slice_set}
 use Rattle.vt_base.specs.declared.TheConstants.{MAX_BLOCK}
 use Rattle.vt_base.specs.declared.answer.Answer.{Answer}
 use Rattle.vt_base.specs.declared.answer.Said.{Said}
 use Rattle.vt_base.specs.declared.answer.Said.TheVariants.{Score, Block, Synced, Refused}
+use Rattle.vt_base.specs.declared.place.Entry.{Entry}
+use Rattle.vt_base.specs.declared.place.Info.{Info}
 use Rattle.vt_base.specs.declared.why.Why.{Why}
 use Rattle.vt_base.specs.declared.why.Why.TheVariants.{BadType, TooBig, TooSmall, Absent, Collision, IndexFull, ArenasFull, DiskFault, Stopped, Damaged, NoMemory}
-use Rattle.vt_base.specs.Protocol.{Operation, ping, read, write, sync, r_read, r_write, r_refused, t_ask}
+use Rattle.vt_base.specs.Protocol.{Operation, read, write, sync, r_read, r_write, r_refused}
 use Rattle.vt_disk.specs.Members.{DiskOf}
 use Rattle.vt_model.specs.Answer.{Outcome, adds, answer}
 use Rattle.vt_model.specs.History.{Accepted, Block as BlockOf, History}
-use Rattle.vt_model.specs.Places.{next_arena}
+use Rattle.vt_model.specs.Places.{Setup, next_arena}
+use Rattle.vt_isect.specs.Agreement.{IsEntryOf}
 use Rattle.vt_arena.specs.Arena.{ArenaState, added_by, calls_made, commit_calls}
 use Rattle.vt_clump.specs.Clumps.{stored_of}
 use Rattle.vt_log.specs.declared.bad.LogErr.{LogErr}
@@ -30,33 +37,34 @@ use Rattle.vt_log.specs.Log.{LogState, queue_of, queued}
 use Rattle.vt_log.specs.Logs.{accepted as accepted_in}
 use Rattle.vt_log.specs.Owed.{calls_left, owed, seal_calls}
 use Rattle.vt_log.specs.Queue.{waiting_block}
+use Rattle.vt_shard.specs.Shard.{ShardState}
 use Rattle.vt_session.specs.Answered.{MayFail, ReachesParts}
 use Rattle.vt_session.specs.Turns.{Cause, disk_fault, stopped, damaged, no_memory, why_of}
 use Rattle.vt_wire.specs.Views.{message_of}
 use Rattle.vt_wire.specs.declared.message.Request.{Request}
-use Rattle.vt_core.specs.declared.event.Event.{Event}
 use Rattle.vt_core.specs.declared.event.Event.TheVariants.{Answer as AskAnswer, LogAdvance}
 use Rattle.vt_core.specs.declared.event.Out.{Out}
 use Rattle.vt_core.specs.declared.event.Out.TheVariants.{Said as SaidOut, Waits, NotYet, Moved, Nothing, Failed}
 use Rattle.vt_core.specs.declared.writing.Verdict.{Verdict}
 use Rattle.vt_core.specs.declared.writing.Verdict.TheVariants.{Held, New}
-use Rattle.vt_core.specs.Asking.{AnswersSync, EndsSync, EndsWrite, Serves, Writes, says, stop_for}
+use Rattle.vt_core.specs.Asking.{AnswersSync, EndsSync, EndsWrite, HasNoRoom, Serves, Writes, says, shard_of, stop_for}
 use Rattle.vt_core.specs.Finding.{Parts}
-use Rattle.vt_drive.proofs.TestKeeps.{test_keeps}
+use Rattle.vt_drive.proofs.TestKeeps.{KeepsRoom, test_keeps}
 use Rattle.vt_base.specs.declared.key.Key.{Key}
 use Rattle.std.specs.Str.{bytes_eq}
 use Rattle.vt_core.specs.Core.{CoreState, history_len, machine_of, setup_of}
 use Rattle.vt_core.specs.Events.{EndsWaiting, FailsIn, GivesAnswer, IsAsked, IsAwaited, operation_in}
-use Rattle.vt_core.specs.Machine.{Machine, WaitsAt}
+use Rattle.vt_core.specs.Machine.{Machine}
 use Rattle.vt_core.specs.Steps.{Steps}
 use Rattle.vt_core.specs.Work.{out_of_progress}
 use Rattle.vt_core.proofs.Calls.{get_set}
-use Rattle.vt_rehearse.specs.Rehearsal.{AsksFor, Fate, IsWritten, asked_by, listed_after, was_accepted, was_held, was_refused}
-use Rattle.vt_rehearse.specs.Stage.{HasWords, IsMemory, IsSteady, none_waits}
+use Rattle.vt_rehearse.specs.Rehearsal.{AsksFor, IsWritten, asked_by, listed_after}
+use Rattle.vt_rehearse.specs.Stage.{HasWords, IsFilled, IsMemory, IsSteady, none_waits}
 use Rattle.vt_rehearse.specs.Words.{AreApart, block_of, word_of}
-use Rattle.vt_rehearse.proofs.Judging.{found_answer, given_block, given_reply, held_answer, missing_answer, new_answer, says_absent, says_block, says_full, says_score, word_short, word_some}
-use Rattle.vt_rehearse.proofs.Listed.{first_has, first_is, rest_has}
-use Rattle.vt_rehearse.proofs.Stepping.{Stays, Stepped, len_is, log_goes, no_fault, no_stop, none_at, only_memory, stays, stepped, worked}
+use Rattle.vt_rehearse.proofs.Judging.{found_answer, given_block, given_reply, held_answer, missing_answer, new_answer, says_absent, says_block, says_score, word_short, word_some}
+use Rattle.vt_rehearse.proofs.Listed.{few_words, first_has, first_is, rest_has}
+use Rattle.vt_rehearse.proofs.Room.{filled_more, has_room}
+use Rattle.vt_rehearse.proofs.Stepping.{Stays, Stepped, len_is, log_goes, no_fault, no_stop, none_at, only_memory, stays, stepped}
 
 -- ---- lists of words
 
@@ -126,6 +134,52 @@ not_given Moved gives said not_yet = gives
 not_given Nothing gives said not_yet = gives
 not_given (Failed why) gives said not_yet = gives
 
+-- ---- dirty entries
+
+module _ (score : List ℕ → List ℕ) (c : Setup) (h : History) where
+  abbrev entry_of : Info → Entry
+  entry_of info = record { key = info.key; size = info.size; place = info.place }
+
+  -- those of one block have its key
+  one_block : (a b : Info) → IsEntryOf score c h a.number (entry_of a) → IsEntryOf score c h b.number (entry_of b) → a.number ≡ b.number → a.key ≡ b.key
+  one_block a b first second same =
+      let block : first.block ≡ second.block = same_Some first.block second.block (sym first.stands.block ∙ ap (λ (n : ℕ). slice_get h n) same ∙ second.stands.block) in
+      let scores : a.key.score.0 ≡ b.key.score.0 = first.score_is ∙ ap (λ (e : Accepted). score e.block.bytes) block ∙ sym second.score_is in
+      let kinds : a.key.kind ≡ b.key.kind = first.kind_is ∙ ap (λ (e : Accepted). e.block.kind) block ∙ sym second.kind_is in
+      ap (λ (s : List ℕ). record { score = record { 0 = s }; kind = a.key.kind }) scores ∙ ap (λ (k : ℕ). record { score = b.key.score; kind = k }) kinds
+
+  -- so there are no more that differ than blocks
+  few_dirty : (dirty : List Info) → AllPairs (λ a b. a.key ≢ b.key) dirty → ((info : Info) → Contains dirty info → IsEntryOf score c h info.number (entry_of info)) → length dirty ≤ length h
+  few_dirty [] differ are = omega arith
+  few_dirty (first ∷ rest) differ are =
+      let long = length-map (first ∷ rest) number in
+      let most = length-le_from_distinct_below numbers (length h) (IsDistinct-from_AllPairs {eq = eqb} (λ x y. Decides-eqb x y) numbers apart)
+      (λ q is. All-contains (λ n. n < length h) numbers q small (Contains-from_any {eq = eqb} eqb-true q numbers is)) in
+      omega (arith, long, most)
+    where
+      number : Info → ℕ
+      number = λ info. info.number
+
+      numbers : List ℕ
+      numbers = map number (first ∷ rest)
+
+      of : (i : ℕ) → i < length (first ∷ rest) → IsEntryOf score c h (get_or (first ∷ rest) i first).number (entry_of (get_or (first ∷ rest) i first))
+      of i lt = are (get_or (first ∷ rest) i first) (Contains-get_or (first ∷ rest) i first lt)
+
+      apart : AllPairs (λ x y. x ≢ y) numbers
+      apart i j d less lt same =
+          let long = length-map (first ∷ rest) number in
+          let inside : j < length (first ∷ rest) = omega (arith, lt, long) in
+          let early : i < length (first ∷ rest) = omega (arith, less, inside) in
+          differ i j first less inside (one_block (get_or (first ∷ rest) i first) (get_or (first ∷ rest) j first) (of i early) (of j inside)
+          (sym (get_or-map number (first ∷ rest) i first d early) ∙ same ∙ get_or-map number (first ∷ rest) j first d inside))
+
+      small : All (λ n. n < length h) numbers
+      small i d lt =
+          let long = length-map (first ∷ rest) number in
+          let inside : i < length (first ∷ rest) = omega (arith, lt, long) in
+          subst (λ (n : ℕ). n < length h) (sym (get_or-map number (first ∷ rest) i first d inside)) (slice_get_within h _ (of i inside).block (of i inside).stands.block)
+
 module _ {D : Type 0} (score : List ℕ → List ℕ) (disk : DiskOf D) (memory : IsMemory disk) where
   -- the machine's step of a request for an operation
   asked : (session : ℕ) (request : Request) (m : Operation) (out : Out) (old new : Machine) → AsksFor m request
@@ -146,46 +200,6 @@ module _ {D : Type 0} (score : List ℕ → List ℕ) (disk : DiskOf D) (memory 
       by after Nothing is = absurd (none_at 3 session is.0.0 (subst (λ (ws : List (Option ℕ)). slice_get ws session ≡ Some (Some is.0.0)) free is.0.1))
       by after (Failed why) is = absurd is
 
-  -- it is too early, and nothing changes
-  pub put_off : (session : ℕ) (request : Request) (h : History) (old new : CoreState D) → IsSteady score disk old h → Steps score disk (asked_by session request) NotYet old new → Stays score disk memory h old new
-  put_off session request h old new steady step =
-      let it = stepped score disk memory (asked_by session request) NotYet h old new steady step in
-      stays score disk memory h it.next old new steady it.steady it.makes.2
-
-  -- and the log owes what it owed
-  pub put_off_owes : (session w : ℕ) (request : Request) (h : History) (old new : CoreState D) → session < 3 → AsksFor (write 13 (word_of w)) request → IsSteady score disk old h
-      → old.waiting ≡ none_waits → Steps score disk (asked_by session request) NotYet old new → owed new.log ≡ owed old.log
-  put_off_owes session w request h old new within is_for steady free step =
-      let serves : Serves score disk session (write 13 (word_of w)) 0 NotYet old new =
-      subst (λ (m : Operation). Serves score disk session m 0 NotYet old new) (ap operation_in is_for)
-      (step.does.serves (ap (λ (ws : List (Option ℕ)). slice_get ws session) free ∙ at_none 3 session within)) in
-      let short = word_short w in
-      let reaches : ReachesParts score (write 13 (word_of w)) = record { kind = refl; some = word_some w; most = omega (arith, short) } in
-      goes (stop_for score old (write 13 (word_of w))) refl serves reaches
-    where
-      said_no : (said : Said) → NotYet ≡ says said old → ⊥
-      said_no said is = cc
-
-      ends : (key : Key) (bytes : List ℕ) (tested : Parts D) (v : Result Verdict Why) → EndsWrite score key bytes 0 v tested NotYet old new → new.log ≡ tested.log
-      ends key bytes tested (Err why) it = absurd (said_no (Refused why) it.0)
-      ends key bytes tested (Ok Held) it = absurd (said_no (Score key.score) it.0)
-      ends key bytes tested (Ok New) it = ⊎_elim
-          (λ none. ap (λ (k : CoreState D). k.log) none.2)
-          (λ rest. ⊎_elim (λ short. absurd (said_no (Refused NoMemory) short.1)) (λ adds. absurd (said_no (Score key.score) adds.out_is)) rest)
-          it
-
-      tests : (zero : Bool) → MatchBool zero ((NotYet ≡ says (Refused Collision) old) × (new ≡ old))
-          (Writes score disk (record { score = record { 0 = score (word_of w) }; kind = 13 }) (word_of w) 0 NotYet old new) → owed new.log ≡ owed old.log
-      tests true it = absurd (said_no (Refused Collision) it.0)
-      tests false it =
-          ap owed (ends (record { score = record { 0 = score (word_of w) }; kind = 13 }) (word_of w) it.tested it.verdict it.ends)
-          ∙ ap owed (test_keeps score disk it.may_have (record { score = record { 0 = score (word_of w) }; kind = 13 }) (word_of w) it.verdict it.before it.tested it.tests).log
-          ∙ ap owed it.looks.log
-
-      goes : (o : Option ℕ) → stop_for score old (write 13 (word_of w)) ≡ o → Serves score disk session (write 13 (word_of w)) 0 NotYet old new → ReachesParts score (write 13 (word_of w)) → owed new.log ≡ owed old.log
-      goes None is serves reaches = tests (bytes_eq (score (word_of w)) (score [])) (serves.performs reaches is)
-      goes (Some call) is serves reaches = absurd (said_no (Refused (Stopped call)) (serves.stopped reaches call is).0)
-
   module _ (apart : AreApart score) (w : ℕ) (below : w < 64) (session : ℕ) (request : Request) (a : Answer) (h : History) (listed : List ℕ) (has : HasWords h listed)
       (old new : CoreState D) (steady : IsSteady score disk old h) (step : Steps score disk (asked_by session request) (SaidOut a) old new) where
     it : Stepped score disk memory (asked_by session request) (SaidOut a) h old new
@@ -194,70 +208,62 @@ module _ {D : Type 0} (score : List ℕ → List ℕ) (disk : DiskOf D) (memory 
     -- ---- a write
 
     pub record Wrote : Type 0 where
-      pub fate : Fate
-      pub is : IsWritten (score (word_of w)) w listed fate a.said (history_len old) (history_len new)
+      pub is_held : Bool
+      pub is : IsWritten (score (word_of w)) w listed is_held a.said (history_len old) (history_len new)
       pub next : History
       pub goes : IsSteady score disk new next
       pub free : new.waiting ≡ old.waiting
-      pub words : HasWords next (listed_after fate w listed)
+      pub words : HasWords next (listed_after is_held w listed)
+      pub filled : IsFilled (setup_of new) next
 
-    wrote_held : Contains listed w → GivesAnswer score (write 13 (word_of w)) a.said (machine_of old h) (machine_of new it.next) → Wrote
-    wrote_held has_it gives =
-        let g = given_reply score (write 13 (word_of w)) a.said (machine_of old h) (machine_of new it.next) (r_write (score (word_of w))) (held_answer score apart w below (setup_of old) h listed has has_it) gives in
-        let s = stays score disk memory h it.next old new steady it.steady g.1 in
-        record {
-          fate = was_held;
-          is = (has_it, says_score a.said (score (word_of w)) g.0, s.len);
-          next = h;
-          goes = s.steady;
-          free = s.waiting;
-          words = has;
-        }
+    module _ (filled : IsFilled (setup_of old) h) where
+      wrote_held : Contains listed w → GivesAnswer score (write 13 (word_of w)) a.said (machine_of old h) (machine_of new it.next) → Wrote
+      wrote_held has_it gives =
+          let g = given_reply score (write 13 (word_of w)) a.said (machine_of old h) (machine_of new it.next) (r_write (score (word_of w))) (held_answer score apart w below (setup_of old) h listed has has_it) gives in
+          let s = stays score disk memory h it.next old new steady it.steady g.1 in
+          record {
+            is_held = true;
+            is = (says_score a.said (score (word_of w)) g.0, inl (has_it, refl, s.len));
+            next = h;
+            goes = s.steady;
+            free = s.waiting;
+            words = has;
+            filled = subst (λ (c : Setup). IsFilled c h) (sym s.setup) filled;
+          }
 
-    wrote_new : ¬ Contains listed w → (o : Option ℕ) → next_arena (setup_of old) h (length (word_of w)) ≡ o
-        → GivesAnswer score (write 13 (word_of w)) a.said (machine_of old h) (machine_of new it.next) → Wrote
-    wrote_new lacks None is gives =
-        let known = new_answer score apart w below (setup_of old) h listed has lacks ∙ ap (λ (o : Option ℕ). adds (score (word_of w)) 13 (word_of w) o) is in
-        let g = given_reply score (write 13 (word_of w)) a.said (machine_of old h) (machine_of new it.next) (r_refused ArenasFull) known gives in
-        let s = stays score disk memory h it.next old new steady it.steady g.1 in
-        record {
-          fate = was_refused;
-          is = (lacks, says_full a.said g.0, s.len);
-          next = h;
-          goes = s.steady;
-          free = s.waiting;
-          words = has;
-        }
-    wrote_new lacks (Some arena) is gives =
-        let e : Accepted = record { block = block_of w; arena = arena } in
-        let known = new_answer score apart w below (setup_of old) h listed has lacks ∙ ap (λ (o : Option ℕ). adds (score (word_of w)) 13 (word_of w) o) is in
-        let g = given_block score (write 13 (word_of w)) a.said (machine_of old h) (machine_of new it.next) (r_write (score (word_of w))) e known gives in
-        let next_is : it.next ≡ h ++ e ∷ [] = ap (λ (m : Machine). m.history) g.1 in
-        let long : length (h ++ e ∷ []) ≡ length h + 1 = length-append h (e ∷ []) in
-        record {
-          fate = was_accepted;
-          is = (
-            lacks,
-            says_score a.said (score (word_of w)) g.0,
-            len_is score disk new it.next it.steady ∙ ap length next_is ∙ long ∙ ap (λ n. n + 1) (sym (len_is score disk old h steady)),
-          );
-          next = it.next;
-          goes = it.steady;
-          free = ap (λ (m : Machine). m.waiting) g.1;
-          words = subst (λ (g : History). HasWords g (listed ++ w ∷ [])) (sym next_is) (push_words h listed w arena below has lacks);
-        }
+      wrote_new : ¬ Contains listed w → (o : Option ℕ) → next_arena (setup_of old) h (length (word_of w)) ≡ o
+          → GivesAnswer score (write 13 (word_of w)) a.said (machine_of old h) (machine_of new it.next) → Wrote
+      wrote_new lacks None is gives = absurd (has_room (setup_of old) h listed filled has w is)
+      wrote_new lacks (Some arena) is gives =
+          let e : Accepted = record { block = block_of w; arena = arena } in
+          let known = new_answer score apart w below (setup_of old) h listed has lacks ∙ ap (λ (o : Option ℕ). adds (score (word_of w)) 13 (word_of w) o) is in
+          let g = given_block score (write 13 (word_of w)) a.said (machine_of old h) (machine_of new it.next) (r_write (score (word_of w))) e known gives in
+          let next_is : it.next ≡ h ++ e ∷ [] = ap (λ (m : Machine). m.history) g.1 in
+          let setup : setup_of new ≡ setup_of old = ap (λ (m : Machine). m.setup) g.1 in
+          let long : length (h ++ e ∷ []) ≡ length h + 1 = length-append h (e ∷ []) in
+          let len = len_is score disk new it.next it.steady ∙ ap length next_is ∙ long ∙ ap (λ n. n + 1) (sym (len_is score disk old h steady)) in
+          record {
+            is_held = false;
+            is = (says_score a.said (score (word_of w)) g.0, inr (lacks, refl, len));
+            next = it.next;
+            goes = it.steady;
+            free = ap (λ (m : Machine). m.waiting) g.1;
+            words = subst (λ (g : History). HasWords g (listed ++ w ∷ [])) (sym next_is) (push_words h listed w arena below has lacks);
+            filled = subst (λ (g : History). IsFilled (setup_of new) g) (sym next_is)
+                (subst (λ (c : Setup). IsFilled c (h ++ e ∷ [])) (sym setup) (filled_more (setup_of old) h filled e is (word_short w)));
+          }
 
-    pub write_answered : AsksFor (write 13 (word_of w)) request → (a.said ≡ Refused NoMemory) ⊎ Wrote
-    write_answered is_for =
-        let makes = asked session request (write 13 (word_of w)) (SaidOut a) (machine_of old h) (machine_of new it.next) is_for it.makes in
-        ⊎_elim
-        (λ gives. inr (⊎_elim
-        (λ has_it. wrote_held has_it gives.1)
-        (λ lacks. wrote_new lacks (next_arena (setup_of old) h (length (word_of w))) refl gives.1)
-        (has_or_lacks listed w)))
-        (λ fails. inl (only_memory score disk memory session request (write 13 (word_of w)) a h old new (machine_of new it.next) (ap operation_in is_for) steady
-        (λ call is. no_stop score disk old h 13 (word_of w) call steady is) makes.1 step fails))
-        makes.2
+      pub write_answered : AsksFor (write 13 (word_of w)) request → (a.said ≡ Refused NoMemory) ⊎ Wrote
+      write_answered is_for =
+          let makes = asked session request (write 13 (word_of w)) (SaidOut a) (machine_of old h) (machine_of new it.next) is_for it.makes in
+          ⊎_elim
+          (λ gives. inr (⊎_elim
+          (λ has_it. wrote_held has_it gives.1)
+          (λ lacks. wrote_new lacks (next_arena (setup_of old) h (length (word_of w))) refl gives.1)
+          (has_or_lacks listed w)))
+          (λ fails. inl (only_memory score disk memory session request (write 13 (word_of w)) a h old new (machine_of new it.next) (ap operation_in is_for) steady
+          (λ call is. no_stop score disk old h 13 (word_of w) call steady is) makes.1 step fails))
+          makes.2
 
     -- ---- a read
 
@@ -313,6 +319,71 @@ module _ {D : Type 0} (score : List ℕ → List ℕ) (disk : DiskOf D) (memory 
       (λ has_it. let no : false ≡ true = subst (λ (o : Outcome). IsSome o.added) (found_answer score apart w below (setup_of old) h listed has has_it) makes.1 in absurd (cc))
       (λ lacks. let no : false ≡ true = subst (λ (o : Outcome). IsSome o.added) (missing_answer score apart w below (setup_of old) h listed has lacks) makes.1 in absurd (cc))
       (has_or_lacks listed w)
+
+  -- and so is a write: the queue and the shard have room for all words
+  module _ (apart : AreApart score) (w : ℕ) (below : w < 64) (session : ℕ) (within : session < 3) (request : Request) (h : History) (listed : List ℕ) (has : HasWords h listed)
+      (old new : CoreState D) (steady : IsSteady score disk old h) (free : old.waiting ≡ none_waits)
+      (differ : (i : ℕ) (s : ShardState D) → slice_get old.shards i ≡ Some s → AllPairs (λ a b. a.key ≢ b.key) s.index.dirty) (is_for : AsksFor (write 13 (word_of w)) request)
+      (step : Steps score disk (asked_by session request) NotYet old new) where
+    lacks : ¬ Contains listed w
+    lacks has_it =
+        let it = stepped score disk memory (asked_by session request) NotYet h old new steady step in
+        let makes = asked session request (write 13 (word_of w)) NotYet (machine_of old h) (machine_of new it.next) is_for it.makes in
+        let no : false ≡ true = subst (λ (o : Outcome). IsSome o.added) (held_answer score apart w below (setup_of old) h listed has has_it) makes.1 in absurd (cc)
+
+    few : length h < 64
+    few =
+        let e : Accepted = record { block = block_of w; arena = 0 } in
+        let most = few_words (h ++ e ∷ []) (listed ++ w ∷ []) (push_words h listed w 0 below has lacks) in
+        let long = length-append h (e ∷ []) in
+        omega (arith, most, long)
+
+    no_room : (before tested : Parts D) → before.log ≡ old.log → slice_get old.shards (shard_of old (score (word_of w))) ≡ Some before.shard → KeepsRoom before tested → HasNoRoom tested → ⊥
+    no_room before tested log shard kept full =
+        let front = len_is score disk old h steady in
+        let less = few in
+        ⊎_elim
+        (λ queue.
+        let same : queued tested.log ≡ queued old.log = ap (λ (l : LogState D). queued l) kept.log ∙ ap (λ (l : LogState D). queued l) log in
+        omega (arith, queue, same, front, less))
+        (λ dirty.
+        let same : length tested.shard.index.dirty ≡ length before.shard.index.dirty = ap length kept.dirty in
+        let most = few_dirty score (setup_of old) h before.shard.index.dirty (differ (shard_of old (score (word_of w))) before.shard shard)
+        (steady.sound.shards (shard_of old (score (word_of w))) before.shard shard).dirty in
+        omega (arith, dirty, same, most, less))
+        full
+
+    pub write_at_once : ⊥
+    write_at_once =
+        let serves : Serves score disk session (write 13 (word_of w)) 0 NotYet old new =
+        subst (λ (m : Operation). Serves score disk session m 0 NotYet old new) (ap operation_in is_for)
+        (step.does.serves (ap (λ (ws : List (Option ℕ)). slice_get ws session) free ∙ at_none 3 session within)) in
+        let short = word_short w in
+        let reaches : ReachesParts score (write 13 (word_of w)) = record { kind = refl; some = word_some w; most = omega (arith, short) } in
+        goes (stop_for score old (write 13 (word_of w))) refl serves reaches
+      where
+        said_no : (said : Said) → NotYet ≡ says said old → ⊥
+        said_no said is = cc
+
+        key : Key
+        key = record { score = record { 0 = score (word_of w) }; kind = 13 }
+
+        ends : (before tested : Parts D) (v : Result Verdict Why) → before.log ≡ old.log → slice_get old.shards (shard_of old (score (word_of w))) ≡ Some before.shard → KeepsRoom before tested
+            → EndsWrite score key (word_of w) 0 v tested NotYet old new → ⊥
+        ends before tested (Err why) log shard kept it = said_no (Refused why) it.0
+        ends before tested (Ok Held) log shard kept it = said_no (Score key.score) it.0
+        ends before tested (Ok New) log shard kept it = ⊎_elim
+            (λ none. no_room before tested log shard kept none.0)
+            (λ rest. ⊎_elim (λ short. said_no (Refused NoMemory) short.1) (λ adds. said_no (Score key.score) adds.out_is) rest)
+            it
+
+        tests : (zero : Bool) → MatchBool zero ((NotYet ≡ says (Refused Collision) old) × (new ≡ old)) (Writes score disk key (word_of w) 0 NotYet old new) → ⊥
+        tests true it = said_no (Refused Collision) it.0
+        tests false it = ends it.before it.tested it.verdict it.looks.log it.looks.shard (test_keeps score disk it.may_have key (word_of w) it.verdict it.before it.tested it.tests) it.ends
+
+        goes : (o : Option ℕ) → stop_for score old (write 13 (word_of w)) ≡ o → Serves score disk session (write 13 (word_of w)) 0 NotYet old new → ReachesParts score (write 13 (word_of w)) → ⊥
+        goes None is serves reaches = tests (bytes_eq (score (word_of w)) (score [])) (serves.performs reaches is)
+        goes (Some call) is serves reaches = said_no (Refused (Stopped call)) (serves.stopped reaches call is).0
 
   -- ---- the log
 

@@ -1,20 +1,24 @@
 -- The list behind a crash, cut to the blocks that are left.
-use Rattle.std.proofs.Common.{◌≡◌, ◌+◌, ◌-◌, ◌<◌, ◌≤◌, ℕ, true, List, length, take, Option, sym, ◌∙◌, ap, subst, arith}
+use Rattle.std.proofs.Common.{◌≡◌, ◌+◌, ◌-◌, ◌≤◌, ℕ, true, List, length, take, sym, ◌∙◌, ap, subst, arith}
 use Rattle.std.proofs.lemmas.List.{length-take}
 use Rattle.vt_disk.specs.Members.{DiskOf}
+use Rattle.std.specs.Prelude.{drop}
+use Rattle.std.specs.List.{All}
 use Rattle.vt_model.specs.History.{History}
-use Rattle.vt_core.specs.Core.{CoreState, history_len, machine_of}
+use Rattle.vt_model.specs.Places.{Setup}
+use Rattle.vt_core.specs.Core.{CoreState, history_len, machine_of, setup_of}
 use Rattle.vt_core.specs.Machine.{Crashes}
 use Rattle.vt_memdisk.specs.declared.crash.CrashMode.{CrashMode}
 use Rattle.vt_rehearse.specs.declared.summary.Summary.{Summary}
 use Rattle.vt_rehearse.specs.Counts.{with_compared, with_crash}
-use Rattle.vt_rehearse.specs.Crashed.{Restarts}
+use Rattle.vt_rehearse.specs.Crashed.{KeepsSealed, Restarts}
 use Rattle.vt_rehearse.specs.Limits.{AreAtMost, Grows}
 use Rattle.vt_rehearse.specs.Rehearsal.{CrashesIn, Judges}
-use Rattle.vt_rehearse.specs.Stage.{AreAlike, HasWords, IsSteady, StageState, none_waits}
+use Rattle.vt_rehearse.specs.Stage.{AreAlike, HasWords, IsFilled, IsSteady, StageState, none_waits}
 use Rattle.vt_rehearse.proofs.Asking.{take_words}
 use Rattle.vt_rehearse.proofs.Limits.{more, more_compared, more_crash}
 use Rattle.vt_rehearse.proofs.Noting.{found_right}
+use Rattle.vt_rehearse.proofs.Room.{filled_left}
 use Rattle.vt_rehearse.proofs.Staged.{few_listed}
 use Rattle.vt_rehearse.proofs.Listed.{same_many}
 use Rattle.vt_rehearse.proofs.Stepping.{len_is}
@@ -26,8 +30,8 @@ module _ {D : Type 0} (score : List ℕ → List ℕ) (disk : DiskOf D) where
     pub alike : (new : StageState D) → new.core ≡ core → new.listed ≡ take (history_len core) old.listed → AreAlike score disk new
 
   pub cut_so : (old : StageState D) (core : CoreState D) (alike : AreAlike score disk old)
-      → (g : History) × Crashes (machine_of old.core alike.history) (machine_of core g) × IsSteady score disk core g × (core.waiting ≡ none_waits) → Cut old core
-  cut_so old core alike (g, crash, steady, waiting) =
+      → (g : History) × Crashes (machine_of old.core alike.history) (machine_of core g) × IsSteady score disk core g × (core.waiting ≡ none_waits) × KeepsSealed core.log.base alike.history g → Cut old core
+  cut_so old core alike (g, crash, steady, waiting, sealed) =
       let n = crash.n in
       let fits = crash.within in
       let kept = crash.keeps in
@@ -39,6 +43,11 @@ module _ {D : Type 0} (score : List ℕ → List ℕ) (disk : DiskOf D) where
       let words : HasWords g (take (history_len core) old.listed) =
       subst (λ (x : History). HasWords x (take (history_len core) old.listed)) (sym crash.history)
       (subst (λ (m : ℕ). HasWords (take n alike.history) (take m old.listed)) (sym is) (take_words alike.history old.listed n fits alike.list)) in
+      let long : length g ≡ n = omega (arith, left, cut, fits) in
+      let others : All (λ e. core.log.base ≤ e.arena) (drop n alike.history) = subst (λ (m : ℕ). All (λ e. core.log.base ≤ e.arena) (drop m alike.history)) long sealed in
+      let filled : IsFilled (setup_of core) g =
+      subst (λ (c : Setup). IsFilled c g) (sym crash.setup) (subst (λ (x : History). IsFilled (record (setup_of old.core) { base = core.log.base }) x) (sym crash.history)
+      (filled_left (setup_of old.core) alike.history n core.log.base alike.filled others crash.base_least crash.base_most)) in
       record {
         keeps = omega (arith, kept, is);
         within = omega (arith, is, fits, many);
@@ -47,6 +56,7 @@ module _ {D : Type 0} (score : List ℕ → List ℕ) (disk : DiskOf D) where
           store = subst (λ (k : CoreState D). IsSteady score disk k g) (sym core_is) steady;
           free = ap (λ (k : CoreState D). k.waiting) core_is ∙ waiting;
           list = subst (λ (l : List ℕ). HasWords g l) (sym listed_is) words;
+          filled = subst (λ (k : CoreState D). IsFilled (setup_of k) g) (sym core_is) filled;
         };
       }
 

@@ -1,17 +1,17 @@
 -- What the model answers to a write and a read of a word, on a history of words.
-use Rattle.std.proofs.Common.{◌≡◌, ◌≢◌, ◌⊎◌, ⊎_elim, inl, inr, ◌+◌, ◌*◌, ◌%◌, ◌<◌, ◌≤◌, ℕ, zero, suc, Bool, true, false, cond, List, [], ◌∷◌, ◌++◌, length, Option, Some, None, refl, sym, ◌∙◌, ap, subst, arith, get_or}
+use Rattle.std.proofs.Common.{◌≡◌, ◌⊎◌, ⊎_elim, ◌+◌, ◌*◌, ◌%◌, ◌<◌, ◌≤◌, ℕ, Bool, true, false, cond, List, [], ◌∷◌, ◌++◌, length, Option, Some, None, refl, sym, ◌∙◌, ap, arith, get_or}
 use Rattle.std.proofs.lemmas.Bool.{eqb-true, le-ltb, lt-leb}
 use Rattle.std.proofs.lemmas.List.{length-replicate}
 use Rattle.std.proofs.lemmas.List.Sums.{count_by-le-length}
 use Rattle.std.proofs.Math.Nat.{mod-lt}
-use Rattle.std.specs.List.{Contains, count_by}
-use Rattle.std.specs.Prelude.{codes, ◌==◌, nat_le, nat_lt, is_some}
+use Rattle.std.specs.List.{Contains}
+use Rattle.std.specs.Prelude.{◌==◌, nat_le, nat_lt, is_some}
 use Rattle.vt_base.specs.declared.TheConstants.{MAX_BLOCK}
 use Rattle.vt_base.specs.declared.answer.Said.{Said}
 use Rattle.vt_base.specs.declared.answer.Said.TheVariants.{Score, Block, Synced, Refused}
 use Rattle.vt_base.specs.declared.why.Why.{Why}
 use Rattle.vt_base.specs.declared.why.Why.TheVariants.{BadType, TooBig, TooSmall, Absent, Collision, IndexFull, ArenasFull, DiskFault, Stopped, Damaged, NoMemory}
-use Rattle.vt_base.specs.Protocol.{Operation, read, write, sync, RMessage, r_read, r_write, r_refused, text_of}
+use Rattle.vt_base.specs.Protocol.{Operation, read, write, RMessage, r_read, r_write, r_refused, text_of}
 use Rattle.vt_model.specs.Answer.{Outcome, adds, answer, collides, lends, refuses, replies}
 use Rattle.vt_model.specs.History.{Accepted, History, held}
 use Rattle.vt_model.specs.Places.{Setup, bucket_count, bucket_of, crowd, next_arena}
@@ -19,7 +19,7 @@ use Rattle.vt_model.specs.declared.TheConstants.{BUCKET_ROOM}
 use Rattle.vt_core.specs.Events.{GivesAnswer, reply_of}
 use Rattle.vt_core.specs.Machine.{Machine}
 use Rattle.vt_rehearse.specs.Stage.{HasWords}
-use Rattle.vt_rehearse.specs.Words.{AreApart, block_of, word_of}
+use Rattle.vt_rehearse.specs.Words.{AreApart, word_of}
 use Rattle.vt_rehearse.proofs.Listed.{few_words, has_word, lacks_word, no_collision}
 
 -- ---- how long words are
@@ -98,19 +98,6 @@ says_block (Block b) bytes is = let same : b ≡ bytes = cc in ap (λ (x : List 
 says_block Synced bytes is = absurd (cc)
 says_block (Refused why) bytes is = absurd (cc)
 
-why_full : (why : Why) → text_of why ≡ text_of ArenasFull → why ≡ ArenasFull
-why_full ArenasFull is = refl
-why_full BadType is = let no : 8 ≡ 11 = ap length is in absurd (omega (arith, no))
-why_full TooBig is = let no : 13 ≡ 11 = ap length is in absurd (omega (arith, no))
-why_full TooSmall is = let no : 15 ≡ 11 = ap length is in absurd (omega (arith, no))
-why_full Absent is = let no : 13 ≡ 11 = ap length is in absurd (omega (arith, no))
-why_full Collision is = let no : 15 ≡ 11 = ap length is in absurd (omega (arith, no))
-why_full IndexFull is = let no : 10 ≡ 11 = ap length is in absurd (omega (arith, no))
-why_full DiskFault is = let no : 10 ≡ 11 = ap length is in absurd (omega (arith, no))
-why_full (Stopped call) is = let no : 13 ≡ 11 = ap length is in absurd (omega (arith, no))
-why_full (Damaged site want found) is = let no : 13 ≡ 11 = ap length is in absurd (omega (arith, no))
-why_full NoMemory is = let no : 9 ≡ 11 = ap length is in absurd (omega (arith, no))
-
 why_absent : (why : Why) → text_of why ≡ text_of Absent → why ≡ Absent
 why_absent Absent is = refl
 why_absent BadType is = let no : 8 ≡ 13 = ap length is in absurd (omega (arith, no))
@@ -129,9 +116,6 @@ refused_so (Score given) wanted only is = absurd (cc)
 refused_so (Block b) wanted only is = absurd (cc)
 refused_so Synced wanted only is = absurd (cc)
 refused_so (Refused why) wanted only is = let same : text_of why ≡ text_of wanted = cc in ap (λ (x : Why). Refused x) (only why same)
-
-pub says_full : (said : Said) → reply_of said ≡ r_refused ArenasFull → said ≡ Refused ArenasFull
-says_full said is = refused_so said ArenasFull why_full is
 
 pub says_absent : (said : Said) → reply_of said ≡ r_refused Absent → said ≡ Refused Absent
 says_absent said is = refused_so said Absent why_absent is

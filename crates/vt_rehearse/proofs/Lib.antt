@@ -14,3 +14,5 @@ pub mod Starting
 pub mod Turns
 pub mod Cutting
 pub mod Lived
+pub mod Room
+pub mod Sealed

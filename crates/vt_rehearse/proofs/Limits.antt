@@ -1,9 +1,8 @@
 -- How far the numbers of a summary come.
-use Rattle.std.proofs.Common.{◌≡◌, ◌+◌, ◌-◌, ◌^◌, ◌<◌, ◌≤◌, ℕ, Bool, true, false, sym, subst, arith}
+use Rattle.std.proofs.Common.{◌+◌, ◌≤◌, ℕ, Bool, true, false, arith}
 use Rattle.vt_rehearse.specs.declared.summary.Summary.{Summary}
-use Rattle.vt_rehearse.specs.Counts.{nothing_done, with_compared, with_crash, with_events, with_read, with_synced}
+use Rattle.vt_rehearse.specs.Counts.{nothing_done, with_compared, with_crash, with_events, with_read, with_synced, with_write}
 use Rattle.vt_rehearse.specs.Limits.{AreAtMost}
-use Rattle.vt_rehearse.specs.Rehearsal.{Fate, was_accepted, was_held, was_refused, with_written}
 
 pub more : (a b : ℕ) (s : Summary) → a ≤ b → AreAtMost a s → AreAtMost b s
 more a b s less it = record {
@@ -50,8 +49,8 @@ more_compared a same s it = record {
   compared = omega (arith, it.compared);
 }
 
-pub more_written : (it : Fate) (a : ℕ) (s : Summary) → AreAtMost a s → AreAtMost (a + 1) (with_written it s)
-more_written was_held a s it = record {
+pub more_write : (is_held : Bool) (a : ℕ) (s : Summary) → AreAtMost a s → AreAtMost (a + 1) (with_write is_held s)
+more_write true a s it = record {
   events = omega (arith, it.events);
   writes = omega (arith, it.writes);
   accepted = omega (arith, it.accepted);
@@ -64,20 +63,7 @@ more_written was_held a s it = record {
   lost = omega (arith, it.lost);
   compared = omega (arith, it.compared);
 }
-more_written was_accepted a s it = record {
-  events = omega (arith, it.events);
-  writes = omega (arith, it.writes);
-  accepted = omega (arith, it.accepted);
-  held = omega (arith, it.held);
-  reads = omega (arith, it.reads);
-  found = omega (arith, it.found);
-  missing = omega (arith, it.missing);
-  syncs = omega (arith, it.syncs);
-  crashes = omega (arith, it.crashes);
-  lost = omega (arith, it.lost);
-  compared = omega (arith, it.compared);
-}
-more_written was_refused a s it = record {
+more_write false a s it = record {
   events = omega (arith, it.events);
   writes = omega (arith, it.writes);
   accepted = omega (arith, it.accepted);

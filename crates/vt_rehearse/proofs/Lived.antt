@@ -1,7 +1,5 @@
 -- A rehearsal as a life of its store.
-use Rattle.std.proofs.Common.{◌≡◌, inl, ℕ, zero, suc, Bool, List, [], ◌∷◌, ◌++◌, Option, Some, None, refl, sym, subst}
-use Rattle.std.specs.Prelude.{MatchOption, ◌+◌, ◌*◌}
-use Rattle.vt_base.specs.declared.answer.Said.{Said}
+use Rattle.std.proofs.Common.{◌≡◌, inl, ℕ, zero, suc, List, [], ◌∷◌, ◌++◌, refl, sym, subst}
 use Rattle.vt_disk.specs.Members.{DiskOf}
 use Rattle.vt_memdisk.specs.declared.crash.CrashMode.{CrashMode}
 use Rattle.vt_core.specs.declared.event.Event.{Event}
@@ -12,7 +10,7 @@ use Rattle.vt_core.specs.Crashing.{Act, Lives, crashes, happens}
 use Rattle.vt_core.specs.Steps.{Runs, Steps}
 use Rattle.vt_rehearse.specs.declared.rounds.Round.{Round}
 use Rattle.vt_rehearse.specs.declared.rounds.Round.TheVariants.{Write, Read, Sync, Commit, Begin, Advance, Evict, Crash}
-use Rattle.vt_rehearse.specs.Rehearsal.{AsksWrite, CommitsAll, LeavesOff, LooksUpAll, Makes, MakesAll, PutsOff, Tells, asked_by}
+use Rattle.vt_rehearse.specs.Rehearsal.{CommitsAll, LooksUpAll, Makes, MakesAll}
 use Rattle.vt_rehearse.specs.Stage.{StageState}
 
 module _ {D : Type 0} (score : List ℕ → List ℕ) (disk : DiskOf D) where
@@ -30,11 +28,6 @@ module _ {D : Type 0} (score : List ℕ → List ℕ) (disk : DiskOf D) where
   one : (event : Event) (out : Out) (old new : CoreState D) → Steps score disk event out old new → Lived old new
   one event out old new step = (happens event out ∷ [], (new, step, refl))
 
-  puts_off : (event : Event) (times : ℕ) (old new : CoreState D) → PutsOff score disk event times old new → Lived old new
-  puts_off event zero old new is = ([], is)
-  puts_off event (suc times) old new (asked, moved, again, moves, rest) =
-      both old asked new (one event _ old asked again) (both asked moved new (one _ _ asked moved moves) (puts_off event times moved new rest))
-
   commits : (calls : ℕ) (old new : CoreState D) → CommitsAll score disk calls old new → Lived old new
   commits zero old new is = ([], is)
   commits (suc calls) old new (moved, less, moves, rest) = both old moved new (one _ _ old moved moves) (commits calls moved new rest)
@@ -45,21 +38,9 @@ module _ {D : Type 0} (score : List ℕ → List ℕ) (disk : DiskOf D) where
   runs (event ∷ events) [] old new never = absurd never
   runs (event ∷ events) (out ∷ outs) old new (mid, step, rest) = both old mid new (one event out old mid step) (runs events outs mid new rest)
 
-  asks : (session word : ℕ) (answer : Option Said) (events : ℕ) (old new : CoreState D) → AsksWrite score disk session word answer events old new → Lived old new
-  asks session word answer events old new it = by answer it.ends
-    where
-      event : Event
-      event = asked_by session it.request
-
-      by : (answer : Option Said)
-          → MatchOption answer ((events ≡ 2 * it.times + 2) × LeavesOff score disk event it.ready new) (λ said. (events ≡ 2 * it.times + 1) × Tells score disk event said it.ready new) → Lived old new
-      by None (count, off) = both old it.ready new (puts_off event it.times old it.ready it.puts_off)
-          (both it.ready off.asked new (one event _ it.ready off.asked off.again) (one _ _ off.asked new off.idle))
-      by (Some said) (count, tells) = both old it.ready new (puts_off event it.times old it.ready it.puts_off) (one event _ it.ready new tells.steps)
-
   module _ (Leaves : CrashMode → D → List ℕ → Type 0) where
     makes : (round : Round) (old new : StageState D) → Makes score disk Leaves round old new → Lived old.core new.core
-    makes (Write session word) old new it = asks session word it.answer it.events old.core new.core it.asks
+    makes (Write session word) old new it = one _ _ old.core new.core it.writes.tells.steps
     makes (Read session word) old new it = one _ _ old.core new.core it.reads.tells.steps
     makes (Sync session) old new it = both old.core it.waiting new.core (one _ _ old.core it.waiting it.waits)
         (both it.waiting it.durable new.core (commits it.calls it.waiting it.durable it.commits) (one _ _ it.durable new.core it.tells))

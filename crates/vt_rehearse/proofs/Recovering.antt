@@ -1,9 +1,8 @@
 -- What a crash leaves of a store's devices, and what is mounted on that.
-use Rattle.std.proofs.Common.{◌≡◌, inl, ◌+◌, ◌<◌, ◌≤◌, ℕ, zero, suc, List, [], ◌∷◌, ◌++◌, length, map, Option, Some, None, refl, sym, ◌∙◌, ap, subst, arith}
+use Rattle.std.proofs.Common.{◌≡◌, inl, ◌+◌, ◌≤◌, ℕ, zero, suc, List, [], ◌∷◌, ◌++◌, length, map, Some, refl, sym, ◌∙◌, ap, subst, arith}
 use Rattle.std.proofs.lemmas.List.{length-map}
 use Rattle.std.proofs.lemmas.Option.{same_Some}
 use Rattle.std.specs.List.{All, AllZip}
-use Rattle.std.specs.Option.{option_to_list}
 use Rattle.std.specs.Prelude.{slice_get}
 use Rattle.vt_disk.specs.Calls.{OnlyReads}
 use Rattle.vt_disk.specs.Disk.{Only}
@@ -16,12 +15,10 @@ use Rattle.vt_model.specs.Places.{Setup}
 use Rattle.vt_part.specs.Parts.{disk_of, table_of, tables_of}
 use Rattle.vt_part.specs.Table.{Table, end_of}
 use Rattle.vt_part.specs.declared.part.Part.{Part}
-use Rattle.vt_core.specs.Core.{CoreState, devices_of, setup_of}
-use Rattle.vt_core.specs.Crashing.{AreLeft, AreLeftOf, LeftByCrash}
-use Rattle.vt_core.specs.Files.{AreImages, AreWithinCall, Files, PerDevice, all_of}
+use Rattle.vt_core.specs.Crashing.{AreLeftOf, LeftByCrash}
+use Rattle.vt_core.specs.Files.{AreImages, Files, PerDevice, all_of}
 use Rattle.vt_core.specs.Mounting.{EachStands, IsSetupOf}
 use Rattle.vt_core.specs.Stands.{StandForPrefix}
-use Rattle.vt_core.proofs.Lists.{same_lists}
 use Rattle.vt_rehearse.specs.Crashed.{IsLeft, IsLeftMounted}
 
 module _ {D : Type 0} (disk : DiskOf D) (Leaves : CrashMode → D → List ℕ → Type 0) (mode : CrashMode) where

@@ -1,33 +1,34 @@
 -- A store that is mounted on what a crash left of its devices.
-use Rattle.std.proofs.Common.{◌≡◌, inl, ◌+◌, ◌^◌, ◌<◌, ◌≤◌, ℕ, zero, suc, List, [], ◌∷◌, length, map, Option, Some, None, refl, sym, ◌∙◌, ap, subst, arith, get_or, replicate}
-use Rattle.std.proofs.lemmas.List.{length-map}
+use Rattle.std.proofs.Common.{◌≡◌, inl, ◌<◌, ◌≤◌, ℕ, zero, suc, List, [], ◌∷◌, length, map, Some, refl, sym, ◌∙◌, ap, subst, arith, get_or}
+use Rattle.std.proofs.lemmas.List.{length-map, length-take}
 use Rattle.std.specs.List.{All, AllZip}
 use Rattle.std.specs.Option.{option_to_list}
-use Rattle.std.specs.Prelude.{IsTrue, slice_get}
+use Rattle.std.specs.Prelude.{IsTrue, drop, slice_get, take}
 use Rattle.vt_disk.specs.Members.{DiskOf}
 use Rattle.vt_memdisk.specs.declared.crash.CrashMode.{CrashMode}
 use Rattle.vt_log.specs.Log.{disks_of}
-use Rattle.vt_log.specs.Logs.{arena_count}
+use Rattle.vt_log.specs.Logs.{IsLog, arena_count}
 use Rattle.vt_model.specs.History.{History}
-use Rattle.vt_model.specs.Legal.{IsLegal}
 use Rattle.vt_model.specs.Places.{Setup}
+use Rattle.vt_part.specs.declared.layout.ArenaRegion.{ArenaRegion}
 use Rattle.vt_part.specs.Parts.{disk_of, table_of, tables_of}
 use Rattle.vt_part.specs.Table.{IsPartition, Table, end_of}
 use Rattle.vt_part.specs.declared.part.Part.{Part}
 use Rattle.vt_core.specs.declared.devices.Devices.{Devices}
 use Rattle.vt_core.specs.Core.{CoreState, devices_of, machine_of, setup_of}
 use Rattle.vt_core.specs.Crashing.{MayTurnInto, Recovers}
-use Rattle.vt_core.specs.Files.{AreImages, Files, PerDevice, all_of}
+use Rattle.vt_core.specs.Files.{AreImages, Files, PerDevice}
 use Rattle.vt_core.specs.Machine.{Crashes}
-use Rattle.vt_core.specs.Mounting.{EachStands, IsLogOf, IsSetupOf, KeepsLimits, Mounts, devices_in, tables_in}
+use Rattle.vt_core.specs.Mounting.{IsLogOf, KeepsLimits, Mounts, devices_in, tables_in}
 use Rattle.vt_core.specs.Sound.{IsSound}
 use Rattle.vt_core.specs.Stands.{StandForPrefix}
 use Rattle.vt_core.proofs.Lists.{at_map}
 use Rattle.vt_rehearse.specs.declared.TheConstants.{SESSIONS}
-use Rattle.vt_rehearse.specs.Crashed.{CanBeMounted, IsLeft, IsLeftMounted, Restarts}
+use Rattle.vt_rehearse.specs.Crashed.{CanBeMounted, IsLeft, IsLeftMounted, KeepsSealed, Restarts}
 use Rattle.vt_rehearse.specs.Shape.{the_sizes}
-use Rattle.vt_rehearse.specs.Stage.{IsMemory, IsSteady, none_waits}
+use Rattle.vt_rehearse.specs.Stage.{IsSteady, none_waits}
 use Rattle.vt_rehearse.proofs.Recovering.{AllLeft, all_images, all_left, all_modes, left_disks, left_rooms, left_setup, left_stands, left_tables}
+use Rattle.vt_rehearse.proofs.Sealed.{LeavesLog, keeps_sealed}
 
 get_at : {X : Type 0} (xs : List X) (i : ℕ) (d : X) → i < length xs → slice_get xs i ≡ Some (get_or xs i d)
 get_at [] i d lt = absurd (omega (arith, lt))
@@ -78,17 +79,34 @@ module _ {D : Type 0} (score : List ℕ → List ℕ) (disk : DiskOf D) (Leaves 
     prefix : StandForPrefix score (setup_of old) old.log.tables old.log.durable (all_left disk Leaves mode (devices_of old) (devices_in after) left).files h
     prefix = gives score old h _ steady.sound (all_images disk Leaves mode (devices_of old) (devices_in after) left)
 
-    pub can_be_mounted : ((score : List ℕ → List ℕ) (k : CoreState D) (h : History) → IsTrue disk.tells → IsSound score disk k h → (g : History) × (base : ℕ) × IsLogOf score disk k.log.tables (devices_of k) (setup_of k) h g base)
-        → ((score : List ℕ → List ℕ) (c : Setup) (tables : List Table) (devices : PerDevice D) (h : History) → IsTrue disk.tells → IsLegal score c h → IsSetupOf disk tables devices c
-        → EachStands score disk c tables 0 devices h → (g : History) × (base : ℕ) × IsLogOf score disk tables devices c h g base)
-        → CanBeMounted score disk (tables_in after) (devices_in after)
-    can_be_mounted own logs =
-        let old_log = own score old h tells steady.sound in
-        let setup = left_setup disk Leaves mode (devices_of old) (devices_in after) left (setup_of old) old.log.tables old_log.2.setup in
-        let log = logs score (setup_of old) old.log.tables (devices_in after) h tells steady.sound.legal setup
-        (left_stands disk Leaves mode (devices_of old) (devices_in after) left score (setup_of old) old.log.tables h old.log.durable prefix) in
-        subst (λ (ts : List Table). CanBeMounted score disk ts (devices_in after)) (sym tables_are)
-        (record { c = setup_of old; h = h; g = log.0; base = log.1; log = log.2; limits = steady.limits })
+    -- the log that is read, of which no arena that is sealed has lost a block
+    abbrev read : LeavesLog score old.log (map disk.bytes (devices_in after).partitions) h
+    read = keeps_sealed score disk old.log h (map disk.bytes (devices_in after).partitions) steady.sound.log (all_images disk Leaves mode (devices_of old) (devices_in after) left).partitions
+
+    module _ (own : (score : List ℕ → List ℕ) (k : CoreState D) (h : History) → IsTrue disk.tells → IsSound score disk k h
+        → (g : History) × (base : ℕ) × IsLogOf score disk k.log.tables (devices_of k) (setup_of k) h g base) where
+      log_of : IsLogOf score disk (tables_in after) (devices_in after) (setup_of old) h (take read.n h) read.base
+      log_of = subst (λ (ts : List Table). IsLogOf score disk ts (devices_in after) (setup_of old) h (take read.n h) read.base) (sym tables_are) (record {
+        legal = steady.sound.legal;
+        setup = left_setup disk Leaves mode (devices_of old) (devices_in after) left (setup_of old) old.log.tables (own score old h tells steady.sound).2.setup;
+        each = left_stands disk Leaves mode (devices_of old) (devices_in after) left score (setup_of old) old.log.tables h old.log.durable prefix;
+        read = subst (λ (layout : List ArenaRegion). IsLog score layout (map disk.bytes (devices_in after).partitions) (take read.n h) read.base) steady.sound.log.whole.layout read.log;
+      })
+
+      pub can_be_mounted : CanBeMounted score disk (tables_in after) (devices_in after)
+      can_be_mounted = record { c = setup_of old; h = h; g = take read.n h; base = read.base; log = log_of; limits = subst (λ (ts : List Table). KeepsLimits ts (setup_of old)) (sym tables_are) steady.limits }
+
+      -- what is mounted has that log
+      pub keeps_blocks : (new : CoreState D) (g : History) → Mounts score disk (tables_in after) (devices_in after) the_sizes SESSIONS new → IsSound score disk new g → KeepsSealed new.log.base h g
+      keeps_blocks new g mounts sound =
+          let recalls = mounts.recalls (setup_of old) h (take read.n h) read.base tells log_of in
+          let base : new.log.base ≡ read.base = ap (λ (c : Setup). c.base) recalls.setup in
+          let one = sound.log.front in
+          let two = recalls.sound.log.front in
+          let cut = length-take read.n h in
+          let within = read.within in
+          let long : length g ≡ read.n = omega (arith, one, two, cut, within) in
+          subst (λ (b : ℕ). All (λ e. b ≤ e.arena) (drop (length g) h)) (sym base) (subst (λ (m : ℕ). All (λ e. read.base ≤ e.arena) (drop m h)) (sym long) read.others)
 
     -- ---- and is
 
@@ -118,8 +136,9 @@ module _ {D : Type 0} (score : List ℕ → List ℕ) (disk : DiskOf D) (Leaves 
 
       pub crashes : ((score : List ℕ → List ℕ) (old during again : CoreState D) (h : History) → IsTrue disk.tells → IsSound score disk old h → MayTurnInto score disk old during
           → Recovers score disk old during again → (g : History) × Crashes (machine_of old h) (machine_of again g) × IsSound score disk again g)
-          → (g : History) × Crashes (machine_of old h) (machine_of new g) × IsSteady score disk new g × (new.waiting ≡ none_waits)
-      crashes law =
+          → ((score : List ℕ → List ℕ) (k : CoreState D) (h : History) → IsTrue disk.tells → IsSound score disk k h → (g : History) × (base : ℕ) × IsLogOf score disk k.log.tables (devices_of k) (setup_of k) h g base)
+          → (g : History) × Crashes (machine_of old h) (machine_of new g) × IsSteady score disk new g × (new.waiting ≡ none_waits) × KeepsSealed new.log.base h g
+      crashes law own =
           let it = law score old old new h tells steady.sound (inl refl) recovers in (
             it.0,
             it.1,
@@ -132,4 +151,5 @@ module _ {D : Type 0} (score : List ℕ → List ℕ) (disk : DiskOf D) (Leaves 
               limits = subst (λ (ts : List Table). KeepsLimits ts (setup_of new)) (sym mounts.fresh.tables_are) mounts.fresh.limits;
             },
             mounts.fresh.waiting,
+            keeps_blocks own new it.0 mounts it.2,
           )

@@ -1,20 +1,20 @@
 -- A store and the list beside it, behind events.
-use Rattle.std.proofs.Common.{◌≡◌, ◌+◌, ◌*◌, ◌^◌, ◌<◌, ◌≤◌, ℕ, zero, suc, List, [], ◌∷◌, ◌++◌, length, Option, Some, None, refl, sym, ◌∙◌, ap, subst, arith, replicate}
+use Rattle.std.proofs.Common.{◌≡◌, ◌+◌, ◌<◌, ◌≤◌, ℕ, zero, suc, List, [], ◌∷◌, length, Option, refl, sym, ◌∙◌, ap, subst, arith}
 use Rattle.vt_disk.specs.Members.{DiskOf}
-use Rattle.vt_model.specs.History.{History}
 use Rattle.vt_log.specs.Owed.{owed}
+use Rattle.vt_model.specs.Places.{Setup}
 use Rattle.vt_core.specs.declared.event.Event.{Event}
 use Rattle.vt_core.specs.declared.event.Event.TheVariants.{LogAdvance}
 use Rattle.vt_core.specs.declared.event.Out.{Out}
-use Rattle.vt_core.specs.declared.event.Out.TheVariants.{NotYet, Moved}
+use Rattle.vt_core.specs.declared.event.Out.TheVariants.{Moved}
 use Rattle.vt_core.specs.Core.{CoreState, history_len}
 use Rattle.vt_core.specs.Events.{IsFor}
 use Rattle.vt_core.specs.Steps.{Runs, Steps}
 use Rattle.vt_rehearse.specs.declared.TheConstants.{SESSIONS, SHARDS}
 use Rattle.vt_rehearse.specs.declared.summary.Summary.{Summary}
 use Rattle.vt_rehearse.specs.Counts.{with_events}
-use Rattle.vt_rehearse.specs.Rehearsal.{CommitsAll, PutsOff, Works}
-use Rattle.vt_rehearse.specs.Stage.{AreAlike, HasWords, IsMemory, IsNoRequest, IsSteady, StageState, none_waits}
+use Rattle.vt_rehearse.specs.Rehearsal.{CommitsAll, Works}
+use Rattle.vt_rehearse.specs.Stage.{AreAlike, HasWords, IsFilled, IsMemory, IsNoRequest, StageState}
 use Rattle.vt_rehearse.proofs.Listed.{few_words, same_many}
 use Rattle.vt_rehearse.proofs.Asking.{owed_most}
 use Rattle.vt_rehearse.proofs.Stepping.{Stays, len_is, worked}
@@ -57,6 +57,7 @@ module _ {D : Type 0} (score : List ℕ → List ℕ) (disk : DiskOf D) (memory 
     store = still.steady;
     free = still.waiting ∙ alike.free;
     list = subst (λ (l : List ℕ). HasWords alike.history l) (sym listed) alike.list;
+    filled = subst (λ (c : Setup). IsFilled c alike.history) (sym still.setup) alike.filled;
   }
 
   pub alike_worked : (event : Event) (out : Out) (summary : Summary) (old new : StageState D) → IsNoRequest event → AreAlike score disk old → Steps score disk event out old.core new.core
@@ -81,12 +82,7 @@ module _ {D : Type 0} (score : List ℕ → List ℕ) (disk : DiskOf D) (memory 
       by (x ∷ []) [] runs later = absurd later
       by (x ∷ []) (y ∷ z ∷ ys) runs (l, then, never) = absurd never
 
-  -- one more time
-  pub put_off_more : (event : Event) (times : ℕ) (old ready asked moved : CoreState D) → PutsOff score disk event times old ready → Steps score disk event NotYet ready asked → Steps score disk LogAdvance Moved asked moved
-      → PutsOff score disk event (suc times) old moved
-  put_off_more event zero old ready asked moved is again moves = (asked, moved, subst (λ (k : CoreState D). Steps score disk event NotYet k asked) is again, moves, refl)
-  put_off_more event (suc times) old ready asked moved (a, m, first, second, rest) again moves = (a, m, first, second, put_off_more event times m ready asked moved rest again moves)
-
+  -- one more call
   pub commit_more : (calls : ℕ) (old mid new : CoreState D) → CommitsAll score disk calls old mid → mid.log.durable < history_len mid → Steps score disk LogAdvance Moved mid new → CommitsAll score disk (suc calls) old new
   commit_more zero old mid new is less moves = (new, subst (λ (k : CoreState D). k.log.durable < history_len k) is less, subst (λ (k : CoreState D). Steps score disk LogAdvance Moved k new) is moves, refl)
   commit_more (suc calls) old mid new (m, before, first, rest) less moves = (m, before, first, commit_more calls m mid new rest less moves)

@@ -1,5 +1,5 @@
 -- What an event leaves of a store in memory of which no part has stopped.
-use Rattle.std.proofs.Common.{◌≡◌, ◌≢◌, ◌⊎◌, ⊎_elim, inl, inr, ◌+◌, ◌<◌, ◌≤◌, ℕ, zero, suc, List, [], ◌∷◌, ◌++◌, length, map, Option, Some, None, refl, sym, ◌∙◌, ap, subst, arith, replicate}
+use Rattle.std.proofs.Common.{◌≡◌, ◌≢◌, ◌⊎◌, ⊎_elim, ◌+◌, ◌<◌, ℕ, zero, suc, List, [], ◌∷◌, ◌++◌, length, map, Option, Some, None, refl, sym, ◌∙◌, ap, subst, arith, replicate}
 use Rattle.std.specs.List.{All}
 use Rattle.std.specs.Option.{option_and_then, option_or, option_to_list}
 use Rattle.std.specs.Prelude.{slice_get, slice_index}
@@ -13,8 +13,8 @@ use Rattle.std.proofs.lemmas.Option.{same_Some}
 use Rattle.vt_base.specs.declared.answer.Answer.{Answer}
 use Rattle.vt_base.specs.declared.answer.Said.{Said}
 use Rattle.vt_base.specs.declared.answer.Said.TheVariants.{Refused}
-use Rattle.vt_base.specs.declared.why.Why.TheVariants.{DiskFault, Stopped, Damaged, NoMemory}
-use Rattle.vt_base.specs.Protocol.{Operation, read, write, sync}
+use Rattle.vt_base.specs.declared.why.Why.TheVariants.{DiskFault, Stopped, NoMemory}
+use Rattle.vt_base.specs.Protocol.{Operation, write}
 use Rattle.vt_disk.specs.Members.{DiskOf}
 use Rattle.vt_log.specs.Logs.{arena_count}
 use Rattle.vt_model.specs.History.{History}
@@ -28,8 +28,8 @@ use Rattle.vt_core.specs.declared.event.Event.{Event}
 use Rattle.vt_core.specs.declared.event.Event.TheVariants.{Ask, Answer as AskAnswer, LogAdvance, FileBegin, FileAdvance, BloomAdvance, EvictLump, EvictIndex}
 use Rattle.vt_core.specs.declared.event.Out.{Out}
 use Rattle.vt_core.specs.declared.event.Out.TheVariants.{Said as SaidOut, Waits, NotYet, Moved, Nothing, Failed}
-use Rattle.vt_core.specs.Asking.{MayBeTold, says, shard_of, stop_for}
-use Rattle.vt_core.specs.Causes.{CountsOut, CountsSaid, IsUndamaged, IsUndamagedSaid}
+use Rattle.vt_core.specs.Asking.{MayBeTold, shard_of, stop_for}
+use Rattle.vt_core.specs.Causes.{CountsOut, CountsSaid, IsUndamagedSaid}
 use Rattle.vt_core.specs.Core.{CoreState, devices_of, each_of, history_len, machine_of, setup_of, stops_of}
 use Rattle.vt_core.specs.Events.{FailsIn, IsWork, MakesStep, operation_in}
 use Rattle.vt_core.specs.Files.{all_of}
@@ -168,6 +168,7 @@ module _ {D : Type 0} (score : List ℕ → List ℕ) (disk : DiskOf D) where
     pub record Stays (h : History) (old new : CoreState D) : Type 0 where
       pub steady : IsSteady score disk new h
       pub waiting : new.waiting ≡ old.waiting
+      pub setup : setup_of new ≡ setup_of old
       pub len : history_len new ≡ history_len old
 
     pub stays : (h next : History) (old new : CoreState D) → IsSteady score disk old h → IsSteady score disk new next → machine_of new next ≡ machine_of old h → Stays h old new
@@ -177,6 +178,7 @@ module _ {D : Type 0} (score : List ℕ → List ℕ) (disk : DiskOf D) where
         record {
           steady = steady;
           waiting = ap (λ (m : Machine). m.waiting) same;
+          setup = ap (λ (m : Machine). m.setup) same;
           len = len_is new h steady ∙ sym (len_is old h before);
         }
 

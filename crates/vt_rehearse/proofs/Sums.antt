@@ -1,29 +1,28 @@
 -- How the numbers of a rehearsal fit together.
-use Rattle.std.proofs.Common.{◌≡◌, ⊎_elim, ◌+◌, ◌-◌, ◌*◌, ◌<◌, ◌≤◌, ℕ, zero, suc, Bool, true, false, cond, List, [], ◌∷◌, ◌++◌, length, take, Option, Some, None, refl, sym, ◌∙◌, ap, subst, arith}
+use Rattle.std.proofs.Common.{◌≡◌, ◌+◌, ◌-◌, ◌≤◌, ℕ, Bool, true, false, cond, List, [], ◌∷◌, ◌++◌, length, refl, sym, ◌∙◌, ap, subst, arith}
 use Rattle.std.proofs.lemmas.List.{length-append, length-take}
 use Rattle.std.proofs.lemmas.List.Sums.{sum_by-cons}
 use Rattle.std.specs.List.{count_by}
-use Rattle.std.specs.Prelude.{◌&&◌, MatchOption}
+use Rattle.std.specs.Prelude.{◌&&◌}
 use Rattle.vt_disk.specs.Members.{DiskOf}
 use Rattle.vt_memdisk.specs.declared.crash.CrashMode.{CrashMode}
-use Rattle.vt_base.specs.declared.answer.Said.{Said}
 use Rattle.vt_core.specs.Core.{history_len}
 use Rattle.vt_rehearse.specs.declared.rounds.Round.{Round}
 use Rattle.vt_rehearse.specs.declared.rounds.Round.TheVariants.{Write, Read, Sync, Commit, Begin, Advance, Evict, Crash}
 use Rattle.vt_rehearse.specs.declared.summary.Summary.{Summary}
-use Rattle.vt_rehearse.specs.Counts.{nothing_done, with_accepted, with_compared, with_crash, with_events, with_held, with_read, with_refused, with_synced}
-use Rattle.vt_rehearse.specs.Rehearsal.{CountsRead, CrashesIn, LooksUp, LooksUpAll, Makes, MakesAll, NotesWrite, SyncsAll, Works, Fate, WritesWord, listed_after, was_accepted, was_held, was_refused, with_written}
+use Rattle.vt_rehearse.specs.Counts.{nothing_done, with_compared, with_crash, with_events, with_read, with_synced, with_write}
+use Rattle.vt_rehearse.specs.Rehearsal.{CrashesIn, LooksUpAll, Makes, MakesAll, WritesWord, listed_after}
 use Rattle.vt_rehearse.specs.Stage.{StageState}
 use Rattle.vt_rehearse.specs.Summary.{AddsUp, is_crash, is_read, is_sync, is_write}
 
--- From one summary to another so many writes at most, and just so many reads, syncs and crashes. The
--- list was so long before, and is so long behind.
+-- From one summary to another so many writes, reads, syncs and crashes. The list was so long before,
+-- and is so long behind.
 record Sums (writes reads syncs crashes before behind : ℕ) (old new : Summary) : Type 0 where
-  more_writes : new.writes ≤ old.writes + writes
+  more_writes : new.writes ≡ old.writes + writes
   more_reads : new.reads ≡ old.reads + reads
   more_syncs : new.syncs ≡ old.syncs + syncs
   more_crashes : new.crashes ≡ old.crashes + crashes
-  answers : new.accepted + new.held + old.writes ≤ old.accepted + old.held + new.writes
+  answers : new.accepted + new.held + old.writes ≡ old.accepted + old.held + new.writes
   finds : new.found + new.missing + old.reads ≡ old.found + old.missing + new.reads
   blocks : behind + new.lost + old.accepted ≡ before + old.lost + new.accepted
   compares : new.compared + old.writes + old.reads + old.syncs + old.crashes ≡ old.compared + new.writes + new.reads + new.syncs + new.crashes
@@ -62,7 +61,7 @@ counted_on round rounds m n old new it =
     let syncs : count_by is_sync (round ∷ rounds) ≡ cond (is_sync round) 1 0 + count_by is_sync rounds = sum_by-cons (λ x. cond (is_sync x) 1 0) round rounds in
     let crashes : count_by is_crash (round ∷ rounds) ≡ cond (is_crash round) 1 0 + count_by is_crash rounds = sum_by-cons (λ x. cond (is_crash x) 1 0) round rounds in
     record {
-      more_writes = subst (λ (k : ℕ). new.writes ≤ old.writes + k) (sym writes) it.more_writes;
+      more_writes = subst (λ (k : ℕ). new.writes ≡ old.writes + k) (sym writes) it.more_writes;
       more_reads = subst (λ (k : ℕ). new.reads ≡ old.reads + k) (sym reads) it.more_reads;
       more_syncs = subst (λ (k : ℕ). new.syncs ≡ old.syncs + k) (sym syncs) it.more_syncs;
       more_crashes = subst (λ (k : ℕ). new.crashes ≡ old.crashes + k) (sym crashes) it.more_crashes;
@@ -85,17 +84,11 @@ no_sums n s = record { more_writes = omega arith; more_reads = omega arith; more
 work_sums : (n events : ℕ) (s : Summary) → Sums 0 0 0 0 n n s (with_events events s)
 work_sums n events s = record { more_writes = omega arith; more_reads = omega arith; more_syncs = omega arith; more_crashes = omega arith; answers = omega arith; finds = refl; blocks = refl; compares = refl; same = refl }
 
--- a write that was not answered
-left_sums : (n events : ℕ) (s : Summary) → Sums 1 0 0 0 n n s (with_events events s)
-left_sums n events s = record { more_writes = omega arith; more_reads = omega arith; more_syncs = omega arith; more_crashes = omega arith; answers = omega arith; finds = refl; blocks = refl; compares = refl; same = refl }
-
-written_sums : (it : Fate) (word events : ℕ) (listed : List ℕ) (s : Summary)
-    → Sums 1 0 0 0 (length listed) (length (listed_after it word listed)) s (with_written it (with_compared true (with_events events s)))
-written_sums was_held word events listed s = record { more_writes = omega arith; more_reads = omega arith; more_syncs = omega arith; more_crashes = omega arith; answers = omega arith; finds = refl; blocks = refl; compares = omega arith; same = and_true s.ok }
-written_sums was_accepted word events listed s =
+write_sums : (is_held : Bool) (word : ℕ) (listed : List ℕ) (s : Summary) → Sums 1 0 0 0 (length listed) (length (listed_after is_held word listed)) s (with_write is_held (with_compared true s))
+write_sums true word listed s = record { more_writes = omega arith; more_reads = omega arith; more_syncs = omega arith; more_crashes = omega arith; answers = omega arith; finds = refl; blocks = omega arith; compares = omega arith; same = and_true s.ok }
+write_sums false word listed s =
     let long : length (listed ++ word ∷ []) ≡ length listed + 1 = length-append listed (word ∷ []) in
     record { more_writes = omega arith; more_reads = omega arith; more_syncs = omega arith; more_crashes = omega arith; answers = omega arith; finds = refl; blocks = omega (arith, long); compares = omega arith; same = and_true s.ok }
-written_sums was_refused word events listed s = record { more_writes = omega arith; more_reads = omega arith; more_syncs = omega arith; more_crashes = omega arith; answers = omega arith; finds = refl; blocks = refl; compares = omega arith; same = and_true s.ok }
 
 read_sums : (is_found : Bool) (n : ℕ) (s : Summary) → Sums 0 1 0 0 n n s (with_read is_found (with_compared true s))
 read_sums true n s = record { more_writes = omega arith; more_reads = omega arith; more_syncs = omega arith; more_crashes = omega arith; answers = omega arith; finds = omega arith; blocks = refl; compares = omega arith; same = and_true s.ok }
@@ -109,16 +102,8 @@ crash_sums before behind s less = record { more_writes = omega arith; more_reads
 
 module _ {D : Type 0} (score : List ℕ → List ℕ) (disk : DiskOf D) (Leaves : CrashMode → D → List ℕ → Type 0) where
   of_write : (session word : ℕ) (old new : StageState D) → WritesWord score disk session word old new → Sums 1 0 0 0 (length old.listed) (length new.listed) old.summary new.summary
-  of_write session word old new it = by it.answer it.notes
-    where
-      by : (answer : Option Said) → MatchOption answer (new ≡ record old { core = new.core; summary = with_events it.events old.summary })
-          (λ said. NotesWrite score word said (history_len old.core) (record old { summary = with_events it.events old.summary }) new)
-          → Sums 1 0 0 0 (length old.listed) (length new.listed) old.summary new.summary
-      by None same = subst (λ (s : StageState D). Sums 1 0 0 0 (length old.listed) (length s.listed) old.summary s.summary) (sym same) (left_sums (length old.listed) it.events old.summary)
-      by (Some said) notes =
-          subst (λ (s : Summary). Sums 1 0 0 0 (length old.listed) (length new.listed) old.summary s) (sym notes.counts)
-          (subst (λ (l : List ℕ). Sums 1 0 0 0 (length old.listed) (length l) old.summary (with_written notes.it (with_compared true (with_events it.events old.summary)))) (sym notes.listed)
-          (written_sums notes.it word it.events old.listed old.summary))
+  of_write session word old new it =
+      subst (λ (s : StageState D). Sums 1 0 0 0 (length old.listed) (length s.listed) old.summary s.summary) (sym it.same) (write_sums it.is_held word old.listed old.summary)
 
   of_work : (n events : ℕ) (old new : StageState D) → new ≡ record old { core = new.core; summary = with_events events old.summary } → Sums 0 0 0 0 (length old.listed) (length new.listed) old.summary new.summary
   of_work n events old new same = subst (λ (s : StageState D). Sums 0 0 0 0 (length old.listed) (length s.listed) old.summary s.summary) (sym same) (work_sums (length old.listed) events old.summary)

@@ -1,5 +1,5 @@
 -- A sync: a session waits, the log commits all, and the session is told so.
-use Rattle.std.proofs.Common.{◌≡◌, ◌+◌, ◌<◌, ◌≤◌, ℕ, List, length, Option, Some, None, true, refl, sym, ◌∙◌, ap, subst, arith}
+use Rattle.std.proofs.Common.{◌≡◌, ◌+◌, ◌<◌, ◌≤◌, ℕ, zero, suc, List, length, Some, true, sym, ◌∙◌, ap, subst, arith}
 use Rattle.std.specs.Prelude.{slice_set}
 use Rattle.vt_base.specs.declared.answer.Answer.{Answer}
 use Rattle.vt_base.specs.declared.answer.Said.{Said}
@@ -7,21 +7,21 @@ use Rattle.vt_base.specs.declared.answer.Said.TheVariants.{Synced}
 use Rattle.vt_base.specs.Protocol.{sync}
 use Rattle.vt_disk.specs.Members.{DiskOf}
 use Rattle.vt_model.specs.History.{History}
+use Rattle.vt_model.specs.Places.{Setup}
 use Rattle.vt_log.specs.Owed.{owed}
 use Rattle.vt_wire.specs.declared.message.Request.{Request}
 use Rattle.vt_core.specs.declared.event.Event.TheVariants.{Answer as AskAnswer}
 use Rattle.vt_core.specs.declared.event.Out.{Out}
 use Rattle.vt_core.specs.declared.event.Out.TheVariants.{Said as SaidOut, Waits, NotYet, Moved, Nothing, Failed}
-use Rattle.vt_core.specs.Core.{CoreState, history_len}
+use Rattle.vt_core.specs.Core.{CoreState, history_len, setup_of}
 use Rattle.vt_core.specs.Steps.{Steps}
 use Rattle.vt_rehearse.specs.Counts.{with_compared, with_events, with_synced}
 use Rattle.vt_rehearse.specs.Rehearsal.{AsksFor, CommitsAll, Judges, SyncsAll, asked_by}
-use Rattle.vt_rehearse.specs.Stage.{AreAlike, HasWords, IsMemory, IsSteady, StageState, none_waits}
+use Rattle.vt_rehearse.specs.Stage.{AreAlike, HasWords, IsFilled, IsMemory, IsSteady, StageState, none_waits}
 use Rattle.vt_rehearse.proofs.Asking.{IsEnded, owed_most, sync_ends, sync_waits}
 use Rattle.vt_rehearse.proofs.Listed.{few_words, same_many}
 use Rattle.vt_rehearse.proofs.Noting.{found_right}
 use Rattle.vt_rehearse.proofs.Staged.{made_more}
-use Rattle.vt_rehearse.proofs.Stepping.{len_is}
 
 abbrev said_of : Out → Said
 said_of (SaidOut a) = a.said
@@ -38,6 +38,11 @@ at_of NotYet = 0
 at_of Moved = 0
 at_of Nothing = 0
 at_of (Failed why) = 0
+
+-- the log's calls keep what the store was mounted with
+commits_keep : {D : Type 0} (score : List ℕ → List ℕ) (disk : DiskOf D) (calls : ℕ) (old new : CoreState D) → CommitsAll score disk calls old new → setup_of new ≡ setup_of old
+commits_keep {D} score disk zero old new is = ap (λ (k : CoreState D). setup_of k) is
+commits_keep score disk (suc calls) old new (moved, less, step, rest) = commits_keep score disk calls moved new rest ∙ step.goes_on.store.setup
 
 module _ {D : Type 0} (score : List ℕ → List ℕ) (disk : DiskOf D) (memory : IsMemory disk) (session : ℕ) (within : session < 3) (request : Request) (is_for : AsksFor sync request)
     (old asked : StageState D) (alike : AreAlike score disk old) (out : Out) (asks : Steps score disk (asked_by session request) out old.core asked.core)
@@ -74,6 +79,8 @@ module _ {D : Type 0} (score : List ℕ → List ℕ) (disk : DiskOf D) (memory 
       store = ends.steady;
       free = ends.waiting;
       list = subst (λ (l : List ℕ). HasWords alike.history l) (sym (ap (λ (s : StageState D). s.listed) made_is)) alike.list;
+      filled = subst (λ (c : Setup). IsFilled c alike.history)
+          (sym (tells.goes_on.store.setup ∙ commits_keep score disk calls asked.core durable.core commits ∙ asks.goes_on.store.setup)) alike.filled;
     }
 
     -- so what the session is told is right
@@ -110,4 +117,4 @@ module _ {D : Type 0} (score : List ℕ → List ℕ) (disk : DiskOf D) (memory 
         }
 
     pub alike_synced : (new : StageState D) → new ≡ record told { summary = with_synced (with_compared true told.summary) } → AreAlike score disk new
-    alike_synced new is = subst (λ (s : StageState D). AreAlike score disk s) (sym is) (record { history = alike_told.history; store = alike_told.store; free = alike_told.free; list = alike_told.list })
+    alike_synced new is = subst (λ (s : StageState D). AreAlike score disk s) (sym is) (record { history = alike_told.history; store = alike_told.store; free = alike_told.free; list = alike_told.list; filled = alike_told.filled })

@@ -1,8 +1,6 @@
 -- One round, and one look-up, of those that are left.
-use Rattle.std.proofs.Common.{◌≡◌, ◌+◌, ◌-◌, ◌<◌, ◌≤◌, ℕ, zero, suc, List, [], ◌∷◌, length, refl, sym, ap, subst, arith}
-use Rattle.std.proofs.lemmas.List.FromFn.{length-range_with_len}
+use Rattle.std.proofs.Common.{◌≡◌, ◌+◌, ◌-◌, ◌<◌, ◌≤◌, ℕ, suc, List, [], ◌∷◌, length, refl, sym, ap, arith}
 use Rattle.std.specs.List.{range_with_len}
-use Rattle.vt_rehearse.specs.declared.rounds.Round.{Round}
 use Rattle.vt_rehearse.specs.Rounds.{behind_round, round_at, rounds_from}
 use Rattle.vt_rehearse.specs.Words.{all_words}
 

@@ -28,15 +28,11 @@ with_events events s = record s { events = s.events + events }
 abbrev pub with_compared : (is_same : Bool) → Summary → Summary
 with_compared is_same s = record s { compared = s.compared + 1; ok = s.ok && is_same }
 
--- a write of a word that the store held, of one that it took in, and of one for which it has no room
-abbrev pub with_held : Summary → Summary
-with_held s = record s { writes = s.writes + 1; held = s.held + 1 }
-
-abbrev pub with_accepted : Summary → Summary
-with_accepted s = record s { writes = s.writes + 1; accepted = s.accepted + 1 }
-
-abbrev pub with_refused : Summary → Summary
-with_refused s = record s { writes = s.writes + 1 }
+-- a write, which is one event, of a word that the store held, or that it took in
+abbrev pub with_write : (is_held : Bool) → Summary → Summary
+with_write is_held s =
+    if is_held then record (with_events 1 s) { writes = s.writes + 1; held = s.held + 1 }
+    else record (with_events 1 s) { writes = s.writes + 1; accepted = s.accepted + 1 }
 
 -- a read, which is one event, of a word that the store has, or lacks
 abbrev pub with_read : (is_found : Bool) → Summary → Summary

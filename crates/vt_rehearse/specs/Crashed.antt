@@ -1,6 +1,6 @@
 -- What a crash leaves of devices in memory, and of a store on them.
-use Rattle.std.specs.Prelude.{◌≡◌, ℕ, ◌≤◌, List}
-use Rattle.std.specs.List.{AllZip}
+use Rattle.std.specs.Prelude.{◌≡◌, ℕ, ◌≤◌, List, drop, length}
+use Rattle.std.specs.List.{All, AllZip}
 use Rattle.vt_core.specs.Core.{CoreState, devices_of}
 use Rattle.vt_core.specs.Crashing.{Recovers}
 use Rattle.vt_core.specs.Files.{PerDevice, all_of}
@@ -50,3 +50,7 @@ pub record Restarts {D : Type 0} (score : List ℕ → List ℕ) (disk : DiskOf 
   pub at_once : recovers.tries ≡ 0
   pub sizes : recovers.sizes ≡ the_sizes
   pub sessions : recovers.sessions ≡ SESSIONS
+
+-- a history that was cut off has lost no block of an arena before the base, each of which is sealed
+abbrev pub KeepsSealed : (base : ℕ) → (before after : History) → Type 0
+KeepsSealed base before after = All (λ e. base ≤ e.arena) (drop (length after) before)

@@ -1,9 +1,9 @@
 -- A rehearsal: what becomes of a store and of the plain list beside it, round by round.
-use Rattle.std.specs.Prelude.{◌≡◌, ◌⊎◌, ◌↔◌, ℕ, zero, suc, ◌+◌, ◌*◌, ◌-◌, ◌<◌, ◌≤◌, Bool, true, false, IsTrue, Option, MatchOption, List, [], ◌∷◌, ◌++◌, length, take}
-use Rattle.std.specs.List.{AllZip, Contains}
+use Rattle.std.specs.Prelude.{◌≡◌, ◌⊎◌, ◌↔◌, ℕ, zero, suc, ◌+◌, ◌-◌, ◌<◌, ◌≤◌, Bool, true, false, IsTrue, if◌then◌else◌, List, [], ◌∷◌, ◌++◌, length, take}
+use Rattle.std.specs.List.{Contains}
 use Rattle.vt_base.specs.declared.answer.Said.{Said}
 use Rattle.vt_base.specs.declared.answer.Said.TheVariants.{Score, Block, Synced, Refused}
-use Rattle.vt_base.specs.declared.why.Why.TheVariants.{Absent, ArenasFull}
+use Rattle.vt_base.specs.declared.why.Why.TheVariants.{Absent}
 use Rattle.vt_base.specs.Protocol.{Operation, read, write, sync, t_ask}
 use Rattle.vt_base.specs.declared.TheConstants.{MAX_BLOCK}
 use Rattle.vt_disk.specs.Members.{DiskOf}
@@ -13,18 +13,13 @@ use Rattle.vt_wire.specs.declared.message.Request.{Request}
 use Rattle.vt_core.specs.declared.event.Event.{Event}
 use Rattle.vt_core.specs.declared.event.Event.TheVariants.{Ask, Answer as AskAnswer, LogAdvance, FileBegin, FileAdvance, EvictLump, EvictIndex}
 use Rattle.vt_core.specs.declared.event.Out.{Out}
-use Rattle.vt_core.specs.declared.event.Out.TheVariants.{Said as SaidOut, Waits, NotYet, Moved, Nothing}
-use Rattle.vt_core.specs.Core.{CoreState, devices_of, history_len}
-use Rattle.vt_core.specs.Crashing.{Recovers}
-use Rattle.vt_core.specs.Files.{all_of}
+use Rattle.vt_core.specs.declared.event.Out.TheVariants.{Said as SaidOut, Waits, Moved}
+use Rattle.vt_core.specs.Core.{CoreState, history_len}
 use Rattle.vt_core.specs.Steps.{Runs, Steps}
-use Rattle.vt_rehearse.specs.declared.TheConstants.{SESSIONS}
 use Rattle.vt_rehearse.specs.declared.rounds.Round.{Round}
 use Rattle.vt_rehearse.specs.declared.rounds.Round.TheVariants.{Write, Read, Sync, Commit, Begin, Advance, Evict, Crash}
-use Rattle.vt_rehearse.specs.declared.summary.Summary.{Summary}
 use Rattle.vt_rehearse.specs.Crashed.{Restarts}
-use Rattle.vt_rehearse.specs.Counts.{with_accepted, with_compared, with_crash, with_events, with_held, with_read, with_refused, with_synced}
-use Rattle.vt_rehearse.specs.Shape.{the_sizes}
+use Rattle.vt_rehearse.specs.Counts.{with_compared, with_crash, with_events, with_read, with_synced, with_write}
 use Rattle.vt_rehearse.specs.Stage.{StageState}
 use Rattle.vt_rehearse.specs.Words.{word_of}
 
@@ -51,80 +46,38 @@ pub record Tells {D : Type 0} (score : List ℕ → List ℕ) (disk : DiskOf D) 
 
 -- ---- a write
 
--- the store told a session so many times to come again, and each time the log made a device call
-abbrev pub PutsOff : {D : Type 0} → (List ℕ → List ℕ) → DiskOf D → Event → (times : ℕ)
-    → (old new : CoreState D) → Type 0
-PutsOff score disk event zero old new = new ≡ old
-PutsOff {D} score disk event (suc times) old new = (asked : CoreState D) × (moved : CoreState D)
-    × Steps score disk event NotYet old asked × Steps score disk LogAdvance Moved asked moved
-    × PutsOff score disk event times moved new
+-- The store says a word's score, before which it had so many blocks, and behind which so many. It
+-- held the word exactly where the list has it, and else takes it in.
+abbrev pub IsWritten : (own : List ℕ) → (word : ℕ) → (listed : List ℕ) → (is_held : Bool) → Said
+    → (before after : ℕ) → Type 0
+IsWritten own word listed is_held said before after = (said ≡ Score (record { 0 = own }))
+    × ((Contains listed word × (is_held ≡ true) × (after ≡ before))
+    ⊎ ((¬ Contains listed word) × (is_held ≡ false) × (after ≡ before + 1)))
 
--- it tells it to come again, and the log has nothing to do
-pub record LeavesOff {D : Type 0} (score : List ℕ → List ℕ) (disk : DiskOf D) (event : Event)
-    (old new : CoreState D) : Type 0 where
-  pub asked : CoreState D
-  pub again : Steps score disk event NotYet old asked
-  pub idle : Steps score disk LogAdvance Nothing asked new
-
--- A session asks for a word to be written until that is answered, which takes so many events. Where
--- the log has nothing to do, there is no answer.
-pub record AsksWrite {D : Type 0} (score : List ℕ → List ℕ) (disk : DiskOf D) (session word : ℕ)
-    (answer : Option Said) (events : ℕ) (old new : CoreState D) : Type 0 where
+-- A session writes a word, and is answered at once: there is room for all words.
+pub record AsksToWrite {D : Type 0} (score : List ℕ → List ℕ) (disk : DiskOf D)
+    (session word : ℕ) (listed : List ℕ) (is_held : Bool) (old new : CoreState D) : Type 0 where
   pub request : Request
   pub is_for : AsksFor (write 13 (word_of word)) request
-  pub times : ℕ
-  pub ready : CoreState D
-  pub puts_off : PutsOff score disk (asked_by session request) times old ready
-  pub ends : MatchOption answer
-      ((events ≡ 2 * times + 2) × LeavesOff score disk (asked_by session request) ready new)
-      (λ said. (events ≡ 2 * times + 1)
-      × Tells score disk (asked_by session request) said ready new)
-
--- what becomes of a word: the store held it, or takes it in, or has no room for it
-pub data Fate : Type 0 where
-  was_held : Fate
-  was_accepted : Fate
-  was_refused : Fate
-
--- The store says this to a write of a word that has this score, before which it had so many blocks,
--- and behind which so many. It holds a word exactly where the list has it.
-abbrev pub IsWritten : (own : List ℕ) → (word : ℕ) → (listed : List ℕ) → Fate → Said
-    → (before after : ℕ) → Type 0
-IsWritten own word listed was_held said before after = Contains listed word
-    × (said ≡ Score (record { 0 = own })) × (after ≡ before)
-IsWritten own word listed was_accepted said before after = (¬ Contains listed word)
-    × (said ≡ Score (record { 0 = own })) × (after ≡ before + 1)
-IsWritten own word listed was_refused said before after = (¬ Contains listed word)
-    × (said ≡ Refused ArenasFull) × (after ≡ before)
+  pub said : Said
+  pub tells : Tells score disk (asked_by session request) said old new
+  pub as_listed : IsWritten (score (word_of word)) word listed is_held said (history_len old)
+      (history_len new)
 
 -- a word that was taken in goes to the end of the list
-abbrev pub listed_after : Fate → (word : ℕ) → List ℕ → List ℕ
-listed_after was_held word listed = listed
-listed_after was_accepted word listed = listed ++ word ∷ []
-listed_after was_refused word listed = listed
+abbrev pub listed_after : (is_held : Bool) → (word : ℕ) → List ℕ → List ℕ
+listed_after is_held word listed = if is_held then listed else listed ++ word ∷ []
 
-abbrev pub with_written : Fate → Summary → Summary
-with_written was_held s = with_held s
-with_written was_accepted s = with_accepted s
-with_written was_refused s = with_refused s
-
--- what is counted and listed of an answer to a write, which was compared
-pub record NotesWrite {D : Type 0} (score : List ℕ → List ℕ) (word : ℕ) (said : Said)
-    (before : ℕ) (old new : StageState D) : Type 0 where
-  pub it : Fate
-  pub is : IsWritten (score (word_of word)) word old.listed it said before (history_len new.core)
-  pub listed : new.listed ≡ listed_after it word old.listed
-  pub counts : new.summary ≡ with_written it (with_compared true old.summary)
-
--- a write, in all
+-- what is said is compared, and counted
 pub record WritesWord {D : Type 0} (score : List ℕ → List ℕ) (disk : DiskOf D)
     (session word : ℕ) (old new : StageState D) : Type 0 where
-  pub answer : Option Said
-  pub events : ℕ
-  pub asks : AsksWrite score disk session word answer events old.core new.core
-  pub notes : let made = record old { summary = with_events events old.summary } in
-      MatchOption answer (new ≡ record made { core = new.core })
-      (λ said. NotesWrite score word said (history_len old.core) made new)
+  pub is_held : Bool
+  pub writes : AsksToWrite score disk session word old.listed is_held old.core new.core
+  pub same : new ≡ record {
+    core = new.core;
+    listed = listed_after is_held word old.listed;
+    summary = with_write is_held (with_compared true old.summary);
+  }
 
 -- ---- a read
 
@@ -238,4 +191,5 @@ abbrev pub LooksUpAll : {D : Type 0} → (List ℕ → List ℕ) → DiskOf D �
     → (old new : StageState D) → Type 0
 LooksUpAll score disk [] old new = new ≡ old
 LooksUpAll {D} score disk (word ∷ words) old new = (mid : StageState D)
-    × ((is_found : Bool) × LooksUp score disk 0 word is_found old mid) × LooksUpAll score disk words mid new
+    × ((is_found : Bool) × LooksUp score disk 0 word is_found old mid)
+    × LooksUpAll score disk words mid new

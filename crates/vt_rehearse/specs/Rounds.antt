@@ -12,9 +12,9 @@ abbrev pub mode_of : ℕ → CrashMode
 mode_of n = if n == 0 then Synced else if n == 1 then Written
     else if n == 2 then EvenWritten else Garbled
 
--- The round of this kind, from 0 to 15, whose further numbers are drawn from x on: of a write and a
--- read the session and then the word; of a sync the session; of a shard's work the shard; of a crash
--- its mode.
+-- The round of this kind, from 0 to 15, whose further numbers are drawn from x on: of a write and
+-- a read the session and then the word; of a sync the session; of a shard's work the shard; of a
+-- crash its mode.
 abbrev pub round_of : (kind x : ℕ) → Round
 round_of kind x =
     if nat_lt kind 6 then Write (drawn x 3) (drawn (next_of x) 64)

@@ -1,5 +1,4 @@
 -- The store of a rehearsal.
-use Rattle.std.specs.Prelude.{ℕ}
 use Rattle.vt_fresh.specs.declared.shape.Shape.{Shape}
 use Rattle.vt_shard.specs.declared.mounting.Sizes.{Sizes}
 

@@ -1,5 +1,5 @@
 -- A rehearsal as a whole, and what its summary says.
-use Rattle.std.specs.Prelude.{◌≡◌, ℕ, ◌+◌, ◌≤◌, Bool, true, false, List, [], count_by}
+use Rattle.std.specs.Prelude.{◌≡◌, ℕ, ◌+◌, Bool, true, false, List, [], count_by}
 use Rattle.sha1.specs.Sha1.{sha1}
 use Rattle.vt_core.specs.Core.{history_len}
 use Rattle.vt_core.specs.Mounting.{Mounts, devices_in, tables_in}
@@ -9,7 +9,7 @@ use Rattle.vt_fresh.specs.Store.{AreFresh}
 use Rattle.vt_memdisk.specs.declared.crash.CrashMode.{CrashMode}
 use Rattle.vt_rehearse.specs.declared.TheConstants.{SESSIONS}
 use Rattle.vt_rehearse.specs.declared.rounds.Round.{Round}
-use Rattle.vt_rehearse.specs.declared.rounds.Round.TheVariants.{Write, Read, Sync, Commit, Begin, Advance, Evict, Crash}
+use Rattle.vt_rehearse.specs.declared.rounds.Round.TheVariants.{Write, Read, Sync, Crash}
 use Rattle.vt_rehearse.specs.declared.summary.Summary.{Summary}
 use Rattle.vt_rehearse.specs.declared.words.TheConstants.{WORDS}
 use Rattle.vt_rehearse.specs.Counts.{nothing_done}
@@ -59,14 +59,14 @@ abbrev pub is_crash : Round → Bool
 is_crash (Crash mode) = true
 is_crash _ = false
 
--- Each read, sync and crash of these rounds is counted, and each write that was answered. All that
--- the store gave was compared with the list, and was as the list says.
+-- Each write, read, sync and crash of these rounds is counted. All that the store gave was compared
+-- with the list, and was as the list says.
 pub record AddsUp (rounds : List Round) (s : Summary) : Type 0 where
-  pub writes : s.writes ≤ count_by is_write rounds
+  pub writes : s.writes ≡ count_by is_write rounds
   pub reads : s.reads ≡ count_by is_read rounds
   pub syncs : s.syncs ≡ count_by is_sync rounds
   pub crashes : s.crashes ≡ count_by is_crash rounds
-  pub answers : s.accepted + s.held ≤ s.writes
+  pub answers : s.accepted + s.held ≡ s.writes
   pub found : s.found + s.missing ≡ s.reads
   pub blocks : s.blocks + s.lost ≡ s.accepted
   pub compared : s.compared ≡ s.writes + s.reads + s.syncs + s.crashes + WORDS

@@ -12,6 +12,10 @@ all_words = range_with_len 0 WORDS
 abbrev pub word_of : (w : ℕ) → List ℕ
 word_of w = replicate (1 + 37 * w % 200) w
 
+-- how long a word is at most
+abbrev pub WORD_MOST : ℕ
+WORD_MOST = 200
+
 -- its block, of the type of data
 abbrev pub block_of : (w : ℕ) → Block
 block_of w = record { kind = 13; bytes = word_of w }

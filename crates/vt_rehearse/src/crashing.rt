@@ -9,7 +9,7 @@ ghost use Rattle.vt_model.specs.History.{History};
 ghost use Rattle.vt_part.specs.Parts.{disk_of, table_of};
 ghost use Rattle.vt_part.specs.Table.{IsPartition};
 ghost use Rattle.vt_rehearse.specs.Limits.{AreAtMost, Grows, MOST};
-ghost use Rattle.vt_rehearse.specs.Crashed.{IsLeft, IsLeftMounted, Restarts};
+ghost use Rattle.vt_rehearse.specs.Crashed.{IsLeft, IsLeftMounted, KeepsSealed, Restarts};
 ghost use Rattle.vt_rehearse.specs.Rehearsal.{CrashesIn};
 ghost use Rattle.vt_rehearse.specs.Stage.{AreAlike, IsMemory, IsSteady, none_waits};
 
@@ -17,10 +17,7 @@ use crate::opening::open;
 use crate::stage::Stage;
 use std::alloc::Global;
 use vt_base::{NoMemory, Scorer};
-use vt_core::{
-    Core, Devices, crash_gives_a_prefix, devices_have_a_log, recovery_is_a_crash,
-    stores_can_be_mounted,
-};
+use vt_core::{Core, Devices, crash_gives_a_prefix, recovery_is_a_crash, stores_can_be_mounted};
 use vt_disk::Disk;
 use vt_memdisk::{CrashMode, MemDisk, Plan};
 use vt_part::Part;
@@ -97,10 +94,10 @@ fn restart<D: Crashable, S: Scorer + Drop>(
     ensures restarts { IfOk result (Restarts S.score_of D.Disk D.leaves mode core) }
     ensures crashes { (h : History) → IsSteady S.score_of D.Disk core h → IfOk result (λ it.
         (g : History) × Crashes (machine_of core h) (machine_of it g)
-        × IsSteady S.score_of D.Disk it g × (it.waiting ≡ none_waits)) }
+        × IsSteady S.score_of D.Disk it g × (it.waiting ≡ none_waits)
+        × KeepsSealed it.log.base h g) }
 {
     crash_gives_a_prefix::<D>();
-    devices_have_a_log::<D>();
     recovery_is_a_crash::<D>();
     stores_can_be_mounted::<D>();
     let Devices {

@@ -1,13 +1,9 @@
 //! The store of a rehearsal.
 
-ghost use Rattle.std.specs.Prelude.{◌≡◌, ◌⊎◌, ◌+◌, ◌^◌, ◌<◌, ◌≤◌, ℕ, All, IfOk, IsTrue, List, length, map};
+ghost use Rattle.std.specs.Prelude.{◌+◌, ◌^◌, ◌<◌, ◌≤◌, All, IfOk, length};
 ghost use Rattle.vt_base.specs.declared.mount.MountBad.{MountBad};
-ghost use Rattle.vt_core.specs.Files.{all_of};
-ghost use Rattle.vt_core.specs.Mounting.{IsLogOf, KeepsLimits, Mounts, devices_in, tables_in};
-ghost use Rattle.vt_core.specs.Refusals.{CountsRefusal};
+ghost use Rattle.vt_core.specs.Mounting.{Mounts, devices_in, tables_in};
 ghost use Rattle.vt_log.specs.Logs.{arena_count};
-ghost use Rattle.vt_model.specs.History.{History};
-ghost use Rattle.vt_model.specs.Places.{Setup};
 ghost use Rattle.vt_part.specs.Parts.{disk_of, table_of};
 ghost use Rattle.vt_part.specs.Table.{end_of};
 ghost use Rattle.vt_rehearse.specs.Crashed.{CanBeMounted};

@@ -6,7 +6,7 @@ ghost use Rattle.vt_base.specs.declared.why.Why.{Why};
 ghost use Rattle.vt_rehearse.specs.Limits.{AreAtMost, Grows, MOST, ROUNDS_MOST};
 ghost use Rattle.vt_rehearse.specs.Rehearsal.{CountsRead, LooksUp, LooksUpAll, ReadsWord};
 ghost use Rattle.vt_rehearse.specs.Stage.{AreAlike, IsMemory};
-ghost use Rattle.vt_rehearse.specs.Words.{AreApart, all_words, word_of};
+ghost use Rattle.vt_rehearse.specs.Words.{AreApart, all_words};
 ghost use Rattle.vt_rehearse.specs.declared.TheConstants.{SESSIONS};
 ghost use Rattle.vt_rehearse.specs.declared.words.TheConstants.{WORDS};
 

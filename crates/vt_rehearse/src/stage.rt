@@ -1,16 +1,18 @@
 //! The store that is rehearsed, and the plain list.
 
-ghost use Rattle.std.specs.Prelude.{◌≡◌, ◌↔◌, ◌-◌, ◌<◌, ◌≤◌, Bool, IsTrue, [], ◌∷◌, ◌++◌, length, take};
-ghost use Rattle.std.specs.List.{Contains};
+ghost use Rattle.std.specs.Prelude.{◌≡◌, ◌≢◌, ◌-◌, ◌<◌, ◌≤◌, ℕ, Bool, false, Some, length, slice_get, take};
+ghost use Rattle.std.specs.List.{AllPairs};
 ghost use Rattle.vt_base.specs.declared.answer.Said.{Said};
 ghost use Rattle.vt_core.specs.Core.{history_len};
 ghost use Rattle.vt_core.specs.Events.{IsFor};
 ghost use Rattle.vt_core.specs.Steps.{Steps};
-ghost use Rattle.vt_rehearse.specs.Counts.{with_accepted, with_compared, with_crash, with_events, with_held, with_read, with_refused, with_synced};
+ghost use Rattle.vt_rehearse.specs.Counts.{with_compared, with_crash, with_events, with_read, with_synced, with_write};
 ghost use Rattle.vt_rehearse.specs.Limits.{AreAtMost, LIMIT};
-ghost use Rattle.vt_rehearse.specs.Rehearsal.{Fate, IsRead, IsWritten, Judges};
+ghost use Rattle.vt_rehearse.specs.Rehearsal.{IsRead, IsWritten, Judges, listed_after};
 ghost use Rattle.vt_rehearse.specs.Words.{word_of};
+ghost use Rattle.vt_rehearse.specs.declared.TheConstants.{SHARDS};
 ghost use Rattle.vt_rehearse.specs.declared.words.TheConstants.{WORDS};
+ghost use Rattle.vt_shard.specs.Shard.{ShardState};
 
 use crate::summary::Summary;
 use crate::verdicts::{is_read_right, is_sync_right, is_write_right};
@@ -88,6 +90,16 @@ impl<D: Disk, S: Scorer> Stage<D, S> {
         self.core.score(block)
     }
 
+    /// No two dirty entries of a shard are of one key.
+    pub(crate) fn dirty_entries_differ(&self)
+        requires { length self.now.core.shards ≡ SHARDS }
+        ensures { (i : ℕ) (s : ShardState D) → slice_get self.now.core.shards i ≡ Some s
+            → AllPairs (λ a b. a.key ≢ b.key) s.index.dirty }
+    {
+        self.core.spare(0);
+        self.core.spare(1);
+    }
+
     /// What was counted so far.
     pub(crate) fn summary(&self) -> Summary
         ensures { result ≡ self.now.summary }
@@ -100,13 +112,6 @@ impl<D: Disk, S: Scorer> Stage<D, S> {
         ensures { result ≡ length self.now.listed }
     {
         self.listed.len() as u64
-    }
-
-    /// Whether a word is in the list.
-    pub(crate) fn lists(&self, word: u32) -> bool
-        ensures { IsTrue result ↔ Contains self.now.listed word }
-    {
-        self.listed.contains(&word)
     }
 
     /// Compares what a reader of a word was told.
@@ -124,8 +129,8 @@ impl<D: Disk, S: Scorer> Stage<D, S> {
     pub(crate) fn judge_write(&mut self, word: u32, said: &Said, before: u64)
         requires word { word < WORDS }
         requires most { AreAtMost LIMIT self.old.summary }
-        ensures { Judges ((fate : Fate) × IsWritten (S.score_of (word_of word)) word
-            self.old.listed fate said.now before (history_len self.old.core)) self.old self.new }
+        ensures { Judges ((is_held : Bool) × IsWritten (S.score_of (word_of word)) word
+            self.old.listed is_held said.now before (history_len self.old.core)) self.old self.new }
     {
         let own = self.score(Word::new(word).as_slice());
         let after = self.history_len();
@@ -165,35 +170,24 @@ impl<D: Disk, S: Scorer> Stage<D, S> {
         self.summary.ok = self.summary.ok && is_right;
     }
 
-    /// Counts a write that added its block, and lists the word.
-    pub(crate) fn note_accepted(&mut self, word: u32)
-        requires room { length self.old.listed < WORDS }
+    /// Counts a write, which is one event, of a word that the store held, or that it took in; then
+    /// it is listed.
+    pub(crate) fn note_write(&mut self, word: u32, is_held: bool)
+        requires room { is_held ≡ false → length self.old.listed < WORDS }
         requires most { AreAtMost LIMIT self.old.summary }
         ensures { self.new ≡ record self.old {
-          listed = self.old.listed ++ word ∷ [];
-          summary = with_accepted self.old.summary;
+          listed = listed_after is_held word self.old.listed;
+          summary = with_write is_held self.old.summary;
         } }
     {
-        self.listed.push_reserved(word);
+        self.summary.events += 1;
         self.summary.writes += 1;
-        self.summary.accepted += 1;
-    }
-
-    /// Counts a write of a block that was held.
-    pub(crate) fn note_held(&mut self)
-        requires { AreAtMost LIMIT self.old.summary }
-        ensures { self.new ≡ record self.old { summary = with_held self.old.summary } }
-    {
-        self.summary.writes += 1;
-        self.summary.held += 1;
-    }
-
-    /// Counts a write for which there was no room.
-    pub(crate) fn note_refused(&mut self)
-        requires { AreAtMost LIMIT self.old.summary }
-        ensures { self.new ≡ record self.old { summary = with_refused self.old.summary } }
-    {
-        self.summary.writes += 1;
+        if is_held {
+            self.summary.held += 1;
+        } else {
+            self.listed.push_reserved(word);
+            self.summary.accepted += 1;
+        }
     }
 
     /// Counts a read, which is one event, that gave a block, or for which there was none.

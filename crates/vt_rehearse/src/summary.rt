@@ -8,7 +8,7 @@ ghost use Rattle.vt_rehearse.specs.Counts.{nothing_done};
 pub struct Summary {
     /// Events of the store that the rounds took.
     pub events: u64,
-    /// Writes that were answered.
+    /// Writes.
     pub writes: u64,
     /// Those that added a block.
     pub accepted: u64,

@@ -1,8 +1,6 @@
 //! Rehearsals of some seeds.
 
 use super::*;
-use crate::draws::Draws;
-use std::alloc::Global;
 use std::test::Fail;
 use vt_out::Silent;
 
@@ -81,34 +79,6 @@ fn rehearsals_are_those_of_the_seed(rt: HostRuntime) -> Result<(), Fail> {
     for (seed, count, wanted) in ROUNDS {
         let summary = rehearse(rt.alloc(), &mut Silent, seed, count)?;
         assert_eq!(rt; summary, wanted, "seed {seed}, {count} rounds");
-    }
-    Ok(())
-}
-
-/// How many of the rounds that a seed draws are writes.
-fn writes_drawn(seed: u64, count: u32) -> u64 {
-    let mut draws = Draws::new(seed);
-    let mut writes: u64 = 0;
-    for _ in 0..count {
-        if let Round::Write { .. } = Round::draw(&mut draws) {
-            writes = writes.saturating_add(1);
-        }
-    }
-    writes
-}
-
-/// Each write that is drawn is answered, and each that is answered is accepted or held: the store
-/// has room for all words.
-fn is_whole(alloc: Global, seed: u64, count: u32) -> Result<bool, Fail> {
-    let summary = rehearse(alloc, &mut Silent, seed, count)?;
-    let answered = summary.accepted + summary.held == summary.writes;
-    Ok(answered && summary.writes == writes_drawn(seed, count) && summary.ok)
-}
-
-#[test]
-fn each_write_is_answered(rt: HostRuntime) -> Result<(), Fail> {
-    for seed in 100..110 {
-        assert!(rt; is_whole(rt.alloc(), seed, 500)?, "seed {seed}");
     }
     Ok(())
 }

@@ -3,7 +3,7 @@
 ghost use Rattle.std.specs.Prelude.{◌≡◌, ◌↔◌, ◌+◌, ◌<◌, ℕ, Bool, IsTrue, List, if◌then◌else◌};
 ghost use Rattle.vt_base.specs.declared.answer.Said.{Said};
 ghost use Rattle.vt_base.specs.declared.why.Why.{Why};
-ghost use Rattle.vt_rehearse.specs.Rehearsal.{Fate, IsRead, IsWritten};
+ghost use Rattle.vt_rehearse.specs.Rehearsal.{IsRead, IsWritten};
 ghost use Rattle.vt_rehearse.specs.declared.words.TheConstants.{WORDS};
 
 use crate::words::Word;
@@ -23,7 +23,7 @@ pub(crate) fn is_read_right(listed: &[u32], word: u32, said: &Said) -> bool
 }
 
 /// Whether a writer of a word is told its score, and the store has one block more just where the
-/// list hasn't the word; or that there is no room for such a word.
+/// list hasn't the word.
 pub(crate) fn is_write_right(
     listed: &[u32],
     word: u32,
@@ -33,13 +33,12 @@ pub(crate) fn is_write_right(
     after: u64,
 ) -> bool
     ensures { IsTrue result
-        ↔ ((fate : Fate) × IsWritten own.0 word listed.now fate said.now before after) }
+        ↔ ((is_held : Bool) × IsWritten own.0 word listed.now is_held said.now before after) }
 {
     let is_listed = listed.contains(&word);
     match said {
         Said::Score(given) => *given == own && has_grown(before, after, !is_listed),
-        Said::Refused(why) => !is_listed && *why == Why::ArenasFull && before == after,
-        Said::Block(_) | Said::Synced => false,
+        Said::Block(_) | Said::Refused(_) | Said::Synced => false,
     }
 }
 

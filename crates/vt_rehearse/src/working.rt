@@ -1,6 +1,6 @@
 //! Syncs, and the store's own work.
 
-ghost use Rattle.std.specs.Prelude.{◌≡◌, ◌+◌, ◌<◌, ◌≤◌, ℕ, [], ◌∷◌, length};
+ghost use Rattle.std.specs.Prelude.{◌≡◌, ◌+◌, ◌<◌, ◌≤◌, ℕ, [], ◌∷◌};
 ghost use Rattle.vt_core.specs.Core.{history_len};
 ghost use Rattle.vt_core.specs.Events.{IsFor};
 ghost use Rattle.vt_log.specs.Owed.{owed};

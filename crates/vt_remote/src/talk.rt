@@ -13,7 +13,7 @@ use vt_dial::Dialer;
 use vt_out::Link;
 
 /// Makes a link to the server at an address, and greets it. Where that fails the link is taken back.
-pub(crate) fn meet<D: Dialer, S: Scorer + Drop>(
+pub fn meet<D: Dialer, S: Scorer + Drop>(
     alloc: Global,
     dialer: &mut D,
     address: &Address,
@@ -40,7 +40,7 @@ pub(crate) fn meet<D: Dialer, S: Scorer + Drop>(
 }
 
 /// Says goodbye to a server, if it still listens, and closes the link to it.
-pub(crate) fn part<D: Dialer, S: Scorer + Drop>(dialer: &mut D, client: Client<D::Link, S>)
+pub fn part<D: Dialer, S: Scorer + Drop>(dialer: &mut D, client: Client<D::Link, S>)
     ensures parts { Parts D.Link.Link (IsTrue D.tells) client (D.dialled dialer.old)
         (D.dialled dialer.new) }
     ensures faults { D.faults dialer.new ≡ D.faults dialer.old }

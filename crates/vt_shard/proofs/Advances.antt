@@ -9,7 +9,7 @@ use Rattle.vt_icache.specs.Index.{IndexState, entry_of}
 use Rattle.vt_isect.specs.Agreement.{IsOfBlock, HasBlock, IsInBucket, KnownAgrees}
 use Rattle.vt_isect.specs.Layout.{InRange}
 use Rattle.vt_isect.specs.Merging.{HasKey}
-use Rattle.vt_isect.specs.Section.{SectionState, HasBucket, IsOfGroup, IsTodo, bucket_number, entries_of}
+use Rattle.vt_isect.specs.Section.{SectionState, PutsEntries, IsOfGroup, IsTodo, bucket_number, entries_of}
 use Rattle.vt_isect.specs.Sound.{Known, DiskHolds}
 use Rattle.vt_isect.specs.Writeback.{Advances, Completes, Follows, Keeps, WritesBack}
 use Rattle.vt_isect.specs.declared.bad.ShardErr.{ShardErr}
@@ -49,7 +49,7 @@ module _ {D : Type 0} (score : List ℕ → List ℕ) (c : Setup) (disk : DiskOf
     (result : Result Step ShardErr) (v : SectionState D) (steps : Advances result t.section v)
     (keeps : Keeps disk result t.section v)
     (wrote : (entry : Entry) → WritesBack t.section v entry
-    ↔ (Completes result t.section (bucket_number t.section entry) × IsOfGroup t.section entry))
+    ↔ (Completes result t.section (bucket_number t.section entry) × IsOfGroup t.section (bucket_number t.section entry) entry))
     (some : (n : ℕ) → Completes result t.section n → (entry : Entry) × WritesBack t.section v entry × (bucket_number t.section entry ≡ n))
     (within : (entry : Entry) → WritesBack t.section v entry → InRange t.section.head t.section.buckets (bucket_number t.section entry))
     (index : IndexState) (bucket : Option ReadBucket) (writeback ended_at : Option ℕ) (moves : MovesOn t v index bucket) where
@@ -67,7 +67,7 @@ module _ {D : Type 0} (score : List ℕ → List ℕ) (c : Setup) (disk : DiskOf
   of_written entry it =
       let done = (wrote entry).0 it in
       let todo : IsTodo t.section entry = (
-        subst HasBucket (sym done.0.1) tt,
+        done.0.2.1.0,
         in_drop (entries_of t.section) t.section.written v.written entry it,
       ) in
       of_block_of_front score c h durable entry (s.agrees.todo entry todo)
@@ -81,12 +81,12 @@ module _ {D : Type 0} (score : List ℕ → List ℕ) (c : Setup) (disk : DiskOf
     still_there n entry old within was of at there = ⊎_elim
         (λ (done : Completes result t.section n).
         let new = follows.merged n old (first_same t.section v same) done was in
-        let put : (Contains old entry ⊎ IsOfGroup t.section entry) → (entries : List Entry) × (knows n ≡ Some entries) × Contains entries entry = λ it.
+        let put : (Contains old entry ⊎ IsOfGroup t.section n entry) → (entries : List Entry) × (knows n ≡ Some entries) × Contains entries entry = λ it.
         let other = new.2.keeps entry it in
         let its = of_block_of_front score c h durable other.0 (later.blocks n new.0 other.0 (forth t.section v same n within) new.1 other.1).0 in
         let is_one = one_entry score c h its.0 of.0 other.0 entry s.keys its.1 of.1 other.2 in
         (new.0, new.1, subst (Contains new.0) is_one.1 other.1) in
-        ⊎_elim (λ (has : Contains old entry). put (inl has)) (λ (came : WritesBack t.section v entry). put (inr ((wrote entry).0 came).1)) there)
+        ⊎_elim (λ (has : Contains old entry). put (inl has)) (λ (came : WritesBack t.section v entry). put (inr (((wrote entry).0 came).1.0, at))) there)
         (λ (not_done : ¬ Completes result t.section n). (
           old,
           follows.kept n (first_same t.section v same) not_done ∙ was,
@@ -156,10 +156,10 @@ module _ {D : Type 0} (score : List ℕ → List ℕ) (c : Setup) (disk : DiskOf
         let new = follows.merged n old.0 (first_same t.section v same) done old.1 in
         let same_list : entries ≡ new.0 = one_list entries new.0 (sym known_is ∙ new.1) in
         ⊎_elim
-        (λ (group : IsOfGroup t.section has.0).
-        let at : n ≡ bucket_number t.section has.0 = done.3 ∙ sym group.1 in
-        moves.went info has.0 it ((wrote has.0).1 (subst (λ (k : ℕ). Completes result t.section k) at done, group)) has.2)
-        (λ (kept : Contains old.0 has.0 × ¬ HasKey (IsOfGroup t.section) has.0.key).
+        (λ (group : IsOfGroup t.section n has.0).
+        moves.went info has.0 it
+        ((wrote has.0).1 (subst (λ (k : ℕ). Completes result t.section k) (sym group.1) done, (group.0, refl))) has.2)
+        (λ (kept : Contains old.0 has.0 × ¬ HasKey (IsOfGroup t.section n) has.0.key).
         s.unfiled info old.0 (moves.fewer info it) old.1 (has.0, kept.0, has.2))
         (new.2.from has.0 (subst (λ (l : List Entry). Contains l has.0) same_list has.1)))
         (λ (not_done : ¬ Completes result t.section n).
@@ -198,7 +198,7 @@ module _ {D : Type 0} (score : List ℕ → List ℕ) (c : Setup) (disk : DiskOf
       let it = keeps s.known s.section in
       step_sound it.0 it.1 (it.3 score c (take durable h) s.agrees) it.2
 
--- ---- a step that puts nothing into a bucket, the last one, and the others
+-- ---- the last step, and the others
 
 module _ {D : Type 0} (score : List ℕ → List ℕ) (c : Setup) (disk : DiskOf D) (t : ShardState D) (h : History) (durable from : ℕ)
     (s : IsSoundFrom score c disk t h durable from) (list : Option ℕ) (waiting : List ℕ) (w : IsWell t list waiting)
@@ -206,12 +206,12 @@ module _ {D : Type 0} (score : List ℕ → List ℕ) (c : Setup) (disk : DiskOf
     (result : Result Step ShardErr) (v : SectionState D) (steps : Advances result t.section v)
     (keeps : Keeps disk result t.section v)
     (wrote : (entry : Entry) → WritesBack t.section v entry
-    ↔ (Completes result t.section (bucket_number t.section entry) × IsOfGroup t.section entry)) where
+    ↔ (Completes result t.section (bucket_number t.section entry) × IsOfGroup t.section (bucket_number t.section entry) entry)) where
   each : (entry : Entry) → WritesBack t.section v entry → InRange t.section.head t.section.buckets (bucket_number t.section entry)
   each entry came = written_within t below it result v steps w.in_range entry came
 
   one : (n : ℕ) → Completes result t.section n → (entry : Entry) × WritesBack t.section v entry × (bucket_number t.section entry ≡ n)
-  one n completes = some_written t below it result v steps wrote n completes
+  one n completes = some_written t below it result v steps n completes
 
   none_moves : written_back t.section v ≡ [] → MovesOn t v t.index t.bucket
   none_moves none = record {
@@ -224,10 +224,6 @@ module _ {D : Type 0} (score : List ℕ → List ℕ) (c : Setup) (disk : DiskOf
     where
       no : (entry : Entry) → ¬ WritesBack t.section v entry
       no entry came = Contains-nil entry (subst (λ (l : List Entry). Contains l entry) none came)
-
-  pub sound_idle : written_back t.section v ≡ [] → IsSoundFrom score c disk (record t { section = v }) h durable from
-  sound_idle none = stays_sound score c disk t h durable from s result v steps keeps wrote one each
-      t.index t.bucket t.writeback t.ended_at (none_moves none)
 
   pub sound_ended : (ended_at : Option ℕ) → v.phase ≡ Rest → t.section.phase ≢ Rest
       → IsSoundFrom score c disk (record t { section = record v { entries = None }; writeback = None; ended_at = ended_at }) h durable from

@@ -1,10 +1,10 @@
 -- A disk stays sound for a shard when a writeback begins.
-use Rattle.std.proofs.Common.{◌≡◌, ◌≢◌, ◌⊎◌, inl, inr, ⊎_elim, ℕ, ◌-◌, ◌<◌, ◌≤◌, ◌==◌, max, get_or, List, [], length, take, drop, Option, Some, refl, sym, ◌∙◌, ap, subst, arith, length-take}
+use Rattle.std.proofs.Common.{◌≡◌, ◌≢◌, ◌⊎◌, inl, inr, ⊎_elim, ℕ, ◌+◌, ◌-◌, ◌*◌, ◌<◌, ◌≤◌, ◌==◌, max, get_or, List, [], length, take, drop, Option, Some, refl, sym, ◌∙◌, ap, subst, arith, length-take}
 use Rattle.std.specs.Prelude.{IsPermutation, MatchOption, slice_get}
 use Rattle.std.specs.List.{Contains, count_by}
 use Rattle.std.specs.Option.{option_map_or}
 use Rattle.std.proofs.lemmas.Bool.{cases_lt}
-use Rattle.std.proofs.lemmas.List.Sorted.{Contains-permutation, IsPermutation-sym, length_permutation}
+use Rattle.std.proofs.lemmas.List.Sorted.{Contains-permutation, IsPermutation-sym}
 use Rattle.vt_base.specs.declared.place.Entry.{Entry}
 use Rattle.vt_base.specs.declared.place.Info.{Info}
 use Rattle.vt_disk.specs.Members.{DiskOf}
@@ -12,9 +12,9 @@ use Rattle.vt_icache.specs.Index.{entry_of, entries_below}
 use Rattle.vt_isect.specs.Agreement.{IsEntryOf, IsOfBlock, IsCovered, NoOthers, KnownAgrees}
 use Rattle.vt_isect.specs.Entries.{EntriesState}
 use Rattle.vt_isect.specs.Layout.{InRange}
-use Rattle.vt_isect.specs.Section.{SectionState, HasBucket, entries_of}
+use Rattle.vt_isect.specs.Section.{SectionState, PutsEntries, entries_of}
 use Rattle.vt_isect.specs.Sound.{DiskHolds}
-use Rattle.vt_isect.specs.Writeback.{BeginsBehind}
+use Rattle.vt_isect.specs.Writeback.{BeginsBehind, calls_left}
 use Rattle.vt_isect.specs.declared.head.Head.{Head}
 use Rattle.vt_isect.specs.declared.phase.Phase.TheVariants.{Rest}
 use Rattle.vt_isect.proofs.Crowd.{one_entry}
@@ -24,6 +24,7 @@ use Rattle.vt_shard.specs.Shard.{ShardState, IsDirty, IsUnderWay, IsWell, OnlyMa
 use Rattle.vt_shard.specs.Sound.{IsSoundFrom}
 use Rattle.vt_shard.specs.declared.TheConstants.{ROOM}
 use Rattle.vt_shard.proofs.Blocks.{entry_in_front, bucket_of_front}
+use Rattle.vt_shard.proofs.IsFiling.{begins_filing}
 use Rattle.vt_shard.proofs.Lists.{AreApart, apart_permuted, below_apart, below_short, from_below, to_below}
 
 module _ {D : Type 0} (score : List ℕ → List ℕ) (c : Setup) (disk : DiskOf D) (t : ShardState D) (h : History) (durable from : ℕ)
@@ -136,7 +137,8 @@ module _ {D : Type 0} (score : List ℕ → List ℕ) (c : Setup) (disk : DiskOf
 module _ {D : Type 0} (t : ShardState D) (list : Option ℕ) (waiting : List ℕ) (w : IsWell t list waiting)
     (v : SectionState D) (below mark : ℕ) (ordered : EntriesState) (head : v.head ≡ t.section.head) (buckets : v.buckets ≡ t.section.buckets)
     (next : v.next ≡ record t.section.head { mark = mark }) (begins : BeginsBehind 0 v) (entries : v.entries ≡ Some ordered)
-    (rises : v.head.mark ≤ v.next.mark) (same : IsPermutation (entries_below below t.index.dirty) ordered.items) (room : ROOM ≤ ordered.room) where
+    (rises : v.head.mark ≤ v.next.mark) (same : IsPermutation (entries_below below t.index.dirty) ordered.items) (room : ROOM ≤ ordered.room)
+    (few : calls_left v ≤ 6 * length (entries_below below t.index.dirty) + 4) where
   items : entries_of v ≡ ordered.items
   items = ap (λ (o : Option EntriesState). option_map_or (λ list. list.items) o []) entries
 
@@ -162,26 +164,24 @@ module _ {D : Type 0} (t : ShardState D) (list : Option ℕ) (waiting : List ℕ
     );
     apart = subst (AreApart (λ (x : Entry). x.key)) (sym items)
         (apart_permuted (λ (x : Entry). x.key) (entries_below below t.index.dirty) ordered.items same (below_apart below t.index.dirty w.keys));
-    group = λ has. ⊎_elim
-        (λ group. let e = group.1 in let lt = group.2 in (omega (arith, e, lt), group.3.within))
-        (λ head. absurd (subst HasBucket head.0 has))
+    filing = λ has. ⊎_elim
+        (λ group. begins_filing v 0 group)
+        (λ head. absurd (subst PutsEntries head.0 has))
         begins;
     behind = λ is. ⊎_elim
-        (λ group. absurd (let no = sym group.0 ∙ is in cc))
+        (λ group. absurd (let no = sym group.0.0 ∙ is in cc))
         (λ head. head.1 ∙ sym head.3)
         begins;
     list = subst (λ (o : Option EntriesState). MatchOption o ⊥ (λ list. ROOM ≤ list.room)) (sym entries) room;
-    most =
-        let len : length ordered.items ≡ length (entries_below below t.index.dirty) = length_permutation (entries_below below t.index.dirty) ordered.items same in
+    left =
         let short = below_short below t.index.dirty in
         let most = w.most in
-        let e : length (entries_of v) ≡ length ordered.items = ap length items in
-        omega (arith, len, short, most, e);
+        omega (arith, few, short, most);
   }
 
   busy : v.phase ≢ Rest
   busy is = ⊎_elim
-      (λ group. let no = sym group.0 ∙ is in cc)
+      (λ group. let no = sym group.0.0 ∙ is in cc)
       (λ head. let no = sym head.0 ∙ is in cc)
       begins
 

@@ -1,5 +1,5 @@
 -- What holds of every shard goes on to hold.
-use Rattle.std.proofs.Common.{◌≡◌, ◌≢◌, ◌⊎◌, inl, inr, ⊎_elim, ℕ, zero, suc, ◌+◌, ◌-◌, ◌^◌, ◌<◌, ◌≤◌, ◌==◌, Bool, true, false, cond, List, [], ◌∷◌, ◌++◌, length, set, true≢false, Option, Some, None, refl, sym, ◌∙◌, ap, subst, arith, length-append}
+use Rattle.std.proofs.Common.{◌≡◌, ◌≢◌, ◌⊎◌, inl, inr, ⊎_elim, ℕ, zero, suc, ◌+◌, ◌-◌, ◌*◌, ◌^◌, ◌<◌, ◌≤◌, ◌==◌, Bool, true, false, cond, List, [], ◌∷◌, ◌++◌, length, set, true≢false, Option, Some, None, refl, sym, ◌∙◌, ap, subst, arith, length-append}
 use Rattle.std.specs.Prelude.{◌↔◌, MatchOption, IsSome, IsTrue, slice_get}
 use Rattle.std.specs.List.{Contains}
 use Rattle.std.proofs.lemmas.Bool.{cases_eq, cases_Bool}
@@ -14,9 +14,10 @@ use Rattle.vt_icache.specs.Index.{dirty_info, is_info_of}
 use Rattle.vt_icache.proofs.Found.{find_none}
 use Rattle.vt_icache.proofs.Pairs.{same_as_itself}
 use Rattle.vt_isect.specs.Layout.{InRange}
-use Rattle.vt_isect.specs.Section.{IsAtRest}
+use Rattle.vt_isect.specs.Section.{SectionState, IsAtRest}
+use Rattle.vt_isect.specs.Writeback.{calls_left, most_calls}
 use Rattle.vt_isect.specs.declared.phase.Phase.{Phase}
-use Rattle.vt_isect.specs.declared.phase.Phase.TheVariants.{Rest, ReadSelector, ReadFrame, ChangeBucket, ChangeHead}
+use Rattle.vt_isect.specs.declared.phase.Phase.TheVariants.{Rest, ReadSelector, ReadFrame, WriteFrame, SyncFrames, WriteSelector, SyncSelectors, ChangeHead}
 use Rattle.vt_shard.specs.Shard.{ShardState, ReadBucket, HasScore, IsWell, IsUnderWay, bucket_at, dirty_in}
 use Rattle.vt_shard.specs.declared.TheConstants.{ROOM}
 use Rattle.vt_shard.proofs.Lists.{apart_push}
@@ -25,7 +26,10 @@ pub rests : (p : Phase) → (p ≡ Rest) ⊎ (p ≢ Rest)
 rests Rest = inl refl
 rests ReadSelector = inr (λ e. cc)
 rests (ReadFrame s) = inr (λ e. cc)
-rests ChangeBucket = inr (λ e. cc)
+rests (WriteFrame s) = inr (λ e. cc)
+rests SyncFrames = inr (λ e. cc)
+rests (WriteSelector j) = inr (λ e. cc)
+rests SyncSelectors = inr (λ e. cc)
 rests ChangeHead = inr (λ e. cc)
 
 -- what the test of a section at rest says
@@ -52,6 +56,17 @@ slice_get-set_other (y ∷ ys) zero zero x other = absurd (other refl)
 slice_get-set_other (y ∷ ys) zero (suc j) x other = refl
 slice_get-set_other (y ∷ ys) (suc i) zero x other = refl
 slice_get-set_other (y ∷ ys) (suc i) (suc j) x other = slice_get-set_other ys i j x (λ e. other (ap suc e))
+
+-- what is left to do is the same on another disk
+calls_same : {D : Type 0} (p : Phase) (t : SectionState D) (d : D) → most_calls p (record t { disk = d }) ≡ most_calls p t
+calls_same Rest t d = refl
+calls_same ReadSelector t d = refl
+calls_same (ReadFrame s) t d = refl
+calls_same (WriteFrame s) t d = refl
+calls_same SyncFrames t d = refl
+calls_same (WriteSelector j) t d = refl
+calls_same SyncSelectors t d = refl
+calls_same ChangeHead t d = refl
 
 module _ {D : Type 0} (t : ShardState D) (list : Option ℕ) (waiting : List ℕ) (w : IsWell t list waiting) where
   -- a shard without a writeback is at rest
@@ -84,6 +99,14 @@ module _ {D : Type 0} (t : ShardState D) (list : Option ℕ) (waiting : List ℕ
       by None e it = cc
       by (Some b) e it = let same : b ≡ below = cc in subst (λ (k : ℕ). IsUnderWay t k) same it
 
+  -- so many calls are left at most
+  pub few_left : ¬ IsAtRest t.section → calls_left t.section ≤ 6 * ROOM + 4
+  few_left goes = by t.writeback (w.under_way goes)
+    where
+      by : (o : Option ℕ) → MatchOption o ⊥ (λ below. IsUnderWay t below) → calls_left t.section ≤ 6 * ROOM + 4
+      by None it = absurd it
+      by (Some below) it = it.left
+
   pub well_clean : (clean : List Entry) → IsWell (record t { index = record t.index { clean = clean } }) list waiting
   well_clean clean = record {
     room = w.room;
@@ -105,10 +128,10 @@ module _ {D : Type 0} (t : ShardState D) (list : Option ℕ) (waiting : List ℕ
         rises = it.rises;
         todo = it.todo;
         apart = it.apart;
-        group = it.group;
+        filing = it.filing;
         behind = it.behind;
         list = it.list;
-        most = it.most;
+        left = it.left;
       }
 
   -- a read changes the disk and the bucket that was read last
@@ -134,10 +157,12 @@ module _ {D : Type 0} (t : ShardState D) (list : Option ℕ) (waiting : List ℕ
         rises = it.rises;
         todo = it.todo;
         apart = it.apart;
-        group = it.group;
+        filing = λ puts.
+            let filing = it.filing puts in
+            record { order = filing.order; next = filing.next; group = filing.group; whole = filing.whole };
         behind = it.behind;
         list = it.list;
-        most = it.most;
+        left = subst (λ (n : ℕ). n ≤ 6 * ROOM + 4) (sym (calls_same t.section.phase t.section d)) it.left;
       }
 
   -- how many dirty entries the bucket of a score has
@@ -218,8 +243,8 @@ module _ {D : Type 0} (t : ShardState D) (list : Option ℕ) (waiting : List ℕ
               (Contains-push_cases t.index.dirty info dirty.0 dirty.1),
         );
         apart = it.apart;
-        group = it.group;
+        filing = it.filing;
         behind = it.behind;
         list = it.list;
-        most = it.most;
+        left = it.left;
       }

@@ -1,8 +1,10 @@
 pub mod Advances
 pub mod Begins
 pub mod Blocks
+pub mod Counts
 pub mod Finds
 pub mod IsAboveAll
+pub mod IsFiling
 pub mod IsLumpOf
 pub mod IsSoundFrom
 pub mod IsWell

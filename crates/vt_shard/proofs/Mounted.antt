@@ -12,7 +12,7 @@ use Rattle.vt_isect.specs.Section.{SectionState}
 use Rattle.vt_isect.specs.Sound.{Known, DiskHolds}
 use Rattle.vt_isect.specs.declared.head.Head.{Head}
 use Rattle.vt_isect.specs.declared.phase.Phase.TheVariants.{Rest}
-use Rattle.vt_isect.proofs.IsSoundSection.{section_moves}
+use Rattle.vt_isect.proofs.IsSoundSection.{idle_sound}
 use Rattle.vt_isect.proofs.KnownAgrees.{agrees_idle}
 use Rattle.vt_model.specs.History.{History}
 use Rattle.vt_model.specs.Places.{Setup}
@@ -24,8 +24,7 @@ use Rattle.vt_shard.specs.declared.TheConstants.{ROOM}
 pub holds_idle : {D : Type 0} (disk : DiskOf D) (t : SectionState D) (known : Known) → t.phase ≡ Rest → DiskHolds disk t known
     → DiskHolds disk (record t { entries = None }) known
 holds_idle disk t known rest holds =
-    section_moves t t.disk t.next t.phase None t.written t.begun t.bucket t.calls t.bucket_twin t.stopped known _ _ _ _
-    (λ e. cc) (λ e. cc) (λ e. cc) (λ e. cc) refl (λ file left. left) (λ n region way. absurd (cc)) holds
+    idle_sound t known (disk.bytes t.disk) (disk.images t.disk) rest holds
 
 pub mounted_sound : {D : Type 0} (score : List ℕ → List ℕ) (c : Setup) (disk : DiskOf D) (h : History) (section : SectionState D) (known : Known)
     (lumps clean : ℕ) → section.phase ≡ Rest → DiskHolds disk section known → KnownAgrees score c h section known

@@ -1,17 +1,17 @@
 -- What a step of a writeback makes of a shard.
-use Rattle.std.proofs.Common.{◌≡◌, ◌≢◌, ⊎_elim, ℕ, zero, suc, ◌<◌, ◌≤◌, List, [], ◌∷◌, length, take, drop, Option, Some, None, Result, Ok, Err, refl, sym, ◌∙◌, ap, subst, arith}
+use Rattle.std.proofs.Common.{◌≡◌, ◌≢◌, ℕ, ◌<◌, List, [], ◌∷◌, length, take, drop, Option, Some, None, Result, Ok, Err, refl, sym, ◌∙◌, ap, subst, arith}
 use Rattle.std.specs.Prelude.{◌↔◌, IsSome, IfOk, OnOk}
 use Rattle.std.specs.List.{Contains}
-use Rattle.std.proofs.lemmas.Bool.{cases_eq}
 use Rattle.lru.proofs.Splits.{Contains-nil}
 use Rattle.vt_base.specs.declared.place.Entry.{Entry}
 use Rattle.vt_icache.specs.Index.{IndexState, entry_of}
-use Rattle.vt_isect.specs.Section.{SectionState, IsOfGroup, HasBucket, bucket_number, bucket_under_way, entries_of}
+use Rattle.vt_isect.specs.Section.{SectionState, HasGroup, bucket_number, bucket_under_way, entries_of}
 use Rattle.vt_isect.specs.Writeback.{Advances as SectionAdvances, Completes, WritesBack, calls_left, most_calls}
 use Rattle.vt_isect.specs.declared.bad.ShardErr.{ShardErr}
 use Rattle.vt_isect.specs.declared.bad.ShardErr.TheVariants.{Stopped}
 use Rattle.vt_isect.specs.declared.phase.Phase.{Phase}
-use Rattle.vt_isect.specs.declared.phase.Phase.TheVariants.{Rest, ReadSelector, ReadFrame, ChangeBucket, ChangeHead}
+use Rattle.vt_isect.specs.declared.phase.Phase.TheVariants.{Rest, ReadSelector, ReadFrame, WriteFrame, SyncFrames, WriteSelector, SyncSelectors, ChangeHead}
+use Rattle.vt_model.specs.Places.{bucket_of}
 use Rattle.vt_twin.specs.Twin.{calls_made}
 use Rattle.vt_twin.specs.declared.step.Step.{Step}
 use Rattle.vt_twin.specs.declared.step.Step.TheVariants.{Done}
@@ -19,13 +19,16 @@ use Rattle.vt_shard.specs.Shard.{ShardState, ReadBucket, HasBelow, IsUnderWay}
 use Rattle.vt_shard.specs.Writeback.{SettlesAll, TakesStep, WritesTo, without_list, written_back}
 use Rattle.vt_shard.proofs.KeepsPlace.{Stays, stays, marks, completes_begins, ends_same}
 use Rattle.vt_shard.proofs.Settles.{settles_none}
-use Rattle.vt_shard.proofs.UnderWay.{none_between}
+use Rattle.vt_shard.proofs.UnderWay.{none_between, written_from}
 
 put_on : {D : Type 0} (p : Phase) (v : SectionState D) → p ≢ Rest → v ≡ without_list p v
 put_on Rest v on = absurd (on refl)
 put_on ReadSelector v on = refl
 put_on (ReadFrame s) v on = refl
-put_on ChangeBucket v on = refl
+put_on (WriteFrame s) v on = refl
+put_on SyncFrames v on = refl
+put_on (WriteSelector j) v on = refl
+put_on SyncSelectors v on = refl
 put_on ChangeHead v on = refl
 
 none_left : {X : Type 0} (xs : List X) (a : ℕ) → a ≡ length xs → drop a xs ≡ []
@@ -90,14 +93,6 @@ module _ {D : Type 0} (t : ShardState D) (below : ℕ) (under : t.writeback ≡ 
     place = record { name = same.name; buckets = same.buckets; head = same.head; mark = (marks t.section v result it.rises steps).0 };
   }
 
-  -- nothing was written
-  pub takes_idle : v.phase ≢ Rest → written_back t.section v ≡ [] → TakesStep result t (record t { section = v })
-  takes_idle on none = takes_on t.index t.bucket on
-      (subst (λ (l : List Entry). SettlesAll below l t.index t.index) (sym none) (settles_none below t.index))
-      (λ equal. refl)
-      (λ read has writes. absurd (Contains-nil writes.0 (subst (λ (l : List Entry). Contains l writes.0) none writes.1)))
-      (λ none_of. refl)
-
   none_dirty : t.section.phase ≡ ChangeHead → ¬ HasBelow below t.index.dirty
   none_dirty head has =
       Contains-nil (entry_of has.0) (subst (λ (l : List Entry). Contains l (entry_of has.0))
@@ -108,7 +103,10 @@ module _ {D : Type 0} (t : ShardState D) (below : ℕ) (under : t.writeback ≡ 
   put_rest Rest is = refl
   put_rest ReadSelector is = cc
   put_rest (ReadFrame s) is = cc
-  put_rest ChangeBucket is = cc
+  put_rest (WriteFrame s) is = cc
+  put_rest SyncFrames is = cc
+  put_rest (WriteSelector j) is = cc
+  put_rest SyncSelectors is = cc
   put_rest ChangeHead is = cc
 
   fewer_left : (r : Result Step ShardErr) → v.phase ≡ Rest → OnOk r (calls_left v < calls_left t.section)
@@ -154,36 +152,36 @@ module _ {D : Type 0} (t : ShardState D) (below : ℕ) (under : t.writeback ≡ 
 -- at least one entry is written to a bucket that is completed
 pub some_written : {D : Type 0} (t : ShardState D) (below : ℕ) (it : IsUnderWay t below)
     (result : Result Step ShardErr) (v : SectionState D) (steps : SectionAdvances result t.section v)
-    (wrote : (entry : Entry) → WritesBack t.section v entry
-    ↔ (Completes result t.section (bucket_number t.section entry) × IsOfGroup t.section entry))
     → (n : ℕ) → Completes result t.section n
     → (entry : Entry) × WritesBack t.section v entry × (bucket_number t.section entry ≡ n)
-some_written t below it result v steps wrote n completes =
-    let last = completes_begins t.section v result n completes steps in
-    let ahead : v.written ≡ t.section.begun = ⊎_elim (λ group. group.1) (λ head. head.1) last in
-    let group = it.group (subst HasBucket (sym completes.1) tt) in
-    let first = at_first (entries_of t.section) t.section.written v.written (omega (arith, ahead, group)) (omega (arith, ahead, group)) in
-    (first.0, first.1, ((wrote first.0).0 first.1).1.1 ∙ sym completes.3)
-  where
-    at_first : (xs : List Entry) (a b : ℕ) → a < b → b ≤ length xs → (entry : Entry) × Contains (drop a (take b xs)) entry
-    at_first [] a b lt le = absurd (omega (arith, lt, le))
-    at_first (x ∷ xs) zero zero lt le = absurd (omega (arith, lt))
-    at_first (x ∷ xs) zero (suc b) lt le = (x, (0, omega arith, refl))
-    at_first (x ∷ xs) (suc a) zero lt le = absurd (omega (arith, lt))
-    at_first (x ∷ xs) (suc a) (suc b) lt le = at_first xs a b (omega (arith, lt)) (omega (arith, le))
+some_written t below it result v steps n completes =
+    let filing = it.filing completes.2.1.0 in
+    let one = filing.group completes.2.0 completes.2.1.1 in
+    let last : v.written ≡ t.section.framed =
+    written_from t.section.begun v (completes_begins t.section v result n completes steps)
+    ∙ sym (filing.whole (subst HasGroup (sym completes.1) tt)) in (
+      one.0,
+      subst (λ (k : ℕ). Contains (drop t.section.written (take k (entries_of t.section))) one.0) (sym last) one.1,
+      one.2 ∙ completes.2.1.2,
+    )
 
--- the bucket that was read last, where it may be the one that has these entries now
-module _ {D : Type 0} (t : ShardState D) (v : SectionState D) (number : ℕ) (first : Entry)
-    (here : Contains (written_back t.section v) first)
-    (own : (entry : Entry) → Contains (written_back t.section v) entry → bucket_number t.section entry ≡ number)
-    (bucket : Option ReadBucket)
-    (dropped : (read : ReadBucket) → t.bucket ≡ Some read → read.number ≡ number → bucket ≡ None)
-    (kept : ((read : ReadBucket) → t.bucket ≡ Some read → read.number ≢ number) → bucket ≡ t.bucket) where
+-- the bucket that was read last, where it may be one that has some of these entries now
+module _ {D : Type 0} (t : ShardState D) (v : SectionState D) (written : List Entry) (are : written ≡ written_back t.section v)
+    (total : ℕ) (total_is : total ≡ t.section.head.total) (bucket : Option ReadBucket)
+    (dropped : (read : ReadBucket) (entry : Entry) → t.bucket ≡ Some read → Contains written entry
+    → bucket_of total entry.key.score.0 ≡ read.number → bucket ≡ None)
+    (kept : ((read : ReadBucket) (entry : Entry) → t.bucket ≡ Some read → Contains written entry
+    → bucket_of total entry.key.score.0 ≢ read.number) → bucket ≡ t.bucket) where
+  number_is : (entry : Entry) → bucket_of total entry.key.score.0 ≡ bucket_number t.section entry
+  number_is entry = ap (λ (k : ℕ). bucket_of k entry.key.score.0) total_is
+
   pub forgets_read : (read : ReadBucket) → t.bucket ≡ Some read → WritesTo t.section v read.number → bucket ≡ None
-  forgets_read read has writes = dropped read has (sym writes.2 ∙ own writes.0 writes.1)
+  forgets_read read has writes = dropped read writes.0 has
+      (subst (λ (l : List Entry). Contains l writes.0) (sym are) writes.1) (number_is writes.0 ∙ writes.2)
 
   pub forgets_none : ((read : ReadBucket) → t.bucket ≡ Some read → ¬ WritesTo t.section v read.number) → bucket ≡ t.bucket
-  forgets_none none = kept (λ read has is. none read has (first, here, own first here ∙ sym is))
+  forgets_none none = kept (λ read entry has came number. none read has
+      (entry, subst (λ (l : List Entry). Contains l entry) are came, sym (number_is entry) ∙ number))
 
   pub forgets_other : (read : ReadBucket) → bucket ≡ Some read → (t.bucket ≡ Some read) × (¬ WritesTo t.section v read.number)
   forgets_other read is = by t.bucket refl
@@ -195,15 +193,12 @@ module _ {D : Type 0} (t : ShardState D) (v : SectionState D) (number : ℕ) (fi
       one_read a b e = cc
 
       by : (o : Option ReadBucket) → t.bucket ≡ o → (t.bucket ≡ Some read) × (¬ WritesTo t.section v read.number)
-      by None was = absurd (clash bucket read (kept (λ other has. absurd (clash t.bucket other was has)) ∙ was) is)
-      by (Some b) was = ⊎_elim
-          (λ (same : b.number ≡ number). absurd (clash bucket read (dropped b was same) is))
-          (λ (other : b.number ≢ number).
+      by None was = absurd (clash bucket read (kept (λ other entry has. absurd (clash t.bucket other was has)) ∙ was) is)
+      by (Some b) was =
+          let not : ¬ WritesTo t.section v b.number = λ writes. clash bucket read (forgets_read b was writes) is in
           let still : bucket ≡ t.bucket =
-          kept (λ x has e. other (ap (λ (r : ReadBucket). r.number) (one_read b x (sym was ∙ has)) ∙ e)) in
+          forgets_none (λ x has writes. not (subst (λ (r : ReadBucket). WritesTo t.section v r.number) (sym (one_read b x (sym was ∙ has))) writes)) in
           let before : t.bucket ≡ Some read = sym still ∙ is in (
             before,
-            λ writes.
-                other (ap (λ (r : ReadBucket). r.number) (one_read b read (sym was ∙ before)) ∙ sym writes.2 ∙ own writes.0 writes.1),
-          ))
-          (cases_eq b.number number)
+            λ writes. not (subst (λ (r : ReadBucket). WritesTo t.section v r.number) (sym (one_read b read (sym was ∙ before))) writes),
+          )

@@ -1,6 +1,6 @@
 -- What a step of a writeback leaves under way.
-use Rattle.std.proofs.Common.{◌≡◌, ◌≢◌, ◌⊎◌, inl, inr, ⊎_elim, ℕ, zero, suc, ◌-◌, ◌≤◌, List, [], ◌∷◌, ◌++◌, length, take, drop, Option, Some, None, Result, refl, sym, ◌∙◌, ap, subst, arith, length-drop, length-take}
-use Rattle.std.specs.Prelude.{◌↔◌, MatchOption, slice_get}
+use Rattle.std.proofs.Common.{◌≡◌, ◌≢◌, ◌⊎◌, inl, inr, ⊎_elim, ℕ, zero, suc, ◌+◌, ◌-◌, ◌*◌, ◌<◌, ◌≤◌, List, [], ◌∷◌, ◌++◌, length, take, drop, Option, Some, None, Result, refl, sym, ◌∙◌, ap, subst, arith, length-drop, length-take}
+use Rattle.std.specs.Prelude.{◌↔◌, MatchOption, OnOk}
 use Rattle.std.specs.List.{All, Contains}
 use Rattle.std.specs.Option.{option_map_or}
 use Rattle.std.proofs.lemmas.List.Elements.{All-contains, Contains-append_cases, Contains-append_right}
@@ -13,18 +13,19 @@ use Rattle.vt_base.specs.declared.place.Info.{Info}
 use Rattle.vt_icache.specs.Index.{IndexState, entry_of}
 use Rattle.vt_isect.specs.Entries.{EntriesState}
 use Rattle.vt_isect.specs.Layout.{InRange}
-use Rattle.vt_isect.specs.Section.{SectionState, HasBucket, IsOfGroup, bucket_number, entries_of}
-use Rattle.vt_isect.specs.Writeback.{Advances, BeginsBehind, Completes, WritesBack}
+use Rattle.vt_isect.specs.Section.{SectionState, PutsEntries, bucket_number, entries_of}
+use Rattle.vt_isect.specs.Writeback.{Advances, BeginsBehind, calls_left}
 use Rattle.vt_isect.specs.declared.bad.ShardErr.{ShardErr}
 use Rattle.vt_isect.specs.declared.head.Head.{Head}
 use Rattle.vt_isect.specs.declared.phase.Phase.{Phase}
-use Rattle.vt_isect.specs.declared.phase.Phase.TheVariants.{Rest, ReadSelector, ReadFrame, ChangeBucket, ChangeHead}
+use Rattle.vt_isect.specs.declared.phase.Phase.TheVariants.{Rest, ReadSelector, ReadFrame, WriteFrame, SyncFrames, WriteSelector, SyncSelectors, ChangeHead}
 use Rattle.vt_model.specs.Places.{bucket_of}
 use Rattle.vt_twin.specs.declared.step.Step.{Step}
 use Rattle.vt_shard.specs.Shard.{ShardState, ReadBucket, HasScore, IsDirtyBelow, IsUnderWay}
 use Rattle.vt_shard.specs.Writeback.{SettlesAll, written_back}
 use Rattle.vt_shard.specs.declared.TheConstants.{ROOM}
-use Rattle.vt_shard.proofs.KeepsPlace.{Stays, SameEntries, head_stays, marks, stays, steps_on}
+use Rattle.vt_shard.proofs.IsFiling.{begins_filing}
+use Rattle.vt_shard.proofs.KeepsPlace.{Stays, EndsGroup, SameEntries, marks, stays, stays_few, steps_on}
 use Rattle.vt_shard.proofs.Lists.{AreApart, apart_front, apart_parts}
 use Rattle.vt_shard.proofs.Settles.{fewer, gone, went}
 
@@ -65,12 +66,19 @@ drop_apart key (x ∷ xs) (suc n) apart =
 
 -- ---- the writeback
 
-either : (p : Phase) → p ≢ Rest → HasBucket p ⊎ (p ≡ ChangeHead)
+either : (p : Phase) → p ≢ Rest → PutsEntries p ⊎ (p ≡ ChangeHead)
 either Rest on = absurd (on refl)
 either ReadSelector on = inl tt
 either (ReadFrame s) on = inl tt
-either ChangeBucket on = inl tt
+either (WriteFrame s) on = inl tt
+either SyncFrames on = inl tt
+either (WriteSelector j) on = inl tt
+either SyncSelectors on = inl tt
 either ChangeHead on = inr refl
+
+-- so many entries are written where the next ones begin
+pub written_from : {D : Type 0} (from : ℕ) (v : SectionState D) → BeginsBehind from v → v.written ≡ from
+written_from from v begins = ⊎_elim (λ group. group.1) (λ head. head.1) begins
 
 -- what a step puts into a bucket
 module _ {D : Type 0} (t : ShardState D) (below : ℕ) (it : IsUnderWay t below)
@@ -78,16 +86,14 @@ module _ {D : Type 0} (t : ShardState D) (below : ℕ) (it : IsUnderWay t below)
   pub steps_ahead : v.phase ≢ Rest → t.section.phase ≢ Rest
       → (t.section.written ≤ v.written) × (v.written ≤ length (entries_of t.section))
   steps_ahead on was = ⊎_elim
-      (λ (last : Completes result t.section t.section.bucket × BeginsBehind t.section.begun v).
-      let b = it.group (subst HasBucket (sym last.0.1) tt) in
-      ⊎_elim
-      (λ next. let e = next.1 in (omega (arith, e, b), omega (arith, e, b)))
-      (λ head. let e = head.1 in (omega (arith, e, b), omega (arith, e, b)))
-      last.1)
+      (λ (last : EndsGroup t.section v result).
+      let order = (it.filing (subst PutsEntries (sym last.1) tt)).order in
+      let e = written_from t.section.begun v last.2 in
+      (omega (arith, e, order), omega (arith, e, order)))
       (λ (stay : SameEntries t.section v).
-      let e = stay.group.written in
+      let e = stay.written in
       let within : t.section.written ≤ length (entries_of t.section) = ⊎_elim
-      (λ (has : HasBucket t.section.phase). let b = it.group has in omega (arith, b))
+      (λ (has : PutsEntries t.section.phase). let order = (it.filing has).order in omega (arith, order))
       (λ (head : t.section.phase ≡ ChangeHead). let b = it.behind head in omega (arith, b))
       (either t.section.phase was) in
       (omega (arith, e), omega (arith, e, within)))
@@ -102,11 +108,6 @@ module _ {D : Type 0} (t : ShardState D) (below : ℕ) (it : IsUnderWay t below)
       (subst (AreApart (λ (x : Entry). x.key)) (drop_parts (entries_of t.section) t.section.written v.written (steps_ahead on was).0)
       (drop_apart (λ (x : Entry). x.key) (entries_of t.section) t.section.written it.apart))
 
-  pub written_short : length (written_back t.section v) ≤ ROOM
-  written_short =
-      let most = it.most in
-      omega (arith, most, length-drop t.section.written (take v.written (entries_of t.section)), length-take v.written (entries_of t.section))
-
   pub written_within : All (λ (info : Info). HasScore t info.key.score.0) t.index.dirty
       → (entry : Entry) → Contains (written_back t.section v) entry → InRange t.section.head t.section.buckets (bucket_number t.section entry)
   written_within all entry has =
@@ -114,15 +115,9 @@ module _ {D : Type 0} (t : ShardState D) (below : ℕ) (it : IsUnderWay t below)
       subst (λ (e : Entry). HasScore t e.key.score.0) dirty.3
       (All-contains (λ (info : Info). HasScore t info.key.score.0) t.index.dirty dirty.0 all dirty.1)
 
-  -- all of them belong to one bucket
-  pub written_one : (wrote : (entry : Entry) → WritesBack t.section v entry
-      ↔ (Completes result t.section (bucket_number t.section entry) × IsOfGroup t.section entry))
-      → (a b : Entry) → Contains (written_back t.section v) a → Contains (written_back t.section v) b
-      → bucket_number t.section a ≡ bucket_number t.section b
-  written_one wrote a b at_a at_b = ((wrote a).0 at_a).1.1 ∙ sym ((wrote b).0 at_b).1.1
-
 module _ {D : Type 0} (t : ShardState D) (below : ℕ) (it : IsUnderWay t below)
     (result : Result Step ShardErr) (v : SectionState D) (steps : Advances result t.section v) (on : v.phase ≢ Rest)
+    (less : OnOk result (calls_left v < calls_left t.section))
     (keys : AreApart (λ (x : Info). x.key) t.index.dirty)
     (index : IndexState) (settles : SettlesAll below (written_back t.section v) t.index index) where
   same : Stays t.section v
@@ -134,11 +129,11 @@ module _ {D : Type 0} (t : ShardState D) (below : ℕ) (it : IsUnderWay t below)
   -- how far it came
   ahead : t.section.written ≤ v.written
   ahead = ⊎_elim
-      (λ (last : Completes result t.section t.section.bucket × BeginsBehind t.section.begun v). ⊎_elim
-      (λ next. let e = next.1 in let b = it.group (subst HasBucket (sym last.0.1) tt) in omega (arith, e, b))
-      (λ head. let e = head.1 in let b = it.group (subst HasBucket (sym last.0.1) tt) in omega (arith, e, b))
-      last.1)
-      (λ (stay : SameEntries t.section v). let e = stay.group.written in omega (arith, e))
+      (λ (last : EndsGroup t.section v result).
+      let order = (it.filing (subst PutsEntries (sym last.1) tt)).order in
+      let e = written_from t.section.begun v last.2 in
+      omega (arith, e, order))
+      (λ (stay : SameEntries t.section v). let e = stay.written in omega (arith, e))
       (steps_on t.section v result on steps)
 
   parts : drop t.section.written (entries_of t.section) ≡ written_back t.section v ++ drop v.written (entries_of t.section)
@@ -177,27 +172,22 @@ module _ {D : Type 0} (t : ShardState D) (below : ℕ) (it : IsUnderWay t below)
     rises = (marks t.section v result it.rises steps).1;
     todo = λ entry. subst (λ (l : List Entry). Contains (drop v.written l) entry ↔ IsDirtyBelow below index.dirty entry) (sym entries_same) (still_todo entry);
     apart = subst (AreApart (λ (x : Entry). x.key)) (sym entries_same) it.apart;
-    group = λ has. ⊎_elim
-        (λ (last : Completes result t.section t.section.bucket × BeginsBehind t.section.begun v). ⊎_elim
-        (λ next. let e = next.1 in let lt = next.2 in (omega (arith, e, lt), next.3.within))
-        (λ head. absurd (subst HasBucket head.0 has))
-        last.1)
-        (λ (stay : SameEntries t.section v).
-        let was = it.group (stay.bucket has) in
-        let written = stay.group.written in
-        let begun = stay.group.begun in
-        let len : length (entries_of v) ≡ length (entries_of t.section) = ap length entries_same in
-        (omega (arith, was, begun, written), omega (arith, was, begun, len)))
+    filing = λ has. ⊎_elim
+        (λ (last : EndsGroup t.section v result). ⊎_elim
+        (λ next. begins_filing v t.section.begun next)
+        (λ head. absurd (subst PutsEntries head.0 has))
+        last.2)
+        (λ (stay : SameEntries t.section v). stay.filing has (it.filing (stay.puts has)))
         (steps_on t.section v result on steps);
     behind = λ head_phase. ⊎_elim
-        (λ (last : Completes result t.section t.section.bucket × BeginsBehind t.section.begun v). ⊎_elim
-        (λ next. absurd (let no = sym next.0 ∙ head_phase in cc))
+        (λ (last : EndsGroup t.section v result). ⊎_elim
+        (λ next. absurd (let no = sym next.0.0 ∙ head_phase in cc))
         (λ head. head.1 ∙ sym head.3)
-        last.1)
-        (λ (stay : SameEntries t.section v). stay.group.written ∙ it.behind (stay.head head_phase) ∙ ap length (sym entries_same))
+        last.2)
+        (λ (stay : SameEntries t.section v). stay.written ∙ it.behind (stay.head head_phase) ∙ ap length (sym entries_same))
         (steps_on t.section v result on steps);
     list = subst (λ (o : Option EntriesState). MatchOption o ⊥ (λ list. ROOM ≤ list.room)) (sym same.entries) it.list;
-    most = subst (λ (l : List Entry). length l ≤ ROOM) (sym entries_same) it.most;
+    left = stays_few t.section v result (6 * ROOM + 4) (omega arith) it.left less steps;
   }
 
 -- what the step wrote, as a range of the entries gives it
@@ -209,47 +199,8 @@ range_is t v list a b from to is same =
     ∙ ap (λ (n : ℕ). drop n (take b (entries_of t))) from
     ∙ ap (λ (n : ℕ). drop t.written (take n (entries_of t))) to
 
-pub empty_of : {X : Type 0} (xs : List X) → slice_get xs 0 ≡ None → xs ≡ []
-empty_of [] is = refl
-empty_of (x ∷ xs) is = absurd (cc)
-
-pub first_of : {X : Type 0} (xs : List X) (x : X) → slice_get xs 0 ≡ Some x → Contains xs x
-first_of [] x is = absurd (cc)
-first_of (y ∷ ys) x is = let same : y ≡ x = cc in subst (Contains (y ∷ ys)) same (Contains-head y ys)
-
--- the step put some entries into the bucket of this number, and no others
-pub record Wrote {D : Type 0} (t : ShardState D) (v : SectionState D) (number : ℕ) : Type 0 where
-  pub first : Entry
-  pub here : Contains (written_back t.section v) first
-  pub own : (entry : Entry) → Contains (written_back t.section v) entry → bucket_number t.section entry ≡ number
-  pub within : InRange t.section.head t.section.buckets number
-
--- what the first of a range of the entries tells of those that the step wrote
 module _ {D : Type 0} (t : ShardState D) (below : ℕ) (it : IsUnderWay t below)
     (result : Result Step ShardErr) (v : SectionState D) (steps : Advances result t.section v)
     (list : List Entry) (a b : ℕ) (from : a ≡ t.section.written) (to : b ≡ v.written) (is : list ≡ entries_of v) where
   pub range_written : take (b - a) (drop a list) ≡ written_back t.section v
   range_written = range_is t.section v list a b from to is (stays t.section v result it.next steps).entries
-
-  pub nothing : slice_get (take (b - a) (drop a list)) 0 ≡ None → written_back t.section v ≡ []
-  nothing none = sym range_written ∙ empty_of (take (b - a) (drop a list)) none
-
-  pub something : (first : Entry) → slice_get (take (b - a) (drop a list)) 0 ≡ Some first → Contains (written_back t.section v) first
-  something first some =
-      subst (λ (l : List Entry). Contains l first) range_written (first_of (take (b - a) (drop a list)) first some)
-
-  pub wrote_group : All (λ (info : Info). HasScore t info.key.score.0) t.index.dirty
-      → ((entry : Entry) → WritesBack t.section v entry ↔ (Completes result t.section (bucket_number t.section entry) × IsOfGroup t.section entry))
-      → v.phase ≢ Rest → (head : Head) → head ≡ v.head → (first : Entry) → slice_get (take (b - a) (drop a list)) 0 ≡ Some first
-      → (number : ℕ) → number ≡ bucket_of head.total first.key.score.0 → Wrote t v number
-  wrote_group all wrote on head head_is first some number number_is =
-      let here = something first some in
-      let at : number ≡ bucket_number t.section first =
-      number_is ∙ ap (λ (x : Head). bucket_of x.total first.key.score.0) (head_is ∙ (head_stays t.section v result on steps).0) in
-      record {
-        first = first;
-        here = here;
-        own = λ entry has. written_one t below it result v steps wrote entry first has here ∙ sym at;
-        within = subst (λ (n : ℕ). InRange t.section.head t.section.buckets n) (sym at)
-            (written_within t below it result v steps all first here);
-      }

@@ -1,86 +1,54 @@
 -- What holds of every shard holds of it after a step of its writeback.
-use Rattle.std.proofs.Common.{◌≡◌, ◌≢◌, ⊎_elim, ℕ, ◌+◌, ◌-◌, ◌^◌, ◌<◌, ◌≤◌, ◌==◌, Bool, true, false, cond, List, [], ◌∷◌, ◌++◌, length, get_or, set, Option, Some, None, Result, refl, sym, ◌∙◌, ap, subst, arith, length-append}
-use Rattle.std.specs.Prelude.{MatchOption, slice_get}
+use Rattle.std.proofs.Common.{◌≡◌, ◌≢◌, ℕ, ◌+◌, ◌-◌, ◌^◌, ◌<◌, ◌≤◌, ◌==◌, cond, List, [], ◌++◌, length, get_or, Option, Some, None, Result, refl, sym, ◌∙◌, ap, subst, arith, length-append}
+use Rattle.std.specs.Prelude.{MatchOption, OnOk, slice_get, slice_index}
 use Rattle.std.specs.List.{All, Contains, count_by}
 use Rattle.std.specs.Option.{option_map}
-use Rattle.std.proofs.lemmas.Bool.{cases_eq}
-use Rattle.std.proofs.lemmas.Bool.Decides.{Decides-eqb}
 use Rattle.std.proofs.lemmas.List.Elements.{All-contains, Contains-get_or}
 use Rattle.std.proofs.lemmas.List.Sorted.{length_permutation, sum_by-IsPermutation}
-use Rattle.std.proofs.lemmas.List.Sums.{sum_by-append, sum_by-cons}
-use Rattle.std.proofs.lemmas.Option.{slice_get_within}
-use Rattle.lru.proofs.Splits.{Contains-head, Contains-tail}
+use Rattle.std.proofs.lemmas.List.Sums.{sum_by-append}
+use Rattle.std.proofs.lemmas.Option.{get_or_from_slice_get, slice_get_within, slice_get-get_or}
 use Rattle.vt_base.specs.declared.place.Entry.{Entry}
 use Rattle.vt_base.specs.declared.place.Info.{Info}
 use Rattle.vt_icache.specs.Index.{IndexState, entry_of}
 use Rattle.vt_isect.specs.Entries.{EntriesState}
 use Rattle.vt_isect.specs.Layout.{InRange}
 use Rattle.vt_isect.specs.Section.{SectionState, bucket_number}
-use Rattle.vt_isect.specs.Writeback.{Advances}
+use Rattle.vt_isect.specs.Writeback.{Advances, calls_left}
 use Rattle.vt_isect.specs.declared.bad.ShardErr.{ShardErr}
 use Rattle.vt_isect.specs.declared.head.Head.{Head}
 use Rattle.vt_isect.specs.declared.phase.Phase.TheVariants.{Rest}
+use Rattle.vt_model.proofs.Lists.{count_by-map}
 use Rattle.vt_model.specs.Places.{bucket_of}
 use Rattle.vt_twin.specs.declared.step.Step.{Step}
 use Rattle.vt_shard.specs.Shard.{ShardState, ReadBucket, HasScore, IsUnderWay, IsWell, dirty_in}
 use Rattle.vt_shard.specs.Writeback.{SettlesAll, written_back}
 use Rattle.vt_shard.specs.declared.TheConstants.{ROOM}
-use Rattle.vt_shard.proofs.IsWell.{not_equal, slice_get-set_same, slice_get-set_other}
 use Rattle.vt_shard.proofs.KeepsPlace.{Stays, stays, head_stays, back, first_same, total_same}
-use Rattle.vt_shard.proofs.Lists.{map_length, to_map}
-use Rattle.vt_shard.proofs.Settles.{fewer, apart_after, settles_none}
-use Rattle.vt_shard.proofs.UnderWay.{under_way_still}
+use Rattle.vt_shard.proofs.Settles.{fewer, apart_after}
+use Rattle.vt_shard.proofs.UnderWay.{under_way_still, written_within}
 
 -- ---- how many dirty entries a bucket has then
 
-count_all : {X : Type 0} (p : X → Bool) (xs : List X) → ((x : X) → Contains xs x → p x ≡ true) → count_by p xs ≡ length xs
-count_all p [] all = refl
-count_all p (x ∷ xs) all =
-    let first : p x ≡ true = all x (Contains-head x xs) in
-    sum_by-cons (λ y. cond (p y) 1 0) x xs
-    ∙ ap (λ (b : Bool). cond b 1 0 + count_by p xs) first
-    ∙ ap (λ (n : ℕ). 1 + n) (count_all p xs (λ y it. all y (Contains-tail x xs y it)))
-    ∙ omega arith
-
-count_none : {X : Type 0} (p : X → Bool) (xs : List X) → ((x : X) → Contains xs x → p x ≡ false) → count_by p xs ≡ 0
-count_none p [] none = refl
-count_none p (x ∷ xs) none =
-    let first : p x ≡ false = none x (Contains-head x xs) in
-    sum_by-cons (λ y. cond (p y) 1 0) x xs
-    ∙ ap (λ (b : Bool). cond b 1 0 + count_by p xs) first
-    ∙ ap (λ (n : ℕ). 0 + n) (count_none p xs (λ y it. none y (Contains-tail x xs y it)))
-
--- settled entries of one bucket
-module _ (below : ℕ) (written : List Entry) (old new : IndexState) (it : SettlesAll below written old new)
-    (total number : ℕ) (own : (entry : Entry) → Contains written entry → bucket_of total entry.key.score.0 ≡ number) where
+-- settled entries are taken off the counts of their buckets
+module _ (below : ℕ) (written : List Entry) (old new : IndexState) (it : SettlesAll below written old new) (total : ℕ) where
   abbrev in_bucket : ℕ → List Info → ℕ
   in_bucket n infos = count_by (λ (info : Info). bucket_of total info.key.score.0 == n) infos
 
-  parts : (n : ℕ) → in_bucket n old.dirty ≡ in_bucket n it.settled + in_bucket n new.dirty
-  parts n =
+  abbrev pub of_bucket : ℕ → List Entry → ℕ
+  of_bucket n entries = count_by (λ (entry : Entry). bucket_of total entry.key.score.0 == n) entries
+
+  settled_are : (n : ℕ) → of_bucket n written ≡ in_bucket n it.settled
+  settled_are n =
+      ap (of_bucket n) (sym it.are)
+      ∙ count_by-map entry_of (λ (entry : Entry). bucket_of total entry.key.score.0 == n) (λ (info : Info). bucket_of total info.key.score.0 == n)
+      it.settled (λ k d lt. refl)
+
+  pub counted : (n : ℕ) → in_bucket n old.dirty ≡ of_bucket n written + in_bucket n new.dirty
+  counted n =
       let f : Info → ℕ = λ (info : Info). cond (bucket_of total info.key.score.0 == n) 1 0 in
-      sym (sum_by-IsPermutation f old.dirty (it.settled ++ new.dirty) it.dirty) ∙ sum_by-append f it.settled new.dirty
-
-  settled_own : (info : Info) → Contains it.settled info → bucket_of total info.key.score.0 ≡ number
-  settled_own info has = own (entry_of info) (subst (λ (l : List Entry). Contains l (entry_of info)) it.are (to_map entry_of it.settled info has))
-
-  long : length it.settled ≡ length written
-  long = sym (map_length entry_of it.settled) ∙ ap length it.are
-
-  pub counted_own : in_bucket number old.dirty ≡ length written + in_bucket number new.dirty
-  counted_own =
-      let all = count_all (λ (info : Info). bucket_of total info.key.score.0 == number) it.settled
-      (λ info has. (Decides-eqb (bucket_of total info.key.score.0) number).1 (settled_own info has)) in
-      let sum = parts number in
-      let len = long in
-      omega (arith, sum, all, len)
-
-  pub counted_other : (n : ℕ) → number ≢ n → in_bucket n old.dirty ≡ in_bucket n new.dirty
-  counted_other n other =
-      let none = count_none (λ (info : Info). bucket_of total info.key.score.0 == n) it.settled
-      (λ info has. not_equal (bucket_of total info.key.score.0) n (λ same. other (sym (settled_own info has) ∙ same))) in
-      let sum = parts n in
-      omega (arith, sum, none)
+      sym (sum_by-IsPermutation f old.dirty (it.settled ++ new.dirty) it.dirty)
+      ∙ sum_by-append f it.settled new.dirty
+      ∙ ap (λ (k : ℕ). k + in_bucket n new.dirty) (sym (settled_are n))
 
 -- ---- the whole
 
@@ -103,8 +71,70 @@ module _ {D : Type 0} (t : ShardState D) (list : Option ℕ) (waiting : List ℕ
       room_of None has = has
       room_of (Some l) has = has
 
-  -- the writeback goes on
+  -- the count of a bucket
+  pub at_waiting : (n : ℕ) → InRange t.section.head t.section.buckets n
+      → InRange t.section.head (length waiting) n × (slice_index waiting (n - t.section.head.first) ≡ dirty_in t n)
+  at_waiting n within =
+      let at = w.counts n within in
+      let lt = slice_get_within waiting (n - t.section.head.first) (dirty_in t n) at in (
+        (within.0, (let low = within.0 in omega (arith, lt, low))),
+        get_or_from_slice_get waiting (n - t.section.head.first) (dirty_in t n) 0 at,
+      )
+
+  -- the writeback goes on: what was written back may be counted off
   module _ (on : v.phase ≢ Rest) (index : IndexState) (settles : SettlesAll below (written_back t.section v) t.index index)
+      (written : List Entry) (are : written ≡ written_back t.section v) (head_now : Head) (head_is : head_now ≡ v.head) where
+    head_same : head_now ≡ t.section.head
+    head_same = head_is ∙ (head_stays t.section v result on steps).0
+
+    within : (entry : Entry) → Contains written entry → InRange t.section.head t.section.buckets (bucket_number t.section entry)
+    within entry has = written_within t below it result v steps w.in_range entry (subst (λ (l : List Entry). Contains l entry) are has)
+
+    pub count_in_range : (entry : Entry) → Contains written entry → InRange head_now (length waiting) (bucket_of head_now.total entry.key.score.0)
+    count_in_range entry has =
+        subst (λ (x : Head). InRange x (length waiting) (bucket_of x.total entry.key.score.0)) (sym head_same)
+        (at_waiting (bucket_number t.section entry) (within entry has)).0
+
+    -- how many of them a bucket has
+    count : (n : ℕ) → count_by (λ (entry : Entry). bucket_of head_now.total entry.key.score.0 == n) written
+        + count_by (λ (info : Info). bucket_of t.section.head.total info.key.score.0 == n) index.dirty ≡ dirty_in t n
+    count n =
+        ap (λ (x : Head). count_by (λ (entry : Entry). bucket_of x.total entry.key.score.0 == n) written
+        + count_by (λ (info : Info). bucket_of t.section.head.total info.key.score.0 == n) index.dirty) head_same
+        ∙ ap (λ (l : List Entry). count_by (λ (entry : Entry). bucket_of t.section.head.total entry.key.score.0 == n) l
+        + count_by (λ (info : Info). bucket_of t.section.head.total info.key.score.0 == n) index.dirty) are
+        ∙ sym (counted below (written_back t.section v) t.index index settles t.section.head.total n)
+
+    pub count_some : (entry : Entry) (n : ℕ) → Contains written entry → bucket_of head_now.total entry.key.score.0 ≡ n
+        → count_by (λ (other : Entry). bucket_of head_now.total other.key.score.0 == n) written ≤ slice_index waiting (n - head_now.first)
+    count_some entry n has number =
+        let of : InRange t.section.head t.section.buckets n =
+        subst (InRange t.section.head t.section.buckets) (ap (λ (x : Head). bucket_of x.total entry.key.score.0) (sym head_same) ∙ number) (within entry has) in
+        let sum = count n in
+        let value = ap (λ (x : Head). slice_index waiting (n - x.first)) head_same ∙ (at_waiting n of).1 in
+        omega (arith, sum, value)
+
+    -- and was
+    pub counts_after : (counts : List ℕ)
+        → ((n : ℕ) → InRange head_now (length waiting) n → slice_index counts (n - head_now.first)
+        + count_by (λ (entry : Entry). bucket_of head_now.total entry.key.score.0 == n) written ≡ slice_index waiting (n - head_now.first))
+        → length counts ≡ length waiting
+        → (n : ℕ) → InRange v.head v.buckets n
+        → slice_get counts (n - v.head.first) ≡ Some (count_by (λ (info : Info). bucket_of v.head.total info.key.score.0 == n) index.dirty)
+    counts_after counts off len n has =
+        let at = at_waiting n (back t.section v same n has) in
+        let first = ap (λ (x : Head). x.first) head_same in
+        let sum = count n in
+        let was = ap (λ (x : Head). slice_index waiting (n - x.first)) head_same ∙ at.1 in
+        let off_here = off n (subst (λ (x : Head). InRange x (length waiting) n) (sym head_same) at.0) in
+        let value : slice_index counts (n - head_now.first) ≡ count_by (λ (info : Info). bucket_of t.section.head.total info.key.score.0 == n) index.dirty =
+        omega (arith, off_here, sum, was) in
+        ap (λ (x : Head). slice_get counts (n - x.first)) (sym head_is)
+        ∙ slice_get-get_or counts (n - head_now.first) 0 (let low = at.0 in omega (arith, low, len, first))
+        ∙ ap (λ (k : ℕ). Some k) (value ∙ ap (λ (x : Head). count_by (λ (info : Info). bucket_of x.total info.key.score.0 == n) index.dirty) (sym head_same ∙ head_is))
+
+  -- the shard then
+  module _ (on : v.phase ≢ Rest) (less : OnOk result (calls_left v < calls_left t.section)) (index : IndexState) (settles : SettlesAll below (written_back t.section v) t.index index)
       (bucket : Option ReadBucket) (counts : List ℕ) where
     abbrev after : ShardState D
     after = record t { section = v; index = index; bucket = bucket }
@@ -134,54 +164,12 @@ module _ {D : Type 0} (t : ShardState D) (list : Option ℕ) (waiting : List ℕ
       counts = counted;
       rest = λ rest. absurd (on rest);
       under_way = λ goes. subst (λ (o : Option ℕ). MatchOption o ⊥ (λ b. IsUnderWay after b)) (sym under)
-          (under_way_still t below it result v steps on w.keys index settles bucket);
+          (under_way_still t below it result v steps on less w.keys index settles bucket);
     }
       where
         moved : (info : Info) → HasScore t info.key.score.0 → HasScore after info.key.score.0
         moved info has = subst (λ (x : Head). InRange x v.buckets (bucket_of x.total info.key.score.0)) (sym head)
             (subst (λ (b : ℕ). InRange t.section.head b (bucket_of t.section.head.total info.key.score.0)) (sym same.buckets) has)
-
-    -- a bucket's entries were written back, or those of none
-    pub counts_after : (number place : ℕ) → ((entry : Entry) → Contains (written_back t.section v) entry → bucket_number t.section entry ≡ number)
-        → InRange t.section.head t.section.buckets number → place ≡ number - t.section.head.first
-        → counts ≡ set waiting place (dirty_in t number - length (written_back t.section v))
-        → (n : ℕ) → InRange v.head v.buckets n → slice_get counts (n - v.head.first) ≡ Some (dirty_in after n)
-    counts_after number place own within place_is is n has =
-        let here = back t.section v same n has in
-        let total : (k : ℕ) → dirty_in after k ≡ count_by (λ (info : Info). bucket_of t.section.head.total info.key.score.0 == k) index.dirty =
-        λ k. ap (λ (x : Head). count_by (λ (info : Info). bucket_of x.total info.key.score.0 == k) index.dirty) head in
-        let old = w.counts n here in
-        let lt = slice_get_within waiting (n - t.section.head.first) (dirty_in t n) old in
-        let first : n - v.head.first ≡ n - t.section.head.first = ap (λ (k : ℕ). n - k) (first_same t.section v same) in
-        ap (λ (l : List ℕ). slice_get l (n - v.head.first)) is
-        ∙ ap (slice_get (set waiting place (dirty_in t number - length (written_back t.section v)))) first
-        ∙ ⊎_elim
-        (λ (equal : number ≡ n).
-        let at : n - t.section.head.first ≡ place = ap (λ (k : ℕ). k - t.section.head.first) (sym equal) ∙ sym place_is in
-        let sum = counted_own below (written_back t.section v) t.index index settles t.section.head.total number own in
-        let value : dirty_in t number - length (written_back t.section v) ≡ dirty_in after n =
-        omega (arith, sum) ∙ ap (λ (k : ℕ). count_by (λ (info : Info). bucket_of t.section.head.total info.key.score.0 == k) index.dirty) equal ∙ sym (total n) in
-        ap (slice_get (set waiting place (dirty_in t number - length (written_back t.section v)))) at
-        ∙ slice_get-set_same waiting place (dirty_in t number - length (written_back t.section v)) (subst (λ (k : ℕ). k < length waiting) at lt)
-        ∙ ap (λ (k : ℕ). Some k) value)
-        (λ (other : number ≢ n).
-        let apart : place ≢ n - t.section.head.first = λ e.
-        other (let low = within.0 in let from = here.0 in let e2 = sym place_is ∙ e in omega (arith, low, from, e2)) in
-        slice_get-set_other waiting place (n - t.section.head.first) (dirty_in t number - length (written_back t.section v)) apart
-        ∙ old
-        ∙ ap (λ (k : ℕ). Some k) (counted_other below (written_back t.section v) t.index index settles t.section.head.total number own n other ∙ sym (total n)))
-        (cases_eq number n)
-
-  -- nothing was written
-  pub well_idle : v.phase ≢ Rest → written_back t.section v ≡ [] → IsWell (record t { section = v }) list waiting
-  well_idle on none =
-      let settles : SettlesAll below (written_back t.section v) t.index t.index =
-      subst (λ (l : List Entry). SettlesAll below l t.index t.index) (sym none) (settles_none below t.index) in
-      well_goes on t.index settles t.bucket waiting (λ n has.
-      let here = back t.section v same n has in
-      ap (λ (k : ℕ). slice_get waiting (n - k)) (first_same t.section v same)
-      ∙ w.counts n here
-      ∙ ap (λ (k : ℕ). Some (count_by (λ (info : Info). bucket_of k info.key.score.0 == n) t.index.dirty)) (sym (total_same t.section v same)))
 
   -- it ended
   pub well_ended : (other : Option ℕ) (ended_at : Option ℕ) → v.phase ≡ Rest → MatchOption other ⊥ (λ capacity. ROOM ≤ capacity)

@@ -1,5 +1,5 @@
 -- A shard as its calls see it: a section of the index, and what is kept in memory for it.
-use Rattle.std.specs.Prelude.{◌≡◌, ◌≢◌, ◌==◌, ◌↔◌, ℕ, ◌+◌, ◌-◌, ◌^◌, ◌<◌, ◌≤◌, Option, None, Some, List, [], length, drop, count_by, slice_get, MatchOption}
+use Rattle.std.specs.Prelude.{◌≡◌, ◌≢◌, ◌==◌, ◌↔◌, ℕ, ◌+◌, ◌-◌, ◌*◌, ◌^◌, ◌<◌, ◌≤◌, Option, None, Some, List, [], length, take, drop, count_by, slice_get, MatchOption}
 use Rattle.std.specs.List.{All, AllPairs, Contains}
 use Rattle.std.specs.Option.{option_map}
 use Rattle.lru.specs.LruCache.{lru_cache}
@@ -9,9 +9,11 @@ use Rattle.vt_bucket.specs.Buckets.{number_of, entries_of as entries_in}
 use Rattle.vt_bucket.specs.declared.Bucket.{Bucket}
 use Rattle.vt_icache.specs.Index.{IndexState, entry_of}
 use Rattle.vt_isect.specs.Layout.{InRange}
-use Rattle.vt_isect.specs.Section.{SectionState, IsAtRest, HasBucket, entries_of}
+use Rattle.vt_isect.specs.Section.{SectionState, HasBucket, HasGroup, IsAtRest, PutsEntries, bucket_number, entering, entries_of}
+use Rattle.vt_isect.specs.declared.groups.Member.{Member}
 use Rattle.vt_isect.specs.declared.head.Head.{Head}
 use Rattle.vt_isect.specs.declared.phase.Phase.TheVariants.{ChangeHead}
+use Rattle.vt_isect.specs.Writeback.{calls_left}
 use Rattle.vt_lumps.specs.Lumps.{LumpsState}
 use Rattle.vt_model.specs.Places.{bucket_of}
 use Rattle.vt_shard.specs.declared.TheConstants.{ROOM}
@@ -97,6 +99,19 @@ abbrev pub IsDirtyBelow : (below : ℕ) → List Info → Entry → Type 0
 IsDirtyBelow below dirty entry =
     (info : Info) × Contains dirty info × (info.number < below) × (entry_of info ≡ entry)
 
+-- one of these entries belongs to bucket n
+abbrev pub HasEntryOf : {D : Type 0} → SectionState D → List Entry → (n : ℕ) → Type 0
+HasEntryOf t entries n = (entry : Entry) × Contains entries entry × (bucket_number t entry ≡ n)
+
+-- While entries are put into their buckets: the bucket under way gets some of them, and so does
+-- each of the group.
+pub record IsFiling {D : Type 0} (t : SectionState D) : Type 0 where
+  pub order : (t.written ≤ t.framed) × (t.framed ≤ t.begun) × (t.begun ≤ length (entries_of t))
+  pub next : HasBucket t.phase → HasEntryOf t (entering t) t.bucket
+  pub group : (member : Member) → Contains t.group member
+      → HasEntryOf t (drop t.written (take t.framed (entries_of t))) member.bucket
+  pub whole : HasGroup t.phase → t.framed ≡ t.begun
+
 -- The writeback under way is still to write just the dirty entries below its number. Its list has
 -- the memory for all that may be dirty.
 pub record IsUnderWay {D : Type 0} (t : ShardState D) (below : ℕ) : Type 0 where
@@ -106,11 +121,11 @@ pub record IsUnderWay {D : Type 0} (t : ShardState D) (below : ℕ) : Type 0 whe
   pub todo : (entry : Entry) → Contains (drop t.section.written (entries_of t.section)) entry
       ↔ IsDirtyBelow below t.index.dirty entry
   pub apart : AllPairs (λ a b. a.key ≢ b.key) (entries_of t.section)
-  pub group : HasBucket t.section.phase → (t.section.written < t.section.begun)
-      × (t.section.begun ≤ length (entries_of t.section))
+  pub filing : PutsEntries t.section.phase → IsFiling t.section
   pub behind : t.section.phase ≡ ChangeHead → t.section.written ≡ length (entries_of t.section)
   pub list : MatchOption t.section.entries ⊥ (λ list. ROOM ≤ list.room)
-  pub most : length (entries_of t.section) ≤ ROOM
+  -- it makes so few calls more at most
+  pub left : calls_left t.section ≤ 6 * ROOM + 4
 
 -- At rest the memory for the entries of a writeback is here. `waiting` has for each bucket of the
 -- section how many dirty entries it has.

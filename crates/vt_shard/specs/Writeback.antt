@@ -12,15 +12,15 @@ use Rattle.vt_isect.specs.Entries.{IsOrdered}
 use Rattle.vt_isect.specs.Faults.{NamesDamage, is_fault}
 use Rattle.vt_isect.specs.Layout.{IsPlaceOf}
 use Rattle.vt_isect.specs.Merging.{IsMerged, IsDamage}
-use Rattle.vt_isect.specs.Section.{SectionState, IsAtRest, bucket_number, bucket_under_way, entries_of, group_of}
+use Rattle.vt_isect.specs.Section.{SectionState, IsAtRest, bucket_number, bucket_under_way, entering, entries_of, most_after}
 use Rattle.vt_isect.specs.Writeback.{Advances as SectionAdvances, BeginsBehind, MayWrite, Syncs, Writes, calls_left}
 use Rattle.vt_isect.specs.declared.TheConstants.{FRAME_LEN}
 use Rattle.vt_isect.specs.declared.bad.ShardErr.{ShardErr}
 use Rattle.vt_isect.specs.declared.bad.ShardErr.TheVariants.{Fault, Stopped}
 use Rattle.vt_isect.specs.declared.phase.Phase.{Phase}
-use Rattle.vt_isect.specs.declared.phase.Phase.TheVariants.{Rest, ReadSelector, ReadFrame, ChangeBucket, ChangeHead}
+use Rattle.vt_isect.specs.declared.phase.Phase.TheVariants.{Rest, ReadSelector, ReadFrame, WriteFrame, SyncFrames, WriteSelector, SyncSelectors, ChangeHead}
 use Rattle.vt_twin.specs.Frames.{frame_of}
-use Rattle.vt_twin.specs.Twin.{calls_made, next_frame}
+use Rattle.vt_twin.specs.Twin.{calls_made}
 use Rattle.vt_twin.specs.declared.step.Step.{Step}
 use Rattle.vt_twin.specs.declared.step.Step.TheVariants.{Done}
 use Rattle.vt_shard.specs.Shard.{ShardState, HasBelow, KeepsPlace, ReadBucket}
@@ -34,18 +34,21 @@ HasWork below t = HasBelow below t.index.dirty ⊎ (t.section.head.mark < below)
 
 -- A writeback began of the entries of the blocks below a number, and the head gets this mark behind
 -- them. Its buckets come in the order of their numbers, but that those up to the one at which the
--- last writeback ended early come behind the others.
+-- last writeback ended early come behind the others, and each by itself then.
 pub record Begins {D : Type 0} (below mark : ℕ) (old new : ShardState D) : Type 0 where
   pub section : new.section ≡ record old.section {
     next = record old.section.head { mark = mark };
     phase = new.section.phase;
     entries = new.section.entries;
     written = new.section.written;
+    framed = new.section.framed;
     begun = new.section.begun;
     bucket = new.section.bucket;
+    most = new.section.most;
     head_twin = new.section.head_twin;
   }
   pub begins : BeginsBehind 0 new.section
+  pub most : new.section.most ≡ most_after old.ended_at
   pub entries : IsPermutation (entries_below below old.index.dirty) (entries_of new.section)
   pub ordered : IsOrdered old.section.head.total old.ended_at (entries_of new.section)
   pub shard : new ≡ record old {
@@ -70,7 +73,10 @@ abbrev pub without_list : {D : Type 0} → Phase → SectionState D → SectionS
 without_list Rest t = record t { entries = None }
 without_list ReadSelector t = t
 without_list (ReadFrame selector) t = t
-without_list ChangeBucket t = t
+without_list (WriteFrame current) t = t
+without_list SyncFrames t = t
+without_list (WriteSelector member) t = t
+without_list SyncSelectors t = t
 without_list ChangeHead t = t
 
 -- what `advance` makes of a shard, beside the entries in memory
@@ -143,12 +149,12 @@ IsFrameOf disk t selector frame = (region : Region) → IsTrue disk.tells
 pub record ReadsFrame {D : Type 0} (disk : DiskOf D) (result : Result Step ShardErr)
     (old new : ShardState D) : Type 0 where
   pub merged : (s : ℕ) → OnOk result (old.section.phase ≡ ReadFrame s → (read : List ℕ)
-      × IsMerged old.section.bucket (group_of old.section) read (next_frame new.section.bucket_twin)
+      × IsMerged old.section.bucket (entering old.section) read new.section.frame
       × IsFrameOf disk old.section s read)
   pub names : IfErr result NamesDamage
   pub damaged : (s : ℕ) → IfErr result (λ bad. bad ≢ Fault → old.section.stopped ≡ None
       → old.section.phase ≡ ReadFrame s → (read : List ℕ)
-      × IsDamage old.section.bucket (group_of old.section) read bad
+      × IsDamage old.section.bucket (entering old.section) read bad
       × IsFrameOf disk old.section s read)
 
 -- It makes one device call or, where it is stopped, none.

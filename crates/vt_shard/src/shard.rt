@@ -1,6 +1,6 @@
 //! A shard that is mounted, and its calls that need no device.
 
-ghost use Rattle.std.specs.Prelude.{◌≡◌, ◌↔◌, ◌+◌, ◌-◌, ◌*◌, ◌^◌, ◌<◌, ◌≤◌, ◌++◌, ◌∷◌, [], ℕ, List, length, take, true, false, IsTrue, IsSome, IfSome, None, Some, is_some, slice_get, option_copied};
+ghost use Rattle.std.specs.Prelude.{◌≡◌, ◌≢◌, ◌↔◌, ◌+◌, ◌-◌, ◌*◌, ◌^◌, ◌<◌, ◌≤◌, ◌++◌, ◌∷◌, [], ℕ, List, length, take, true, false, IsTrue, IsSome, IfSome, None, Some, is_some, slice_get, option_copied};
 ghost use Rattle.std.specs.List.{AllPairs};
 ghost use Rattle.vt_icache.specs.Index.{entry_of, dirty_info};
 ghost use Rattle.vt_isect.specs.Agreement.{IsEntryOf};
@@ -66,6 +66,7 @@ impl<D: Disk> Shard<D> {
     pub fn spare(&self) -> u32
         ensures count { result ≡ ROOM - length self.now.index.dirty }
         ensures fits { length self.now.index.dirty ≤ ROOM }
+        ensures apart { AllPairs (λ a b. a.key ≢ b.key) self.now.index.dirty }
     {
         self.index.spare()
     }

@@ -294,8 +294,13 @@ fn three() -> [Info; 3] {
 }
 
 /// The calls before those of the writeback of the three blocks: those that make the section, three
-/// that mount it again, and two for each look-up of a block, since no two in a row read one bucket.
-const FIRST_STEP: u64 = FIRST_CALL + 3 + 6;
+/// that mount it again, and of the look-ups two for each bucket, and one where the first bucket is
+/// read again.
+const FIRST_STEP: u64 = FIRST_CALL + 3 + 5;
+
+/// The calls of that writeback, whose two buckets are one group: of each bucket two reads and the
+/// write of its idle frame, a sync, a selector each, a sync, and four for the head.
+const WRITEBACK: u64 = 14;
 
 /// Ends the writeback of the three blocks with this call of it.
 fn stops<D: Disk>(shard: &mut Shard<D>, call: u64, fails: bool) -> Result<(), Fail> {
@@ -306,7 +311,7 @@ fn stops<D: Disk>(shard: &mut Shard<D>, call: u64, fails: bool) -> Result<(), Fa
     }
     see(step(shard)?.is_err() == fails, "another answer")?;
     // a fault in a read ends a writeback, and in a write or a sync it stops the shard
-    let reads = matches!(call, 0 | 1 | 6 | 7);
+    let reads = matches!(call, 0 | 1 | 3 | 4);
     see(shard.stopped().is_some() == (fails && !reads), "stopped")?;
     agrees(shard, &three(), 2)
 }
@@ -601,16 +606,17 @@ fn left(alloc: Global, call: u64, fails: bool) -> Result<MemDisk<Listed>, Fail> 
 
 #[test]
 fn what_a_crash_leaves_has_each_block(rt: HostRuntime) -> Result<(), Fail> {
-    for call in 0..16u64 {
+    for call in 0..WRITEBACK {
         for fails in [false, true] {
             for mode in CrashMode::ALL {
                 recovers(rt.alloc(), left(rt.alloc(), call, fails)?.crash_in(mode))?;
             }
         }
     }
-    // the selector of a bucket is being written
+    // the selectors of the group are being written
     for selector in [0, 1, 2, 254, 255] {
-        recovers(rt.alloc(), left(rt.alloc(), 4, true)?.crash(&[selector]))?;
+        recovers(rt.alloc(), left(rt.alloc(), 7, true)?.crash(&[selector]))?;
+        recovers(rt.alloc(), left(rt.alloc(), 8, true)?.crash(&[selector]))?;
     }
     Ok(())
 }
@@ -622,7 +628,7 @@ fn a_shard_is_the_list_of_its_blocks(rt: HostRuntime) -> Result<(), Fail> {
     beside_damage(rt.alloc(), disk_of(rt.alloc(), EIGHT, &[])?)?;
     let mut failing = [0; 8];
     for call in 0..8u8 {
-        failing[call as usize] = FIRST_STEP + 16 + u64::from(call);
+        failing[call as usize] = FIRST_STEP + WRITEBACK + u64::from(call);
     }
     without_the_disk(rt.alloc(), disk_of(rt.alloc(), TWO, &failing)?)
 }

@@ -1,15 +1,16 @@
 //! Writing dirty entries back to their buckets.
 
-ghost use Rattle.std.specs.Prelude.{◌≡◌, ◌≢◌, ◌⊎◌, ◌↔◌, ◌+◌, ◌-◌, ◌^◌, ◌<◌, ◌≤◌, ℕ, List, [], max, length, true, false, take, IsTrue, IsSome, IfSome, IfNone, IfOk, IfErr, OnOk, None, Some, Ok, Err, vec_capacity};
+ghost use Rattle.std.specs.Prelude.{◌≡◌, ◌≢◌, ◌⊎◌, ◌↔◌, ◌==◌, ◌+◌, ◌-◌, ◌^◌, ◌<◌, ◌≤◌, ℕ, List, [], count_by, max, length, slice_index, true, false, take, IsTrue, IsSome, IfSome, IfNone, IfOk, IfErr, OnOk, None, Some, Ok, Err, vec_capacity};
 ghost use Rattle.std.specs.List.{All, AllPairs, Contains};
 ghost use Rattle.std.specs.Option.{option_map};
 ghost use Rattle.vt_base.specs.declared.place.Entry.{Entry};
 ghost use Rattle.vt_base.specs.declared.place.Info.{Info};
 ghost use Rattle.vt_disk.specs.Disk.{WithinCall};
 ghost use Rattle.vt_icache.specs.Index.{entries_below};
+ghost use Rattle.vt_isect.specs.Layout.{InRange};
 ghost use Rattle.vt_isect.specs.Section.{IsAtRest};
 ghost use Rattle.vt_model.specs.History.{History};
-ghost use Rattle.vt_model.specs.Places.{Setup, bucket_count, crowd};
+ghost use Rattle.vt_model.specs.Places.{Setup, bucket_count, bucket_of, crowd};
 ghost use Rattle.vt_shard.specs.Shard.{ReadBucket, HasBelow, IsAboveAll, IsDirtyBelow, read_bucket};
 ghost use Rattle.vt_shard.specs.Writeback.{SettlesAll};
 
@@ -19,7 +20,7 @@ use vt_base::{Entry, Info};
 use vt_bucket::Bucket;
 use vt_disk::Disk;
 use vt_icache::{IndexCache, entry_of};
-use vt_isect::{Entries, Section, ShardErr, bucket_number};
+use vt_isect::{Entries, Head, Section, ShardErr, bucket_number};
 use vt_model::BUCKET_ROOM;
 use vt_twin::Step;
 
@@ -74,14 +75,14 @@ impl<D: Disk> Shard<D> {
         }
     }
 
-    /// Makes one device call of the writeback under way. Of each bucket it reads the selector, then
-    /// the current frame, and writes a frame with the bucket's entries too, syncs, writes the
-    /// selector, and syncs. Then these entries are clean. Behind the last bucket come the four
-    /// calls that raise the mark, and Done is the answer to the last of them: no entry below the
-    /// writeback's number is dirty then.
+    /// Makes one device call of the writeback under way. Of each bucket of a group it reads the
+    /// selector, then the current frame, and writes the idle one with the bucket's entries too.
+    /// Then it syncs these frames, writes the selector of each, and syncs those, and the group's
+    /// entries are clean. Behind the last group come the four calls that raise the mark, and Done
+    /// is the answer to the last of them: no entry below the writeback's number is dirty then.
     ///
     /// A fault in a read and a damaged bucket end the writeback, and its entries stay dirty but for
-    /// those of the buckets that were completed. A fault in a write or a sync stops the shard: from
+    /// those of the groups that were completed. A fault in a write or a sync stops the shard: from
     /// then on the answer is Stopped with the number of that call, and nothing is done.
     pub fn advance(&mut self) -> Result<Step, ShardErr>
         requires under_way { IsSome self.old.writeback }
@@ -122,14 +123,10 @@ impl<D: Disk> Shard<D> {
             return answer;
         }
         let written = &self.section.entries()[before..self.section.written()];
-        let Some(first) = written.first() else {
-            return answer;
-        };
         let head = self.section.head();
-        let number = bucket_number(head.total, &first.key.score);
         settle(&mut self.index, written, below);
-        self.waiting[(number - head.first) as usize] -= written.len() as u16;
-        forget(&mut self.bucket, number);
+        count_off(&mut self.waiting, written, head);
+        forget(&mut self.bucket, written, head.total);
         answer
     }
 
@@ -169,25 +166,58 @@ fn settle(index: &mut IndexCache, entries: &[Entry], below: u64)
     requires apart { AllPairs (λ a b. a.key ≢ b.key) entries.now }
     requires dirty { (entry : Entry) → Contains entries.now entry
         → IsDirtyBelow below index.old.dirty entry }
-    ensures { SettlesAll below entries.now index.old index.new }
+    ensures settled { SettlesAll below entries.now index.old index.new }
+    ensures none { entries.now ≡ [] → index.new ≡ index.old }
 {
     for entry in entries {
         index.settle(&entry.key, below);
     }
 }
 
-/// Drops the bucket that was read, if it is of this number.
-fn forget(read: &mut Option<Bucket>, number: u32)
-    ensures dropped { (bucket : ReadBucket) → read_bucket read.old ≡ Some bucket
-        → bucket.number ≡ number → read_bucket read.new ≡ None }
-    ensures kept { ((bucket : ReadBucket) → read_bucket read.old ≡ Some bucket
-        → bucket.number ≢ number) → read_bucket read.new ≡ read_bucket read.old }
+/// Of these entries, counts each off those of its bucket. The counts stand in the order of the
+/// buckets, from the head's first one on.
+fn count_off(waiting: &mut [u16], entries: &[Entry], head: Head)
+    requires in_range { (entry : Entry) → Contains entries.now entry
+        → InRange head (length waiting.old) (bucket_of head.total entry.key.score.0) }
+    requires some { (entry : Entry) (n : ℕ) → Contains entries.now entry
+        → bucket_of head.total entry.key.score.0 ≡ n
+        → count_by (λ entry. bucket_of head.total entry.key.score.0 == n) entries.now
+        ≤ slice_index waiting.old (n - head.first) }
+    ensures { (n : ℕ) → InRange head (length waiting.old) n
+        → slice_index waiting.new (n - head.first)
+        + count_by (λ entry. bucket_of head.total entry.key.score.0 == n) entries.now
+        ≡ slice_index waiting.old (n - head.first) }
+{
+    for entry in entries {
+        let bucket = bucket_number(head.total, &entry.key.score);
+        waiting[(bucket - head.first) as usize] -= 1;
+    }
+}
+
+/// Drops the bucket that was read, if it is that of one of these entries.
+fn forget(read: &mut Option<Bucket>, entries: &[Entry], total: u32)
+    ensures dropped { (bucket : ReadBucket) (entry : Entry) → read_bucket read.old ≡ Some bucket
+        → Contains entries.now entry → bucket_of total entry.key.score.0 ≡ bucket.number
+        → read_bucket read.new ≡ None }
+    ensures kept { ((bucket : ReadBucket) (entry : Entry) → read_bucket read.old ≡ Some bucket
+        → Contains entries.now entry → bucket_of total entry.key.score.0 ≢ bucket.number)
+        → read_bucket read.new ≡ read_bucket read.old }
 {
     if let Some(bucket) = read
-        && bucket.number() == number
+        && has_one_of(entries, total, bucket.number())
     {
         *read = None;
     }
+}
+
+/// Whether one of these entries belongs to a bucket.
+fn has_one_of(entries: &[Entry], total: u32, bucket: u32) -> bool
+    ensures { IsTrue result ↔ (entry : Entry) × Contains entries.now entry
+        × (bucket_of total entry.key.score.0 ≡ bucket) }
+{
+    entries
+        .iter()
+        .any(|entry| bucket_number(total, &entry.key.score) == bucket)
 }
 
 /// The memory for the entries of a writeback, which the section at rest hands back.

@@ -1,5 +1,6 @@
 use Rattle.std.proofs.Common.{◌≡◌, ◌<◌, ◌+◌, ◌∷◌, [], ⊎_elim, inl, inr, ℕ, List, length, map, refl, sym, ◌∙◌, ap, subst, arith, length-append}
 use Rattle.vt_isect.specs.Section.{SectionState}
+use Rattle.vt_isect.specs.Sound.{nothing_known}
 use Rattle.vt_core.specs.Opening.{CanBeOpened, IsOpened}
 use Rattle.vt_told.specs.Told.{of_section}
 use Rattle.vt_core.specs.Refusals.{CountsRefusal}
@@ -52,6 +53,7 @@ loop-device-preserved g c =
       fresh = e.fresh;
       some = subst (λ (n : ℕ). 0 < n) (sym buckets) (room_some (g.D.Disk.size device) e.room);
       head = λ tells. e.head tells;
+      holds = λ tells. e.sound nothing_known tells (λ n region entries range place known. absurd (cc));
       only = λ name head tells frame. e.all_are_found name head tells e.room frame;
       sound = λ score setup h entries tells is agrees. e.agrees score setup h entries tells is agrees;
       reads = e.reads;

@@ -1,6 +1,7 @@
-use Rattle.std.proofs.Common.{◌≡◌, ◌≢◌, ℕ, Some, ⊎_elim, sym, ◌∙◌, ap, arith}
+use Rattle.std.proofs.Common.{◌≡◌, ◌≢◌, ◌≤◌, ℕ, Option, Some, MatchOption, ⊎_elim, sym, ◌∙◌, ap, subst, arith}
 use Rattle.std.specs.Prelude.{slice_get}
 use Rattle.std.proofs.lemmas.Option.{get_or_from_slice_get}
+use Rattle.vt_bloom.specs.Bloom.{BloomState}
 use Rattle.vt_shard.specs.Shard.{ShardState}
 use Rattle.vt_core.proofs.Calls.{within_get}
 use Rattle.vt_core.proofs.LogWork.{one_or_other}
@@ -29,3 +30,8 @@ returns-clause-marks g c = λ i s at. c.loop-shard.invariant.0 i s (omega (arith
 
 pub returns-clause-greatest : goal.returns-clause-greatest
 returns-clause-greatest g c = c.loop-shard.invariant.2
+
+pub returns-clause-filter : goal.returns-clause-filter
+returns-clause-filter g c =
+    subst (λ (o : Option (BloomState g.row.D.Denot)). MatchOption o (c.loop-shard.least ≡ 0) (λ b. c.loop-shard.least ≤ b.mark)) (sym c.in-Some.is)
+    (c.loop-shard.invariant.1 c.in-Some.bloom c.in-Some.is)

@@ -1,10 +1,13 @@
-use Rattle.std.proofs.Common.{◌≡◌, ℕ, List, Result, Ok, Err, Some, None, inl, ◌∙◌, subst}
+use Rattle.std.proofs.Common.{◌≡◌, ℕ, List, length, replicate, refl, Option, Result, Ok, Err, Some, None, inl, sym, ap, ◌∙◌, subst}
 use Rattle.std.specs.Prelude.{IfErr}
+use Rattle.std.specs.Result.{IsErrAnd}
 use Rattle.std.proofs.lemmas.List.{take_at}
 use Rattle.vt_twin.specs.Frames.{current_frame}
+use Rattle.vt_isect.specs.declared.bad.SectBad.{SectBad}
+use Rattle.vt_isect.specs.declared.bad.SectBad.TheVariants.{NoMemory, Fault}
 use Rattle.vt_isect.specs.Faults.{first_bad}
 use Rattle.vt_isect.specs.Head.{IsHeadFrame}
-use Rattle.vt_isect.specs.Layout.{head_place}
+use Rattle.vt_isect.specs.Layout.{buckets_in, head_place}
 use Rattle.vt_isect.proofs.mounting.open.Goals as goal
 
 pub returns-in-Err-clause-refused : goal.returns-in-Err-clause-refused
@@ -42,3 +45,31 @@ anyway P Q (Err bad) holds = λ is. holds
 
 pub returns-in_err-twin-clause-failed : goal.returns-in_err-twin-clause-failed
 returns-in_err-twin-clause-failed g c = anyway _ _ c.from_residual-in_err-twin.result c.read_head.ensures.settled
+
+-- no memory isn't a fault
+no_fault : {T : Type 0} (Q : Type 0) (r : Result T SectBad) → IsErrAnd r (λ bad. bad ≡ NoMemory) → IfErr r (λ bad. bad ≡ Fault → Q)
+no_fault Q (Ok it) is = tt
+no_fault Q (Err bad) is = λ fault. absurd (let no : NoMemory ≡ Fault = sym is ∙ fault in cc)
+
+pub returns-in_err-group-clause-failed : goal.returns-in_err-group-clause-failed
+returns-in_err-group-clause-failed g c = no_fault _ c.from_residual-in_err-group.result c.from_residual-in_err-group.ensures.1
+
+pub returns-in-Ok-clause-frames : goal.returns-in-Ok-clause-frames
+returns-in-Ok-clause-frames g c = (
+  ap (λ (l : List ℕ). length l) (take_at c.read_head.new.frame _ c.in_ok-head_frame.head_frame.len (c.read_head.auto.frame ∙ c.deref_mut.ensures.len))
+      ∙ (c.read_head.auto.frame ∙ c.deref_mut.ensures.len) ∙ c.in_ok-head_frame.ensures.len,
+  c.in_ok-frame.ensures.items_if_clones_equal (λ y is. is),
+)
+
+pub returns-in_err-frames-clause-failed : goal.returns-in_err-frames-clause-failed
+returns-in_err-frames-clause-failed g c = no_fault _ c.from_residual-in_err-frames.result c.from_residual-in_err-frames.ensures.1
+
+-- nothing is a copy of nothing alone
+none_only : (P : Option ℕ → Type 0) → ((x : ℕ) → ¬ P (Some x)) → (y : Option ℕ) → P y → y ≡ None
+none_only P never None is = refl
+none_only P never (Some x) is = absurd (never x is)
+
+pub returns-in-Ok-clause-current : goal.returns-in-Ok-clause-current
+returns-in-Ok-clause-current g c =
+    c.in_ok-frames.ensures.items_if_clones_equal (none_only _ (λ x is. absurd is))
+    ∙ ap (λ (n : ℕ). replicate {A = Option ℕ} n None) (c.buckets_in.ensures.count ∙ ap buckets_in c.len-len.ensures)

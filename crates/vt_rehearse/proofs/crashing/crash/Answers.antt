@@ -1,5 +1,5 @@
 -- the store behind the crash has a prefix, and the list is cut to it
-use Rattle.std.proofs.Common.{◌≡◌, List, ℕ, sym, ap, subst, arith}
+use Rattle.std.proofs.Common.{sym, ap, subst}
 use Rattle.vt_core.specs.Core.{CoreState}
 use Rattle.vt_rehearse.specs.Limits.{Grows}
 use Rattle.vt_rehearse.specs.Rehearsal.{CrashesIn}

@@ -1,4 +1,4 @@
-use Rattle.std.proofs.Common.{◌≡◌, List, ℕ, ◌≤◌, sym, ◌∙◌, subst}
+use Rattle.std.proofs.Common.{◌≡◌, ℕ, ◌≤◌, sym, subst}
 use Rattle.std.specs.Prelude.{MatchBool}
 use Rattle.vt_base.specs.Faults.{HasRisen}
 use Rattle.vt_part.specs.declared.bad.PartBad.{PartBad}

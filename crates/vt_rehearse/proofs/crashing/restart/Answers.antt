@@ -1,5 +1,5 @@
 -- what a crash leaves can be mounted, and is the old store behind a crash
-use Rattle.std.proofs.Common.{◌≡◌, ◌+◌, ◌<◌, List, ℕ, ap, arith}
+use Rattle.std.proofs.Common.{ap, arith}
 use Rattle.std.proofs.lemmas.Result.{IfOk-weaker}
 use Rattle.vt_core.specs.declared.devices.Devices.{Devices}
 use Rattle.vt_rehearse.proofs.Restarting.{can_be_mounted, crashes, have_tables, one_part, restarts, rooms, some_arena, two_sections}
@@ -83,7 +83,7 @@ open-requires-clause-log g c =
     let steady = c.requires.steady.1 in
     can_be_mounted score disk Leaves mode c.requires.memory.tells old h steady before after c.into_devices-parts.ensures.devices c.into_devices-parts.ensures.tables
     c.in_ok-parts.ensures c.in_ok-sections.ensures c.crash_one-filter.ensures c.crash_gives_a_prefix.ensures.prefix
-    c.stores_can_be_mounted.ensures.log c.devices_have_a_log.ensures
+    c.stores_can_be_mounted.ensures.log
 
 pub returns-clause-restarts : goal.returns-clause-restarts
 returns-clause-restarts g c =
@@ -109,4 +109,5 @@ returns-clause-crashes g c h steady =
     let before = c.into_devices-parts.result in
     let after : Devices g.row.D.Denot = record { parts = c.in_ok-parts.parts; sections = c.in_ok-sections.sections; filter = c.crash_one-filter.result } in
     IfOk-weaker c.open.result _ _ (λ it mounts. crashes score disk Leaves mode c.requires.memory.tells old h steady before after c.into_devices-parts.ensures.devices c.into_devices-parts.ensures.tables
-    c.in_ok-parts.ensures c.in_ok-sections.ensures c.crash_one-filter.ensures c.crash_gives_a_prefix.ensures.prefix it mounts c.recovery_is_a_crash.ensures) c.open.ensures
+    c.in_ok-parts.ensures c.in_ok-sections.ensures c.crash_one-filter.ensures c.crash_gives_a_prefix.ensures.prefix it mounts c.recovery_is_a_crash.ensures
+    c.stores_can_be_mounted.ensures.log) c.open.ensures

@@ -1,4 +1,4 @@
-use Rattle.std.proofs.Common.{◌≡◌, ◌≢◌, ◌≤◌, false, true, sym, ◌∙◌, ap, subst, arith}
+use Rattle.std.proofs.Common.{◌≡◌, ◌≢◌, false, true, sym, ◌∙◌, ap, subst, arith}
 use Rattle.vt_base.specs.declared.answer.Said.TheVariants.{Refused}
 use Rattle.vt_base.specs.declared.why.Why.TheVariants.{NoMemory}
 use Rattle.vt_rehearse.specs.declared.summary.Summary.{Summary}

@@ -1,4 +1,4 @@
-use Rattle.std.proofs.Common.{◌+◌, ◌-◌, ℕ}
+use Rattle.std.proofs.Common.{◌+◌, ◌-◌}
 use Rattle.std.specs.List.{range_with_len}
 use Rattle.vt_rehearse.specs.Limits.{AreAtMost, ROUNDS_MOST}
 use Rattle.vt_rehearse.specs.Rehearsal.{LooksUpAll}

@@ -1,5 +1,5 @@
 -- two things are dropped one after the other
-use Rattle.std.proofs.Common.{◌≡◌, ◌+◌, ◌≤◌, ℕ, sym, ap, subst, arith}
+use Rattle.std.proofs.Common.{◌+◌, sym, ap, subst, arith}
 use Rattle.vt_core.specs.declared.event.Event.TheVariants.{EvictIndex, EvictLump}
 use Rattle.vt_rehearse.specs.declared.rounds.Round.{Round}
 use Rattle.vt_rehearse.specs.declared.summary.Summary.{Summary}

@@ -1,4 +1,4 @@
-use Rattle.std.proofs.Common.{◌-◌, ◌*◌, ◌^◌, ℕ}
+use Rattle.std.proofs.Common.{◌-◌, ◌*◌}
 use Rattle.vt_rehearse.specs.Limits.{AreAtMost}
 use Rattle.vt_rehearse.specs.Rehearsal.{MakesAll}
 use Rattle.vt_rehearse.specs.Rounds.{rounds_from}

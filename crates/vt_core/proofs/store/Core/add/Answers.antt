@@ -66,6 +66,17 @@ add_block-requires-clause-room g c =
     let k : CoreState g.row.D.Denot = state_of c.self.inside in
     subst (λ (n : ℕ). IsTrue (has_next k.log n)) (sym c.in-Ok.ensures.len) (subst (λ (m : CoreState g.row.D.Denot). IsTrue (has_next m.log (length c.args.block.now))) (sym c.self.view_is) c.requires.fits)
 
+pub add_block-requires-clause-spare : goal.add_block-requires-clause-spare
+add_block-requires-clause-spare g c =
+    let k : CoreState g.row.D.Denot = state_of c.self.inside in
+    let v : ShardState g.row.D.Denot = c.index.result.now in
+    let s : ShardState g.row.D.Denot = c.index_mut.result.now in
+    let below : c.args.shard < length k.shards = subst (λ (m : CoreState g.row.D.Denot). c.args.shard < length m.shards) (sym c.self.view_is) c.requires.within in
+    let read : slice_get k.shards c.args.shard ≡ Some v = there_is k.shards c.args.shard v v below (sym c.index.ensures) in
+    let at : slice_get k.shards c.args.shard ≡ Some s = there_is k.shards c.args.shard s s below (sym c.index_mut.ensures.value) in
+    let same : v ≡ s = same_Some v s (sym read ∙ at) in
+    omega (arith, c.spare.ensures.count, c.if-spare-eq0.false, ap (λ (t : ShardState g.row.D.Denot). length t.index.dirty) same)
+
 pub add_block-requires-clause-range : goal.add_block-requires-clause-range
 add_block-requires-clause-range g c =
     let k : CoreState g.row.D.Denot = state_of c.self.inside in

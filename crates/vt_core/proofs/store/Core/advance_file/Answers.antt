@@ -1,4 +1,4 @@
-use Rattle.std.proofs.Common.{◌≡◌, ◌<◌, Some, length, sym, subst, arith}
+use Rattle.std.proofs.Common.{◌≡◌, ◌<◌, Some, List, length, sym, subst, arith}
 use Rattle.std.specs.Prelude.{slice_get, slice_set, IsSome}
 use Rattle.vt_shard.specs.Shard.{ShardState}
 use Rattle.vt_core.specs.declared.event.Event.TheVariants.{FileAdvance}
@@ -10,7 +10,8 @@ use Rattle.vt_core.specs.View.{state_of}
 use Rattle.vt_core.proofs.Answering.{there_is}
 use Rattle.vt_core.proofs.ShardWork.{shard_whole, under_way}
 use Rattle.vt_core.proofs.ShardCall.{call_steps, idle_steps, step_keeps, never_damaged}
-use Rattle.vt_core.proofs.Room.{room_stays}
+use Rattle.vt_core.specs.Whole.{IsWhole}
+use Rattle.vt_core.proofs.Room.{room_stays, set_same}
 use Rattle.vt_core.proofs.store.Core.advance_file.Goals as goal
 
 pub returns-then-owed-eq0 : goal.returns-then-owed-eq0
@@ -21,6 +22,16 @@ returns-then-owed-eq0 g c =
     (subst (λ (m : CoreState g.row.D.Denot). c.args.shard < length m.shards) (sym c.self.view_is) c.requires) (sym c.index_mut-part.ensures.value) in
     subst (λ (m : CoreState g.row.D.Denot). Steps g.S.Scorer.score_of g.D.Disk (FileAdvance c.args.shard) Nothing m (record k { shards = slice_set k.shards c.args.shard before })) c.self.view_is
     (idle_steps g.S.Scorer.score_of g.D.Disk k c.args.shard before at c.crash_gives_a_prefix.ensures.prefix c.self.invariant.0 (c.owed.ensures.none.0 c.if-owed-eq0.true))
+
+pub invariant_of-self : goal.invariant_of-self
+invariant_of-self g c =
+    let k : CoreState g.row.D.Denot = state_of c.self.inside in
+    let before : ShardState g.row.D.Denot = c.index_mut-part.result.now in
+    let at : slice_get k.shards c.args.shard ≡ Some before = there_is k.shards c.args.shard before before
+    (subst (λ (m : CoreState g.row.D.Denot). c.args.shard < length m.shards) (sym c.self.view_is) c.requires) (sym c.index_mut-part.ensures.value) in (
+      subst (λ (shards : List (ShardState g.row.D.Denot)). IsWhole g.D.Disk (record k { shards = shards })) (sym (set_same k.shards c.args.shard before at)) c.self.invariant.0,
+      room_stays k.shards c.args.shard before c.self.inside.room c.self.invariant.1,
+    )
 
 pub invariant_of-self-2 : goal.invariant_of-self-2
 invariant_of-self-2 g c =

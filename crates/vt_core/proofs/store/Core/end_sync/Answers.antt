@@ -1,4 +1,4 @@
-use Rattle.std.proofs.Common.{◌≡◌, ℕ, ◌≤◌, ◌<◌, Some, None, refl, sym, ◌∙◌, ap, subst, arith, length}
+use Rattle.std.proofs.Common.{◌≡◌, ℕ, ◌≤◌, ◌<◌, Some, None, refl, sym, ◌∙◌, ap, subst, arith, length, get_or}
 use Rattle.std.specs.Prelude.{slice_set}
 use Rattle.vt_core.specs.declared.event.Out.{Out}
 use Rattle.vt_core.specs.Core.{CoreState}
@@ -45,3 +45,9 @@ returns-clause-answers g c =
     subst (λ (k : CoreState g.row.D.Denot). AnswersSync c.args.session c.say-2.result k new) c.self.view_is
     (subst (λ (o : Out). AnswersSync c.args.session o old new) (sym c.say-2.ensures)
     (there_is c.self.inside.waiting.items c.args.session c.index.result.now (Some c.in-Some.number) (subst (λ (k : CoreState g.row.D.Denot). c.args.session < length k.waiting) (sym c.self.view_is) c.requires) (sym c.index.ensures ∙ c.in-Some.is), stopped, durable, ap (λ (n : ℕ). record old { waiting = slice_set c.self.inside.waiting.items c.args.session None; synced = n }) c.max-self-inside.ensures))
+
+pub returns-in_default-clause-answers : goal.returns-in_default-clause-answers
+returns-in_default-clause-answers g c = (
+  there_is c.args.self.now.waiting c.args.session c.index.result.now None c.requires (ap (λ (k : CoreState g.row.D.Denot). get_or k.waiting c.args.session c.index.result.now) (sym c.self.view_is) ∙ sym c.index.ensures ∙ c.in_default.is),
+  refl,
+)

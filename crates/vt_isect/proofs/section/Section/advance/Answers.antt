@@ -3,16 +3,16 @@ use Rattle.std.proofs.lemmas.Result.{IfErr-weaker, on_ok_weaker}
 use Rattle.vt_twin.specs.Frames.{frame_of}
 use Rattle.vt_isect.specs.declared.bad.ShardErr.TheVariants.{Stopped}
 use Rattle.vt_isect.specs.declared.phase.Phase.TheVariants.{ReadFrame}
-use Rattle.vt_isect.specs.Layout.{InRange}
-use Rattle.vt_isect.specs.Section.{HasBucket}
+use Rattle.vt_isect.specs.Section.{PutsEntries}
+use Rattle.vt_isect.specs.View.{state_of}
 use Rattle.vt_isect.proofs.Follows.{keeps_quiet, same_selector}
 use Rattle.vt_isect.proofs.IsCovered.{covered_kept}
 use Rattle.vt_isect.proofs.IsDamage.{no_damage}
 use Rattle.vt_isect.proofs.WithinCall.{crash_within, agrees_within}
 use Rattle.vt_isect.proofs.NamesDamage.{differs_in, fault_is}
-use Rattle.vt_isect.proofs.AreNext.{HasGroup}
+use Rattle.vt_isect.proofs.Members.{Groups}
 use Rattle.vt_isect.proofs.WritesBack.{wrote_is}
-use Rattle.vt_isect.proofs.CallsLeft.{bucket_made, head_made, advance_lower, ends_none}
+use Rattle.vt_isect.proofs.CallsLeft.{head_made, advance_lower, ends_none}
 use Rattle.vt_isect.proofs.section.Section.advance.Goals as goal
 
 pub returns-in-ReadSelector-clause-crash : goal.returns-in-ReadSelector-clause-crash
@@ -31,13 +31,37 @@ pub returns-in-ReadFrame-clause-agrees : goal.returns-in-ReadFrame-clause-agrees
 returns-in-ReadFrame-clause-agrees g c score setup h known told sound agrees =
     agrees_within _ _ _ _ _ _ _ (c.read_frame.ensures.sound told) c.read_frame.ensures.steps score setup h known sound agrees
 
-pub returns-in-ChangeBucket-clause-crash : goal.returns-in-ChangeBucket-clause-crash
-returns-in-ChangeBucket-clause-crash g c known told sound whole first =
-    crash_within _ _ _ _ _ _ _ (c.change_bucket.ensures.sound told) c.change_bucket.ensures.steps known sound whole first
+pub returns-in-WriteFrame-clause-crash : goal.returns-in-WriteFrame-clause-crash
+returns-in-WriteFrame-clause-crash g c known told sound whole first =
+    crash_within _ _ _ _ _ _ _ (c.write_frame.ensures.sound told) c.write_frame.ensures.steps known sound whole first
 
-pub returns-in-ChangeBucket-clause-agrees : goal.returns-in-ChangeBucket-clause-agrees
-returns-in-ChangeBucket-clause-agrees g c score setup h known told sound agrees =
-    agrees_within _ _ _ _ _ _ _ (c.change_bucket.ensures.sound told) c.change_bucket.ensures.steps score setup h known sound agrees
+pub returns-in-SyncFrames-clause-crash : goal.returns-in-SyncFrames-clause-crash
+returns-in-SyncFrames-clause-crash g c known told sound whole first =
+    crash_within _ _ _ _ _ _ _ (c.sync_frames.ensures.sound told) c.sync_frames.ensures.steps known sound whole first
+
+pub returns-in-WriteSelector-clause-crash : goal.returns-in-WriteSelector-clause-crash
+returns-in-WriteSelector-clause-crash g c known told sound whole first =
+    crash_within _ _ _ _ _ _ _ (c.write_selector.ensures.sound told) c.write_selector.ensures.steps known sound whole first
+
+pub returns-in-SyncSelectors-clause-crash : goal.returns-in-SyncSelectors-clause-crash
+returns-in-SyncSelectors-clause-crash g c known told sound whole first =
+    crash_within _ _ _ _ _ _ _ (c.sync_selectors.ensures.sound told) c.sync_selectors.ensures.steps known sound whole first
+
+pub returns-in-WriteFrame-clause-agrees : goal.returns-in-WriteFrame-clause-agrees
+returns-in-WriteFrame-clause-agrees g c score setup h known told sound agrees =
+    agrees_within _ _ _ _ _ _ _ (c.write_frame.ensures.sound told) c.write_frame.ensures.steps score setup h known sound agrees
+
+pub returns-in-SyncFrames-clause-agrees : goal.returns-in-SyncFrames-clause-agrees
+returns-in-SyncFrames-clause-agrees g c score setup h known told sound agrees =
+    agrees_within _ _ _ _ _ _ _ (c.sync_frames.ensures.sound told) c.sync_frames.ensures.steps score setup h known sound agrees
+
+pub returns-in-WriteSelector-clause-agrees : goal.returns-in-WriteSelector-clause-agrees
+returns-in-WriteSelector-clause-agrees g c score setup h known told sound agrees =
+    agrees_within _ _ _ _ _ _ _ (c.write_selector.ensures.sound told) c.write_selector.ensures.steps score setup h known sound agrees
+
+pub returns-in-SyncSelectors-clause-agrees : goal.returns-in-SyncSelectors-clause-agrees
+returns-in-SyncSelectors-clause-agrees g c score setup h known told sound agrees =
+    agrees_within _ _ _ _ _ _ _ (c.sync_selectors.ensures.sound told) c.sync_selectors.ensures.steps score setup h known sound agrees
 
 pub returns-in-ChangeHead-clause-crash : goal.returns-in-ChangeHead-clause-crash
 returns-in-ChangeHead-clause-crash g c known told sound whole first =
@@ -80,45 +104,75 @@ pub returns-in-ReadSelector-clause-left : goal.returns-in-ReadSelector-clause-le
 returns-in-ReadSelector-clause-left g c =
     rw (← c.self.view_is)
     (advance_lower c.read_selector.result _ _ (rw (← c.self.view_is) at c.read_selector.ensures.steps)
-    (bucket_made _ _ _ _ _ c.self.invariant.frames) (head_made _ _ _ _ _ c.self.invariant.frames))
+    (λ j e. (c.self.invariant.group (subst PutsEntries (sym e) tt)).selector j e) (head_made (state_of c.self.inside) _ c.self.invariant.buffer))
 
 pub returns-in-ReadFrame-clause-left : goal.returns-in-ReadFrame-clause-left
 returns-in-ReadFrame-clause-left g c =
     rw (← c.self.view_is)
     (advance_lower c.read_frame.result _ _ (rw (← c.self.view_is) at c.read_frame.ensures.steps)
-    (bucket_made _ _ _ _ _ c.self.invariant.frames) (head_made _ _ _ _ _ c.self.invariant.frames))
+    (λ j e. (c.self.invariant.group (subst PutsEntries (sym e) tt)).selector j e) (head_made (state_of c.self.inside) _ c.self.invariant.buffer))
 
-pub returns-in-ChangeBucket-clause-left : goal.returns-in-ChangeBucket-clause-left
-returns-in-ChangeBucket-clause-left g c =
+pub returns-in-WriteFrame-clause-left : goal.returns-in-WriteFrame-clause-left
+returns-in-WriteFrame-clause-left g c =
     rw (← c.self.view_is)
-    (advance_lower c.change_bucket.result _ _ (rw (← c.self.view_is) at c.change_bucket.ensures.steps)
-    (bucket_made _ _ _ _ _ c.self.invariant.frames) (head_made _ _ _ _ _ c.self.invariant.frames))
+    (advance_lower c.write_frame.result _ _ (rw (← c.self.view_is) at c.write_frame.ensures.steps)
+    (λ j e. (c.self.invariant.group (subst PutsEntries (sym e) tt)).selector j e) (head_made (state_of c.self.inside) _ c.self.invariant.buffer))
+
+pub returns-in-SyncFrames-clause-left : goal.returns-in-SyncFrames-clause-left
+returns-in-SyncFrames-clause-left g c =
+    rw (← c.self.view_is)
+    (advance_lower c.sync_frames.result _ _ (rw (← c.self.view_is) at c.sync_frames.ensures.steps)
+    (λ j e. (c.self.invariant.group (subst PutsEntries (sym e) tt)).selector j e) (head_made (state_of c.self.inside) _ c.self.invariant.buffer))
+
+pub returns-in-WriteSelector-clause-left : goal.returns-in-WriteSelector-clause-left
+returns-in-WriteSelector-clause-left g c =
+    rw (← c.self.view_is)
+    (advance_lower c.write_selector.result _ _ (rw (← c.self.view_is) at c.write_selector.ensures.steps)
+    (λ j e. (c.self.invariant.group (subst PutsEntries (sym e) tt)).selector j e) (head_made (state_of c.self.inside) _ c.self.invariant.buffer))
+
+pub returns-in-SyncSelectors-clause-left : goal.returns-in-SyncSelectors-clause-left
+returns-in-SyncSelectors-clause-left g c =
+    rw (← c.self.view_is)
+    (advance_lower c.sync_selectors.result _ _ (rw (← c.self.view_is) at c.sync_selectors.ensures.steps)
+    (λ j e. (c.self.invariant.group (subst PutsEntries (sym e) tt)).selector j e) (head_made (state_of c.self.inside) _ c.self.invariant.buffer))
 
 pub returns-in-ChangeHead-clause-left : goal.returns-in-ChangeHead-clause-left
 returns-in-ChangeHead-clause-left g c =
     rw (← c.self.view_is)
     (advance_lower c.change_head.result _ _ (rw (← c.self.view_is) at c.change_head.ensures.steps)
-    (bucket_made _ _ _ _ _ c.self.invariant.frames) (head_made _ _ _ _ _ c.self.invariant.frames))
+    (λ j e. (c.self.invariant.group (subst PutsEntries (sym e) tt)).selector j e) (head_made (state_of c.self.inside) _ c.self.invariant.buffer))
 
 pub returns-in-ReadSelector-clause-covers : goal.returns-in-ReadSelector-clause-covers
 returns-in-ReadSelector-clause-covers g c score setup h known knows agrees follows =
-    covered_kept score setup h _ _ known knows agrees (subst HasGroup c.self.view_is c.self.invariant.group) _ c.read_selector.ensures.steps follows
+    covered_kept score setup h _ _ known knows agrees (subst Groups c.self.view_is c.self.invariant.group) _ c.read_selector.ensures.steps follows
 
 pub returns-in-ReadFrame-clause-covers : goal.returns-in-ReadFrame-clause-covers
 returns-in-ReadFrame-clause-covers g c score setup h known knows agrees follows =
-    covered_kept score setup h _ _ known knows agrees (subst HasGroup c.self.view_is c.self.invariant.group) _ c.read_frame.ensures.steps follows
+    covered_kept score setup h _ _ known knows agrees (subst Groups c.self.view_is c.self.invariant.group) _ c.read_frame.ensures.steps follows
 
-pub returns-in-ChangeBucket-clause-covers : goal.returns-in-ChangeBucket-clause-covers
-returns-in-ChangeBucket-clause-covers g c score setup h known knows agrees follows =
-    covered_kept score setup h _ _ known knows agrees (subst HasGroup c.self.view_is c.self.invariant.group) _ c.change_bucket.ensures.steps follows
+pub returns-in-WriteFrame-clause-covers : goal.returns-in-WriteFrame-clause-covers
+returns-in-WriteFrame-clause-covers g c score setup h known knows agrees follows =
+    covered_kept score setup h _ _ known knows agrees (subst Groups c.self.view_is c.self.invariant.group) _ c.write_frame.ensures.steps follows
+
+pub returns-in-SyncFrames-clause-covers : goal.returns-in-SyncFrames-clause-covers
+returns-in-SyncFrames-clause-covers g c score setup h known knows agrees follows =
+    covered_kept score setup h _ _ known knows agrees (subst Groups c.self.view_is c.self.invariant.group) _ c.sync_frames.ensures.steps follows
+
+pub returns-in-WriteSelector-clause-covers : goal.returns-in-WriteSelector-clause-covers
+returns-in-WriteSelector-clause-covers g c score setup h known knows agrees follows =
+    covered_kept score setup h _ _ known knows agrees (subst Groups c.self.view_is c.self.invariant.group) _ c.write_selector.ensures.steps follows
+
+pub returns-in-SyncSelectors-clause-covers : goal.returns-in-SyncSelectors-clause-covers
+returns-in-SyncSelectors-clause-covers g c score setup h known knows agrees follows =
+    covered_kept score setup h _ _ known knows agrees (subst Groups c.self.view_is c.self.invariant.group) _ c.sync_selectors.ensures.steps follows
 
 pub returns-in-ChangeHead-clause-covers : goal.returns-in-ChangeHead-clause-covers
 returns-in-ChangeHead-clause-covers g c score setup h known knows agrees follows =
-    covered_kept score setup h _ _ known knows agrees (subst HasGroup c.self.view_is c.self.invariant.group) _ c.change_head.ensures.steps follows
+    covered_kept score setup h _ _ known knows agrees (subst Groups c.self.view_is c.self.invariant.group) _ c.change_head.ensures.steps follows
 
 pub returns-in-Some-clause-covers : goal.returns-in-Some-clause-covers
 returns-in-Some-clause-covers g c score setup h known knows agrees follows =
-    covered_kept score setup h c.args.self.now c.args.self.now known knows agrees (subst HasGroup c.self.view_is c.self.invariant.group) (Err (Stopped c.in-Some.call))
+    covered_kept score setup h c.args.self.now c.args.self.now known knows agrees (subst Groups c.self.view_is c.self.invariant.group) (Err (Stopped c.in-Some.call))
     (ap (λ x. x.stopped) (sym c.self.view_is) ∙ c.in-Some.is, refl) follows
 
 pub returns-in-ReadFrame-clause-undamaged : goal.returns-in-ReadFrame-clause-undamaged
@@ -126,11 +180,9 @@ returns-in-ReadFrame-clause-undamaged g c score setup h known told sound agrees 
     let now = c.args.self.now in
     let phase : now.phase ≡ ReadFrame c.in-ReadFrame.selector =
     ap (λ x. x.phase) (sym c.self.view_is) ∙ c.in-ReadFrame.is in
-    let within : InRange now.head now.buckets now.bucket =
-    rw (← c.self.view_is) (c.self.invariant.bucket (subst HasBucket (sym c.in-ReadFrame.is) tt)) in
     IfErr-weaker c.read_frame.result _ _
-    (λ bad it. no_damage score setup h now known agrees c.in-ReadFrame.selector phase within
-    ((subst HasGroup c.self.view_is c.self.invariant.group) (subst HasBucket (sym phase) tt)).own _ _
+    (λ bad it. no_damage score setup h now known agrees c.in-ReadFrame.selector phase
+    ((subst Groups c.self.view_is c.self.invariant.group) (subst PutsEntries (sym phase) tt)) _ _
     (g.met.D.Disk.read_is_image _ told) sound room bad
     (λ other. let found = it other in (found.0, found.1, λ region place. found.2 region told place)))
     c.read_frame.ensures.damaged
@@ -148,11 +200,29 @@ pub returns-in-ReadFrame-clause-differs : goal.returns-in-ReadFrame-clause-diffe
 returns-in-ReadFrame-clause-differs g c =
     IfErr-weaker c.read_frame.result _ _ (λ bad it. differs_in _ _ _ bad it) c.read_frame.ensures.damaged
 
-pub returns-in-ChangeBucket-clause-ended : goal.returns-in-ChangeBucket-clause-ended
-returns-in-ChangeBucket-clause-ended g c = ends_none c.change_bucket.result _ _ c.change_bucket.ensures.steps
+pub returns-in-WriteFrame-clause-ended : goal.returns-in-WriteFrame-clause-ended
+returns-in-WriteFrame-clause-ended g c = ends_none c.write_frame.result _ _ c.write_frame.ensures.steps
 
-pub returns-in-ChangeBucket-clause-differs : goal.returns-in-ChangeBucket-clause-differs
-returns-in-ChangeBucket-clause-differs g c = IfErr-weaker c.change_bucket.result _ _ (λ bad is. fault_is bad is) c.change_bucket.ensures.refused
+pub returns-in-SyncFrames-clause-ended : goal.returns-in-SyncFrames-clause-ended
+returns-in-SyncFrames-clause-ended g c = ends_none c.sync_frames.result _ _ c.sync_frames.ensures.steps
+
+pub returns-in-WriteSelector-clause-ended : goal.returns-in-WriteSelector-clause-ended
+returns-in-WriteSelector-clause-ended g c = ends_none c.write_selector.result _ _ c.write_selector.ensures.steps
+
+pub returns-in-SyncSelectors-clause-ended : goal.returns-in-SyncSelectors-clause-ended
+returns-in-SyncSelectors-clause-ended g c = ends_none c.sync_selectors.result _ _ c.sync_selectors.ensures.steps
+
+pub returns-in-WriteFrame-clause-differs : goal.returns-in-WriteFrame-clause-differs
+returns-in-WriteFrame-clause-differs g c = IfErr-weaker c.write_frame.result _ _ (λ bad is. fault_is bad is) c.write_frame.ensures.refused
+
+pub returns-in-SyncFrames-clause-differs : goal.returns-in-SyncFrames-clause-differs
+returns-in-SyncFrames-clause-differs g c = IfErr-weaker c.sync_frames.result _ _ (λ bad is. fault_is bad is) c.sync_frames.ensures.refused
+
+pub returns-in-WriteSelector-clause-differs : goal.returns-in-WriteSelector-clause-differs
+returns-in-WriteSelector-clause-differs g c = IfErr-weaker c.write_selector.result _ _ (λ bad is. fault_is bad is) c.write_selector.ensures.refused
+
+pub returns-in-SyncSelectors-clause-differs : goal.returns-in-SyncSelectors-clause-differs
+returns-in-SyncSelectors-clause-differs g c = IfErr-weaker c.sync_selectors.result _ _ (λ bad is. fault_is bad is) c.sync_selectors.ensures.refused
 
 pub returns-in-ChangeHead-clause-ended : goal.returns-in-ChangeHead-clause-ended
 returns-in-ChangeHead-clause-ended g c = ends_none c.change_head.result _ _ c.change_head.ensures.steps
@@ -167,25 +237,40 @@ returns-in-Some-clause-ended g c =
 
 pub returns-in-ReadSelector-clause-wrote : goal.returns-in-ReadSelector-clause-wrote
 returns-in-ReadSelector-clause-wrote g c entry =
-    wrote_is _ _ (subst HasGroup c.self.view_is c.self.invariant.group) entry
+    wrote_is _ _ (subst Groups c.self.view_is c.self.invariant.group) entry
     c.read_selector.result c.read_selector.ensures.steps
 
 pub returns-in-ReadFrame-clause-wrote : goal.returns-in-ReadFrame-clause-wrote
 returns-in-ReadFrame-clause-wrote g c entry =
-    wrote_is _ _ (subst HasGroup c.self.view_is c.self.invariant.group) entry
+    wrote_is _ _ (subst Groups c.self.view_is c.self.invariant.group) entry
     c.read_frame.result c.read_frame.ensures.steps
 
-pub returns-in-ChangeBucket-clause-wrote : goal.returns-in-ChangeBucket-clause-wrote
-returns-in-ChangeBucket-clause-wrote g c entry =
-    wrote_is _ _ (subst HasGroup c.self.view_is c.self.invariant.group) entry
-    c.change_bucket.result c.change_bucket.ensures.steps
+pub returns-in-WriteFrame-clause-wrote : goal.returns-in-WriteFrame-clause-wrote
+returns-in-WriteFrame-clause-wrote g c entry =
+    wrote_is _ _ (subst Groups c.self.view_is c.self.invariant.group) entry
+    c.write_frame.result c.write_frame.ensures.steps
+
+pub returns-in-SyncFrames-clause-wrote : goal.returns-in-SyncFrames-clause-wrote
+returns-in-SyncFrames-clause-wrote g c entry =
+    wrote_is _ _ (subst Groups c.self.view_is c.self.invariant.group) entry
+    c.sync_frames.result c.sync_frames.ensures.steps
+
+pub returns-in-WriteSelector-clause-wrote : goal.returns-in-WriteSelector-clause-wrote
+returns-in-WriteSelector-clause-wrote g c entry =
+    wrote_is _ _ (subst Groups c.self.view_is c.self.invariant.group) entry
+    c.write_selector.result c.write_selector.ensures.steps
+
+pub returns-in-SyncSelectors-clause-wrote : goal.returns-in-SyncSelectors-clause-wrote
+returns-in-SyncSelectors-clause-wrote g c entry =
+    wrote_is _ _ (subst Groups c.self.view_is c.self.invariant.group) entry
+    c.sync_selectors.result c.sync_selectors.ensures.steps
 
 pub returns-in-ChangeHead-clause-wrote : goal.returns-in-ChangeHead-clause-wrote
 returns-in-ChangeHead-clause-wrote g c entry =
-    wrote_is _ _ (subst HasGroup c.self.view_is c.self.invariant.group) entry
+    wrote_is _ _ (subst Groups c.self.view_is c.self.invariant.group) entry
     c.change_head.result c.change_head.ensures.steps
 
 pub returns-in-Some-clause-wrote : goal.returns-in-Some-clause-wrote
 returns-in-Some-clause-wrote g c entry =
-    wrote_is c.args.self.now c.args.self.now (subst HasGroup c.self.view_is c.self.invariant.group) entry
+    wrote_is c.args.self.now c.args.self.now (subst Groups c.self.view_is c.self.invariant.group) entry
     (Err (Stopped c.in-Some.call)) (ap (λ x. x.stopped) (sym c.self.view_is) ∙ c.in-Some.is, refl)

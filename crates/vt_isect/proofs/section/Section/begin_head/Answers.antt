@@ -1,3 +1,4 @@
+use Rattle.std.proofs.Common.{refl}
 use Rattle.vt_isect.proofs.BeginsBehind.{agrees_begins}
 use Rattle.vt_isect.proofs.Heads.{frame_has}
 use Rattle.vt_isect.proofs.IsSoundSection.{head_begins}
@@ -7,7 +8,7 @@ pub returns-clause-sound : goal.returns-clause-sound
 returns-clause-sound g c known told sound =
     let phase = rw (← c.self.view_is) at c.requires.rest in
     rw (c.begin_next.ensures.same, ← c.self.view_is)
-    (head_begins _ _ _ _ _ _ known _ _ (λ e. cc) (λ e. cc) (frame_has _ _ c.begin_next.ensures.fits c.self.invariant.name_len) (rw (← c.self.view_is) at sound))
+    (head_begins _ _ _ known _ _ refl refl refl refl phase refl (frame_has _ _ c.begin_next.ensures.fits c.self.invariant.name_len) (λ none. none) (rw (← c.self.view_is) at sound))
 
 pub returns-clause-agrees : goal.returns-clause-agrees
 returns-clause-agrees g c score setup h known agrees first total cover =

@@ -1,12 +1,13 @@
-use Rattle.std.proofs.Common.{◌≡◌, ◌≢◌, Err, inr, refl, ap, ◌∙◌, subst, arith}
+use Rattle.std.proofs.Common.{◌≡◌, ◌≢◌, Err, inl, inr, refl, ap, ◌∙◌, subst, arith}
 use Rattle.vt_disk.proofs.Calls.{writes_wider}
 use Rattle.vt_twin.specs.Twin.{TwinState, calls_made, next_frame, without_spare}
 use Rattle.vt_twin.specs.declared.step.TwinErr.TheVariants.{Fault}
 use Rattle.vt_isect.specs.declared.phase.Phase.TheVariants.{ChangeHead}
+use Rattle.vt_isect.specs.Section.{PutsEntries}
 use Rattle.vt_isect.specs.Writeback.{IsRead}
 use Rattle.vt_twin.proofs.Changes.{only_fault}
 use Rattle.vt_twin.proofs.Sound.{idle_sound}
-use Rattle.vt_isect.proofs.Follows.{keeps_quiet, agrees_moves, next_of, head_written}
+use Rattle.vt_isect.proofs.Follows.{keeps_quiet, agrees_as, next_of, head_written}
 use Rattle.vt_isect.proofs.Keeps.{head_goes, keeps_head}
 use Rattle.vt_isect.proofs.Writes.{head_writes}
 use Rattle.vt_isect.proofs.section.Section.change_head.Goals as goal
@@ -15,13 +16,14 @@ pub returns-in-Ok-More-clause-sound : goal.returns-in-Ok-More-clause-sound
 returns-in-Ok-More-clause-sound g c told =
     let s = c.self.inside in
     let phase = rw (← c.self.view_is) at c.requires.phase in
+    let goes = rw (← c.self.view_is) at c.requires.goes in
     let steps = rw c.in-Ok-More.field-0-is at c.in-Ok-More.ensures.steps in
     rw (← c.self.view_is)
     (keeps_quiet _ _ _ _ _ _ _ (λ n done. let e = done.1 in cc)
     (λ known sound. head_goes _ _ _ _ _ _ phase c.self.invariant.room (rw c.head_place.ensures at (c.advance.ensures.within.bytes told)) (rw c.head_place.ensures at c.advance.ensures.within.images)
-    _ _ _ _ known (c.advance.ensures.len ∙ c.self.invariant.head_len) (ap next_frame steps)
+    _ _ _ _ known (λ none. goes) (c.advance.ensures.len ∙ c.self.invariant.head_len) (ap next_frame steps)
     (λ old it. rw (c.in-Ok-More.field-0-is, c.head_place.ensures) at (c.in-Ok-More.ensures.sound old told (rw c.head_place.ensures it))) sound)
-    (λ score setup h known agrees. agrees_moves score setup h _ _ _ _ _ _ _ _ known (λ entry way. way) (λ entry way. way) agrees))
+    (λ score setup h known agrees. agrees_as score setup h _ _ known refl refl (inl (refl, λ entry way. way)) (λ entry way. way) agrees))
 
 pub returns-in-Ok-More-clause-steps : goal.returns-in-Ok-More-clause-steps
 returns-in-Ok-More-clause-steps g c =
@@ -33,23 +35,24 @@ returns-in-Ok-More-clause-steps g c =
     let no : calls_made s.head_twin ≢ 3 = λ three. let e = done.1 three in cc in
     rw (← c.self.view_is) (
       record {
-        section = record { buckets = refl; name = refl; entries = refl };
+        section = record { buckets = refl; name = refl; entries = refl; most = refl };
         head_is = refl;
         next_is = refl;
         calls = c.saturating_add-self-inside.ensures;
       },
       goes,
-      next_of ChangeHead _ _ phase (no, phase, steps, record { written = refl; begun = refl; bucket = refl }),
+      next_of ChangeHead _ _ phase (no, phase, steps, record { written = refl; framed = refl; begun = refl; bucket = refl; group = refl }),
     )
 
 pub returns-in-Ok-Done-clause-sound : goal.returns-in-Ok-Done-clause-sound
 returns-in-Ok-Done-clause-sound g c told =
     let s = c.self.inside in
     let phase = rw (← c.self.view_is) at c.requires.phase in
+    let goes = rw (← c.self.view_is) at c.requires.goes in
     let steps = rw c.in-Ok-Done.field-0-is at c.in-Ok-Done.ensures.steps in
     rw (← c.self.view_is)
     (keeps_head _ _ _ _ _ _ phase c.self.invariant.room (rw c.head_place.ensures at (c.advance.ensures.within.bytes told)) (rw c.head_place.ensures at c.advance.ensures.within.images)
-    _ _ _ (ap (λ (t : TwinState). t.frame_len) c.idle.ensures.same ∙ c.advance.ensures.len ∙ c.self.invariant.head_len)
+    _ _ _ goes (ap (λ (t : TwinState). t.frame_len) c.idle.ensures.same ∙ c.advance.ensures.len ∙ c.self.invariant.head_len)
     (ap (λ (t : TwinState). t.change) (c.idle.ensures.same ∙ ap without_spare steps))
     (λ old it. rw c.idle.ensures.same (idle_sound _ _ _ _ _ (rw (c.in-Ok-Done.field-0-is, c.head_place.ensures) at (c.in-Ok-Done.ensures.sound old told (rw c.head_place.ensures it))))))
 
@@ -63,8 +66,9 @@ returns-in-Ok-Done-clause-steps g c =
       phase,
       done.0 refl,
       record {
-        section = record { buckets = refl; name = refl; entries = refl };
-        group = record { written = refl; begun = refl; bucket = refl };
+        section = record { buckets = refl; name = refl; entries = refl; most = refl };
+        written = refl;
+        group = c.self.invariant.alone (λ puts. subst PutsEntries phase puts);
         head_is = refl;
         next_is = refl;
         phase = refl;
@@ -78,14 +82,14 @@ returns-in-Err-clause-sound g c told =
     let s = c.self.inside in
     let phase = rw (← c.self.view_is) at c.requires.phase in
     let goes = rw (← c.self.view_is) at c.requires.goes in
-    let fault : c.in-Err.field-0 ≡ Fault = only_fault c.in-Err.field-0 s.head_twin.stopped (c.self.invariant.goes goes).0 (λ n is. (c.in-Err.ensures.stopped n).0 (ap Err is)) in
+    let fault : c.in-Err.field-0 ≡ Fault = only_fault c.in-Err.field-0 s.head_twin.stopped (c.self.invariant.goes goes) (λ n is. (c.in-Err.ensures.stopped n).0 (ap Err is)) in
     let steps = rw fault at c.in-Err.ensures.steps in
     rw (← c.self.view_is)
     (keeps_quiet _ _ _ _ _ _ _ (λ n done. let e = done.0 in cc)
     (λ known sound. head_goes _ _ _ _ _ _ phase c.self.invariant.room (rw c.head_place.ensures at (c.advance.ensures.within.bytes told)) (rw c.head_place.ensures at c.advance.ensures.within.images)
-    _ _ _ _ known (c.advance.ensures.len ∙ c.self.invariant.head_len) (ap next_frame steps)
+    _ _ _ _ known (λ none. goes) (c.advance.ensures.len ∙ c.self.invariant.head_len) (ap next_frame steps)
     (λ old it. rw c.head_place.ensures at (c.in-Err.ensures.sound old told (rw c.head_place.ensures it))) sound)
-    (λ score setup h known agrees. agrees_moves score setup h _ _ _ _ _ _ _ _ known (λ entry way. way) (λ entry way. way) agrees))
+    (λ score setup h known agrees. agrees_as score setup h _ _ known refl refl (inl (refl, λ entry way. way)) (λ entry way. way) agrees))
 
 pub returns-in-Err-clause-steps : goal.returns-in-Err-clause-steps
 returns-in-Err-clause-steps g c =
@@ -95,13 +99,13 @@ returns-in-Err-clause-steps g c =
     (inr (
       λ read. subst IsRead phase read,
       record {
-        section = record { buckets = refl; name = refl; entries = refl };
+        section = record { buckets = refl; name = refl; entries = refl; most = refl };
         head_is = refl;
         next_is = refl;
         calls = c.saturating_add-self-inside.ensures;
       },
       refl,
-      record { written = refl; begun = refl; bucket = refl },
+      record { written = refl; framed = refl; begun = refl; bucket = refl; group = refl },
       refl,
     ))
 
@@ -109,7 +113,7 @@ pub returns-in-Err-clause-faults : goal.returns-in-Err-clause-faults
 returns-in-Err-clause-faults g c =
     let s = c.self.inside in
     let goes = rw (← c.self.view_is) at c.requires.goes in
-    let fault : c.in-Err.field-0 ≡ Fault = only_fault c.in-Err.field-0 s.head_twin.stopped (c.self.invariant.goes goes).0 (λ n is. (c.in-Err.ensures.stopped n).0 (ap Err is)) in
+    let fault : c.in-Err.field-0 ≡ Fault = only_fault c.in-Err.field-0 s.head_twin.stopped (c.self.invariant.goes goes) (λ n is. (c.in-Err.ensures.stopped n).0 (ap Err is)) in
     rw (← c.self.view_is) (rw fault at c.in-Err.ensures.faults)
 
 pub returns-in-Ok-More-clause-writes : goal.returns-in-Ok-More-clause-writes

@@ -1,4 +1,4 @@
-use Rattle.std.proofs.Common.{◌-◌, ◌<◌, ℕ, List, sym, subst, arith}
+use Rattle.std.proofs.Common.{◌-◌, ◌<◌, ℕ, List, Some, None, replicate, sym, subst, arith}
 use Rattle.vt_disk.specs.declared.region.Region.{Region}
 use Rattle.vt_disk.proofs.Calls.{on_err, writes_wider}
 use Rattle.vt_bucket.specs.Buckets.{number_of, entries_of}
@@ -8,7 +8,9 @@ use Rattle.vt_isect.specs.Layout.{IsPlaceOf}
 use Rattle.vt_isect.specs.View.{state_of}
 use Rattle.vt_isect.proofs.WithBucket.{others_sound}
 use Rattle.vt_isect.proofs.Fills.{reads_filled, agrees_filled, in_buckets}
+use Rattle.vt_isect.proofs.Members.{called}
 use Rattle.vt_isect.proofs.Places.{one_place}
+use Rattle.vt_isect.proofs.Remembers.{forgets, learns, set_twice}
 use Rattle.vt_isect.proofs.section.Section.fill.Goals as goal
 
 pub returns-in_err-write_bucket-clause-others : goal.returns-in_err-write_bucket-clause-others
@@ -78,3 +80,20 @@ returns-in_err-write_bucket-clause-stops g c =
           (one_place (n - t.head.first) c.bucket_place-place.result region place here)
           (subst (λ (f : List ℕ). EndsFormat g.D.Disk c.bucket_place-place.result f ends.0 t.disk c.write_bucket.new.disk) c.encode.ensures.bytes ends.2),
     )))
+
+pub invariant_of-self : goal.invariant_of-self
+invariant_of-self g c =
+    let s = c.self.inside in
+    rw c.write_bucket.ensures.writes.size (called g.D.Disk _ (state_of s) _ _ _ _ _ _
+    (forgets g.D.Disk s.disk c.write_bucket.new.disk s.buckets s.frames.items (c.number.result - s.head.first) c.bucket_place-place.result 2 c.bucket_place-place.ensures.place
+    c.write_bucket.ensures.writes c.self.invariant.remembers)
+    c.self.invariant)
+
+pub invariant_of-self-2 : goal.invariant_of-self-2
+invariant_of-self-2 g c =
+    let s = c.self.inside in
+    rw (c.write_bucket.ensures.writes.size, set_twice s.frames.items (c.number.result - s.head.first) None (Some 0))
+    (called g.D.Disk _ (state_of s) _ _ _ _ _ _
+    (learns g.D.Disk s.disk c.write_bucket.new.disk s.buckets s.frames.items (c.number.result - s.head.first) c.bucket_place-place.result 2 0 (replicate 511 0) (omega arith) c.bucket_place-place.ensures.place
+    c.write_bucket.ensures.writes (λ told. c.in_ok-write_bucket.ensures.selector told) c.self.invariant.remembers)
+    c.self.invariant)

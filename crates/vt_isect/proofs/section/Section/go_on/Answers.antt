@@ -1,11 +1,10 @@
-use Rattle.std.proofs.Common.{◌≡◌, List, [], length, inl, inr, sym, ap, refl, subst, arith}
-use Rattle.std.specs.Option.{option_map_or}
-use Rattle.vt_base.specs.declared.place.Entry.{Entry}
-use Rattle.vt_isect.specs.declared.phase.Phase.TheVariants.{Rest}
+use Rattle.std.proofs.Common.{◌≡◌, List, [], length, inr, refl, ap, subst, arith}
+use Rattle.std.specs.List.{Contains}
+use Rattle.vt_isect.specs.declared.groups.Member.{Member}
+use Rattle.vt_isect.specs.Entries.{items_of}
 use Rattle.vt_isect.specs.Layout.{InRange}
-use Rattle.vt_isect.specs.Section.{AreNext}
-use Rattle.vt_isect.proofs.AreNext.{first_of, some_begun}
-use Rattle.vt_isect.proofs.HasFrames.{at_phase}
+use Rattle.vt_isect.specs.Section.{PutsEntries}
+use Rattle.vt_isect.proofs.AreNext.{none_written}
 use Rattle.vt_isect.proofs.section.Section.go_on.Goals as goal
 
 pub invariant_of-self : goal.invariant_of-self
@@ -13,43 +12,47 @@ invariant_of-self g c =
     let s = c.self.inside in
     let rest = rw (← c.self.view_is) at c.requires.rest in
     let ranged = rw (← c.self.view_is) at c.requires.in_range in
-    let xs : List Entry = c.items-entries.result.now in
+    let ordered = rw (← c.self.view_is) at c.requires.ordered in
+    let none : s.group.items ≡ [] = c.self.invariant.alone (λ puts. subst PutsEntries rest puts) in
+    let many : length s.group.items ≡ 0 = ap (λ (l : List Member). length l) none in
+    let next = c.in-Some.ensures.next in
+    let first = c.in-Some.ensures.first in
+    let no_member : (m : Member) → ¬ Contains s.group.items m = λ m has. omega (arith, has.1, many) in
     record {
       room = c.self.invariant.room;
       name_len = c.self.invariant.name_len;
       head_len = c.self.invariant.head_len;
-      bucket_len = c.self.invariant.bucket_len;
-      frames = at_phase s.phase Rest s.head_twin s.bucket_twin s.head_frame s.bucket_frame rest c.self.invariant.frames;
-      bucket = λ way. subst (InRange s.head s.buckets) (sym c.bucket_number-bucket.ensures.bucket)
-          ((rw (← c.items-entries.ensures) at ranged) c.in-Some.entry.now (first_of c.args.from xs c.in-Some.entry.now c.in-Some.ensures.lookup.3.0 c.in-Some.ensures.lookup.1));
-      entries = λ way. ranged;
-      group = λ way. subst (λ (l : List Entry). AreNext s.head.total c.bucket_number-bucket.result c.args.from c.group_end-self-inside.result l)
-          c.items-entries.ensures c.group_end-self-inside.ensures;
+      frame_len = c.self.invariant.frame_len;
+      buffer = record { lent = λ e. absurd (cc); here = λ no. c.self.invariant.buffer.here (λ e. cc) };
+      most = c.self.invariant.most;
+      memory = c.self.invariant.memory;
+      few = c.self.invariant.few;
+      group = λ u. record {
+        order = (omega arith, omega (arith, next.0), next.1.within);
+        ordered = ordered;
+        in_range = ranged;
+        own = λ entry has. absurd (none_written c.args.from (items_of s.entries) entry has);
+        behind = λ entry has way. no_member way.0 way.1.1;
+        apart = λ i j d low within. absurd (omega (arith, within, many));
+        members = λ m has. absurd (no_member m has);
+        bucket = λ has. subst (InRange s.head s.buckets) first.2 (ranged first.0 first.1);
+        next = λ has. (next.0, omega (arith, many, c.self.invariant.most), next.1);
+        current = λ k e. absurd (cc);
+        whole = λ has. absurd has;
+        selector = λ k e. absurd (cc);
+      };
+      alone = λ no. absurd (no tt);
       rest = λ u. absurd (cc);
       goes = c.self.invariant.goes;
+      remembers = c.self.invariant.remembers;
     }
-
-pub returns-in-Some-clause-begins : goal.returns-in-Some-clause-begins
-returns-in-Some-clause-begins g c =
-    let s = c.self.inside in
-    let xs : List Entry = c.items-entries.result.now in
-    inl (
-      refl,
-      refl,
-      some_begun s.head.total c.bucket_number-bucket.result c.args.from c.group_end-self-inside.result xs c.in-Some.entry.now
-          c.in-Some.ensures.lookup.3.0 c.in-Some.ensures.lookup.1 (sym c.bucket_number-bucket.ensures.bucket) c.group_end-self-inside.ensures,
-      subst (λ (l : List Entry). AreNext s.head.total c.bucket_number-bucket.result c.args.from c.group_end-self-inside.result l)
-          c.items-entries.ensures c.group_end-self-inside.ensures,
-    )
 
 pub returns-in-None-clause-begins : goal.returns-in-None-clause-begins
 returns-in-None-clause-begins g c =
-    let s = c.self.inside in
+    let rest = rw (← c.self.view_is) at c.requires.rest in
     let bound = rw (← c.self.view_is) at c.requires.from in
-    let xs : List Entry = c.items-entries.result.now in
-    let all = c.in-None.ensures.lookup.3 in
-    let listed : length xs ≡ length (option_map_or (λ list. list.items) s.entries []) = ap (λ (l : List Entry). length l) c.items-entries.ensures in
-    rw c.begin_next.ensures.same (inr (refl, refl, refl, omega (arith, all, listed, bound), refl, refl))
+    let all = c.in-None.ensures.none refl in
+    rw c.begin_next.ensures.same (inr (refl, refl, c.self.invariant.alone (λ puts. subst PutsEntries rest puts), omega (arith, all, bound), refl, refl))
 
 pub returns-in-None-clause-same : goal.returns-in-None-clause-same
 returns-in-None-clause-same g c = rw (← c.self.view_is) (inr c.begin_next.ensures.same)

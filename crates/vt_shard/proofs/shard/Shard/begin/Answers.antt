@@ -60,7 +60,8 @@ invariant_of-self g c =
     let coming : c.begin_file.new.self.next.mark ≡ c.args.mark = ap (λ (x : Head). x.mark) c.begin_file.ensures.next in
     rw (c.forget_settled.ensures, c.max-self-inside.ensures)
     (well_begun _ _ _ c.self.invariant c.begin_file.new.self c.args.below c.args.mark list.0 head buckets c.begin_file.ensures.next
-    c.begin_file.ensures.begins list.1 (omega (arith, rises, here, coming)) same (omega (arith, room, more, c.fill.ensures.room, c.from_vec.ensures.room)) _)
+    c.begin_file.ensures.begins list.1 (omega (arith, rises, here, coming)) same (omega (arith, room, more, c.fill.ensures.room, c.from_vec.ensures.room))
+    (omega (arith, c.begin_file.ensures.left, ap (λ (l : List Entry). length l) items)) _)
 
 pub returns-clause-begins : goal.returns-clause-begins
 returns-clause-begins g c =
@@ -76,11 +77,14 @@ returns-clause-begins g c =
         phase = c.begin_file.new.self.phase;
         entries = c.begin_file.new.self.entries;
         written = c.begin_file.new.self.written;
+        framed = c.begin_file.new.self.framed;
         begun = c.begin_file.new.self.begun;
         bucket = c.begin_file.new.self.bucket;
+        most = c.begin_file.new.self.most;
         head_twin = c.begin_file.new.self.head_twin;
       }) c.begin_file.ensures.next;
       begins = c.begin_file.ensures.begins;
+      most = c.begin_file.ensures.most;
       entries = rw stands (subst (λ (l : List Entry). IsPermutation l list.0.items) items list.2.same);
       ordered = rw stands list.2.ordered;
       shard = refl;

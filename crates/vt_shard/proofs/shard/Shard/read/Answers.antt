@@ -7,7 +7,7 @@ use Rattle.vt_isect.specs.Section.{SectionState}
 use Rattle.vt_isect.specs.declared.bad.ShardErr.{ShardErr}
 use Rattle.vt_isect.specs.declared.bad.ShardErr.TheVariants.{Fault, Damaged, Stopped}
 use Rattle.vt_isect.proofs.Fills.{synced_sound}
-use Rattle.vt_shard.specs.Shard.{ReadBucket, read_bucket}
+use Rattle.vt_shard.specs.Shard.{ReadBucket, HasRead, read_bucket}
 use Rattle.vt_shard.specs.Sound.{IsSoundFrom}
 use Rattle.vt_shard.specs.View.{state_of}
 use Rattle.vt_shard.proofs.Finds.{number_of_read}
@@ -63,6 +63,28 @@ returns-in_err-bucket-clause-sound g c =
 pub invariant_of-self-then-ne : goal.invariant_of-self-then-ne
 invariant_of-self-then-ne g c =
     rw c.bucket.ensures.same (well_read _ _ _ c.self.invariant c.bucket.new.self.disk (read_bucket (Some c.in_ok-bucket.field-0)))
+
+pub returns-in_ok-bucket-clause-looks : goal.returns-in_ok-bucket-clause-looks
+returns-in_ok-bucket-clause-looks g c =
+    let other : ¬ HasRead (state_of c.self.inside) c.args.number = λ has.
+    let same : c.number_of.result ≡ Some c.args.number = c.number_of.ensures ∙ number_of_read c.self.inside.bucket c.args.number has in
+    let one : (c.args.number == c.args.number) ≡ true = (Decides-eqb c.args.number c.args.number).1 refl in
+    let not = rw one at (rw same at c.ne.ensures) in
+    true≢false (sym c.if-ne.true ∙ not) in
+    let read : ReadBucket = record { number = bucket_number_of c.in_ok-bucket.field-0; entries = entries_in c.in_ok-bucket.field-0 } in
+    rw (← c.self.view_is)
+    (record {
+      same = ap (λ (s : SectionState g.row.D.Denot). record (state_of c.self.inside) { section = s; bucket = Some read }) c.bucket.ensures.same;
+      reads = c.bucket.ensures.reads;
+      known = λ has. absurd (other has);
+      bucket =
+          let spelled = c.in_ok-bucket.ensures.spelled in
+          inr (other, (read, refl, c.in_ok-bucket.ensures.number, spelled.0, spelled.1, spelled.2));
+      kept = tt;
+      cause = tt;
+      names = tt;
+      faults = c.in_ok-bucket.ensures.faults;
+    })
 
 pub returns-in_ok-bucket-clause-sound : goal.returns-in_ok-bucket-clause-sound
 returns-in_ok-bucket-clause-sound g c = record {

@@ -1,7 +1,7 @@
 use Rattle.std.proofs.Common.{List, subst}
 use Rattle.vt_base.specs.declared.place.Entry.{Entry}
 use Rattle.vt_isect.specs.Section.{AreInRange}
-use Rattle.vt_isect.proofs.tests.begin.Goals as goal
+use Rattle.vt_isect.proofs.tests.put.Goals as goal
 
 pub begin_file-requires-clause-in_range : goal.begin_file-requires-clause-in_range
 begin_file-requires-clause-in_range g c =
