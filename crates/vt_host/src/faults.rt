@@ -12,7 +12,7 @@ pub struct Faults {
 }
 
 impl Faults {
-    ghost use Rattle.std.specs.Prelude.{◌≡◌, IfOk, Ok, is_ok};
+    ghost use Rattle.std.specs.Prelude.{◌≡◌, ◌+◌, ◌-◌, IfOk, Ok, is_ok, min};
     ghost use Rattle.vt_base.specs.Faults.{HasCause, HasRisen};
 
     pub fn new() -> Self
@@ -41,5 +41,12 @@ impl Faults {
         ensures { HasRisen self.old.count self.new.count }
     {
         self.count = self.count.saturating_add(1);
+    }
+
+    /// Counts so many failed calls.
+    pub fn count_all(&mut self, calls: u64)
+        ensures { self.new.count ≡ min (self.old.count + calls) (2 ^ 64 - 1) }
+    {
+        self.count = self.count.saturating_add(calls);
     }
 }

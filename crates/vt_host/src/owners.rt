@@ -1,0 +1,71 @@
+//! The names of users and groups.
+
+ghost use Rattle.std.specs.Prelude.{◌≡◌, ◌<◌, ◌≤◌, [], length};
+
+use std::alloc::Global;
+use vt_base::{NoMemory, Text};
+use vt_conf::parse_number;
+
+#[cfg(test)]
+mod tests;
+
+/// The name of a number.
+#[derive(Drop)]
+struct Owner {
+    id: u32,
+    name: Text,
+}
+
+/// What a file such as `/etc/passwd` or `/etc/group` says: in each line, parted by colons, a name,
+/// what isn't looked at, a number, and more (passwd(5), group(5)).
+#[derive(Drop)]
+pub struct Owners {
+    owners: Vec<Owner>,
+}
+
+impl Owners {
+    /// What the lines of a file say. A line that is none of a number is skipped.
+    pub fn from_lines(alloc: Global, lines: &[u8]) -> Result<Self, NoMemory> {
+        let mut owners = Vec::new(alloc);
+        let mut rest = lines;
+        while !rest.is_empty() {
+            let (line, behind) = cut(rest, b'\n');
+            if let Some((name, id)) = owner_in(line) {
+                let name = Text::copy_of(alloc, name)?;
+                owners.push(Owner { id, name })?;
+            }
+            rest = behind;
+        }
+        Ok(Owners { owners })
+    }
+
+    /// The name of a number, by the first line that has it; where none has, its digits.
+    pub fn name_of(&self, alloc: Global, id: u32) -> Result<Text, NoMemory> {
+        for owner in &self.owners {
+            if owner.id == id {
+                return Text::copy_of(alloc, owner.name.as_slice());
+            }
+        }
+        let digits = format!(in alloc; "{id}")?;
+        Text::copy_of(alloc, digits.as_bytes())
+    }
+}
+
+/// What a line says, if it is that of a name and a number.
+fn owner_in(line: &[u8]) -> Option<(&[u8], u32)> {
+    let (name, behind) = cut(line, b':');
+    let (_, behind) = cut(behind, b':');
+    let (digits, _) = cut(behind, b':');
+    let id = parse_number(digits, 0, u64::from(u32::MAX)).ok()?;
+    Some((name, id as u32))
+}
+
+/// The bytes before the first such byte, and those behind it; where there is none, all, and none.
+pub(crate) fn cut(bytes: &[u8], at: u8) -> (&[u8], &[u8])
+    ensures shorter { 0 < length bytes.now → length result.1.now < length bytes.now }
+{
+    match bytes.iter().position(|byte| *byte == at) {
+        Some(place) => (&bytes[..place], &bytes[place + 1..]),
+        None => (bytes, &[]),
+    }
+}
