@@ -1,5 +1,5 @@
 -- What is asked before a version is agreed.
-use Rattle.std.proofs.Common.{◌≡◌, ℕ, List, refl}
+use Rattle.std.proofs.Common.{◌≡◌, ℕ, refl}
 use Rattle.nine_wire.specs.declared.message.Request.{Request}
 use Rattle.nine_wire.specs.declared.message.Request.TheVariants as requests
 use Rattle.nine_wire.specs.Views.{message_of}

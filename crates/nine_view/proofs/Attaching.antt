@@ -1,5 +1,5 @@
 -- What an attach comes to.
-use Rattle.std.proofs.Common.{◌≡◌, ◌≤◌, ◌<◌, ◌^◌, ℕ, true, false, Ok, Err, List, [], length, take, refl, ap, arith, eq-eqb}
+use Rattle.std.proofs.Common.{◌≡◌, ◌≤◌, ◌<◌, ◌^◌, ℕ, true, false, Ok, Err, List, [], length, take, refl, arith, eq-eqb}
 use Rattle.std.proofs.lemmas.Bool.{le-leb, lt-leb, ne_eqb}
 use Rattle.vac_read.specs.declared.err.VacBad.TheVariants.{NoMemory}
 use Rattle.nine_wire.specs.declared.TheConstants.{NO_FID}

@@ -1,5 +1,5 @@
 -- What a read of a file comes to.
-use Rattle.std.proofs.Common.{◌≡◌, ◌-◌, ℕ, min, Result, Ok, Err, List, take, refl, ap}
+use Rattle.std.proofs.Common.{◌-◌, ℕ, min, Ok, Err, List, take, refl, ap}
 use Rattle.vt_tree.specs.declared.entry.Entry.{Entry}
 use Rattle.vt_tree.specs.Calls.{Call}
 use Rattle.vt_tree.specs.Content.{size_of}

@@ -1,8 +1,7 @@
 -- What a read of an open folder comes to, of which the files are kept.
-use Rattle.std.proofs.Common.{◌≡◌, ◌+◌, ◌==◌, ◌&&◌, ◌≤◌, ℕ, true, false, Option, Some, Result, Ok, Err, List, length, drop, refl, sym, ◌∙◌, ap, subst}
+use Rattle.std.proofs.Common.{◌≡◌, ◌+◌, ◌==◌, ◌&&◌, ℕ, true, false, Option, Some, Ok, Err, List, length, drop, refl, sym, ◌∙◌, ap, subst}
 use Rattle.std.specs.Prelude.{nat_lt}
 use Rattle.std.specs.List.{flat_map}
-use Rattle.vt_tree.specs.Maps.{BlockMap}
 use Rattle.vac_read.specs.declared.node.Node.{Node}
 use Rattle.nine_wire.specs.Messages.{r_read}
 use Rattle.nine_view.specs.declared.failure.Denied.TheVariants.{Refused}

@@ -15,8 +15,7 @@ use Rattle.nine_view.specs.declared.refusal.Refusal.{Refusal}
 use Rattle.nine_view.specs.Answers.{Answer, Outcome, refused, settled, sets, walks, reads_file, reads_folder, sets_fid, stays}
 use Rattle.nine_view.specs.Failures.{failure_words}
 use Rattle.nine_view.specs.Handling.{Handles, Sets, SetsFid, Settles, SettlesSo, failure_of}
-use Rattle.nine_view.specs.Known.{Known, IsRight, limit}
-use Rattle.nine_view.specs.Refusals.{words_of}
+use Rattle.nine_view.specs.Known.{Known, limit}
 use Rattle.nine_view.specs.Replies.{AsksForBytes, IsReply, NeverFails, failed, fails}
 
 module _ {S : Type 0} (does : S → Call → S → Type 0) (holds : S → Maps → Type 0)

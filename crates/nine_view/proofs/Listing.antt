@@ -1,5 +1,5 @@
 -- The files of an open folder, kept or listed.
-use Rattle.std.proofs.Common.{◌≡◌, ℕ, true, false, Option, Some, None, Result, Ok, Err, List, refl}
+use Rattle.std.proofs.Common.{◌≡◌, ℕ, true, false, Option, Some, None, Ok, Err, List, refl}
 use Rattle.std.specs.Prelude.{is_some}
 use Rattle.vt_tree.specs.Calls.{Call}
 use Rattle.vt_tree.specs.Maps.{Maps}

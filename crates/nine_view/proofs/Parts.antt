@@ -1,10 +1,9 @@
 -- A part of a file, as a reader of an archive gives it.
-use Rattle.std.proofs.Common.{◌≡◌, ◌-◌, ◌≤◌, ℕ, min, Result, Ok, Err, List, length, take, sym, ◌∙◌, subst, arith}
+use Rattle.std.proofs.Common.{◌≡◌, ◌-◌, ℕ, min, Result, List, length, take, sym, subst, arith}
 use Rattle.std.proofs.lemmas.List.{take_all}
 use Rattle.vt_tree.specs.declared.entry.Entry.{Entry}
 use Rattle.vt_tree.specs.Calls.{Call}
-use Rattle.vt_tree.specs.Content.{size_of}
-use Rattle.vt_tree.specs.Maps.{BlockMap, Maps}
+use Rattle.vt_tree.specs.Maps.{Maps}
 use Rattle.vac_read.specs.declared.err.VacBad.{VacBad}
 use Rattle.vac_read.specs.Reading.{Reads, ReadsFile}
 use Rattle.vac_read.proofs.Readings.{TellsRange, range_told}

@@ -1,5 +1,5 @@
 -- What a read comes to, by what stands behind its fid.
-use Rattle.std.proofs.Common.{◌≡◌, ◌==◌, ◌&&◌, ℕ, Bool, true, false, not, Option, Some, None, Result, Ok, Err, List, refl, sym, subst}
+use Rattle.std.proofs.Common.{◌≡◌, ◌==◌, ◌&&◌, ℕ, true, false, not, Option, Some, None, Result, Err, List, sym, subst}
 use Rattle.vt_tree.specs.declared.entry.Entry.{Entry}
 use Rattle.vt_tree.specs.Calls.{Call}
 use Rattle.vt_tree.specs.Maps.{Maps}
@@ -10,7 +10,7 @@ use Rattle.nine_view.specs.declared.failure.Denied.TheVariants.{Refused}
 use Rattle.nine_view.specs.declared.fid.Fid.{Fid}
 use Rattle.nine_view.specs.declared.fid.Reading.{Reading}
 use Rattle.nine_view.specs.declared.refusal.Refusal.TheVariants.{BadOffset, FidNotOpen, UnknownFid}
-use Rattle.nine_view.specs.Answers.{Answer, of_fid, refused, to_folder, to_read, to_stored}
+use Rattle.nine_view.specs.Answers.{Answer, of_fid, to_folder, to_read, to_stored}
 use Rattle.nine_view.specs.Handling.{Handles}
 use Rattle.nine_view.specs.Known.{Known, fid_at}
 use Rattle.nine_view.proofs.Handled.{refused_so}

@@ -1,5 +1,5 @@
 -- A message that was answered, once its reply is said.
-use Rattle.std.proofs.Common.{◌≡◌, ◌≤◌, ℕ, Option, None, Result, Err, List, length, take, refl, sym, ◌∙◌, ap, subst, arith}
+use Rattle.std.proofs.Common.{◌≡◌, ◌≤◌, ℕ, Option, None, Result, Err, List, length, take, sym, ◌∙◌, ap, subst, arith}
 use Rattle.vt_tree.specs.Calls.{Call}
 use Rattle.vt_tree.specs.Maps.{Maps}
 use Rattle.vac_read.specs.declared.err.VacBad.{VacBad}

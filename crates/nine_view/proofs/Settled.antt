@@ -1,20 +1,19 @@
 -- What each request comes to that the view answers by itself.
-use Rattle.std.proofs.Common.{◌≡◌, ◌-◌, ◌≤◌, ◌<◌, ◌^◌, ℕ, Bool, true, false, not, Option, Some, None, Result, Ok, Err, List, [], length, take, refl, sym, ◌∙◌, ap, subst, arith}
+use Rattle.std.proofs.Common.{◌≡◌, ◌≤◌, ◌<◌, ◌^◌, ℕ, true, false, Option, Some, None, Ok, Err, List, length, take, refl, sym, ap, subst, arith}
 use Rattle.std.specs.Prelude.{is_some, nat_lt, unwrap_or}
 use Rattle.std.proofs.lemmas.Bool.{ltb-false}
 use Rattle.vt_tree.specs.Maps.{BlockMap}
 use Rattle.nine_wire.specs.Frames.{spelled}
-use Rattle.nine_wire.specs.Messages.{RMessage, FitsReply, FitsStat, r_clunk, r_error, r_open, r_stat}
-use Rattle.nine_view.specs.declared.failure.Denied.{Denied}
+use Rattle.nine_wire.specs.Messages.{FitsReply, FitsStat, r_clunk, r_error, r_open, r_stat}
 use Rattle.nine_view.specs.declared.failure.Denied.TheVariants.{Refused}
 use Rattle.nine_view.specs.declared.fid.Fid.{Fid}
 use Rattle.nine_view.specs.declared.refusal.Refusal.{Refusal}
 use Rattle.nine_view.specs.declared.refusal.Refusal.TheVariants.{FidIsOpen, ReadOnly, SmallCount, UnknownFid}
-use Rattle.nine_view.specs.Answers.{Answer, Outcome, of_fid, refused, refuses, settled, stays, with_known, to_open, to_stat, may_open, iounit, unread}
+use Rattle.nine_view.specs.Answers.{Answer, Outcome, of_fid, refused, refuses, settled, with_known, to_open, to_stat, may_open, iounit, unread}
 use Rattle.nine_view.specs.Files.{qid_of, stat_of}
-use Rattle.nine_view.specs.Handling.{SaysSo, Says, Settles, SettlesSo}
+use Rattle.nine_view.specs.Handling.{Settles, SettlesSo}
 use Rattle.nine_view.specs.Kept.{IsKept}
-use Rattle.nine_view.specs.Known.{Known, IsRight, IsRightFid, fid_at, is_known, limit, with_fid, without_fid}
+use Rattle.nine_view.specs.Known.{Known, IsRight, fid_at, is_known, limit, with_fid, without_fid}
 use Rattle.nine_view.specs.Refusals.{words_of}
 use Rattle.nine_view.proofs.Keeping.{right_fid, right_with, right_without}
 use Rattle.nine_view.proofs.Limits.{least_limit}

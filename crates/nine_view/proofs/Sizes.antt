@@ -1,7 +1,6 @@
 -- How many bytes replies have.
-use Rattle.std.proofs.Common.{◌≡◌, ◌+◌, ◌*◌, ◌≤◌, ◌++◌, ℕ, List, [], ◌∷◌, length, refl, sym, ◌∙◌, ap, arith, length-append}
-use Rattle.std.specs.List.{AllByRecursion, flat_map}
-use Rattle.byteorder.specs.Endian.{little_bytes}
+use Rattle.std.proofs.Common.{◌≡◌, ◌+◌, ◌*◌, ℕ, List, [], ◌∷◌, length, refl, arith, length-append}
+use Rattle.std.specs.List.{flat_map}
 use Rattle.nine_wire.specs.Frames.{spelled}
 use Rattle.nine_wire.specs.Messages.{Qid, Stat, RMessage, qid_bytes, stat_bytes, r_stat, r_walk, reply_parameters}
 

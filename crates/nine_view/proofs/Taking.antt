@@ -1,6 +1,5 @@
 -- What came in front of a message, or inside it, and how the connection ends there.
-use Rattle.std.proofs.Common.{◌≡◌, ◌≢◌, ◌+◌, ◌-◌, ◌<◌, ◌≤◌, ◌++◌, ℕ, Bool, true, false, Result, Err, List, [], ◌∷◌, length, refl, sym, ap, subst, inl, inr, arith, length-append}
-use Rattle.vt_session.specs.Talk.{spent_len}
+use Rattle.std.proofs.Common.{◌≡◌, ◌≢◌, ◌+◌, ◌-◌, ◌<◌, ◌≤◌, ◌++◌, ℕ, true, false, Err, List, [], ◌∷◌, length, refl, inl, inr, arith, length-append}
 use Rattle.nine_view.specs.declared.serving.Ended.{Ended}
 use Rattle.nine_view.specs.declared.serving.Ended.TheVariants.{Closed, Cut, Malformed, Spent, ReadFault, WriteFault, NoMemory}
 use Rattle.nine_view.specs.Hearing.{StopsSo}

@@ -5,7 +5,6 @@ use Rattle.vt_tree.specs.Calls.{Call}
 use Rattle.vt_tree.specs.Maps.{Maps}
 use Rattle.vac_read.specs.declared.err.VacBad.{VacBad}
 use Rattle.nine_view.specs.Known.{Known}
-use Rattle.nine_view.specs.Replies.{Replies}
 use Rattle.nine_view.specs.Serving.{Talks, Turn, first_failure}
 
 module _ {S : Type 0} (does : S → Call → S → Type 0) (holds : S → Maps → Type 0)

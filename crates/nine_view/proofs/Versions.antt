@@ -1,6 +1,6 @@
 -- What a version comes to.
-use Rattle.std.proofs.Common.{◌≡◌, ◌≤◌, ◌<◌, ◌^◌, ℕ, true, false, Option, Some, None, Ok, Err, List, [], length, min, take, codes, refl, sym, ◌∙◌, arith}
-use Rattle.std.specs.Prelude.{IfSome, nat_lt}
+use Rattle.std.proofs.Common.{◌≡◌, ◌≤◌, ℕ, true, false, Option, Some, None, Ok, Err, List, [], length, min, take, codes, refl, sym, arith}
+use Rattle.std.specs.Prelude.{nat_lt}
 use Rattle.vac_read.specs.declared.node.Node.{Node}
 use Rattle.nine_wire.specs.Frames.{spelled}
 use Rattle.nine_wire.specs.Messages.{r_version}
@@ -9,7 +9,7 @@ use Rattle.nine_view.specs.declared.refusal.Refusal.TheVariants.{SmallSize}
 use Rattle.nine_view.specs.Answers.{is_ours, to_version}
 use Rattle.nine_view.specs.Files.{IsTold}
 use Rattle.nine_view.specs.Handling.{Settles}
-use Rattle.nine_view.specs.Kept.{IsKept, IsSize}
+use Rattle.nine_view.specs.Kept.{IsKept}
 use Rattle.nine_view.specs.Known.{Known}
 use Rattle.nine_view.proofs.Limits.{least_limit}
 use Rattle.nine_view.proofs.Settled.{refused_here, said_here}

@@ -13,14 +13,13 @@ use Rattle.nine_view.specs.declared.failure.Denied.{Denied}
 use Rattle.nine_view.specs.declared.failure.Denied.TheVariants.{Refused, Failed}
 use Rattle.nine_view.specs.declared.place.Place.{Place}
 use Rattle.nine_view.specs.declared.refusal.Refusal.{Refusal}
-use Rattle.nine_view.specs.Answers.{Answer, of_fid, sets, to_names, to_walk, unopened}
+use Rattle.nine_view.specs.Answers.{Answer, of_fid, to_names, to_walk, unopened}
 use Rattle.nine_view.specs.Failures.{failure_words}
 use Rattle.nine_view.specs.Handling.{Handles, Says}
 use Rattle.nine_view.specs.Known.{Known, IsRight, IsWay, limit, with_fid}
 use Rattle.nine_view.specs.Refusals.{words_of}
-use Rattle.nine_view.specs.Replies.{AsksForBytes, NeverFails}
 use Rattle.nine_view.specs.Walking.{EndsShort, MayWalk}
-use Rattle.nine_view.specs.Walks.{Walk, Walks, IsLost}
+use Rattle.nine_view.specs.Walks.{Walks, IsLost}
 use Rattle.nine_view.proofs.Handled.{no_memory, refused_so, sets_handles}
 use Rattle.nine_view.proofs.Keeping.{right_with}
 use Rattle.nine_view.proofs.Steps.{a_walk, way_on}

@@ -1,5 +1,5 @@
 -- The texts of errors have room.
-use Rattle.std.proofs.Common.{◌≡◌, ◌+◌, ◌-◌, ◌≤◌, ◌<◌, ◌^◌, ℕ, List, length, take, sym, ◌∙◌, ap, subst, arith, length-take}
+use Rattle.std.proofs.Common.{◌≡◌, ◌+◌, ◌-◌, ◌≤◌, ℕ, List, length, take, sym, subst, arith, length-take}
 use Rattle.vt_tree.specs.declared.err.BlockErr.TheVariants as blocks
 use Rattle.vt_tree.specs.declared.err.TreeErr.TheVariants as trees
 use Rattle.vac_read.specs.declared.err.VacBad.{VacBad}

@@ -2,7 +2,7 @@
 use Rattle.std.specs.Prelude.{ℕ, ◌≡◌, ◌≢◌, ◌+◌, ◌<◌, ◌≤◌, ◌⊎◌, ◌++◌, Bool, true, false, Result, Ok, Err, List, [], length, take}
 use Rattle.vt_session.specs.Talk.{spent_len}
 use Rattle.nine_view.specs.declared.serving.Ended.{Ended}
-use Rattle.nine_view.specs.declared.serving.Ended.TheVariants.{Closed, Cut, Malformed, Spent, ReadFault, WriteFault, NoMemory}
+use Rattle.nine_view.specs.declared.serving.Ended.TheVariants.{Closed, Cut, Spent, ReadFault, NoMemory}
 use Rattle.nine_view.specs.Replies.{IsMessage}
 use Rattle.nine_view.specs.Serving.{EndsSo, GoesOut, IsAtEnd}
 

@@ -1,6 +1,5 @@
 -- What the view of an archive replies to a message, by what the archive has.
 use Rattle.std.specs.Prelude.{ℕ, ◌≡◌, ◌≢◌, ◌-◌, ◌≤◌, ⊤, min, true, false, IfSome, Option, Some, None, Result, Ok, Err, List, [], ◌∷◌, length}
-use Rattle.vt_tree.specs.declared.entry.Entry.{Entry}
 use Rattle.vt_tree.specs.Calls.{Call}
 use Rattle.vt_tree.specs.Content.{size_of, byte_of}
 use Rattle.vt_tree.specs.Maps.{BlockMap, Maps}
@@ -14,7 +13,6 @@ use Rattle.vac_read.specs.Reading.{Reads, ReadsFile}
 use Rattle.nine_wire.specs.Frames.{IsFrame, spelled}
 use Rattle.nine_wire.specs.Messages.{TMessage, SpellsBody, is_request_type, FitsReply, RMessage, r_read, r_walk, r_error}
 use Rattle.nine_wire.specs.Messages.{Qid}
-use Rattle.nine_view.specs.declared.fid.Fid.{Fid}
 use Rattle.nine_view.specs.declared.place.Place.{Place}
 use Rattle.nine_view.specs.declared.refusal.Refusal.{Refusal}
 use Rattle.nine_view.specs.Answers.{Asked, unknown, misspelled, request, Outcome, Answer, settled, sets, walks, reads_file, reads_folder, answer_to, stays, refuses, sets_fid, unopened, reads_files}

@@ -1,5 +1,5 @@
 -- What the steps of a walk tell.
-use Rattle.std.specs.Prelude.{ℕ, ◌≡◌, ◌≢◌, ◌<◌, ◌^◌, map, MatchBool, true, false, Option, Some, None, Result, Ok, Err, List, [], length}
+use Rattle.std.specs.Prelude.{ℕ, ◌≡◌, ◌≢◌, ◌<◌, ◌^◌, map, false, Result, Ok, Err, List, [], length}
 use Rattle.std.specs.List.{AllByRecursion}
 use Rattle.std.specs.Str.{bytes_eq}
 use Rattle.vt_tree.specs.Maps.{BlockMap}
@@ -15,7 +15,7 @@ use Rattle.nine_view.specs.declared.failure.Denied.TheVariants.{Refused, Failed}
 use Rattle.nine_view.specs.declared.place.Place.{Place}
 use Rattle.nine_view.specs.declared.refusal.Refusal.{Refusal}
 use Rattle.nine_view.specs.declared.walking.Walked.{Walked}
-use Rattle.nine_view.specs.Answers.{Answer, of_fid, to_walk, to_names, refused}
+use Rattle.nine_view.specs.Answers.{of_fid, to_walk, to_names, refused}
 use Rattle.nine_view.specs.Files.{IsTold}
 use Rattle.nine_view.specs.Handling.{Says}
 use Rattle.nine_view.specs.Known.{Known}

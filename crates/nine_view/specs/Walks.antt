@@ -1,5 +1,5 @@
 -- Where names lead (walk(5)).
-use Rattle.std.specs.Prelude.{ℕ, ◌≡◌, ◌⊎◌, MatchBool, true, false, Option, Some, None, Result, Ok, Err, List, [], ◌∷◌, codes}
+use Rattle.std.specs.Prelude.{ℕ, ◌≡◌, ◌⊎◌, MatchBool, false, Option, Some, None, Result, Ok, Err, List, [], ◌∷◌, codes}
 use Rattle.std.specs.Str.{bytes_eq}
 use Rattle.vt_tree.specs.Maps.{BlockMap}
 use Rattle.vac_read.specs.declared.err.VacBad.{VacBad}

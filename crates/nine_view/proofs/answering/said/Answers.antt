@@ -1,4 +1,4 @@
-use Rattle.std.proofs.Common.{◌≡◌, ℕ, Result, Err, List, sym, subst, arith}
+use Rattle.std.proofs.Common.{◌≡◌, ℕ, Result, Err, sym, subst, arith}
 use Rattle.nine_wire.specs.Messages.{RMessage, r_error}
 use Rattle.nine_view.specs.declared.failure.Denied.{Denied}
 use Rattle.nine_view.specs.Failures.{failure_words}

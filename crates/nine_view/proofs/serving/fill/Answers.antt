@@ -1,4 +1,4 @@
-use Rattle.std.proofs.Common.{◌≡◌, ◌+◌, ◌-◌, ◌≤◌, ◌<◌, ◌++◌, ℕ, Ok, Err, List, [], length, take, sym, ◌∙◌, ap, subst, inr, arith, append-nil, append_assoc}
+use Rattle.std.proofs.Common.{◌≡◌, ◌+◌, ◌-◌, ◌≤◌, ◌++◌, ℕ, Ok, Err, List, length, take, sym, ◌∙◌, ap, subst, inr, arith, append-nil, append_assoc}
 use Rattle.std.specs.Prelude.{IsTrue}
 use borrow.Rule.Slice.PartMut.{mid_len, post_of, put_mid, same_len_mid, take_put}
 use Rattle.nine_view.specs.declared.serving.Ended.TheVariants.{Cut, ReadFault, Spent}

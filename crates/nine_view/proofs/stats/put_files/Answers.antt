@@ -1,10 +1,10 @@
-use Rattle.std.proofs.Common.{◌≡◌, ◌-◌, ◌≤◌, ℕ, List, length, sym, ◌∙◌, ap, subst, arith}
+use Rattle.std.proofs.Common.{◌≡◌, ℕ, List, length, sym, ◌∙◌, ap, subst, arith}
 use Rattle.vac_read.specs.declared.node.Node.{Node}
 use Rattle.nine_wire.specs.Messages.{FitsStat, Stat, stat_bytes}
 use Rattle.nine_wire.specs.Views.{stat_of as wire_stat}
 use Rattle.nine_wire.specs.Writing.{Writes}
 use Rattle.nine_view.specs.Files.{IsTold, stat_in}
-use Rattle.nine_view.proofs.Fitting.{PutsAll, PutsSoFar, puts_each, puts_full, puts_more, puts_none}
+use Rattle.nine_view.proofs.Fitting.{puts_more, puts_none}
 use Rattle.nine_view.proofs.stats.put_files.Goals as goal
 
 pub loop-node-init : goal.loop-node-init

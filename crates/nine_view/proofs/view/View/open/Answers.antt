@@ -1,4 +1,4 @@
-use Rattle.std.proofs.Common.{◌≡◌, ◌<◌, ◌^◌, ℕ, true, false, Option, Some, None, Ok, Err, List, length, take, sym, ◌∙◌, ap, subst, arith}
+use Rattle.std.proofs.Common.{◌≡◌, ◌<◌, ◌^◌, ℕ, Option, Some, Ok, Err, List, length, take, sym, ◌∙◌, ap, subst, arith}
 use Rattle.std.specs.Prelude.{IfSome}
 use Rattle.nine_wire.specs.Frames.{spelled}
 use Rattle.nine_wire.specs.Messages.{Qid, r_open}
@@ -7,10 +7,9 @@ use Rattle.nine_view.specs.declared.fid.Fid.{Fid}
 use Rattle.nine_view.specs.declared.fid.Reading.{Reading}
 use Rattle.nine_view.specs.declared.refusal.Refusal.TheVariants.{FidIsOpen, ReadOnly, UnknownFid}
 use Rattle.nine_view.specs.Answers.{iounit, of_fid, settled, to_open, unread}
-use Rattle.nine_view.specs.Files.{qid_of}
 use Rattle.nine_view.specs.Handling.{SettlesSo}
 use Rattle.nine_view.specs.Kept.{IsKept}
-use Rattle.nine_view.specs.Known.{Known, fid_at, is_known, with_fid}
+use Rattle.nine_view.specs.Known.{Known, fid_at, with_fid}
 use Rattle.nine_view.proofs.Keeping.{kept_fid, kept_with}
 use Rattle.nine_view.proofs.Limits.{least_agreed}
 use Rattle.nine_view.proofs.Settled.{not_opened, opened, opened_for_less, unknown_at}

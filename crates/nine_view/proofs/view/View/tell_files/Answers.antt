@@ -1,4 +1,4 @@
-use Rattle.std.proofs.Common.{◌≡◌, ◌+◌, ◌==◌, ◌&&◌, ◌≤◌, ◌++◌, ℕ, true, false, Option, Some, Ok, Err, List, length, take, drop, sym, ◌∙◌, ap, subst, arith, length-drop, length-take}
+use Rattle.std.proofs.Common.{◌≡◌, ◌+◌, ◌==◌, ◌&&◌, ◌≤◌, ◌++◌, ℕ, Option, Some, Ok, Err, List, length, take, drop, sym, ◌∙◌, ap, subst, arith, length-drop, length-take}
 use Rattle.std.specs.Prelude.{IfSome, nat_lt}
 use Rattle.std.specs.List.{All, flat_map}
 use Rattle.std.proofs.lemmas.List.{take-append-le, take_all}

@@ -1,6 +1,5 @@
-use Rattle.std.proofs.Common.{◌≡◌, ◌≢◌, ◌≤◌, ℕ, Result, Ok, Err, List, [], length, map, sym, ◌∙◌, ap, subst, arith}
+use Rattle.std.proofs.Common.{◌≡◌, ℕ, Result, Ok, Err, List, [], map, sym, ◌∙◌, subst}
 use Rattle.std.specs.Prelude.{IfOk}
-use Rattle.std.proofs.lemmas.List.{length-map}
 use Rattle.std.proofs.lemmas.Result.{err_from_is_err_and}
 use Rattle.vac_read.specs.Reading.{Reads}
 use Rattle.nine_wire.specs.declared.stat.Qid as wire
@@ -10,7 +9,7 @@ use Rattle.nine_view.specs.declared.failure.Denied.TheVariants.{Failed}
 use Rattle.nine_view.specs.declared.place.Place.{Place}
 use Rattle.nine_view.specs.declared.refusal.Refusal.{Refusal}
 use Rattle.nine_view.specs.declared.walking.Walked.{Walked}
-use Rattle.nine_view.specs.Answers.{Answer, of_fid, to_names, to_walk}
+use Rattle.nine_view.specs.Answers.{Answer, to_names}
 use Rattle.nine_view.specs.Handling.{Handles, Says}
 use Rattle.nine_view.specs.Known.{limit}
 use Rattle.nine_view.specs.Walking.{EndsShort, MayWalk}

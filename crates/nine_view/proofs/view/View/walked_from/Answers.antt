@@ -1,4 +1,4 @@
-use Rattle.std.proofs.Common.{◌≡◌, ◌≤◌, ◌<◌, ◌⊎◌, ℕ, true, false, Some, None, Ok, Err, List, length, sym, ◌∙◌, ap, subst, inl, inr, arith}
+use Rattle.std.proofs.Common.{◌≡◌, ◌≤◌, Some, None, Err, List, sym, ◌∙◌, subst, inr, arith}
 use Rattle.std.specs.List.{AllByRecursion}
 use Rattle.std.proofs.lemmas.Result.{err_from_is_err_and}
 use Rattle.vt_tree.specs.Maps.{BlockMap}
@@ -9,9 +9,9 @@ use Rattle.nine_view.specs.declared.fid.Fid.{Fid}
 use Rattle.nine_view.specs.declared.place.Place.{Place}
 use Rattle.nine_view.specs.declared.refusal.Refusal.TheVariants.{BadFid, FidInUse, FidIsOpen, TooManyFids, TooManyNames, UnknownFid}
 use Rattle.nine_view.specs.Files.{IsTold}
-use Rattle.nine_view.specs.Known.{Known, IsRight, IsWay, fid_at, is_known}
+use Rattle.nine_view.specs.Known.{Known, IsRight, IsWay, fid_at}
 use Rattle.nine_view.specs.Walking.{MayWalk}
-use Rattle.nine_view.proofs.Beginning.{may_bad, may_full, may_lack, may_many, may_open, may_unknown, may_used, may_walk, walks_itself}
+use Rattle.nine_view.proofs.Beginning.{may_bad, may_full, may_lack, may_many, may_open, may_unknown, may_used, walks_itself}
 use Rattle.nine_view.proofs.Keeping.{kept_fid, right_fid}
 use Rattle.nine_view.proofs.view.View.walked_from.Goals as goal
 
