@@ -1,5 +1,5 @@
-//! Tests of archives: folders in memory become archives that are known, and what was written is read
-//! back.
+//! Tests of archives: folders in memory become archives that are known, also in stores that are kept
+//! from one run to the next, and what was written is read back.
 #![tactic(auto)]
 
 #[cfg(test)]
@@ -8,3 +8,5 @@ mod archives;
 mod items;
 #[cfg(test)]
 mod round_trip;
+#[cfg(test)]
+mod stored;

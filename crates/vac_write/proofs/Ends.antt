@@ -251,6 +251,7 @@ module _ {S : Type 0} (does : S → Call → S → Type 0) (holds : S → Maps �
           is = seen_is;
           fit = fit;
           few = count_few;
+          times = times_from_order a.seen a.times;
           score = scored
               ∙ ap (λ (t : List ℕ). score_of (root_bytes (root_of score_of bsize t))) top_is;
           left_out = noted ∙ a.left_out

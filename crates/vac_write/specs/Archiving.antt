@@ -15,7 +15,7 @@ use Rattle.vt_tree.specs.Maps.{Maps, with_blocks}
 use Rattle.vt_tree.specs.Reading.{refusal_in}
 use Rattle.vac_model.specs.Archives.{archive_of}
 use Rattle.vac_model.specs.Kept.{archived, count, skipped}
-use Rattle.vac_model.specs.Limits.{Unfit, bad_name, too_long, too_deep, first_unfit}
+use Rattle.vac_model.specs.Limits.{Unfit, bad_name, too_long, too_deep, first_unfit, HaveTimes}
 use Rattle.vac_model.specs.Trees.{IsTreeOf}
 use Rattle.vac_write.specs.declared.archived.Archived.{Archived}
 use Rattle.vac_write.specs.declared.err.VacErr.{VacErr}
@@ -49,6 +49,7 @@ pub record WritesArchive {S : Type 0} (does : S → Call → S → Type 0) (hold
   pub is : is_seen seen
   pub fit : first_unfit seen ≡ None
   pub few : count (archived seen) < 2 ^ 64
+  pub times : HaveTimes seen
   pub score : a.score.0 ≡ (archive_of score_of bsize seen).score
   pub left_out : a.skipped ≡ skipped seen
   pub calls : List Call

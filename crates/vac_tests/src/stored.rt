@@ -1,0 +1,186 @@
+//! Folders in memory are archived into the store of a configuration, on partitions in memory that
+//! are kept from one run to the next, and read back.
+
+use crate::items::{Sample, items_of};
+use std::alloc::Global;
+use std::process::Abort;
+use std::test::Fail;
+use vac_read::{Archive, read, walk};
+use vac_store::{ArchiveBad, StoredArchive, archive_stored};
+use vac_write::VacErr;
+use vt_base::{Score, Sha1Scorer, Text, Why, parse_score};
+use vt_conf::parse_conf;
+use vt_drive::Driven;
+use vt_folder::{Folder, MemFolder};
+use vt_format::laws::configurations_number_their_files;
+use vt_format::{format_arenas, format_index, format_section, parse_arena_size, parse_name};
+use vt_local::Local;
+use vt_memdisk::{Listed, MemDisk};
+use vt_memparts::{Failing, MemParts};
+use vt_open::{configurations_can_be_opened, open_store};
+use vt_out::Silent;
+use vt_parts::Parts;
+use vt_tree::Blocks;
+
+/// Partitions of a store.
+#[derive(Drop)]
+struct Stores<P> {
+    alloc: Global,
+    parts: P,
+}
+
+impl<P: Parts> Stores<P> {
+    /// Makes a partition of one arena of 32,768 bytes, which has its file's name.
+    fn arenas(&mut self, file: &[u8]) -> Result<(), Fail> {
+        let file = Text::copy_of(self.alloc, file)?;
+        let size = parse_arena_size(b"32768").ok().ok_or("size")?;
+        parse_name(file.as_slice()).ok().ok_or("name")?;
+        let made = format_arenas(self.alloc, &mut self.parts, &file, &file, 40_960, size);
+        made.ok().ok_or("arenas")?;
+        Ok(())
+    }
+
+    fn section(&mut self, file: &[u8]) -> Result<(), Fail> {
+        let file = Text::copy_of(self.alloc, file)?;
+        parse_name(file.as_slice()).ok().ok_or("name")?;
+        let made = format_section(self.alloc, &mut self.parts, &file, &file, 41_472);
+        made.ok().ok_or("section")?;
+        Ok(())
+    }
+
+    /// Puts the section of a configuration to use.
+    fn index(&mut self, text: &[u8]) -> Result<(), Fail> {
+        configurations_number_their_files();
+        let conf = parse_conf(self.alloc, text).ok().ok_or("configuration")?;
+        let done = format_index(self.alloc, &mut self.parts, Sha1Scorer, &mut Silent, &conf);
+        done.ok().ok_or("index")?;
+        Ok(())
+    }
+
+    /// Archives a folder into the store of a configuration.
+    fn archive<F: Folder>(
+        &mut self,
+        text: &[u8],
+        folder: &mut F,
+        bsize: u16,
+    ) -> Result<Result<StoredArchive, ArchiveBad>, Fail> {
+        configurations_can_be_opened();
+        let conf = parse_conf(self.alloc, text).ok().ok_or("configuration")?;
+        let bsize = bsize.clamp(512, 53_248);
+        let parts = &mut self.parts;
+        Ok(archive_stored(self.alloc, parts, &conf, &Sha1Scorer, 1, folder, bsize))
+    }
+
+    /// The bytes of the file `d/f` of an archive in the store of a configuration.
+    fn read_back(&mut self, text: &[u8], score: &Score) -> Result<Vec<u8>, Fail> {
+        configurations_can_be_opened();
+        let conf = parse_conf(self.alloc, text).ok().ok_or("configuration")?;
+        let core = open_store(self.alloc, &mut self.parts, &conf, 1, Sha1Scorer);
+        let core = core.ok().ok_or("not opened")?;
+        let mut blocks = Local::new(Driven::new(core, self.alloc, 0), Sha1Scorer);
+        content(self.alloc, &mut blocks, score)
+    }
+}
+
+fn content<B: Blocks>(alloc: Global, blocks: &mut B, score: &Score) -> Result<Vec<u8>, Fail> {
+    let Ok(found) = Archive::at(alloc, blocks, score) else {
+        return Err("no archive".into());
+    };
+    let path = vec![in alloc; Text::copy_of(alloc, b"d")?, Text::copy_of(alloc, b"f")?]?;
+    let Ok(Some(node)) = walk(alloc, blocks, &found.top, &path) else {
+        return Err("no way".into());
+    };
+    let Ok(bytes) = read(alloc, blocks, &node, 0, 100) else {
+        return Err("not read".into());
+    };
+    Ok(Vec::from_slice(alloc, bytes.as_slice())?)
+}
+
+/// What is to be told of an archiving.
+#[derive(Clone, Copy, Debug)]
+enum Wanted {
+    /// The archive's score, and how many blocks are new.
+    Stored(&'static str, u64),
+    Unopened,
+    FolderFault,
+    Refused(Why),
+}
+
+fn is_wanted(answer: &Result<StoredArchive, ArchiveBad>, wanted: Wanted) -> bool {
+    match (answer, wanted) {
+        (Ok(stored), Wanted::Stored(score, added)) => {
+            Ok(stored.archived.score) == parse_score(score.as_bytes()) && stored.added == added
+        }
+        (Err(ArchiveBad::Unopened(_)), Wanted::Unopened) => true,
+        (Err(ArchiveBad::Folder(VacErr::FolderFault)), Wanted::FolderFault) => true,
+        (Err(ArchiveBad::Refused(why)), Wanted::Refused(wanted)) => *why == wanted,
+        _ => false,
+    }
+}
+
+const CONF: &[u8] = b"arenas a\nisect i\n";
+
+const EMPTY: &str = "bc0134b39e3f1c437bec79b6dcbfc5a24a26b717";
+
+const SMALL: &str = "cfd1270f57bb4fddde84a62de63149f0b829e079";
+
+/// A configuration, a folder, the block size, the call of the folder that fails, and what is told.
+type Row = (&'static [u8], Sample, u16, u64, Wanted);
+
+/// A call that is never made.
+const NEVER: u64 = u64::MAX;
+
+const ROWS: [Row; 8] = [
+    (CONF, Sample::Empty, 8192, NEVER, Wanted::Stored(EMPTY, 2)),
+    (CONF, Sample::Empty, 8192, NEVER, Wanted::Stored(EMPTY, 0)),
+    (CONF, Sample::Small, 8192, 4, Wanted::FolderFault),
+    (CONF, Sample::Small, 8192, NEVER, Wanted::Stored(SMALL, 7)),
+    (CONF, Sample::Small, 8192, NEVER, Wanted::Stored(SMALL, 0)),
+    (
+        CONF,
+        Sample::Large,
+        512,
+        NEVER,
+        Wanted::Refused(Why::ArenasFull),
+    ),
+    (
+        b"arenas a\nisect x\n",
+        Sample::Empty,
+        8192,
+        NEVER,
+        Wanted::Unopened,
+    ),
+    (CONF, Sample::Empty, 8192, NEVER, Wanted::Stored(EMPTY, 0)),
+];
+
+/// Whether a row is told as it is to be.
+fn goes_as<P: Parts>(to: &mut Stores<P>, row: Row) -> Result<bool, Fail> {
+    let (text, which, bsize, failing, wanted) = row;
+    let failing = vec![in to.alloc; failing]?;
+    let mut folder = MemFolder::new(to.alloc, items_of(to.alloc, which)?).failing(failing);
+    let answer = to.archive(text, &mut folder, bsize)?;
+    Ok(is_wanted(&answer, wanted))
+}
+
+fn archives_each<P: Parts>(rt: &impl Abort, to: &mut Stores<P>) -> Result<(), Fail> {
+    to.arenas(b"a")?;
+    to.section(b"i")?;
+    to.index(CONF)?;
+    for row in ROWS {
+        assert!(rt; goes_as(to, row)?, "{:?}", row.4);
+    }
+    let Ok(small) = parse_score(SMALL.as_bytes()) else {
+        return Err("score".into());
+    };
+    let found = to.read_back(CONF, &small)?;
+    assert_eq!(rt; found.as_slice(), b"abc".as_slice());
+    Ok(())
+}
+
+#[test]
+fn stores_keep_archives_from_run_to_run(rt: HostRuntime) -> Result<(), Fail> {
+    let alloc = rt.alloc();
+    let maker = Failing::new(Vec::new(alloc));
+    let parts = MemParts::<MemDisk<Listed>, Failing<Global>>::new(alloc, maker);
+    archives_each(&rt, &mut Stores { alloc, parts })
+}
