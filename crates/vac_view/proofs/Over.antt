@@ -1,0 +1,284 @@
+-- Why an archive of a server couldn't be read first, whatever the server sends.
+use Rattle.std.proofs.Common.{◌≡◌, ◌≢◌, ⊎_elim, ℕ, ◌<◌, true, false, Option, Some, None, Result, Ok, Err, List, [], ◌∷◌, refl, sym, ◌∙◌, ap, subst, arith}
+use Rattle.std.specs.Prelude.{IfSome, IsErrOf}
+use Rattle.std.proofs.lemmas.Bool.{cases_Bool}
+use Rattle.vt_base.specs.Faults.{HasRisen}
+use Rattle.vt_base.specs.declared.score.Score.{Score}
+use Rattle.vt_base.specs.declared.why.FieldValue.{FieldValue}
+use Rattle.vt_client.specs.declared.err.ClientErr.{ClientErr}
+use Rattle.vt_client.specs.declared.err.ClientErr.TheVariants as errs
+use Rattle.vt_client.specs.declared.err.Parted.{Parted}
+use Rattle.vt_client.specs.declared.err.Side.{Side}
+use Rattle.vt_client.specs.declared.err.Side.TheVariants.{Read, Write}
+use Rattle.vt_client.specs.Clients.{Asks, ClientState, SaysGoodbye, block_of, committing, taking_in}
+use Rattle.vt_client.specs.Exchanges.{Wanted}
+use Rattle.vt_client.specs.Stores.{DoesAsClient, DoesOnce, IsToldAs, side_behind}
+use Rattle.vt_tree.specs.declared.err.BlockErr.{BlockErr}
+use Rattle.vt_tree.specs.declared.err.BlockErr.TheVariants as blocks
+use Rattle.vt_tree.specs.declared.err.TreeErr.TheVariants as trees
+use Rattle.vt_tree.specs.Calls.{Call, get, put, sync, IsGet, refusal_of}
+use Rattle.vt_tree.specs.Making.{Makes}
+use Rattle.vt_remote.specs.Remote.{Talks, link_in}
+use Rattle.vac_read.specs.declared.err.VacBad.{VacBad}
+use Rattle.vac_read.specs.declared.err.VacBad.TheVariants.{Tree, Root, Meta, NoMemory}
+use Rattle.vac_view.specs.Members.{LinkOf}
+use Rattle.vac_view.specs.Remote.{FailsOver, HasFailedBy, RemoteView, ViewsAt, holds_none}
+use Rattle.vac_view.specs.Stored.{first_bad}
+use Rattle.vac_view.specs.Viewing.{Passed}
+use Rattle.vac_view.proofs.Calls.{RefusesFirst, view_refused}
+
+some : (old new : ℕ) → HasRisen old new → 0 < new
+some old new rose = omega (arith, rose)
+
+module _ {C : Type 0} (server : LinkOf C) (score_of : List ℕ → List ℕ) where
+  -- ---- a client that is spent
+
+  -- it says so, and touches nothing
+  record IsSpentSince (c c' : ClientState C) : Type 0 where
+    spent : c'.spent ≡ true
+    link : c'.link ≡ c.link
+    side : c'.side ≡ c.side
+
+  spent_side : {T : Type 0} (w : Wanted T) (c after : ClientState C) (result : Result T ClientErr)
+      → IsErrOf result errs.Spent → side_behind result c.side ≡ c.side
+  spent_side {T} w c after result is =
+      ap (λ (r : Result T ClientErr). side_behind r c.side) is
+
+  spent_once : {T : Type 0} (w : Wanted T) (c c' : ClientState C) (answer : Result T BlockErr)
+      → c.spent ≡ true → DoesOnce server score_of w c c' answer → IsSpentSince c c'
+  spent_once w c c' answer spent it =
+      let same = it.asked.untouched spent in
+      let side = spent_side w c it.after it.result (it.asked.spent.1 spent) in
+      record {
+        spent = ap (λ (x : ClientState C). x.spent) it.is
+            ∙ ap (λ (x : ClientState C). x.spent) same ∙ spent;
+        link = ap (λ (x : ClientState C). x.link) it.is ∙ ap (λ (x : ClientState C). x.link) same;
+        side = ap (λ (x : ClientState C). x.side) it.is ∙ side;
+      }
+
+  spent_call : (c c' : ClientState C) (call : Call) → c.spent ≡ true
+      → DoesAsClient server score_of c call c' → IsSpentSince c c'
+  spent_call c c' (get kind s answer) spent it =
+      spent_once (block_of s kind) c c' answer spent it.asks
+  spent_call c c' (put b answer) spent it =
+      spent_once (taking_in score_of b.kind b.bytes) c c' answer spent it.asks
+  spent_call c c' (sync answer) spent it = spent_once committing c c' answer spent it.asks
+
+  spent_calls : (calls : List Call) (c c' : ClientState C) → c.spent ≡ true
+      → Makes (DoesAsClient server score_of) c calls c' → IsSpentSince c c'
+  spent_calls [] c c' spent same = subst (λ (x : ClientState C). IsSpentSince c x) (sym same)
+      (record { spent = spent; link = refl; side = refl })
+  spent_calls (call ∷ calls) c c' spent made =
+      let first = spent_call c made.0 call spent made.1 in
+      let more = spent_calls calls made.0 c' first.spent made.2 in
+      record {
+        spent = more.spent;
+        link = more.link ∙ first.link;
+        side = more.side ∙ first.side;
+      }
+
+  gives_back : (c : ClientState C) (parted : Result C (Parted C)) → c.spent ≡ true
+      → SaysGoodbye server c parted → link_in parted ≡ c.link
+  gives_back c (Ok l) spent says = let no : true ≡ false = sym spent ∙ says.0 in absurd (cc)
+  gives_back c (Err parted) spent says = ⊎_elim
+      (λ untouched. ap (λ (p : Parted C). p.link) untouched.1)
+      (λ failed. let no : true ≡ false = sym spent ∙ failed.0 in absurd (cc)) says
+
+  -- ---- a block that was refused
+
+  -- a client that isn't spent was asked for a block, which is refused for this
+  record RefusedSo (why : ClientErr) (c c' : ClientState C) : Type 0 where
+    kind : ℕ
+    s : List ℕ
+    after : ClientState C
+    asked : Asks server score_of (block_of s kind) c after (Err why)
+    link : c'.link ≡ after.link
+    spent : c'.spent ≡ after.spent
+    side : c'.side ≡ side_behind {T = Unit {0}} (Err why) c.side
+
+  once_refused : (kind : ℕ) (s : List ℕ) (err : BlockErr) (c c' : ClientState C)
+      → DoesOnce server score_of (block_of s kind) c c' (Err err)
+      → (why : ClientErr) × IsToldAs why err × RefusedSo why c c'
+  once_refused kind s err c c' it =
+      let why = it.stands.0 in
+      let is = it.stands.1 in (
+        why,
+        it.stands.2,
+        record {
+          kind = kind;
+          s = s;
+          after = it.after;
+          asked = subst (λ (r : Result (List ℕ) ClientErr). Asks server score_of (block_of s kind) c
+              it.after r) is it.asked;
+          link = ap (λ (x : ClientState C). x.link) it.is;
+          spent = ap (λ (x : ClientState C). x.spent) it.is;
+          side = ap (λ (x : ClientState C). x.side) it.is
+              ∙ ap (λ (r : Result (List ℕ) ClientErr). side_behind r c.side) is;
+        },
+      )
+
+  refused_so : (err : BlockErr) (c c' : ClientState C)
+      (it : RefusesFirst (DoesAsClient server score_of) err c c')
+      → (why : ClientErr) × IsToldAs why err × RefusedSo why it.mid it.next
+  refused_so err c c' it = of it.last it.is it.get it.done
+    where
+      of : (x : Call) → refusal_of x ≡ Some err → IsGet x
+          → DoesAsClient server score_of it.mid x it.next
+          → (why : ClientErr) × IsToldAs why err × RefusedSo why it.mid it.next
+      of (get kind s (Ok bytes)) is asks done = let never : ⊥ = cc in absurd never
+      of (get kind s (Err e)) is asks done =
+          let same : e ≡ err = cc in
+          subst (λ (x : BlockErr). (why : ClientErr) × IsToldAs why x
+          × RefusedSo why it.mid it.next) same
+          (once_refused kind s e it.mid it.next done.asks)
+      of (put b answer) is asks done = absurd asks
+      of (sync answer) is asks done = absurd asks
+
+  -- a link that failed counts it, and is given back so
+  back_failed : (side : Side) (c last : ClientState C) (parted : Result C (Parted C)) (back : C)
+      → IsSpentSince c last → c.side ≡ Some side → HasFailedBy server (Some side) c.link
+      → SaysGoodbye server last parted → back ≡ link_in parted
+      → HasFailedBy server last.side back
+  back_failed side c last parted back since is failed says back_is =
+      subst (λ (o : Option Side). HasFailedBy server o back) (sym (since.side ∙ is))
+      (subst (λ (l : C). HasFailedBy server (Some side) l)
+      (sym (back_is ∙ gives_back last parted since.spent says ∙ since.link)) failed)
+
+  -- a fault of a client that wasn't spent before
+  fault_told : (why : ClientErr) (c c' : ClientState C) → IsToldAs why blocks.Fault
+      → RefusedSo why c c' → c.spent ≡ false
+      → (side : Side) × (c'.spent ≡ true) × (c'.side ≡ Some side)
+      × HasFailedBy server (Some side) c'.link
+  fault_told errs.ReadFault c c' told it unspent = (
+    Read,
+    it.spent ∙ ap (λ (x : ClientState C). x.spent) (it.asked.goes_on unspent),
+    it.side,
+    subst (λ (l : C). 0 < server.read_faults l) (sym it.link) (some _ _ it.asked.sides.reads),
+  )
+  fault_told errs.WriteFault c c' told it unspent = (
+    Write,
+    it.spent ∙ ap (λ (x : ClientState C). x.spent) (it.asked.goes_on unspent),
+    it.side,
+    subst (λ (l : C). 0 < server.write_faults l) (sym it.link) (some _ _ it.asked.sides.writes),
+  )
+  fault_told (errs.Remote text) c c' told it unspent =
+      absurd (⊎_elim (λ is. cc) (λ own. let no = own.1 in cc) told)
+  fault_told errs.Cut c c' told it unspent =
+      absurd (⊎_elim (λ is. cc) (λ own. let no = own.1 in cc) told)
+  fault_told (errs.BadReply place) c c' told it unspent =
+      absurd (⊎_elim (λ is. cc) (λ own. let no = own.1 in cc) told)
+  fault_told errs.NoVersion c c' told it unspent =
+      absurd (⊎_elim (λ is. cc) (λ own. let no = own.1 in cc) told)
+  fault_told (errs.WrongScore want found) c c' told it unspent =
+      absurd (⊎_elim (λ is. cc) (λ own. let no = own.1 in cc) told)
+  fault_told errs.Spent c c' told it unspent =
+      absurd (⊎_elim (λ is. cc) (λ own. let no = own.1 in cc) told)
+  fault_told errs.NoMemory c c' told it unspent =
+      absurd (⊎_elim (λ is. cc) (λ own. let no = own.1 in cc) told)
+
+  -- a client that is spent says just that
+  spent_why : (why : ClientErr) (c c' : ClientState C) → RefusedSo why c c' → c.spent ≡ true
+      → why ≡ errs.Spent
+  spent_why why c c' it spent =
+      let is : ◌≡◌ {A = Result (List ℕ) ClientErr} (Err why) (Err errs.Spent) =
+      it.asked.spent.1 spent in
+      cc
+
+  scores_differ : (want found : Score) (why : ClientErr) (c c' : ClientState C)
+      → IsToldAs why (blocks.WrongScore want found) → RefusedSo why c c' → want.0 ≢ found.0
+  scores_differ want found (errs.WrongScore w f) c c' told it = ⊎_elim
+      (λ is. let same_want : w ≡ want = cc in let same_found : f ≡ found = cc in
+      subst (λ (x : Score). x.0 ≢ found.0) same_want
+      (subst (λ (x : Score). w.0 ≢ x.0) same_found it.asked.refuses.1))
+      (λ own. absurd (let no = own.1 in cc)) told
+  scores_differ want found errs.ReadFault c c' told it =
+      absurd (⊎_elim (λ is. cc) (λ own. let no = own.1 in cc) told)
+  scores_differ want found errs.WriteFault c c' told it =
+      absurd (⊎_elim (λ is. cc) (λ own. let no = own.1 in cc) told)
+  scores_differ want found (errs.Remote text) c c' told it =
+      absurd (⊎_elim (λ is. cc) (λ own. let no = own.1 in cc) told)
+  scores_differ want found errs.Cut c c' told it =
+      absurd (⊎_elim (λ is. cc) (λ own. let no = own.1 in cc) told)
+  scores_differ want found (errs.BadReply place) c c' told it =
+      absurd (⊎_elim (λ is. cc) (λ own. let no = own.1 in cc) told)
+  scores_differ want found errs.NoVersion c c' told it =
+      absurd (⊎_elim (λ is. cc) (λ own. let no = own.1 in cc) told)
+  scores_differ want found errs.Spent c c' told it =
+      absurd (⊎_elim (λ is. cc) (λ own. let no = own.1 in cc) told)
+  scores_differ want found errs.NoMemory c c' told it =
+      absurd (⊎_elim (λ is. cc) (λ own. let no = own.1 in cc) told)
+
+  damage_never : (want found : FieldValue) (why : ClientErr)
+      → IsToldAs why (blocks.Damaged want found) → ⊥
+  damage_never want found errs.ReadFault told = ⊎_elim (λ is. cc) (λ own. let no = own.1 in cc) told
+  damage_never want found errs.WriteFault told =
+      ⊎_elim (λ is. cc) (λ own. let no = own.1 in cc) told
+  damage_never want found (errs.Remote text) told =
+      ⊎_elim (λ is. cc) (λ own. let no = own.1 in cc) told
+  damage_never want found errs.Cut told = ⊎_elim (λ is. cc) (λ own. let no = own.1 in cc) told
+  damage_never want found (errs.BadReply place) told =
+      ⊎_elim (λ is. cc) (λ own. let no = own.1 in cc) told
+  damage_never want found errs.NoVersion told = ⊎_elim (λ is. cc) (λ own. let no = own.1 in cc) told
+  damage_never want found (errs.WrongScore w f) told =
+      ⊎_elim (λ is. cc) (λ own. let no = own.1 in cc) told
+  damage_never want found errs.Spent told = ⊎_elim (λ is. cc) (λ own. let no = own.1 in cc) told
+  damage_never want found errs.NoMemory told = ⊎_elim (λ is. cc) (λ own. let no = own.1 in cc) told
+
+  fault_spent : (why : ClientErr) → IsToldAs why blocks.Fault → why ≡ errs.Spent → ⊥
+  fault_spent why told is =
+      ⊎_elim (λ same. cc) (λ own. let no = own.1 in cc)
+      (subst (λ (w : ClientErr). IsToldAs w blocks.Fault) is told)
+
+  -- ---- a whole talk
+
+  module _ (score : List ℕ) (p : Passed) (view : RemoteView) (back : C)
+      (x : Talks server score_of (ViewsAt server score_of score p (Ok view)) back) where
+    refused : (err : BlockErr) → first_bad view.0 ≡ Some (Tree (trees.Block err))
+        → RefusesFirst (DoesAsClient server score_of) err x.met x.last
+    refused err is = view_refused (DoesAsClient server score_of) holds_none score_of err score p
+        view.0 x.met x.last x.does.0 is
+
+    link_failed : first_bad view.0 ≡ Some (Tree (trees.Block blocks.Fault))
+        → HasFailedBy server view.1 back
+    link_failed is =
+        let it = refused blocks.Fault is in
+        let so = refused_so blocks.Fault x.met x.last it in
+        subst (λ (o : Option Side). HasFailedBy server o back) (sym x.does.1)
+        (⊎_elim
+        (λ spent. absurd (fault_spent so.0 so.1
+        (spent_why so.0 it.mid it.next so.2 spent)))
+        (λ unspent.
+        let told = fault_told so.0 it.mid it.next so.1 so.2 unspent in
+        back_failed told.0 it.next x.last x.parted back
+        (spent_calls it.rest it.next x.last told.1 it.more) told.2 told.3 x.says x.back_is)
+        (cases_Bool it.mid.spent))
+
+    pub view_fails : IfSome (first_bad view.0) (λ bad. FailsOver server bad view.1 back)
+    view_fails = of (first_bad view.0) refl
+      where
+        bad_fails : (bad : VacBad) → first_bad view.0 ≡ Some bad
+            → FailsOver server bad view.1 back
+        bad_fails (Tree (trees.Block blocks.Fault)) is = link_failed is
+        bad_fails (Tree (trees.Block (blocks.Refused text))) is = tt
+        bad_fails (Tree (trees.Block (blocks.WrongScore want found))) is =
+            let it = refused (blocks.WrongScore want found) is in
+            let so = refused_so (blocks.WrongScore want found) x.met x.last it in
+            scores_differ want found so.0 it.mid it.next so.1 so.2
+        bad_fails (Tree (trees.Block (blocks.Damaged want found))) is =
+            let it = refused (blocks.Damaged want found) is in
+            let so = refused_so (blocks.Damaged want found) x.met x.last it in
+            damage_never want found so.0 so.1
+        bad_fails (Tree (trees.Block blocks.NoMemory)) is = tt
+        bad_fails (Tree trees.SourceFault) is = tt
+        bad_fails (Tree (trees.BadEntry bad)) is = tt
+        bad_fails (Tree (trees.BadBlock depth len)) is = tt
+        bad_fails (Tree trees.TooLong) is = tt
+        bad_fails (Tree trees.NoMemory) is = tt
+        bad_fails (Root field) is = tt
+        bad_fails (Meta at) is = tt
+        bad_fails NoMemory is = tt
+
+        of : (o : Option VacBad) → first_bad view.0 ≡ o
+            → IfSome o (λ bad. FailsOver server bad view.1 back)
+        of None is = tt
+        of (Some bad) is = bad_fails bad is

@@ -1,0 +1,5 @@
+pub mod Members
+pub mod Viewing
+pub mod Stored
+pub mod Remote
+pub mod Items
