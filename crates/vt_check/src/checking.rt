@@ -240,9 +240,13 @@ impl Room {
         ensures faults { CountsFaults D.Disk is_fault result log.old.disks log.new.disks }
     {
         let left = len - ARENA_HEAD_LEN as u64 - followed.used;
-        let wanted = head.used.saturating_sub(followed.used) + MOST_CLUMP as u64;
-        let bytes = left.min(wanted).min(BYTES_AT_ONCE as u64);
         let count = (head.clumps - followed.clumps).min(CLUMPS_AT_ONCE as u32);
+        // What so many clumps take on the average, so that few bytes are read twice.
+        let mean = head.used / u64::from(head.clumps) + 1;
+        let wanted = mean
+            .saturating_mul(u64::from(count))
+            .saturating_add(MOST_CLUMP as u64);
+        let bytes = left.min(wanted).min(BYTES_AT_ONCE as u64);
         let at = ARENA_HEAD_LEN as u64 + followed.used;
         read(log, arena, at, bytes as usize, &mut self.clumps)?;
         let behind = DIRECTORY_ENTRY_LEN as u64 * (u64::from(followed.clumps) + u64::from(count));

@@ -31,7 +31,7 @@ returns-clause-next g c = λ r disk tells at.
     let there = stands_same g.S.Scorer.score_of g.D.Disk 1 c.args.log.now c.read.new.log c.read.ensures.reads c.args.arena r disk at in
     let read_entries : entries ≡ part (r.region.start + (r.region.len - 25 * (k + count))) (25 * count) file =
     c.in_ok-read-2.ensures.read r there.0 tells there.1
-    ∙ (λ i. part (r.region.start + (its i - 25 * (c.from.ensures i + c.from-2.ensures i))) (25 * count) (there.2 i)) in
+    ∙ (λ i. part (r.region.start + (its i - 25 * (c.from-3.ensures i + c.from-4.ensures i))) (25 * count) (there.2 i)) in
     let First : List ℕ → Type 0 = λ w. (all : List ℕ) → IsFrontOf more w all → CutsFirst w all cuts in
     let Entered : List ℕ → Type 0 = λ es. map (λ (cut : Cut). cut.entry) cuts ++ entries_in (count - length cuts) es ≡ entries_in count es in
     on_ok c.cut_all.result (First c.deref.result.now) (Entered c.deref-2.result.now)

@@ -1,0 +1,17 @@
+//! Keeping the store that a configuration names: rebuilding its index from its log, and checking
+//! its arenas (venti(8), buildindex and checkarenas).
+#![tactic(auto)]
+
+mod bad;
+mod checking;
+mod laws;
+mod opened;
+mod rebuilding;
+
+pub use bad::UpkeepBad;
+pub use checking::check_store;
+pub use laws::{rebuilt_stores_can_be_opened, refusals_name_two};
+pub use rebuilding::rebuild_store;
+
+#[cfg(test)]
+mod tests;
