@@ -2,10 +2,11 @@
 """Times `venti session CONF` over a store on files, beside the crate sha1 alone and a plain loop of writes and syncs.
 
 Blocks of 8,192 bytes are written with a sync behind every 64: new ones, the same again, and reads of them, by a process
-that begins and by one that wrote them. Beside that the crate `sha1` scores the same blocks, and a plain loop writes them
-to a file and calls fdatasync behind every 64. Where strace is there, a run of its own counts the calls on each file and
-the time that its syncs took. Run it as bench/store.py [FOLDER], at the top of the repository; the files are made in
-FOLDER, on whose disk the times depend, or else in /var/tmp. It needs Python 3.
+that begins and by one that wrote them; and over so many buckets that nearly each entry has one of its own. Beside that
+the crate `sha1` scores the same blocks, and a plain loop writes them to a file and calls fdatasync behind every 64. Where
+strace is there, runs of their own count the calls on each file and the time that they took. Run it as
+bench/store.py [FOLDER], at the top of the repository; the files are made in FOLDER, on whose disk the times depend, or
+else in /var/tmp. It needs Python 3.
 """
 import hashlib
 import os
@@ -120,12 +121,13 @@ def plain(folder, count):
     return time.perf_counter() - began, time.process_time() - used, 0
 
 
-def counted(folder, path, count):
-    """The calls of a run on each file, and the seconds that its syncs took."""
+def counted(name, folder, path, count):
+    """The calls of a run on each file, and the seconds that they took."""
     log = os.path.join(folder, "log")
     traced = ["strace", "-f", "-y", "-T", "-e", "trace=pread64,pwrite64,fsync,fdatasync", "-s", "0", "-o", log]
     run([*traced, PROGRAM, "session", "v.conf"], folder, path)
     calls = {}
+    print(f"\n{name}:\n")
     with open(log, encoding="utf-8", errors="replace") as lines:
         for line in lines:
             if found := re.match(r"\d+ +(\w+)\(\d+<([^>]*)>.*<([\d.]+)>$", line):
@@ -133,7 +135,7 @@ def counted(folder, path, count):
                 kind = "syncs" if "sync" in kind else "reads" if "read" in kind else "writes"
                 many, took = calls.get((file, kind), (0, 0.0))
                 calls[file, kind] = many + 1, took + seconds
-    print("\n| file | calls | count | a block | seconds |\n|---|---|---|---|---|")
+    print("| file | calls | count | a block | seconds |\n|---|---|---|---|---|")
     for (file, kind), (many, took) in sorted(calls.items()):
         print(f"| `{file}` | {kind} | {many:,} | {many / count:.3f} | {took:.2f} |", flush=True)
 
@@ -180,12 +182,27 @@ def main():
             put(path, writes(0, many))
             row(f"new blocks, a store of {many:,}", many, run(serve, folder, path))
         in_store(where, 1_024, 8_192, grown)
-    if shutil.which("strace"):
-        def calls(folder):
+
+    def wide(folder):
+        path = os.path.join(folder, "input")
+        put(path, writes(0, 5 * count))
+        row("new blocks, over 60,000 buckets", 5 * count, run(serve, folder, path))
+        put(path, reads(0, count))
+        row("reads there, by a process that begins", count, run(serve, folder, path))
+
+    def calls(buckets):
+        def work(folder):
             path = os.path.join(folder, "input")
             put(path, writes(0, count))
-            counted(folder, path, count)
-        in_store(where, 256, 8_192, calls)
+            counted(f"{count:,} new blocks, over {buckets:,} buckets", folder, path, count)
+            put(path, reads(0, count))
+            counted("Reads of them, by a process that begins", folder, path, count)
+        return work
+
+    in_store(where, 1_024, 60_000, wide)
+    if shutil.which("strace"):
+        for buckets in (8_192, 60_000):
+            in_store(where, 256, buckets, calls(buckets))
 
 
 if __name__ == "__main__":
