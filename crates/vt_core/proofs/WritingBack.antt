@@ -6,6 +6,7 @@ use Rattle.vt_base.specs.declared.place.Info.{Info}
 use Rattle.vt_disk.specs.Members.{DiskOf}
 use Rattle.vt_isect.specs.Section.{SectionState, IsAtRest, entering}
 use Rattle.vt_isect.specs.Writeback.{Advances as SectionAdvances, NextPhase}
+use Rattle.vt_isect.proofs.IsRead.{read_runs}
 use Rattle.vt_isect.specs.declared.bad.ShardErr.{ShardErr}
 use Rattle.vt_isect.specs.declared.bad.ShardErr.TheVariants.{Fault, Damaged, Stopped}
 use Rattle.vt_isect.specs.declared.phase.Phase.{Phase}
@@ -114,7 +115,7 @@ goes_on Rest old new it rest = absurd it
 goes_on ReadSelector old new it rest = let e : ReadFrame it.0.0 ≡ Rest = sym it.0.1 ∙ rest in absurd (cc)
 goes_on (ReadFrame s) old new it rest = let e : WriteFrame (s % 2) ≡ Rest = sym it.0 ∙ rest in absurd (cc)
 goes_on (WriteFrame s) old new it rest = ⊎_elim
-    (λ next. let e : ReadSelector ≡ Rest = sym next.1.0 ∙ rest in absurd (cc))
+    (λ next. absurd (read_runs new.phase next.1.0 rest))
     (λ full. let e : SyncFrames ≡ Rest = sym full.0 ∙ rest in absurd (cc))
     it.1
 goes_on SyncFrames old new it rest = let e : WriteSelector 0 ≡ Rest = sym it.0 ∙ rest in absurd (cc)
@@ -123,7 +124,7 @@ goes_on (WriteSelector j) old new it rest = ⊎_elim
     (λ last. let e : SyncSelectors ≡ Rest = sym last.1 ∙ rest in absurd (cc))
     it.1
 goes_on SyncSelectors old new it rest = ⊎_elim
-    (λ group. let e : ReadSelector ≡ Rest = sym group.0.0 ∙ rest in absurd (cc))
+    (λ group. absurd (read_runs new.phase group.0.0 rest))
     (λ head. let e : ChangeHead ≡ Rest = sym head.0 ∙ rest in absurd (cc))
     it
 goes_on ChangeHead old new it rest = let e : ChangeHead ≡ Rest = sym it.1 ∙ rest in absurd (cc)

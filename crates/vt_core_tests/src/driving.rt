@@ -241,12 +241,12 @@ fn fails_each<T: DrivenStore>(
     Err("no end")
 }
 
-/// Each section has a block, whose writeback makes six calls for its bucket and four for the head;
+/// Each section has a block, whose writeback makes five calls for its bucket and four for the head;
 /// the filter is saved by four.
 fn fails_parts<T: DrivenStore>(alloc: Global, alone: bool) -> Result<(), &'static str> {
-    see(fails_each::<T>(alloc, 1, alone)? == 10, "the first section")?;
+    see(fails_each::<T>(alloc, 1, alone)? == 9, "the first section")?;
     see(
-        fails_each::<T>(alloc, 2, alone)? == 10,
+        fails_each::<T>(alloc, 2, alone)? == 9,
         "the second section",
     )?;
     see(fails_each::<T>(alloc, 3, alone)? == 4, "the filter")

@@ -18,6 +18,7 @@ use Rattle.vt_isect.specs.declared.phase.Phase.{Phase}
 use Rattle.vt_isect.specs.declared.phase.Phase.TheVariants.{Rest, ReadSelector, ReadFrame, WriteFrame, SyncFrames, WriteSelector, SyncSelectors, ChangeHead}
 use Rattle.vt_isect.specs.Section.{SectionState, entries_of}
 use Rattle.vt_isect.specs.Writeback.{BeginsBehind, calls_left, most_calls}
+use Rattle.vt_isect.proofs.IsRead.{read_phase}
 use Rattle.vt_twin.specs.declared.step.Step.{Step}
 use Rattle.vt_twin.specs.declared.step.Step.TheVariants.{More, Done}
 use Rattle.vt_log.specs.Log.{LogState}
@@ -174,7 +175,8 @@ advance_less {D} durable before after it =
 -- a writeback begins
 begun_left : {D : Type 0} (t : SectionState D) (many : ℕ) → length (entries_of t) ≤ many → BeginsBehind 0 t → calls_left t < 6 * many + 5
 begun_left t many few begins = ⊎_elim
-    (λ group. subst (λ (p : Phase). most_calls p t < 6 * many + 5) (sym group.0.0) (omega (arith, few, group.0.2, group.0.3.within, ap (λ (l : List Member). length l) group.2)))
+    (λ group. read_phase (λ p. most_calls p t < 6 * many + 5) (omega (arith, few, group.0.2, group.0.3.within, ap (λ (l : List Member). length l) group.2))
+    (λ s. omega (arith, few, group.0.2, group.0.3.within, ap (λ (l : List Member). length l) group.2)) t.phase group.0.0)
     (λ head. subst (λ (p : Phase). most_calls p t < 6 * many + 5) (sym head.0) (omega arith))
     begins
 

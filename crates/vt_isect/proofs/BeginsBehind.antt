@@ -1,5 +1,5 @@
 -- What is begun on a section at rest.
-use Rattle.std.proofs.Common.{◌≡◌, ◌⊎◌, inl, inr, ⊎_elim, ℕ, ◌^◌, ◌<◌, List, [], ◌∷◌, ◌++◌, length, Some, refl, sym, ap, subst, arith}
+use Rattle.std.proofs.Common.{◌≡◌, ◌⊎◌, inl, inr, ⊎_elim, ℕ, ◌%◌, ◌^◌, ◌<◌, List, [], ◌∷◌, ◌++◌, length, Some, refl, sym, ◌∙◌, ap, subst, arith}
 use Rattle.std.specs.List.{Contains}
 use Rattle.vt_base.specs.declared.place.Entry.{Entry}
 use Rattle.vt_model.specs.History.{History}
@@ -7,17 +7,18 @@ use Rattle.vt_model.specs.Places.{Setup, bucket_of}
 use Rattle.vt_twin.specs.Twin.{TwinState, with_change}
 use Rattle.vt_isect.specs.declared.head.Head.{Head}
 use Rattle.vt_isect.specs.declared.phase.Phase.{Phase}
-use Rattle.vt_isect.specs.declared.phase.Phase.TheVariants.{Rest, ReadSelector, ChangeHead}
+use Rattle.vt_isect.specs.declared.phase.Phase.TheVariants.{Rest, ReadFrame, ChangeHead}
 use Rattle.vt_isect.specs.Agreement.{IsOfBlock, IsCovered, NoOthers, KnownAgrees}
 use Rattle.vt_isect.specs.Entries.{EntriesState}
 use Rattle.vt_isect.specs.Head.{IsHead, encoded}
 use Rattle.vt_isect.specs.Section.{SectionState, AreInRange, IsTodo}
 use Rattle.std.proofs.lemmas.List.Elements.{Contains-push_cases}
 use Rattle.vt_isect.specs.Layout.{InRange}
-use Rattle.vt_isect.specs.Sound.{Known, IsSoundSection}
-use Rattle.vt_isect.specs.Writeback.{BeginsBehind}
+use Rattle.vt_isect.specs.Sound.{Known, IsSoundSection, StillNames}
+use Rattle.vt_isect.specs.Writeback.{BeginsBehind, IsRead}
 use Rattle.vt_isect.proofs.AreNext.{dropped}
 use Rattle.vt_isect.proofs.Heads.{frame_has}
+use Rattle.vt_isect.proofs.IsRead.{read_puts}
 use Rattle.vt_isect.proofs.IsSoundSection.{bucket_begins, head_begins}
 use Rattle.vt_isect.proofs.Follows.{covers_more}
 
@@ -67,16 +68,16 @@ given t mark most es = record t { next = record t.head { mark = mark }; entries 
 
 -- what begins, of the first group or of the head
 abbrev pub Begins : {D : Type 0} → (t : SectionState D) (mark : ℕ) (es : EntriesState) (v : SectionState D) → Type 0
-Begins t mark es v = (v ≡ record (given t mark v.most es) { phase = ReadSelector; written = 0; framed = 0; begun = v.begun; bucket = v.bucket })
+Begins t mark es v = (IsRead v.phase × (v ≡ record (given t mark v.most es) { phase = v.phase; written = 0; framed = 0; begun = v.begun; bucket = v.bucket }))
     ⊎ (v ≡ record (given t mark v.most es) { phase = ChangeHead; written = 0; head_twin = with_change (encoded t.name (record t.head { mark = mark })) t.head_twin })
 
 -- the same with the count that was set
 pub begins_of : {D : Type 0} (t : SectionState D) (mark most : ℕ) (es : EntriesState) (v : SectionState D)
-    → (v ≡ record (given t mark most es) { phase = ReadSelector; written = 0; framed = 0; begun = v.begun; bucket = v.bucket })
+    → (IsRead v.phase × (v ≡ record (given t mark most es) { phase = v.phase; written = 0; framed = 0; begun = v.begun; bucket = v.bucket }))
     ⊎ (v ≡ record (given t mark most es) { phase = ChangeHead; written = 0; head_twin = with_change (encoded t.name (record t.head { mark = mark })) t.head_twin })
     → Begins t mark es v
 begins_of t mark most es v (inl e) =
-    inl (subst (λ (m : ℕ). v ≡ record (given t mark m es) { phase = ReadSelector; written = 0; framed = 0; begun = v.begun; bucket = v.bucket }) (sym (ap (λ x. x.most) e)) e)
+    inl (e.0, subst (λ (m : ℕ). v ≡ record (given t mark m es) { phase = v.phase; written = 0; framed = 0; begun = v.begun; bucket = v.bucket }) (sym (ap (λ x. x.most) e.1)) e.1)
 begins_of t mark most es v (inr e) =
     inr (subst (λ (m : ℕ). v ≡ record (given t mark m es) { phase = ChangeHead; written = 0; head_twin = with_change (encoded t.name (record t.head { mark = mark })) t.head_twin }) (sym (ap (λ x. x.most) e)) e)
 
@@ -86,7 +87,7 @@ pub no_entries : {D : Type 0} (t : SectionState D) (mark : ℕ) (es : EntriesSta
     → (entry : Entry) → ¬ Contains es.items entry
 no_entries t mark es v begins e entry has =
     let at = subst (λ x. BeginsBehind 0 x) e begins in
-    ⊎_elim (λ here. let q = here.0.0 in cc) (λ there. omega (arith, there.3, has.1)) at
+    ⊎_elim (λ here. here.0.0) (λ there. omega (arith, there.3, has.1)) at
 
 pub file_agrees : {D : Type 0} (score : List ℕ → List ℕ) (c : Setup) (h : History) (t : SectionState D) (mark : ℕ) (es : EntriesState) (v : SectionState D) (known : Known)
     → BeginsBehind 0 v → Begins t mark es v
@@ -95,8 +96,8 @@ pub file_agrees : {D : Type 0} (score : List ℕ → List ℕ) (c : Setup) (h : 
     → (t.head.state ≡ 1 → IsCovered score c h t known (Contains es.items) mark)
     → KnownAgrees score c h v known
 file_agrees score c h t mark es v known begins (inl e) agrees of cover =
-    subst (λ x. KnownAgrees score c h x known) (sym e)
-    (agrees_file score c h t mark ReadSelector es 0 0 v.begun v.bucket v.most t.head_twin known (λ entry has. (tt, has)) agrees of cover)
+    subst (λ x. KnownAgrees score c h x known) (sym e.1)
+    (agrees_file score c h t mark v.phase es 0 0 v.begun v.bucket v.most t.head_twin known (λ entry has. (read_puts v.phase e.0, has)) agrees of cover)
 file_agrees score c h t mark es v known begins (inr e) agrees of cover =
     subst (λ x. KnownAgrees score c h x known) (sym e)
     (agrees_file score c h t mark ChangeHead es 0 t.framed t.begun t.bucket v.most (with_change (encoded t.name (record t.head { mark = mark })) t.head_twin) known
@@ -104,12 +105,12 @@ file_agrees score c h t mark es v known begins (inr e) agrees of cover =
 
 pub file_sound : {D : Type 0} (t : SectionState D) (mark : ℕ) (es : EntriesState) (v : SectionState D) (known : Known) (read : List ℕ) (images : List ℕ → Type 0)
     → t.phase ≡ Rest → t.group ≡ [] → length t.name ≡ 64 → mark < 2 ^ 64 → Begins t mark es v
+    → ((s : ℕ) → v.phase ≡ ReadFrame s → StillNames v (s % 2) read)
     → IsSoundSection t known read images → IsSoundSection v known read images
-file_sound t mark es v known read images rest none len low (inl e) sound =
-    subst (λ x. IsSoundSection x known read images) (sym e)
-    (bucket_begins t (record (given t mark v.most es) { phase = ReadSelector; written = 0; framed = 0; begun = v.begun; bucket = v.bucket }) known read images
-    refl refl refl refl rest refl none (λ goes. goes) sound)
-file_sound t mark es v known read images rest none len low (inr e) sound =
+file_sound t mark es v known read images rest none len low (inl e) named sound =
+    bucket_begins t v known read images (ap (λ x. x.name) e.1) (ap (λ x. x.head) e.1) (ap (λ x. x.buckets) e.1) (ap (λ x. x.head_twin) e.1)
+    rest e.0 (ap (λ x. x.group) e.1 ∙ none) (λ goes. sym (ap (λ x. x.stopped) e.1) ∙ goes) named sound
+file_sound t mark es v known read images rest none len low (inr e) named sound =
     let was = sound.head.fits in
     let fits : IsHead (record t.head { mark = mark }) = record {
       state = was.state;

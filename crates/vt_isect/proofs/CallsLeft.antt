@@ -12,7 +12,8 @@ use Rattle.vt_isect.specs.declared.phase.Phase.{Phase}
 use Rattle.vt_isect.specs.declared.phase.Phase.TheVariants.{Rest, ReadSelector, ReadFrame, WriteFrame, SyncFrames, WriteSelector, SyncSelectors, ChangeHead}
 use Rattle.vt_isect.specs.Entries.{EntriesState, items_of}
 use Rattle.vt_isect.specs.Section.{SectionState, HasHeadFrame, IsLent}
-use Rattle.vt_isect.specs.Writeback.{Advances, BeginsBehind, BeginsBucket, BeginsGroup, BeginsHead, GoesOn, NextPhase, SameGroup, calls_left, later, most_calls}
+use Rattle.vt_isect.specs.Writeback.{Advances, BeginsBehind, BeginsBucket, BeginsGroup, BeginsHead, GoesOn, IsRead, NextPhase, SameGroup, calls_left, later, most_calls}
+use Rattle.vt_isect.proofs.IsRead.{read_phase}
 
 -- what is left where this is done next
 left_as : {D : Type 0} (t : SectionState D) (q : Phase) → t.phase ≡ q → calls_left t ≡ most_calls q t
@@ -36,12 +37,16 @@ same_later old new goes same =
     λ i. length (items_of (goes.section.entries i))
     - same.begun i
 
+-- what is left where a bucket is read next
+read_left : {D : Type 0} (t : SectionState D) → IsRead t.phase → calls_left t ≤ 6 * later t + length t.group + 10
+read_left t reads = read_phase (λ p. most_calls p t ≤ 6 * later t + length t.group + 10) (omega arith) (λ s. omega arith) t.phase reads
+
 -- behind a bucket that is written there are fewer
 bucket_lower : {D : Type 0} (old new : SectionState D) (more : ℕ) → GoesOn old new → BeginsBucket old.begun new → length new.group ≡ more
     → calls_left new + 6 ≤ 6 * later old + more + 10
 bucket_lower old new more goes here many =
     let list = ap (λ (o : Option EntriesState). length (items_of o)) goes.section.entries in
-    let left = left_as new ReadSelector here.0 in
+    let left = read_left new here.0 in
     let from = here.1 in
     let some = here.2 in
     let within = here.3.within in
@@ -128,7 +133,7 @@ begun_left t entries begins is =
     let list = ap (λ (o : Option EntriesState). length (items_of o)) is in
     ⊎_elim
     (λ (here : BeginsGroup 0 t).
-    let left = left_as t ReadSelector here.0.0 in
+    let left = read_left t here.0.0 in
     let from = here.0.1 in
     let some = here.0.2 in
     let within = here.0.3.within in

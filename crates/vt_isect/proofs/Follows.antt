@@ -1,5 +1,5 @@
 -- What the steps of a writeback keep.
-use Rattle.std.proofs.Common.{◌≡◌, ◌⊎◌, inl, inr, ⊎_elim, ℕ, ◌+◌, ◌-◌, ◌*◌, ◌%◌, List, get_or, drop, Result, refl, sym, ◌∙◌, ap, subst, arith, lit<}
+use Rattle.std.proofs.Common.{◌≡◌, ◌⊎◌, inl, inr, ⊎_elim, ℕ, ◌+◌, ◌-◌, ◌%◌, ◌<◌, List, get_or, drop, Result, refl, sym, ◌∙◌, ap, subst, arith, lit<}
 use Rattle.std.proofs.lemmas.List.{get_or-take, get_or-drop}
 use Rattle.vt_disk.specs.declared.region.Region.{Region}
 use Rattle.vt_disk.specs.Disk.{AreAmong, ChangesAt, SameBut, part}
@@ -20,6 +20,7 @@ use Rattle.vt_isect.specs.Layout.{head_place, InRange, IsPlaceOf}
 use Rattle.vt_isect.specs.Section.{SectionState, IsTodo}
 use Rattle.vt_isect.specs.Sound.{Known, IsSoundSection}
 use Rattle.vt_isect.specs.Writeback.{Completes, Follows, MayWrite, NextPhase}
+use Rattle.vt_isect.proofs.Places.{one_place}
 
 -- a step keeps what is known, by what a read gives and what a crash may leave before it and after it
 abbrev pub KeepsAt : {D : Type 0} → Result Step ShardErr → (t u : SectionState D)
@@ -98,13 +99,12 @@ pub first_byte : (buf file : List ℕ) (start : ℕ) → buf ≡ part start 1 fi
 first_byte buf file start is =
     ap (λ (l : List ℕ). get_or l 0 0) is ∙ get_or-take 1 (drop start file) 0 0 (lit< tt) ∙ get_or-drop start file 0 0 ∙ ap (λ (k : ℕ). get_or file k 0) (let e : start + 0 ≡ start = omega arith in e)
 
--- the selector that was read is the one that stands there
-pub selector_read : (buf file : List ℕ) (j k start : ℕ) (place region : Region) → IsPlaceOf j place → IsPlaceOf j region → start ≡ place.start + 2 * 8192
-    → buf ≡ part start 1 file → ReadFrame (get_or buf 0 0) ≡ ReadFrame k → named_number region 8192 file ≡ k % 2
-selector_read buf file j k start place region here there at is phases =
-    ap (λ (b : ℕ). b % 2) (
-    ap (λ (i : ℕ). get_or file i 0) (let e : region.start + 2 * 8192 ≡ start = omega (arith, here.start, there.start, at) in e)
-    ∙ sym (first_byte buf file start is) ∙ same_selector (get_or buf 0 0) k phases)
+-- the number that was read is still the one that the selector names
+pub selector_read : (number k j : ℕ) (file : List ℕ) (place region : Region) → IsPlaceOf j place → IsPlaceOf j region → number < 2
+    → number ≡ named_number place 8192 file → ReadFrame number ≡ ReadFrame k → named_number region 8192 file ≡ k % 2
+selector_read number k j file place region here there low named phases =
+    let same = same_selector number k phases in
+    ap (λ (r : Region). named_number r 8192 file) (one_place j region place there here) ∙ sym named ∙ (let e : number ≡ k % 2 = omega (arith, same, low) in e)
 
 -- the phase behind a known one
 pub next_of : {D : Type 0} (q : Phase) (t u : SectionState D) → t.phase ≡ q → NextPhase q t u → NextPhase t.phase t u

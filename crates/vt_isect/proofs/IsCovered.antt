@@ -24,6 +24,7 @@ use Rattle.vt_isect.proofs.AgreesWith.{merged_has}
 use Rattle.vt_isect.proofs.AreNext.{group_or_behind, none_behind}
 use Rattle.vt_isect.proofs.BeginsBehind.{Begins, no_entries}
 use Rattle.vt_isect.proofs.Follows.{covers_more}
+use Rattle.vt_isect.proofs.IsRead.{read_puts}
 use Rattle.vt_isect.proofs.Members.{Groups}
 use Rattle.vt_isect.proofs.WithinCall.{Stands, stands, completes_or}
 
@@ -137,7 +138,7 @@ module _ {D : Type 0} (score : List ℕ → List ℕ) (c : Setup) (h : History) 
       (subst (λ (k : ℕ). Contains (drop k (entries_of t)) entry) whole rest) in
       ⊎_elim
       (λ (here : BeginsGroup t.begun u). inr (
-        subst PutsEntries (sym here.0.0) tt,
+        read_puts u.phase here.0.0,
         subst (λ (k : ℕ). Contains (drop k (entries_of u)) entry) (sym here.1) has,
       ))
       (λ (there : BeginsHead t.begun u).
@@ -154,7 +155,7 @@ module _ {D : Type 0} (score : List ℕ → List ℕ) (c : Setup) (h : History) 
   split_more (ReadFrame s) is goes next n i entry at of way =
       inr (still goes (subst PutsEntries (sym next.0) tt) next.1.written entry way)
   split_more (WriteFrame s) is goes next n i entry at of way = inr (still goes
-      (⊎_elim (λ here. subst PutsEntries (sym here.1.0) tt) (λ there. subst PutsEntries (sym there.0) tt) next.1)
+      (⊎_elim (λ here. read_puts u.phase here.1.0) (λ there. subst PutsEntries (sym there.0) tt) next.1)
       next.0.written entry way)
   split_more SyncFrames is goes next n i entry at of way =
       inr (still goes (subst PutsEntries (sym next.0) tt) next.1.written entry way)
@@ -199,7 +200,7 @@ pub file_covers : {D : Type 0} (score : List ℕ → List ℕ) (c : Setup) (h : 
 file_covers score c h t mark es v known covered begins (inl e) cover =
     let w = record t {
       next = record t.head { mark = mark };
-      phase = ReadSelector;
+      phase = v.phase;
       entries = Some es;
       written = 0;
       framed = 0;
@@ -207,9 +208,9 @@ file_covers score c h t mark es v known covered begins (inl e) cover =
       bucket = v.bucket;
       most = v.most;
     } in
-    subst (λ x. IsCovered score c h x known (IsTodo x) covered) (sym e)
+    subst (λ x. IsCovered score c h x known (IsTodo x) covered) (sym e.1)
     (covers_more score c h t w known (Contains es.items) (IsTodo w) covered refl refl
-    (λ entry has. (tt, has)) cover)
+    (λ entry has. (read_puts v.phase e.0, has)) cover)
 file_covers score c h t mark es v known covered begins (inr e) cover =
     let next : Head = record t.head { mark = mark } in
     let w = record t {

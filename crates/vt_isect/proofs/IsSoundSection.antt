@@ -13,13 +13,15 @@ use Rattle.vt_twin.specs.Sound.{IsSound}
 use Rattle.vt_twin.proofs.Sound.{begins_sound, reads_sound, sound_elsewhere}
 use Rattle.vt_isect.specs.declared.groups.Member.{Member}
 use Rattle.vt_isect.specs.declared.head.Head.{Head}
-use Rattle.vt_isect.specs.declared.phase.Phase.TheVariants.{Rest, ReadSelector, ReadFrame, WriteFrame, ChangeHead}
+use Rattle.vt_isect.specs.declared.phase.Phase.TheVariants.{Rest, ReadFrame, WriteFrame, ChangeHead}
 use Rattle.vt_isect.specs.Entries.{EntriesState, items_of}
 use Rattle.vt_isect.specs.Head.{IsHeadFrame}
 use Rattle.vt_isect.specs.Layout.{head_place, IsPlaceOf, InRange}
 use Rattle.vt_isect.specs.Merging.{Merges}
 use Rattle.vt_isect.specs.Section.{SectionState, IsChanging, IsMember, IsOfGroup, PutsEntries}
 use Rattle.vt_isect.specs.Sound.{Known, HoldsBucket, IsMade, IsSoundSection, StillNames, made_of}
+use Rattle.vt_isect.specs.Writeback.{IsRead}
+use Rattle.vt_isect.proofs.IsRead.{read_apart, read_frame}
 
 -- how the soundness of twins passes from one moment to another, in a region
 abbrev pub Passes : Region → (read reads : List ℕ) → (images after : List ℕ → Type 0) → Type 0
@@ -172,16 +174,17 @@ at_rest t rest n way = subst PutsEntries rest way.1.0
 
 -- the first bucket of a group is under way
 pub bucket_begins : {D : Type 0} (t u : SectionState D) (known : Known) (read : List ℕ) (images : List ℕ → Type 0)
-    → u.name ≡ t.name → u.head ≡ t.head → u.buckets ≡ t.buckets → u.head_twin ≡ t.head_twin → t.phase ≡ Rest → u.phase ≡ ReadSelector → u.group ≡ []
-    → (u.stopped ≡ None → t.stopped ≡ None) → IsSoundSection t known read images → IsSoundSection u known read images
-bucket_begins t u known read images name head buckets twin rest phase none goes sound =
+    → u.name ≡ t.name → u.head ≡ t.head → u.buckets ≡ t.buckets → u.head_twin ≡ t.head_twin → t.phase ≡ Rest → IsRead u.phase → u.group ≡ []
+    → (u.stopped ≡ None → t.stopped ≡ None) → ((s : ℕ) → u.phase ≡ ReadFrame s → StillNames u (s % 2) read)
+    → IsSoundSection t known read images → IsSoundSection u known read images
+bucket_begins t u known read images name head buckets twin rest reads none goes named sound =
     quiet_sound t u known read read images images name head buckets twin
-    (λ e. let no : Rest ≡ ChangeHead = sym rest ∙ e in cc) (λ e. let no : ReadSelector ≡ ChangeHead = sym phase ∙ e in cc)
+    (λ e. let no : Rest ≡ ChangeHead = sym rest ∙ e in cc) (read_apart u.phase reads)
     (λ n. apart_stands t u n (ap (λ (h : Head). h.first) head) (at_rest t rest n) (λ way. no_member way.0 (subst (λ (l : List Member). Contains l way.0) none way.1.1)) goes)
     refl (λ c left. left)
-    (λ s e. let no : ReadSelector ≡ ReadFrame s = sym phase ∙ e in absurd (cc))
-    (λ s e. let no : ReadSelector ≡ WriteFrame s = sym phase ∙ e in absurd (cc))
-    (λ s entries e. let no : ReadSelector ≡ WriteFrame s = sym phase ∙ e in absurd (cc))
+    named
+    (λ s e. absurd (read_frame s u.phase reads e))
+    (λ s entries e. absurd (read_frame s u.phase reads e))
     sound
   where
     no_member : (m : Member) → ¬ Contains {X = Member} [] m

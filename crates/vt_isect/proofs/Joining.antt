@@ -1,5 +1,5 @@
 -- The steps of a group of buckets.
-use Rattle.std.proofs.Common.{◌≡◌, ◌≢◌, ◌⊎◌, inl, inr, ⊎_elim, ℕ, ◌+◌, ◌-◌, ◌*◌, ◌<◌, ◌≤◌, List, [], ◌∷◌, ◌++◌, length, length-append, length-take, get_or, take, drop, Option, Some, refl, sym, ◌∙◌, ap, subst, arith}
+use Rattle.std.proofs.Common.{◌≡◌, ◌≢◌, ◌⊎◌, inl, inr, ⊎_elim, ℕ, ◌+◌, ◌-◌, ◌*◌, ◌%◌, ◌<◌, ◌≤◌, List, [], ◌∷◌, ◌++◌, length, length-append, length-take, get_or, take, drop, Option, Some, refl, sym, ◌∙◌, ap, subst, arith}
 use Rattle.std.specs.Prelude.{slice_get}
 use Rattle.std.specs.List.{AllPairs, Contains}
 use Rattle.std.proofs.lemmas.Bool.{cases_eq}
@@ -23,13 +23,15 @@ use Rattle.vt_twin.proofs.Steps.{call_sound, fault_sound}
 use Rattle.vt_isect.specs.declared.groups.Member.{Member}
 use Rattle.vt_isect.specs.declared.head.Head.{Head}
 use Rattle.vt_isect.specs.declared.phase.Phase.{Phase}
-use Rattle.vt_isect.specs.declared.phase.Phase.TheVariants.{ReadSelector, ReadFrame, WriteFrame, SyncFrames, WriteSelector, ChangeHead}
+use Rattle.vt_isect.specs.declared.phase.Phase.TheVariants.{ReadFrame, WriteFrame, SyncFrames, WriteSelector, ChangeHead}
 use Rattle.vt_isect.specs.Entries.{EntriesState, IsOrdered, items_of}
 use Rattle.vt_isect.specs.Layout.{head_place, IsPlaceOf, InRange}
 use Rattle.vt_isect.specs.Section.{SectionState, AreNext, HasBucket, HasGroup, IsChanging, IsGroup, IsOfGroup, IsTodo, PutsEntries, bucket_number, entering, entries_of}
-use Rattle.vt_isect.specs.Sound.{Known, HoldsBucket, IsSoundSection, made_of}
+use Rattle.vt_isect.specs.Sound.{Known, HoldsBucket, IsSoundSection, StillNames, made_of}
+use Rattle.vt_isect.specs.Writeback.{IsRead}
 use Rattle.vt_isect.proofs.AreNext.{behind, group_or_behind, of_group}
 use Rattle.vt_isect.proofs.Follows.{images_wider}
+use Rattle.vt_isect.proofs.IsRead.{read_apart, read_frame, read_made, read_puts, read_selector}
 use Rattle.vt_isect.proofs.IsSoundSection.{Passes, SameStanding, group_stands, holds_as, others_pass, same_group, section_as}
 use Rattle.vt_isect.proofs.Members.{joined_cases, at_member, under_way_apart}
 use Rattle.vt_isect.proofs.Twins.{given_up}
@@ -77,7 +79,7 @@ pub record HasJoined {D : Type 0} (s : ℕ) (t u : SectionState D) : Type 0 wher
   pub group : u.group ≡ t.group ++ record { bucket = t.bucket; current = s } ∷ []
   pub written : u.written ≡ t.written
   pub framed : u.framed ≡ t.begun
-  pub phase : (u.phase ≡ ReadSelector) ⊎ (u.phase ≡ SyncFrames)
+  pub phase : IsRead u.phase ⊎ (u.phase ≡ SyncFrames)
 
 module _ {D : Type 0} (t u : SectionState D) (s : ℕ) (phase : t.phase ≡ WriteFrame s) (group : IsGroup t) (joined : HasJoined s t u) where
   puts : PutsEntries t.phase
@@ -87,10 +89,10 @@ module _ {D : Type 0} (t u : SectionState D) (s : ℕ) (phase : t.phase ≡ Writ
   has = subst HasBucket (sym phase) tt
 
   puts_on : PutsEntries u.phase
-  puts_on = ⊎_elim (λ (e : u.phase ≡ ReadSelector). subst PutsEntries (sym e) tt) (λ (e : u.phase ≡ SyncFrames). subst PutsEntries (sym e) tt) joined.phase
+  puts_on = ⊎_elim (λ reads. read_puts u.phase reads) (λ (e : u.phase ≡ SyncFrames). subst PutsEntries (sym e) tt) joined.phase
 
   made_on : (j : ℕ) → made_of u.phase j ≡ 1
-  made_on j = ⊎_elim (λ (e : u.phase ≡ ReadSelector). ap (λ (p : Phase). made_of p j) e) (λ (e : u.phase ≡ SyncFrames). ap (λ (p : Phase). made_of p j) e) joined.phase
+  made_on j = ⊎_elim (λ reads. read_made j u.phase reads) (λ (e : u.phase ≡ SyncFrames). ap (λ (p : Phase). made_of p j) e) joined.phase
 
   -- an entry of the bucket under way stands behind those that are framed
   pub joins_apart : ¬ IsChanging t t.bucket
@@ -143,6 +145,7 @@ module _ {D : Type 0} (t u : SectionState D) (s : ℕ) (phase : t.phase ≡ Writ
       (same : SameBut (Touches (frame_start region 8192 (1 - s)) 8192) read reads)
       (changes : ChangesAt (Touches (frame_start region 8192 (1 - s)) 8192) images after)
       (bytes : reads ≡ with_frame region 8192 (1 - s) t.frame read)
+      (named : (k : ℕ) → u.phase ≡ ReadFrame k → StillNames u (k % 2) reads)
       (sound : IsSoundSection t known read images) where
     in_it : InRange t.head t.buckets t.bucket
     in_it = group.bucket has
@@ -205,7 +208,7 @@ module _ {D : Type 0} (t u : SectionState D) (s : ℕ) (phase : t.phase ≡ Writ
     pub joined_sound : IsSoundSection u known reads after
     joined_sound = section_as t u known known read reads images after joined.name joined.head joined.buckets joined.twin
         (λ e. let no : WriteFrame s ≡ ChangeHead = sym phase ∙ e in cc)
-        (λ e. ⊎_elim (λ (p : u.phase ≡ ReadSelector). let no : ReadSelector ≡ ChangeHead = sym p ∙ e in cc) (λ (p : u.phase ≡ SyncFrames). let no : SyncFrames ≡ ChangeHead = sym p ∙ e in cc) joined.phase)
+        (λ e. ⊎_elim (λ reads. read_apart u.phase reads e) (λ (p : u.phase ≡ SyncFrames). let no : SyncFrames ≡ ChangeHead = sym p ∙ e in cc) joined.phase)
         (head_stays t t.bucket region size read reads images after room in_it place joins_same joins_changes)
         (λ n entries within is. ⊎_elim
         (λ (here : n ≡ t.bucket). subst (λ (k : ℕ). HoldsBucket u k entries reads after) (sym here) (joining entries (sym (ap known here) ∙ is)))
@@ -213,9 +216,9 @@ module _ {D : Type 0} (t u : SectionState D) (s : ℕ) (phase : t.phase ≡ Writ
         (others_stay t t.bucket region size read reads images after room in_it place joins_same joins_changes n within there) (sound.bucket n entries within is))
         (cases_eq n t.bucket))
         sound
-        (λ k e. ⊎_elim (λ (p : u.phase ≡ ReadSelector). let no : ReadSelector ≡ ReadFrame k = sym p ∙ e in absurd (cc)) (λ (p : u.phase ≡ SyncFrames). let no : SyncFrames ≡ ReadFrame k = sym p ∙ e in absurd (cc)) joined.phase)
-        (λ k e. ⊎_elim (λ (p : u.phase ≡ ReadSelector). let no : ReadSelector ≡ WriteFrame k = sym p ∙ e in absurd (cc)) (λ (p : u.phase ≡ SyncFrames). let no : SyncFrames ≡ WriteFrame k = sym p ∙ e in absurd (cc)) joined.phase)
-        (λ k entries e. ⊎_elim (λ (p : u.phase ≡ ReadSelector). let no : ReadSelector ≡ WriteFrame k = sym p ∙ e in absurd (cc)) (λ (p : u.phase ≡ SyncFrames). let no : SyncFrames ≡ WriteFrame k = sym p ∙ e in absurd (cc)) joined.phase)
+        named
+        (λ k e. ⊎_elim (λ reads. absurd (read_frame k u.phase reads e)) (λ (p : u.phase ≡ SyncFrames). let no : SyncFrames ≡ WriteFrame k = sym p ∙ e in absurd (cc)) joined.phase)
+        (λ k entries e. ⊎_elim (λ reads. absurd (read_frame k u.phase reads e)) (λ (p : u.phase ≡ SyncFrames). let no : SyncFrames ≡ WriteFrame k = sym p ∙ e in absurd (cc)) joined.phase)
 
 -- what is still to be put stays so
 module _ {D : Type 0} (t u : SectionState D) (s : ℕ) (phase : t.phase ≡ WriteFrame s) (group : IsGroup t) (joined : HasJoined s t u) where
@@ -373,9 +376,9 @@ module _ {D : Type 0} (t u : SectionState D) (s : ℕ) (phase : t.phase ≡ Writ
           (Contains-push_cases t.group new_member m (subst (λ (l : List Member). Contains l m) joined.group has));
       bucket = λ has. in_range_on u.bucket (range has);
       next = next;
-      current = λ k e. ⊎_elim (λ (p : u.phase ≡ ReadSelector). let no : ReadSelector ≡ WriteFrame k = sym p ∙ e in absurd (cc)) (λ (p : u.phase ≡ SyncFrames). let no : SyncFrames ≡ WriteFrame k = sym p ∙ e in absurd (cc)) joined.phase;
+      current = λ k e. ⊎_elim (λ reads. absurd (read_frame k u.phase reads e)) (λ (p : u.phase ≡ SyncFrames). let no : SyncFrames ≡ WriteFrame k = sym p ∙ e in absurd (cc)) joined.phase;
       whole = λ has. (omega (arith, ap (λ (l : List Member). length l) joined.group, length-append t.group (new_member ∷ [])), joined.framed ∙ sym (whole has));
-      selector = λ k e. ⊎_elim (λ (p : u.phase ≡ ReadSelector). let no : ReadSelector ≡ WriteSelector k = sym p ∙ e in absurd (cc)) (λ (p : u.phase ≡ SyncFrames). let no : SyncFrames ≡ WriteSelector k = sym p ∙ e in absurd (cc)) joined.phase;
+      selector = λ k e. ⊎_elim (λ reads. absurd (read_selector k u.phase reads e)) (λ (p : u.phase ≡ SyncFrames). let no : SyncFrames ≡ WriteSelector k = sym p ∙ e in absurd (cc)) joined.phase;
     }
       where
         in_range_on : (n : ℕ) → InRange t.head t.buckets n → InRange u.head u.buckets n

@@ -16,17 +16,18 @@ use Rattle.vt_twin.specs.declared.step.Step.TheVariants.{More, Done}
 use Rattle.vt_twin.specs.Sound.{IsSound, HasBegunSelector}
 use Rattle.vt_twin.proofs.Changes.{begun_bound, none_made}
 use Rattle.vt_isect.specs.declared.phase.Phase.{Phase}
-use Rattle.vt_isect.specs.declared.phase.Phase.TheVariants.{Rest, ReadSelector, ReadFrame, WriteFrame, SyncSelectors, ChangeHead}
+use Rattle.vt_isect.specs.declared.phase.Phase.TheVariants.{Rest, ReadFrame, WriteFrame, SyncSelectors, ChangeHead}
 use Rattle.vt_isect.specs.Agreement.{IsCovered, NoOthers, KnownAgrees}
 use Rattle.vt_isect.specs.Head.{IsHeadFrame, encoded, IsHead}
 use Rattle.vt_isect.specs.Layout.{head_place, IsPlaceOf, InRange}
 use Rattle.vt_isect.specs.Merging.{IsMerged, Merges}
 use Rattle.vt_isect.specs.Section.{SectionState, HasBucket, HasGroup, IsChanging, IsGroup, IsOfGroup, IsTodo, PutsEntries, bucket_number, entering, entries_of}
-use Rattle.vt_isect.specs.Sound.{Known, IsMade, IsSoundSection, nothing_known}
-use Rattle.vt_isect.specs.Writeback.{BeginsBehind, GoesOn, NextPhase}
+use Rattle.vt_isect.specs.Sound.{Known, IsMade, IsSoundSection, StillNames, nothing_known}
+use Rattle.vt_isect.specs.Writeback.{BeginsBehind, GoesOn, IsRead, NextPhase}
 use Rattle.vt_isect.proofs.AreNext.{behind, group_or_behind, none_behind}
 use Rattle.vt_isect.proofs.Follows.{KeepsAt, next_of}
 use Rattle.vt_isect.proofs.Heads.{frame_has}
+use Rattle.vt_isect.proofs.IsRead.{read_puts}
 use Rattle.vt_isect.proofs.IsSoundSection.{Passes, bucket_begins, bucket_passes, head_begins, others_pass}
 use Rattle.vt_isect.proofs.Members.{under_way_apart}
 use Rattle.vt_isect.proofs.Places.{apart_from_head, one_place, place_room}
@@ -68,14 +69,14 @@ ended t d calls = record t { disk = d; next = t.head; phase = Rest; group = []; 
 -- what is under way then: the next group, or the head
 abbrev pub GoesTo : {D : Type 0} → SectionState D → D → (calls from : ℕ) → SectionState D → Type 0
 GoesTo t d calls from v =
-    (v ≡ record (ended t d calls) { next = t.next; phase = ReadSelector; written = from; framed = from; begun = v.begun; bucket = v.bucket })
+    (IsRead v.phase × (v ≡ record (ended t d calls) { next = t.next; phase = v.phase; written = from; framed = from; begun = v.begun; bucket = v.bucket }))
     ⊎ (v ≡ record (ended t d calls) { next = t.next; phase = ChangeHead; written = from; head_twin = with_change (encoded t.name t.next) t.head_twin })
 
 module _ {D : Type 0} (t : SectionState D) (d : D) (calls from : ℕ) (v : SectionState D) (read reads : List ℕ) (images after : List ℕ → Type 0)
     (phase : t.phase ≡ SyncSelectors) (goes : t.stopped ≡ None) (group : IsGroup t) (from_is : from ≡ t.begun)
     (same : reads ≡ read) (among : AreAmong after images) (settled : Only read after)
     (fits : v.phase ≡ ChangeHead → IsHead t.next) (name_len : length t.name ≡ 64)
-    (begins : BeginsBehind from v) (to : GoesTo t d calls from v) where
+    (begins : BeginsBehind from v) (to : GoesTo t d calls from v) (named : (s : ℕ) → v.phase ≡ ReadFrame s → StillNames v (s % 2) reads) where
   no_head : t.phase ≢ ChangeHead
   no_head e = let no : SyncSelectors ≡ ChangeHead = sym phase ∙ e in cc
 
@@ -84,19 +85,18 @@ module _ {D : Type 0} (t : SectionState D) (d : D) (calls from : ℕ) (v : Secti
 
   goes_sound : (knows : Known) → IsSoundSection (ended t d calls) knows reads after → IsSoundSection v knows reads after
   goes_sound knows sound = ⊎_elim
-      (λ e. subst (λ x. IsSoundSection x knows reads after) (sym e)
-      (bucket_begins (ended t d calls) (record (ended t d calls) { next = t.next; phase = ReadSelector; written = from; framed = from; begun = v.begun; bucket = v.bucket })
-      knows reads after refl refl refl refl refl refl refl (λ none. none) sound))
+      (λ e. bucket_begins (ended t d calls) v knows reads after (ap (λ x. x.name) e.1) (ap (λ x. x.head) e.1) (ap (λ x. x.buckets) e.1) (ap (λ x. x.head_twin) e.1)
+      refl e.0 (ap (λ x. x.group) e.1) (λ none. sym (ap (λ x. x.stopped) e.1) ∙ none) named sound)
       (λ e. subst (λ x. IsSoundSection x knows reads after) (sym e)
       (head_begins (ended t d calls) (record (ended t d calls) { next = t.next; phase = ChangeHead; written = from; head_twin = with_change (encoded t.name t.next) t.head_twin })
       (encoded t.name t.next) knows reads after refl refl refl refl refl refl (frame_has t.name t.next (fits (ap (λ (x : SectionState D). x.phase) e)) name_len) (λ none. none) sound))
       to
 
   listed : entries_of v ≡ entries_of t
-  listed = ⊎_elim (λ e. ap (λ (x : SectionState D). entries_of x) e) (λ e. ap (λ (x : SectionState D). entries_of x) e) to
+  listed = ⊎_elim (λ e. ap (λ (x : SectionState D). entries_of x) e.1) (λ e. ap (λ (x : SectionState D). entries_of x) e) to
 
   written_is : v.written ≡ from
-  written_is = ⊎_elim (λ e. ap (λ (x : SectionState D). x.written) e) (λ e. ap (λ (x : SectionState D). x.written) e) to
+  written_is = ⊎_elim (λ e. ap (λ (x : SectionState D). x.written) e.1) (λ e. ap (λ (x : SectionState D). x.written) e) to
 
   back : (entry : Entry) → IsTodo v entry → IsTodo t entry
   back entry way = (
@@ -114,7 +114,7 @@ module _ {D : Type 0} (t : SectionState D) (d : D) (calls from : ℕ) (v : Secti
       subst (λ (l : List Entry). Contains (drop v.written l) entry) (sym listed)
       (subst (λ (k : ℕ). Contains (drop k (entries_of t)) entry) (framed_is ∙ sym written_is) rest) in
       ⊎_elim
-      (λ here. inr (subst PutsEntries (sym here.0.0) tt, has))
+      (λ here. inr (read_puts v.phase here.0.0, has))
       (λ there. absurd (none_behind v.written (entries_of v) (omega (arith, there.1, there.3)) entry has))
       begins)
       (group_or_behind t.written t.framed (entries_of t) group.order.0 (omega (arith, group.order)) entry way.1)
@@ -126,9 +126,9 @@ module _ {D : Type 0} (t : SectionState D) (d : D) (calls from : ℕ) (v : Secti
         settled_follows t u known read reads images after refl refl refl refl refl goes no_head same among sound phase group settled v,
         goes_sound _ (settled_sound t u known read reads images after refl refl refl refl refl goes no_head same among sound phase group settled),
         λ score c h agrees. settled_agrees t u known read reads images after refl refl refl refl refl goes no_head same among sound phase group settled v
-            (⊎_elim (λ e. ap (λ (x : SectionState D). x.head) e) (λ e. ap (λ (x : SectionState D). x.head) e) to)
-            (⊎_elim (λ e. ap (λ (x : SectionState D). x.buckets) e) (λ e. ap (λ (x : SectionState D). x.buckets) e) to)
-            (⊎_elim (λ e. ap (λ (x : SectionState D). x.next) e) (λ e. ap (λ (x : SectionState D). x.next) e) to)
+            (⊎_elim (λ e. ap (λ (x : SectionState D). x.head) e.1) (λ e. ap (λ (x : SectionState D). x.head) e) to)
+            (⊎_elim (λ e. ap (λ (x : SectionState D). x.buckets) e.1) (λ e. ap (λ (x : SectionState D). x.buckets) e) to)
+            (⊎_elim (λ e. ap (λ (x : SectionState D). x.next) e.1) (λ e. ap (λ (x : SectionState D). x.next) e) to)
             back forth score c h agrees,
       )
 
@@ -136,16 +136,16 @@ module _ {D : Type 0} (t : SectionState D) (d : D) (calls from : ℕ) (v : Secti
   goes_next counted = (
     record {
       section = record {
-        buckets = ⊎_elim (λ e. ap (λ x. x.buckets) e) (λ e. ap (λ x. x.buckets) e) to;
-        name = ⊎_elim (λ e. ap (λ x. x.name) e) (λ e. ap (λ x. x.name) e) to;
-        entries = ⊎_elim (λ e. ap (λ x. x.entries) e) (λ e. ap (λ x. x.entries) e) to;
-        most = ⊎_elim (λ e. ap (λ x. x.most) e) (λ e. ap (λ x. x.most) e) to;
+        buckets = ⊎_elim (λ e. ap (λ x. x.buckets) e.1) (λ e. ap (λ x. x.buckets) e) to;
+        name = ⊎_elim (λ e. ap (λ x. x.name) e.1) (λ e. ap (λ x. x.name) e) to;
+        entries = ⊎_elim (λ e. ap (λ x. x.entries) e.1) (λ e. ap (λ x. x.entries) e) to;
+        most = ⊎_elim (λ e. ap (λ x. x.most) e.1) (λ e. ap (λ x. x.most) e) to;
       };
-      head_is = ⊎_elim (λ e. ap (λ x. x.head) e) (λ e. ap (λ x. x.head) e) to;
-      next_is = ⊎_elim (λ e. ap (λ x. x.next) e) (λ e. ap (λ x. x.next) e) to;
-      calls = ⊎_elim (λ e. ap (λ x. x.calls) e ∙ counted) (λ e. ap (λ x. x.calls) e ∙ counted) to;
+      head_is = ⊎_elim (λ e. ap (λ x. x.head) e.1) (λ e. ap (λ x. x.head) e) to;
+      next_is = ⊎_elim (λ e. ap (λ x. x.next) e.1) (λ e. ap (λ x. x.next) e) to;
+      calls = ⊎_elim (λ e. ap (λ x. x.calls) e.1 ∙ counted) (λ e. ap (λ x. x.calls) e ∙ counted) to;
     },
-    ⊎_elim (λ e. ap (λ x. x.stopped) e ∙ goes) (λ e. ap (λ x. x.stopped) e ∙ goes) to,
+    ⊎_elim (λ e. ap (λ x. x.stopped) e.1 ∙ goes) (λ e. ap (λ x. x.stopped) e ∙ goes) to,
     next_of SyncSelectors t v phase (subst (λ (k : ℕ). BeginsBehind k v) from_is begins),
   )
 

@@ -1,3 +1,5 @@
+pub mod Told
+pub mod IsRead
 pub mod Places
 pub mod Remembers
 pub mod IsSoundSection

@@ -1,8 +1,10 @@
 -- What is remembered of current frames stays so.
-use Rattle.std.proofs.Common.{◌≡◌, ◌≢◌, ⊎_elim, ℕ, zero, suc, ◌+◌, ◌-◌, ◌%◌, ◌<◌, ◌≤◌, List, [], ◌∷◌, length, length-set, get_or, drop, replicate, Option, Some, None, IsTrue, refl, sym, ◌∙◌, ap, subst, arith}
-use Rattle.std.specs.Prelude.{slice_get, slice_set}
+use Rattle.std.proofs.Common.{◌≡◌, ◌≢◌, ⊎_elim, ℕ, zero, suc, ◌+◌, ◌-◌, ◌%◌, ◌<◌, ◌≤◌, List, [], ◌∷◌, length, length-set, get_or, drop, replicate, Option, Some, None, Result, Ok, Err, IsTrue, refl, sym, ◌∙◌, ap, subst, arith}
+use Rattle.std.specs.Prelude.{slice_get, slice_set, IfOk, IfSome, OnErr}
 use Rattle.std.proofs.lemmas.Bool.{cases_eq, cases_order}
 use Rattle.std.proofs.lemmas.List.{get_or-drop, get_or-take, length-replicate}
+use Rattle.std.proofs.lemmas.Option.{slice_get_within}
+use Rattle.vt_base.specs.declared.why.Failed.{Failed}
 use Rattle.vt_disk.specs.declared.region.Region.{Region}
 use Rattle.vt_disk.specs.Calls.{WritesAt, WritesWithin}
 use Rattle.vt_disk.specs.Disk.{SameBut, Touches, part}
@@ -11,9 +13,11 @@ use Rattle.vt_disk.specs.Region.{Inside}
 use Rattle.vt_disk.proofs.Bytes.{part-with_bytes, same_refl}
 use Rattle.vt_twin.specs.Frames.{frame_start, named_number, selector_bytes, selector_len, selector_start, with_selector}
 use Rattle.vt_twin.proofs.Places.{named_same}
+use Rattle.vt_isect.specs.declared.phase.Phase.{Phase}
+use Rattle.vt_isect.specs.declared.phase.Phase.TheVariants.{ReadFrame}
 use Rattle.vt_isect.specs.Layout.{head_place, IsPlaceOf}
-use Rattle.vt_isect.specs.Remembered.{Remembers}
-use Rattle.vt_isect.specs.Section.{SectionState}
+use Rattle.vt_isect.specs.Remembered.{Remembers, first_read}
+use Rattle.vt_isect.proofs.IsRead.{first_frame}
 use Rattle.vt_isect.proofs.Places.{one_place}
 
 -- ---- lists
@@ -38,16 +42,11 @@ set_twice (x ∷ xs) zero a b = refl
 set_twice (x ∷ xs) (suc k) a b = ap (λ (l : List (Option ℕ)). x ∷ l) (set_twice xs k a b)
 
 -- nothing is remembered at first
-none_there : (n j s : ℕ) → slice_get (replicate {A = Option ℕ} n None) j ≡ Some (Some s) → ⊥
-none_there zero j s at = cc
-none_there (suc n) zero s at = cc
-none_there (suc n) (suc j) s at = none_there n j s at
-
-pub remembers_none : {D : Type 0} (disk : DiskOf D) (d : D) (buckets : ℕ) (frames : List (Option ℕ)) → frames ≡ replicate buckets None → Remembers disk d buckets frames
-remembers_none disk d buckets frames none = record {
-  each = ap (λ (l : List (Option ℕ)). length l) none ∙ length-replicate buckets None;
-  bound = λ j s at. absurd (none_there buckets j s (ap (λ (l : List (Option ℕ)). slice_get l j) (sym none) ∙ at));
-  named = λ j s region told at place. absurd (none_there buckets j s (ap (λ (l : List (Option ℕ)). slice_get l j) (sym none) ∙ at));
+pub remembers_none : {D : Type 0} (disk : DiskOf D) (d : D) (buckets : ℕ) (frames : List (Option ℕ)) → buckets ≤ length frames
+    → ((j : ℕ) → j < length frames → slice_get frames j ≡ Some None) → Remembers disk d buckets frames
+remembers_none disk d buckets frames each none = record {
+  each = each;
+  named = λ j s region told at place. absurd (let e = sym at ∙ none j (slice_get_within frames j (Some s) at) in cc);
 }
 
 -- ---- places
@@ -99,13 +98,14 @@ named_of region file rest number len low some is =
 one_number : (a b : ℕ) → Some a ≡ Some b → a ≡ b
 one_number a b e = cc
 
--- what is remembered of a bucket is named
-pub remembered : {D : Type 0} (disk : DiskOf D) (t u : SectionState D) (n current : ℕ) (frames : List (Option ℕ)) → t ≡ u → Remembers disk t.disk t.buckets frames
-    → slice_get frames (n - t.head.first) ≡ Some (Some current) → IsTrue disk.tells → (region : Region) → IsPlaceOf (n - u.head.first) region
-    → current ≡ named_number region 8192 (disk.bytes u.disk)
-remembered disk t u n current frames same was at told =
-    subst (λ x. (region : Region) → IsPlaceOf (n - x.head.first) region → current ≡ named_number region 8192 (disk.bytes x.disk)) same
-    (λ region place. sym (was.named (n - t.head.first) current region told at place))
+-- a frame that is read first is the one that the selector names
+pub first_named : {D : Type 0} (disk : DiskOf D) (d : D) (buckets : ℕ) (frames : List (Option ℕ)) (j : ℕ) (current : Option ℕ) (p : Phase) (k : ℕ)
+    → slice_get frames j ≡ Some current → IfSome current (λ number. number < 2) → p ≡ first_read current → p ≡ ReadFrame k
+    → (region : Region) → IsTrue disk.tells → IsPlaceOf j region → Remembers disk d buckets frames → named_number region 8192 (disk.bytes d) ≡ k % 2
+first_named disk d buckets frames j current p k at bound first is region told place was =
+    let number : current ≡ Some k = first_frame current k (sym first ∙ is) in
+    let low = subst (λ (o : Option ℕ). IfSome o (λ n. n < 2)) number bound in
+    was.named j k region told (at ∙ ap (λ (o : Option ℕ). Some o) number) place ∙ (let e : k ≡ k % 2 = omega (arith, low) in e)
 
 -- ---- calls
 
@@ -114,7 +114,6 @@ module _ {D : Type 0} (disk : DiskOf D) (d e : D) (buckets : ℕ) (frames : List
   pub remembers_same : disk.bytes e ≡ disk.bytes d → Remembers disk d buckets frames → Remembers disk e buckets frames
   remembers_same same was = record {
     each = was.each;
-    bound = was.bound;
     named = λ j s region told at place. ap (λ (file : List ℕ). named_number region 8192 file) same ∙ was.named j s region told at place;
   }
 
@@ -123,21 +122,15 @@ module _ {D : Type 0} (disk : DiskOf D) (d e : D) (buckets : ℕ) (frames : List
     beside : ((j : ℕ) (region : Region) → IsPlaceOf j region → ¬ P (selector_start region 8192)) → Remembers disk e buckets frames
     beside apart = record {
       each = was.each;
-      bound = was.bound;
       named = λ j s region told at place. named_same P region 8192 (apart j region place) (disk.bytes d) (disk.bytes e) (same told) ∙ was.named j s region told at place;
     }
 
     -- or by which that of one bucket is
     but_one : (k : ℕ) (o : Option ℕ) → ((j : ℕ) (region : Region) → j ≢ k → IsPlaceOf j region → ¬ P (selector_start region 8192))
-        → ((s : ℕ) → o ≡ Some s → s < 2)
         → ((s : ℕ) (region : Region) → IsTrue disk.tells → o ≡ Some s → IsPlaceOf k region → named_number region 8192 (disk.bytes e) ≡ s)
         → Remembers disk e buckets (slice_set frames k o)
-    but_one k o apart low is = record {
-      each = length-set frames k o ∙ was.each;
-      bound = λ j s at. ⊎_elim
-          (λ (here : j ≡ k). low s (put j s here at))
-          (λ (there : j ≢ k). was.bound j s (sym (set_there frames k j o there) ∙ at))
-          (cases_eq j k);
+    but_one k o apart is = record {
+      each = omega (arith, length-set frames k o, was.each);
       named = λ j s region told at place. ⊎_elim
           (λ (here : j ≡ k). is s region told (put j s here at) (subst (λ (n : ℕ). IsPlaceOf n region) here place))
           (λ (there : j ≢ k). named_same P region 8192 (apart j region there place) (disk.bytes d) (disk.bytes e) (same told)
@@ -149,14 +142,22 @@ module _ {D : Type 0} (disk : DiskOf D) (d e : D) (buckets : ℕ) (frames : List
         put j s here at = set_here frames k o (Some s) (ap (λ (n : ℕ). slice_get (slice_set frames k o) n) (sym here) ∙ at)
 
   -- a read of a selector
-  pub reads : (k : ℕ) (region : Region) (number : ℕ) → number < 2 → IsPlaceOf k region → disk.bytes e ≡ disk.bytes d
+  pub reads : (k : ℕ) (region : Region) (number : ℕ) → IsPlaceOf k region → disk.bytes e ≡ disk.bytes d
       → (IsTrue disk.tells → named_number region 8192 (disk.bytes d) ≡ number)
       → Remembers disk d buckets frames → Remembers disk e buckets (slice_set frames k (Some number))
-  reads k region number low place same is was = but_one (λ i. ⊥) (λ told. subst (λ (file : List ℕ). SameBut (λ i. ⊥) (disk.bytes d) file) (sym same) (same_refl (λ i. ⊥) (disk.bytes d))) was
+  reads k region number place same is was = but_one (λ i. ⊥) (λ told. subst (λ (file : List ℕ). SameBut (λ i. ⊥) (disk.bytes d) file) (sym same) (same_refl (λ i. ⊥) (disk.bytes d))) was
       k (Some number) (λ j other apart there no. no)
-      (λ s is_s. omega (arith, one_number number s is_s, low))
       (λ s other told is_s there. ap (λ (file : List ℕ). named_number other 8192 file) same
       ∙ ap (λ (r : Region). named_number r 8192 (disk.bytes d)) (one_place k other region there place) ∙ is told ∙ one_number number s is_s)
+
+  -- or none, where its number is remembered
+  pub found : (after : List (Option ℕ)) (k : ℕ) (region : Region) (r : Result ℕ Failed) → IsPlaceOf k region → disk.bytes e ≡ disk.bytes d
+      → IfOk r (λ number. Remembers disk d buckets frames → IsTrue disk.tells → number ≡ named_number region 8192 (disk.bytes d))
+      → IfOk r (λ number. after ≡ slice_set frames k (Some number)) → OnErr r (after ≡ frames)
+      → Remembers disk d buckets frames → Remembers disk e buckets after
+  found after k region (Ok number) place same named is kept was =
+      subst (Remembers disk e buckets) (sym is) (reads k region number place same (λ told. sym (named was told)) was)
+  found after k region (Err failed) place same named is kept was = subst (Remembers disk e buckets) (sym kept) (remembers_same same was)
 
   -- the write of a frame
   pub frame_remembers : (k : ℕ) (region : Region) (a : ℕ) → a < 2 → IsPlaceOf k region → WritesAt disk (Touches (frame_start region 8192 a) 8192) 1 d e
@@ -172,7 +173,7 @@ module _ {D : Type 0} (disk : DiskOf D) (d e : D) (buckets : ℕ) (frames : List
   pub forgets : (k : ℕ) (region : Region) (most : ℕ) → IsPlaceOf k region → WritesWithin disk region most d e
       → Remembers disk d buckets frames → Remembers disk e buckets (slice_set frames k None)
   forgets k region most place wrote was = but_one (Inside region) wrote.bytes was k None
-      (λ j other apart there. place_spares k j region other apart place there) (λ s none. absurd (cc)) (λ s other told none there. absurd (cc))
+      (λ j other apart there. place_spares k j region other apart place there) (λ s other told none there. absurd (cc))
 
   -- but where its selector is known then
   pub learns : (k : ℕ) (region : Region) (most number : ℕ) (rest : List ℕ) → number < 2 → IsPlaceOf k region → WritesWithin disk region most d e
@@ -180,7 +181,6 @@ module _ {D : Type 0} (disk : DiskOf D) (d e : D) (buckets : ℕ) (frames : List
       → Remembers disk d buckets frames → Remembers disk e buckets (slice_set frames k (Some number))
   learns k region most number rest low place wrote is was = but_one (Inside region) wrote.bytes was k (Some number)
       (λ j other apart there. place_spares k j region other apart place there)
-      (λ s same. omega (arith, one_number number s same, low))
       (λ s other told same there. subst (λ (r : Region). named_number r 8192 (disk.bytes e) ≡ s) (one_place k region other place there)
       (named_of region (disk.bytes e) rest number (selector_len region 8192) low (omega (arith, place.len)) (is told) ∙ one_number number s same))
 
@@ -191,13 +191,11 @@ module _ {D : Type 0} (disk : DiskOf D) (d e : D) (buckets : ℕ) (frames : List
     apart j other not there = selector_spares k j region other not place there
 
     pub selector_forgets : Remembers disk e buckets (slice_set frames k None)
-    selector_forgets = but_one (Touches (selector_start region 8192) (selector_len region 8192)) wrote.bytes was k None apart
-        (λ s none. absurd (cc)) (λ s other told none there. absurd (cc))
+    selector_forgets = but_one (Touches (selector_start region 8192) (selector_len region 8192)) wrote.bytes was k None apart (λ s other told none there. absurd (cc))
 
     pub selector_learns : (number : ℕ) → number < 2 → (IsTrue disk.tells → disk.bytes e ≡ with_selector region 8192 number (disk.bytes d))
         → (IsTrue disk.tells → region.start + region.len ≤ length (disk.bytes d)) → Remembers disk e buckets (slice_set frames k (Some number))
     selector_learns number low is fits = but_one (Touches (selector_start region 8192) (selector_len region 8192)) wrote.bytes was k (Some number) apart
-        (λ s same. omega (arith, one_number number s same, low))
         (λ s other told same there. subst (λ (r : Region). named_number r 8192 (disk.bytes e) ≡ s) (one_place k region other place there) (named told ∙ one_number number s same))
       where
         selector : List ℕ

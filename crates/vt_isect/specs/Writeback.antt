@@ -79,10 +79,22 @@ pub record GoesOn {D : Type 0} (old new : SectionState D) : Type 0 where
   pub next_is : new.next ≡ old.next
   pub calls : new.calls ≡ one_more old.calls
 
+-- the next call reads
+abbrev pub IsRead : Phase → Type 0
+IsRead Rest = ⊥
+IsRead ReadSelector = ⊤
+IsRead (ReadFrame s) = ⊤
+IsRead (WriteFrame s) = ⊥
+IsRead SyncFrames = ⊥
+IsRead (WriteSelector j) = ⊥
+IsRead SyncSelectors = ⊥
+IsRead ChangeHead = ⊥
+
 -- Behind the first so many entries, which are written or in frames of the group, the bucket of the
--- next ones is under way. It takes some, and all that there are.
+-- next ones is under way. It takes some, and all that there are. Its selector is read first or,
+-- where its current frame is remembered, that frame.
 abbrev pub BeginsBucket : {D : Type 0} → (from : ℕ) → SectionState D → Type 0
-BeginsBucket from t = (t.phase ≡ ReadSelector) × (t.framed ≡ from) × (from < t.begun)
+BeginsBucket from t = IsRead t.phase × (t.framed ≡ from) × (from < t.begun)
     × AreNext t.head.total t.bucket t.framed t.begun (entries_of t)
 
 -- So many entries are written, and the next group begins.
@@ -109,10 +121,10 @@ pub record Joins {D : Type 0} (current : ℕ) (old new : SectionState D) : Type 
 abbrev pub IsFull : {D : Type 0} → SectionState D → Type 0
 IsFull t = (length t.group ≡ t.most) ⊎ (length (entries_of t) ≡ t.begun)
 
--- What the next call does after this one: a bucket's selector is read, then the frame that it
--- names, and its idle frame is written; so for each bucket of a group. Then one sync is made for
--- them, the selector of each is written, and one sync is made for these; behind the last of the
--- entries come the calls of the head.
+-- What the next call does after this one: a bucket's selector is read, where its current frame
+-- isn't remembered, then the frame that it names, and its idle frame is written; so for each bucket
+-- of a group. Then one sync is made for them, the selector of each is written, and one sync is made
+-- for these; behind the last of the entries come the calls of the head.
 abbrev pub NextPhase : {D : Type 0} → Phase → (old new : SectionState D) → Type 0
 NextPhase Rest old new = ⊥
 NextPhase ReadSelector old new =
@@ -130,17 +142,6 @@ NextPhase SyncSelectors old new = BeginsBehind old.begun new
 NextPhase ChangeHead old new =
     (calls_made old.head_twin ≢ 3) × (new.phase ≡ ChangeHead)
     × (new.head_twin ≡ after_call old.head_twin) × SameGroup old new
-
--- the next call reads
-abbrev pub IsRead : Phase → Type 0
-IsRead Rest = ⊥
-IsRead ReadSelector = ⊤
-IsRead (ReadFrame s) = ⊤
-IsRead (WriteFrame s) = ⊥
-IsRead SyncFrames = ⊥
-IsRead (WriteSelector j) = ⊥
-IsRead SyncSelectors = ⊥
-IsRead ChangeHead = ⊥
 
 -- the place of bucket n
 abbrev pub InBucket : {D : Type 0} → SectionState D → (n i : ℕ) → Type 0

@@ -162,9 +162,9 @@ impl<D: Disk> Section<D> {
         let place = bucket_place(index);
         let mut frame = [0; FRAME_LEN];
         bucket.encode(&mut frame);
-        self.frames[index as usize] = None;
+        self.frames.forget(index);
         write_bucket(&mut self.disk, place, &frame)?;
-        self.frames[index as usize] = Some(0);
+        self.frames.put(index, 0);
         Ok(())
     }
 }

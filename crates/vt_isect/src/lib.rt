@@ -14,6 +14,7 @@ mod merging;
 mod mounting;
 mod phase;
 mod place;
+mod remembered;
 mod section;
 mod writeback;
 

@@ -1,6 +1,6 @@
 //! Finding the section of a disk.
 
-ghost use Rattle.std.specs.Prelude.{◌≡◌, ◌⊎◌, ⊤, ◌+◌, ◌-◌, ◌*◌, ◌<◌, ◌≤◌, ℕ, List, [], None, Some, IsTrue, IfOk, IfErr, OnOk, MatchResult, length, replicate, vec_capacity};
+ghost use Rattle.std.specs.Prelude.{◌≡◌, ◌⊎◌, ⊤, ◌+◌, ◌-◌, ◌*◌, ◌<◌, ◌≤◌, ℕ, List, [], None, Some, IsTrue, IfOk, IfErr, OnOk, MatchResult, length, replicate, slice_get, vec_capacity};
 ghost use Rattle.vt_base.specs.Faults.{HasCause, CountsFault};
 ghost use Rattle.vt_base.specs.declared.place.Entry.{Entry};
 ghost use Rattle.vt_bucket.specs.Frame.{IsFrame};
@@ -24,6 +24,7 @@ use crate::groups::Member;
 use crate::head::{Head, decode_head};
 use crate::phase::Phase;
 use crate::place::{buckets_in, head_place};
+use crate::remembered::Remembered;
 use crate::section::Section;
 use crate::{FRAME_LEN, GROUP_MAX, LEAST_LEN};
 use std::alloc::Global;
@@ -112,7 +113,7 @@ pub struct Opened {
     /// Room for a group of buckets.
     pub group: Vec<Member>,
     /// Of no bucket it is known which frame is current.
-    pub frames: Vec<Option<u8>>,
+    pub frames: Remembered,
 }
 
 /// Syncs, and reads the head.
@@ -127,8 +128,9 @@ fn open<D: Disk>(alloc: Global, disk: &mut D) -> Result<Opened, SectBad>
         × (it.frame.items ≡ replicate FRAME_LEN 0)) }
     ensures group { IfOk result (λ it. (it.group.items ≡ [])
         × (GROUP_MAX ≤ vec_capacity it.group)) }
-    ensures current { IfOk result (λ it. it.frames.items
-        ≡ replicate (buckets_in (D.size disk.old)) None) }
+    ensures room_for_frames { IfOk result (λ it. buckets_in (D.size disk.old) ≤ length it.frames) }
+    ensures current { IfOk result (λ it. (j : ℕ) → j < length it.frames
+        → slice_get it.frames j ≡ Some None) }
     ensures name { IfOk result (λ it. length it.name ≡ NAME_LEN) }
     ensures room { OnOk result (LEAST_LEN ≤ D.size disk.old) }
     ensures settled { MatchResult result (λ _. ⊤) TellsOfHead → IsSynced D.Disk disk.new }
@@ -156,7 +158,7 @@ fn open<D: Disk>(alloc: Global, disk: &mut D) -> Result<Opened, SectBad>
     let mut head_frame = vec![in alloc; 0; FRAME_LEN]?;
     let frame = vec![in alloc; 0; FRAME_LEN]?;
     let group = Vec::with_capacity(alloc, GROUP_MAX)?;
-    let frames = vec![in alloc; None; buckets_in(len) as usize]?;
+    let frames = Remembered::new(alloc, buckets_in(len))?;
     let twin = read_head(disk, &mut head_frame)?;
     match decode_head(&head_frame, len) {
         Ok(found) => {

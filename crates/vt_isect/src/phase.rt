@@ -5,7 +5,7 @@
 pub enum Phase {
     /// Nothing is under way.
     Rest,
-    /// It reads the selector of the bucket under way.
+    /// It reads the selector of the bucket under way, whose current frame isn't remembered.
     ReadSelector,
     /// It reads that bucket's current frame, which a selector with this first byte names.
     ReadFrame(u8),

@@ -1,6 +1,6 @@
 //! A section that is mounted.
 
-ghost use Rattle.std.specs.Prelude.{◌≡◌, ◌≢◌, ◌⊎◌, ◌↔◌, ◌+◌, ◌-◌, ◌*◌, ◌^◌, ◌<◌, ◌≤◌, ℕ, List, [], length, replicate, IsTrue, IfOk, IfErr, IfSome, IsOk, OnOk, None, Some, vec_capacity};
+ghost use Rattle.std.specs.Prelude.{◌≡◌, ◌≢◌, ◌⊎◌, ◌↔◌, ◌+◌, ◌-◌, ◌*◌, ◌^◌, ◌<◌, ◌≤◌, ℕ, List, [], length, replicate, slice_get, IsTrue, IfOk, IfErr, IfSome, IsOk, OnOk, None, Some, vec_capacity};
 ghost use Rattle.std.specs.List.{Contains};
 ghost use Rattle.vt_base.specs.Faults.{HasCause, CountsFault};
 ghost use Rattle.vt_base.specs.declared.place.Entry.{Entry};
@@ -28,6 +28,7 @@ use crate::merging::decode_bucket;
 use crate::mounting::Opened;
 use crate::phase::Phase;
 use crate::place::{bucket_number, bucket_place};
+use crate::remembered::Remembered;
 use crate::{BUCKET_PLACE_LEN, FRAME_LEN, GROUP_MAX, HEAD_PLACE_LEN};
 use std::marker::Model;
 use std::sync::ledger::Ledger;
@@ -69,7 +70,7 @@ pub struct Section<D: Disk> {
     /// The buffer of the head's frame, but where a change has it.
     pub(crate) head_frame: Option<Vec<u8>>,
     /// The number of each bucket's current frame, once that was read or written.
-    pub(crate) frames: Vec<Option<u8>>,
+    pub(crate) frames: Remembered,
     pub(crate) calls: u64,
     pub(crate) stopped: Option<u64>,
 }
@@ -87,7 +88,7 @@ impl<D: Disk> Model for Section<D> {
 
     ghost invariant = { λ s. IsWell D.Disk (D.size s.disk) (state_of s)
         (option_map (λ frame. frame.items) s.head_frame)
-        (vec_capacity s.group) s.frames.items };
+        (vec_capacity s.group) s.frames };
 }
 
 impl<D: Disk> Section<D> {
@@ -103,7 +104,9 @@ impl<D: Disk> Section<D> {
         requires head_frame { length opened.head_frame.items ≡ FRAME_LEN }
         requires frame { opened.frame.items ≡ replicate FRAME_LEN 0 }
         requires group { (opened.group.items ≡ []) × (GROUP_MAX ≤ vec_capacity opened.group) }
-        requires frames { opened.frames.items ≡ replicate buckets None }
+        requires room_for_frames { buckets ≤ length opened.frames }
+        requires frames { (j : ℕ) → j < length opened.frames
+            → slice_get opened.frames j ≡ Some None }
         requires twin { opened.twin ≡ fresh FRAME_LEN opened.twin.current }
         ensures { result ≡ mounted disk buckets opened.name opened.head opened.twin.current }
     {
@@ -461,14 +464,6 @@ impl<D: Disk> Section<D> {
             return Ok(member.current);
         }
         let index = number - self.head.first;
-        if let Some(current) = self.frames[index as usize] {
-            return Ok(current);
-        }
-        let mut selector = [0];
-        let place = bucket_place(index);
-        place.read_at(&mut self.disk, 2 * FRAME_LEN as u64, &mut selector)?;
-        let current = selector[0] % 2;
-        self.frames[index as usize] = Some(current);
-        Ok(current)
+        self.frames.find(&mut self.disk, bucket_place(index), index)
     }
 }

@@ -18,6 +18,8 @@ ghost use Rattle.vt_isect.specs.Faults.{NamesDamage, is_fault};
 ghost use Rattle.vt_isect.specs.Head.{IsHead, encoded};
 ghost use Rattle.vt_isect.specs.Layout.{IsPlaceOf};
 ghost use Rattle.vt_isect.specs.Merging.{IsMerged, IsDamage};
+ghost use Rattle.vt_isect.specs.Remembered.{first_read};
+ghost use Rattle.vt_isect.specs.Writeback.{IsRead};
 
 use crate::FRAME_LEN;
 use crate::bad::ShardErr;
@@ -36,13 +38,14 @@ use vt_twin::Step;
 impl<D: Disk> Section<D> {
     ghost use Rattle.vt_isect.specs.declared.phase.Phase.TheVariants.{Rest, ReadSelector, ReadFrame, WriteFrame, SyncFrames, WriteSelector, SyncSelectors, ChangeHead};
     ghost use Rattle.vt_isect.specs.Section.{AreInRange, IsAtRest, IsOfGroup, PutsEntries, bucket_number as number_of, entering, entries_of};
-    ghost use Rattle.vt_isect.specs.Sound.{Known, DiskHolds, LeavesSection, IsWhole};
+    ghost use Rattle.vt_isect.specs.Sound.{Known, DiskHolds, LeavesSection, IsWhole, StillNames};
     ghost use Rattle.vt_isect.specs.Writeback.{Advances, BeginsBehind, Completes, Follows, Joins, Keeps, KeepsCovered, MayWrite, NextPhase, Syncs, Writes, WritesBack, calls_left};
 
     /// Makes one device call of what is under way. Of a writeback, for each bucket of a group: it
-    /// reads the selector, reads the current frame, and writes the idle one with the bucket's
-    /// entries, too. Then it syncs these frames, writes the selector of each, and syncs those.
-    /// Behind the last group come the four calls of the change of the head.
+    /// reads the selector, unless the frame that this names is remembered, reads that frame, and
+    /// writes the idle one with the bucket's entries, too. Then it syncs these frames, writes the
+    /// selector of each, and syncs those. Behind the last group come the four calls of the change
+    /// of the head.
     ///
     /// Done is the answer to the last of them. A fault in a read and a damaged bucket end the
     /// writeback: the groups that were completed stay so, the buckets of the one under way are as
@@ -166,11 +169,10 @@ impl<D: Disk> Section<D> {
         ensures refused { IfErr result (λ bad. bad ≡ ShardErr.Fault) }
     {
         self.calls = self.calls.saturating_add(1);
-        let place = bucket_place(self.bucket - self.head.first);
-        let mut selector = [0];
-        match place.read_at(&mut self.disk, 2 * FRAME_LEN as u64, &mut selector) {
-            Ok(()) => {
-                self.phase = Phase::ReadFrame(selector[0]);
+        let index = self.bucket - self.head.first;
+        match self.frames.read(&mut self.disk, bucket_place(index), index) {
+            Ok(number) => {
+                self.phase = Phase::ReadFrame(number);
                 Ok(Step::More)
             }
             Err(Failed) => {
@@ -309,12 +311,12 @@ impl<D: Disk> Section<D> {
         let place = bucket_place(index);
         match place.write_at(&mut self.disk, 2 * FRAME_LEN as u64, &selector) {
             Ok(()) => {
-                self.frames[index as usize] = Some(1 - current);
+                self.frames.put(index, 1 - current);
                 self.phase = behind_selector(member, self.group.len());
                 Ok(Step::More)
             }
             Err(Failed) => {
-                self.frames[index as usize] = None;
+                self.frames.forget(index);
                 self.stopped = Some(call);
                 Err(ShardErr::Fault)
             }
@@ -408,14 +410,16 @@ impl<D: Disk> Section<D> {
             × IsOrdered self.old.head.total behind (entries_of self.old) }
         requires from { from ≤ length (entries_of self.old) }
         ensures begins { BeginsBehind from self.new }
-        ensures same { (self.new ≡ record self.old {
+        ensures named { (s : ℕ) → IsTrue D.tells → self.new.phase ≡ ReadFrame s
+            → StillNames self.new (s % 2) (D.bytes self.new.disk) }
+        ensures same { (IsRead self.new.phase × (self.new ≡ record self.old {
           next = next;
-          phase = ReadSelector;
+          phase = self.new.phase;
           written = from;
           framed = from;
           begun = self.new.begun;
           bucket = self.new.bucket;
-        }) ⊎ (self.new ≡ record self.old {
+        })) ⊎ (self.new ≡ record self.old {
           next = next;
           phase = ChangeHead;
           written = from;
@@ -430,7 +434,7 @@ impl<D: Disk> Section<D> {
                 self.framed = from;
                 self.begun = end;
                 self.bucket = bucket;
-                self.phase = Phase::ReadSelector;
+                self.phase = first_read(self.frames.get(bucket - self.head.first));
             }
             None => self.begin_next(next),
         }
@@ -442,6 +446,8 @@ impl<D: Disk> Section<D> {
         requires phase { self.old.phase ≡ WriteFrame current }
         ensures group { Joins current self.old self.new }
         ensures goes { NextPhase (WriteFrame current) self.old self.new }
+        ensures named { (s : ℕ) → IsTrue D.tells → self.new.phase ≡ ReadFrame s
+            → StillNames self.new (s % 2) (D.bytes self.new.disk) }
         ensures same { self.new ≡ record self.old {
           phase = self.new.phase;
           framed = self.old.begun;
@@ -465,7 +471,7 @@ impl<D: Disk> Section<D> {
         if let Some((bucket, end)) = bucket_behind(&self.entries, self.head.total, self.begun) {
             self.begun = end;
             self.bucket = bucket;
-            self.phase = Phase::ReadSelector;
+            self.phase = first_read(self.frames.get(bucket - self.head.first));
         }
     }
 
@@ -486,6 +492,18 @@ impl<D: Disk> Section<D> {
         self.next = next;
         self.head_twin.begin(Bytes::from_vec(frame));
         self.phase = Phase::ChangeHead;
+    }
+}
+
+/// What is read first of a bucket of whose current frame so much is remembered: its selector, or
+/// that frame.
+fn first_read(current: Option<u8>) -> Phase
+    ensures first { result ≡ first_read current }
+    ensures reads { IsRead result }
+{
+    match current {
+        Some(number) => Phase::ReadFrame(number),
+        None => Phase::ReadSelector,
     }
 }
 

@@ -9,7 +9,7 @@ use Rattle.vt_icache.specs.Index.{IndexState, entry_of}
 use Rattle.vt_isect.specs.Agreement.{IsOfBlock, HasBlock, IsInBucket, KnownAgrees}
 use Rattle.vt_isect.specs.Layout.{InRange}
 use Rattle.vt_isect.specs.Merging.{HasKey}
-use Rattle.vt_isect.specs.Section.{SectionState, PutsEntries, IsOfGroup, IsTodo, bucket_number, entries_of}
+use Rattle.vt_isect.specs.Section.{SectionState, IsOfGroup, IsTodo, bucket_number, entries_of}
 use Rattle.vt_isect.specs.Sound.{Known, DiskHolds}
 use Rattle.vt_isect.specs.Writeback.{Advances, Completes, Follows, Keeps, WritesBack}
 use Rattle.vt_isect.specs.declared.bad.ShardErr.{ShardErr}

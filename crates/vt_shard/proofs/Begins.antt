@@ -18,6 +18,7 @@ use Rattle.vt_isect.specs.Writeback.{BeginsBehind, calls_left}
 use Rattle.vt_isect.specs.declared.head.Head.{Head}
 use Rattle.vt_isect.specs.declared.phase.Phase.TheVariants.{Rest}
 use Rattle.vt_isect.proofs.Crowd.{one_entry}
+use Rattle.vt_isect.proofs.IsRead.{read_apart, read_runs}
 use Rattle.vt_model.specs.History.{History}
 use Rattle.vt_model.specs.Places.{Setup, bucket_of}
 use Rattle.vt_shard.specs.Shard.{ShardState, IsDirty, IsUnderWay, IsWell, OnlyMark, dirty_in}
@@ -169,7 +170,7 @@ module _ {D : Type 0} (t : ShardState D) (list : Option ℕ) (waiting : List ℕ
         (λ head. absurd (subst PutsEntries head.0 has))
         begins;
     behind = λ is. ⊎_elim
-        (λ group. absurd (let no = sym group.0.0 ∙ is in cc))
+        (λ group. absurd (read_apart v.phase group.0.0 is))
         (λ head. head.1 ∙ sym head.3)
         begins;
     list = subst (λ (o : Option EntriesState). MatchOption o ⊥ (λ list. ROOM ≤ list.room)) (sym entries) room;
@@ -181,7 +182,7 @@ module _ {D : Type 0} (t : ShardState D) (list : Option ℕ) (waiting : List ℕ
 
   busy : v.phase ≢ Rest
   busy is = ⊎_elim
-      (λ group. let no = sym group.0.0 ∙ is in cc)
+      (λ group. read_runs v.phase group.0.0 is)
       (λ head. let no = sym head.0 ∙ is in cc)
       begins
 

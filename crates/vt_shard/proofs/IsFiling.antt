@@ -3,11 +3,10 @@ use Rattle.std.proofs.Common.{◌≡◌, ⊎_elim, ℕ, zero, suc, ◌<◌, ◌�
 use Rattle.std.specs.List.{Contains}
 use Rattle.std.proofs.lemmas.List.Elements.{Contains-push_cases}
 use Rattle.lru.proofs.Splits.{Contains-cons, Contains-head, Contains-nil, Contains-tail}
-use Rattle.vt_isect.specs.Section.{SectionState, HasBucket, HasGroup, bucket_number, entering, entries_of}
+use Rattle.vt_isect.specs.Section.{SectionState, HasBucket, HasGroup, entering, entries_of}
 use Rattle.vt_isect.specs.Writeback.{BeginsBucket, BeginsGroup, Joins, SameGroup}
 use Rattle.vt_isect.specs.declared.groups.Member.{Member}
-use Rattle.vt_isect.specs.declared.head.Head.{Head}
-use Rattle.vt_base.specs.declared.place.Entry.{Entry}
+use Rattle.vt_isect.proofs.IsRead.{read_whole}
 use Rattle.vt_shard.specs.Shard.{HasEntryOf, IsFiling}
 
 -- ---- parts of a list
@@ -61,7 +60,7 @@ module _ {D : Type 0} (v : SectionState D) (from : ℕ) where
     );
     next = λ has. comes begins.0;
     group = λ member it. absurd (Contains-nil member (subst (λ (l : List Member). Contains l member) begins.2 it));
-    whole = λ has. absurd (subst HasGroup begins.0.0 has);
+    whole = λ has. absurd (read_whole v.phase begins.0.0 has);
   }
 
 -- ---- it goes on

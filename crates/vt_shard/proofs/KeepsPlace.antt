@@ -3,11 +3,12 @@ use Rattle.std.proofs.Common.{◌≡◌, ◌≢◌, ◌⊎◌, inl, inr, ⊎_eli
 use Rattle.std.specs.Prelude.{OnOk}
 use Rattle.vt_isect.specs.Entries.{items_of}
 use Rattle.vt_isect.specs.Layout.{InRange}
-use Rattle.vt_isect.specs.Section.{SectionState, HasBucket, HasGroup, PutsEntries, entries_of}
+use Rattle.vt_isect.specs.Section.{SectionState, HasBucket, HasGroup, PutsEntries}
 use Rattle.vt_isect.specs.Writeback.{Advances, BeginsBehind, Completes, EndsWith, GoesOn, NextPhase, SameGroup, calls_left, most_calls}
 use Rattle.vt_isect.specs.declared.bad.ShardErr.{ShardErr}
 use Rattle.vt_isect.specs.declared.bad.ShardErr.TheVariants.{Fault, Damaged, Stopped}
 use Rattle.vt_isect.specs.declared.head.Head.{Head}
+use Rattle.vt_isect.proofs.IsRead.{read_apart, read_runs, read_whole}
 use Rattle.vt_isect.specs.declared.phase.Phase.{Phase}
 use Rattle.vt_isect.specs.declared.phase.Phase.TheVariants.{Rest, ReadSelector, ReadFrame, WriteFrame, SyncFrames, WriteSelector, SyncSelectors, ChangeHead}
 use Rattle.vt_twin.specs.Twin.{calls_made}
@@ -130,13 +131,13 @@ module _ {D : Type 0} (t v : SectionState D) where
     by_phase (WriteFrame s) is next = inr (⊎_elim
         (λ begins. record {
           written = next.0.written;
-          head = λ e. absurd (let no = sym e ∙ begins.1.0 in cc);
+          head = λ e. absurd (read_apart v.phase begins.1.0 e);
           puts = λ has. subst PutsEntries (sym is) tt;
           filing = λ has filing. joins_filing t v entries head filing s next.0 (subst HasBucket (sym is) tt) begins.1.1
               (let lt = begins.1.2 in omega (arith, lt))
               (subst (λ o. v.begun ≤ length (items_of o)) entries begins.1.3.within)
               (λ bucket. comes v t.begun begins.1)
-              (λ whole. absurd (subst HasGroup begins.1.0 whole));
+              (λ whole. absurd (read_whole v.phase begins.1.0 whole));
         })
         (λ full. record {
           written = next.0.written;
@@ -205,7 +206,7 @@ module _ {D : Type 0} (t v : SectionState D) where
 
   begins_busy : (from : ℕ) → BeginsBehind from v → v.phase ≢ Rest
   begins_busy from begins is = ⊎_elim
-      (λ next. let no = sym next.0.0 ∙ is in cc)
+      (λ next. read_runs v.phase next.0.0 is)
       (λ head. let no = sym head.0 ∙ is in cc)
       begins
 

@@ -1,12 +1,12 @@
 -- What a step of a writeback leaves under way.
-use Rattle.std.proofs.Common.{◌≡◌, ◌≢◌, ◌⊎◌, inl, inr, ⊎_elim, ℕ, zero, suc, ◌+◌, ◌-◌, ◌*◌, ◌<◌, ◌≤◌, List, [], ◌∷◌, ◌++◌, length, take, drop, Option, Some, None, Result, refl, sym, ◌∙◌, ap, subst, arith, length-drop, length-take}
+use Rattle.std.proofs.Common.{◌≡◌, ◌≢◌, ◌⊎◌, inl, inr, ⊎_elim, ℕ, zero, suc, ◌+◌, ◌-◌, ◌*◌, ◌<◌, ◌≤◌, List, [], ◌∷◌, ◌++◌, length, take, drop, Option, Result, refl, sym, ◌∙◌, ap, subst, arith}
 use Rattle.std.specs.Prelude.{◌↔◌, MatchOption, OnOk}
 use Rattle.std.specs.List.{All, Contains}
 use Rattle.std.specs.Option.{option_map_or}
 use Rattle.std.proofs.lemmas.List.Elements.{All-contains, Contains-append_cases, Contains-append_right}
 use Rattle.std.proofs.lemmas.Slice.{between_is}
 use Rattle.lru.proofs.CallerLemmas.{Contains-take}
-use Rattle.lru.proofs.Splits.{Contains-head, Contains-nil}
+use Rattle.lru.proofs.Splits.{Contains-nil}
 use Rattle.vt_base.specs.declared.key.Key.{Key}
 use Rattle.vt_base.specs.declared.place.Entry.{Entry}
 use Rattle.vt_base.specs.declared.place.Info.{Info}
@@ -16,10 +16,9 @@ use Rattle.vt_isect.specs.Layout.{InRange}
 use Rattle.vt_isect.specs.Section.{SectionState, PutsEntries, bucket_number, entries_of}
 use Rattle.vt_isect.specs.Writeback.{Advances, BeginsBehind, calls_left}
 use Rattle.vt_isect.specs.declared.bad.ShardErr.{ShardErr}
-use Rattle.vt_isect.specs.declared.head.Head.{Head}
 use Rattle.vt_isect.specs.declared.phase.Phase.{Phase}
+use Rattle.vt_isect.proofs.IsRead.{read_apart}
 use Rattle.vt_isect.specs.declared.phase.Phase.TheVariants.{Rest, ReadSelector, ReadFrame, WriteFrame, SyncFrames, WriteSelector, SyncSelectors, ChangeHead}
-use Rattle.vt_model.specs.Places.{bucket_of}
 use Rattle.vt_twin.specs.declared.step.Step.{Step}
 use Rattle.vt_shard.specs.Shard.{ShardState, ReadBucket, HasScore, IsDirtyBelow, IsUnderWay}
 use Rattle.vt_shard.specs.Writeback.{SettlesAll, written_back}
@@ -181,7 +180,7 @@ module _ {D : Type 0} (t : ShardState D) (below : ℕ) (it : IsUnderWay t below)
         (steps_on t.section v result on steps);
     behind = λ head_phase. ⊎_elim
         (λ (last : EndsGroup t.section v result). ⊎_elim
-        (λ next. absurd (let no = sym next.0.0 ∙ head_phase in cc))
+        (λ next. absurd (read_apart v.phase next.0.0 head_phase))
         (λ head. head.1 ∙ sym head.3)
         last.2)
         (λ (stay : SameEntries t.section v). stay.written ∙ it.behind (stay.head head_phase) ∙ ap length (sym entries_same))

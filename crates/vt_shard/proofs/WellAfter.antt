@@ -1,5 +1,5 @@
 -- What holds of every shard holds of it after a step of its writeback.
-use Rattle.std.proofs.Common.{◌≡◌, ◌≢◌, ℕ, ◌+◌, ◌-◌, ◌^◌, ◌<◌, ◌≤◌, ◌==◌, cond, List, [], ◌++◌, length, get_or, Option, Some, None, Result, refl, sym, ◌∙◌, ap, subst, arith, length-append}
+use Rattle.std.proofs.Common.{◌≡◌, ◌≢◌, ℕ, ◌+◌, ◌-◌, ◌^◌, ◌<◌, ◌≤◌, ◌==◌, cond, List, ◌++◌, length, get_or, Option, Some, None, Result, refl, sym, ◌∙◌, ap, subst, arith, length-append}
 use Rattle.std.specs.Prelude.{MatchOption, OnOk, slice_get, slice_index}
 use Rattle.std.specs.List.{All, Contains, count_by}
 use Rattle.std.specs.Option.{option_map}

@@ -298,9 +298,10 @@ fn three() -> [Info; 3] {
 /// read again.
 const FIRST_STEP: u64 = FIRST_CALL + 3 + 5;
 
-/// The calls of that writeback, whose two buckets are one group: of each bucket two reads and the
-/// write of its idle frame, a sync, a selector each, a sync, and four for the head.
-const WRITEBACK: u64 = 14;
+/// The calls of that writeback, whose two buckets are one group: of each bucket one read, since the
+/// look-ups have read its selector, and the write of its idle frame, a sync, a selector each, a
+/// sync, and four for the head.
+const WRITEBACK: u64 = 12;
 
 /// Ends the writeback of the three blocks with this call of it.
 fn stops<D: Disk>(shard: &mut Shard<D>, call: u64, fails: bool) -> Result<(), Fail> {
@@ -311,7 +312,7 @@ fn stops<D: Disk>(shard: &mut Shard<D>, call: u64, fails: bool) -> Result<(), Fa
     }
     see(step(shard)?.is_err() == fails, "another answer")?;
     // a fault in a read ends a writeback, and in a write or a sync it stops the shard
-    let reads = matches!(call, 0 | 1 | 3 | 4);
+    let reads = matches!(call, 0 | 2);
     see(shard.stopped().is_some() == (fails && !reads), "stopped")?;
     agrees(shard, &three(), 2)
 }

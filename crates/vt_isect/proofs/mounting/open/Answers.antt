@@ -1,4 +1,4 @@
-use Rattle.std.proofs.Common.{◌≡◌, ℕ, List, length, replicate, refl, Option, Result, Ok, Err, Some, None, inl, sym, ap, ◌∙◌, subst}
+use Rattle.std.proofs.Common.{◌≡◌, ◌≤◌, ℕ, List, length, Result, Ok, Err, Some, None, inl, sym, ap, ◌∙◌, subst}
 use Rattle.std.specs.Prelude.{IfErr}
 use Rattle.std.specs.Result.{IsErrAnd}
 use Rattle.std.proofs.lemmas.List.{take_at}
@@ -64,12 +64,6 @@ returns-in-Ok-clause-frames g c = (
 pub returns-in_err-frames-clause-failed : goal.returns-in_err-frames-clause-failed
 returns-in_err-frames-clause-failed g c = no_fault _ c.from_residual-in_err-frames.result c.from_residual-in_err-frames.ensures.1
 
--- nothing is a copy of nothing alone
-none_only : (P : Option ℕ → Type 0) → ((x : ℕ) → ¬ P (Some x)) → (y : Option ℕ) → P y → y ≡ None
-none_only P never None is = refl
-none_only P never (Some x) is = absurd (never x is)
-
-pub returns-in-Ok-clause-current : goal.returns-in-Ok-clause-current
-returns-in-Ok-clause-current g c =
-    c.in_ok-frames.ensures.items_if_clones_equal (none_only _ (λ x is. absurd is))
-    ∙ ap (λ (n : ℕ). replicate {A = Option ℕ} n None) (c.buckets_in.ensures.count ∙ ap buckets_in c.len-len.ensures)
+pub returns-in-Ok-clause-room_for_frames : goal.returns-in-Ok-clause-room_for_frames
+returns-in-Ok-clause-room_for_frames g c =
+    subst (λ (n : ℕ). n ≤ length c.in_ok-frames.frames) (c.buckets_in.ensures.count ∙ ap buckets_in c.len-len.ensures) c.in_ok-frames.ensures.room.0

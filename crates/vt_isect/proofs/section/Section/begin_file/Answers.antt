@@ -1,10 +1,10 @@
-use Rattle.std.proofs.Common.{◌≡◌, ◌≤◌, ℕ, ◌+◌, ◌*◌, Option, refl, sym, ⊎_elim, ap, subst}
+use Rattle.std.proofs.Common.{◌≡◌, ◌≤◌, ℕ, ◌+◌, ◌*◌, ◌%◌, Option, refl, sym, ⊎_elim, ap, subst}
 use Rattle.std.specs.List.{Contains}
 use Rattle.std.proofs.lemmas.List.Sorted.{Contains-permutation, IsPermutation-sym, length_permutation}
 use Rattle.vt_base.specs.declared.place.Entry.{Entry}
 use Rattle.vt_isect.specs.Entries.{EntriesState, Orders}
 use Rattle.vt_isect.specs.Section.{PutsEntries}
-use Rattle.vt_isect.specs.Sound.{IsSoundSection}
+use Rattle.vt_isect.specs.Sound.{IsSoundSection, StillNames}
 use Rattle.vt_isect.specs.Writeback.{calls_left}
 use Rattle.vt_isect.specs.View.{state_of}
 use Rattle.vt_isect.proofs.BeginsBehind.{begins_of, file_agrees, file_sound}
@@ -29,9 +29,10 @@ returns-clause-sound g c known told sound =
     let s = c.self.inside in
     let t = state_of s in
     let phase = rw (← c.self.view_is) at c.requires.rest in
-    let disk : c.go_on.new.self.disk ≡ s.disk = ⊎_elim (λ e. ap (λ x. x.disk) e) (λ e. ap (λ x. x.disk) e) c.go_on.ensures.same in
+    let disk : c.go_on.new.self.disk ≡ s.disk = ⊎_elim (λ e. ap (λ x. x.disk) e.1) (λ e. ap (λ x. x.disk) e) c.go_on.ensures.same in
     subst (λ (d : g.row.D.Denot). IsSoundSection c.go_on.new.self known (g.D.Disk.bytes d) (g.D.Disk.images d)) (sym disk)
-    (file_sound t c.args.mark c.order.new.self c.go_on.new.self known (g.D.Disk.bytes s.disk) (g.D.Disk.images s.disk) phase (c.self.invariant.alone (λ puts. subst PutsEntries phase puts)) c.self.invariant.name_len c.ranges.mark.fits (begins_of t c.args.mark _ c.order.new.self c.go_on.new.self c.go_on.ensures.same) (rw (← c.self.view_is) at sound))
+    (file_sound t c.args.mark c.order.new.self c.go_on.new.self known (g.D.Disk.bytes s.disk) (g.D.Disk.images s.disk) phase (c.self.invariant.alone (λ puts. subst PutsEntries phase puts)) c.self.invariant.name_len c.ranges.mark.fits (begins_of t c.args.mark _ c.order.new.self c.go_on.new.self c.go_on.ensures.same)
+    (λ k is. subst (λ (d : g.row.D.Denot). StillNames c.go_on.new.self (k % 2) (g.D.Disk.bytes d)) disk (c.go_on.ensures.named k told is)) (rw (← c.self.view_is) at sound))
 
 pub returns-clause-agrees : goal.returns-clause-agrees
 returns-clause-agrees g c score setup h known agrees of cover =
@@ -45,7 +46,7 @@ returns-clause-agrees g c score setup h known agrees of cover =
 pub returns-clause-left : goal.returns-clause-left
 returns-clause-left g c = subst (λ (n : ℕ). calls_left c.go_on.new.self ≤ 6 * n + 4) (length_permutation _ _ c.order.ensures.same)
     (begun_left c.go_on.new.self c.order.new.self c.go_on.ensures.begins
-    (⊎_elim (λ e. ap (λ x. x.entries) e) (λ e. ap (λ x. x.entries) e) c.go_on.ensures.same))
+    (⊎_elim (λ e. ap (λ x. x.entries) e.1) (λ e. ap (λ x. x.entries) e) c.go_on.ensures.same))
 
 pub returns-clause-covers : goal.returns-clause-covers
 returns-clause-covers g c score setup h known covered cover =

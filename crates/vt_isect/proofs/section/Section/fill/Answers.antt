@@ -84,16 +84,16 @@ returns-in_err-write_bucket-clause-stops g c =
 pub invariant_of-self : goal.invariant_of-self
 invariant_of-self g c =
     let s = c.self.inside in
-    rw c.write_bucket.ensures.writes.size (called g.D.Disk _ (state_of s) _ _ _ _ _ _
-    (forgets g.D.Disk s.disk c.write_bucket.new.disk s.buckets s.frames.items (c.number.result - s.head.first) c.bucket_place-place.result 2 c.bucket_place-place.ensures.place
+    rw (c.write_bucket.ensures.writes.size, c.forget.ensures) (called g.D.Disk _ (state_of s) _ _ _ _ _ _
+    (forgets g.D.Disk s.disk c.write_bucket.new.disk s.buckets s.frames (c.number.result - s.head.first) c.bucket_place-place.result 2 c.bucket_place-place.ensures.place
     c.write_bucket.ensures.writes c.self.invariant.remembers)
     c.self.invariant)
 
 pub invariant_of-self-2 : goal.invariant_of-self-2
 invariant_of-self-2 g c =
     let s = c.self.inside in
-    rw (c.write_bucket.ensures.writes.size, set_twice s.frames.items (c.number.result - s.head.first) None (Some 0))
+    rw (c.write_bucket.ensures.writes.size, c.put.ensures, c.forget.ensures, set_twice s.frames (c.number.result - s.head.first) None (Some 0))
     (called g.D.Disk _ (state_of s) _ _ _ _ _ _
-    (learns g.D.Disk s.disk c.write_bucket.new.disk s.buckets s.frames.items (c.number.result - s.head.first) c.bucket_place-place.result 2 0 (replicate 511 0) (omega arith) c.bucket_place-place.ensures.place
+    (learns g.D.Disk s.disk c.write_bucket.new.disk s.buckets s.frames (c.number.result - s.head.first) c.bucket_place-place.result 2 0 (replicate 511 0) (omega arith) c.bucket_place-place.ensures.place
     c.write_bucket.ensures.writes (λ told. c.in_ok-write_bucket.ensures.selector told) c.self.invariant.remembers)
     c.self.invariant)

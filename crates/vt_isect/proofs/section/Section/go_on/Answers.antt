@@ -1,11 +1,29 @@
-use Rattle.std.proofs.Common.{◌≡◌, List, [], length, inr, refl, ap, subst, arith}
+use Rattle.std.proofs.Common.{◌≡◌, ◌-◌, List, [], length, inl, inr, refl, ap, subst, arith}
 use Rattle.std.specs.List.{Contains}
 use Rattle.vt_isect.specs.declared.groups.Member.{Member}
 use Rattle.vt_isect.specs.Entries.{items_of}
 use Rattle.vt_isect.specs.Layout.{InRange}
 use Rattle.vt_isect.specs.Section.{PutsEntries}
 use Rattle.vt_isect.proofs.AreNext.{none_written}
+use Rattle.vt_isect.proofs.IsRead.{read_apart, read_frame, read_puts, read_runs, read_selector, read_whole}
+use Rattle.vt_isect.proofs.Remembers.{first_named}
 use Rattle.vt_isect.proofs.section.Section.go_on.Goals as goal
+
+pub overflow_sub-bucket : goal.overflow_sub-bucket
+overflow_sub-bucket g c =
+    let s = c.self.inside in
+    let ranged = rw (← c.self.view_is) at c.requires.in_range in
+    let first = c.in-Some.ensures.first in
+    let it = subst (InRange s.head s.buckets) first.2 (ranged first.0 first.1) in
+    it.0
+
+pub get-requires : goal.get-requires
+get-requires g c =
+    let s = c.self.inside in
+    let ranged = rw (← c.self.view_is) at c.requires.in_range in
+    let first = c.in-Some.ensures.first in
+    let it = subst (InRange s.head s.buckets) first.2 (ranged first.0 first.1) in
+    omega (arith, it.0, it.1, c.self.invariant.remembers.each)
 
 pub invariant_of-self : goal.invariant_of-self
 invariant_of-self g c =
@@ -17,13 +35,15 @@ invariant_of-self g c =
     let many : length s.group.items ≡ 0 = ap (λ (l : List Member). length l) none in
     let next = c.in-Some.ensures.next in
     let first = c.in-Some.ensures.first in
+    let p = c.first_read-self-inside.result in
+    let reads = c.first_read-self-inside.ensures.reads in
     let no_member : (m : Member) → ¬ Contains s.group.items m = λ m has. omega (arith, has.1, many) in
     record {
       room = c.self.invariant.room;
       name_len = c.self.invariant.name_len;
       head_len = c.self.invariant.head_len;
       frame_len = c.self.invariant.frame_len;
-      buffer = record { lent = λ e. absurd (cc); here = λ no. c.self.invariant.buffer.here (λ e. cc) };
+      buffer = record { lent = λ e. absurd (read_apart p reads e); here = λ no. c.self.invariant.buffer.here (λ e. cc) };
       most = c.self.invariant.most;
       memory = c.self.invariant.memory;
       few = c.self.invariant.few;
@@ -37,12 +57,12 @@ invariant_of-self g c =
         members = λ m has. absurd (no_member m has);
         bucket = λ has. subst (InRange s.head s.buckets) first.2 (ranged first.0 first.1);
         next = λ has. (next.0, omega (arith, many, c.self.invariant.most), next.1);
-        current = λ k e. absurd (cc);
-        whole = λ has. absurd has;
-        selector = λ k e. absurd (cc);
+        current = λ k e. absurd (read_frame k p reads e);
+        whole = λ has. absurd (read_whole p reads has);
+        selector = λ k e. absurd (read_selector k p reads e);
       };
-      alone = λ no. absurd (no tt);
-      rest = λ u. absurd (cc);
+      alone = λ no. absurd (no (read_puts p reads));
+      rest = λ u. absurd (read_runs p reads u);
       goes = c.self.invariant.goes;
       remembers = c.self.invariant.remembers;
     }
@@ -56,3 +76,15 @@ returns-in-None-clause-begins g c =
 
 pub returns-in-None-clause-same : goal.returns-in-None-clause-same
 returns-in-None-clause-same g c = rw (← c.self.view_is) (inr c.begin_next.ensures.same)
+
+pub returns-in-Some-clause-begins : goal.returns-in-Some-clause-begins
+returns-in-Some-clause-begins g c =
+    let rest = rw (← c.self.view_is) at c.requires.rest in
+    inl ((c.first_read-self-inside.ensures.reads, refl, c.in-Some.ensures.next.0, c.in-Some.ensures.next.1), refl, c.self.invariant.alone (λ puts. subst PutsEntries rest puts))
+
+pub returns-in-Some-clause-same : goal.returns-in-Some-clause-same
+returns-in-Some-clause-same g c = rw (← c.self.view_is) (inl (c.first_read-self-inside.ensures.reads, refl))
+
+pub returns-in-Some-clause-named : goal.returns-in-Some-clause-named
+returns-in-Some-clause-named g c k told is region place =
+    first_named g.D.Disk _ _ _ (c.in-Some.bucket - c.self.inside.head.first) c.get.result _ k c.get.ensures.number c.get.ensures.bound c.first_read-self-inside.ensures.first is region told place c.self.invariant.remembers

@@ -27,5 +27,5 @@ invariant_of-result g c = record {
   alone = λ no. c.requires.group.0;
   rest = λ rest. record { goes = refl; next = refl };
   goes = λ none. ap (λ (t : TwinState). t.stopped) c.requires.twin;
-  remembers = remembers_none g.D.Disk c.args.disk c.args.buckets c.args.opened.frames.items c.requires.frames;
+  remembers = remembers_none g.D.Disk c.args.disk c.args.buckets c.args.opened.frames c.requires.room_for_frames c.requires.frames;
 }

@@ -37,7 +37,7 @@ invariant_of-self g c =
     rw c.read_merged-merged.ensures.reads.size
     (goes_on g.D.Disk _ (record t { frame = frame }) _ _ _ _ _ _ _ puts tt (λ has. subst HasBucket (sym phase) tt) (λ has. absurd has)
     (λ k e. let is = same_number (c.args.selector % 2) k e in omega (arith, is)) (λ k e. cc) (λ e. cc) (λ e. cc) (λ e. cc) (remembers_same g.D.Disk _ _ _ _ c.read_merged-merged.ensures.reads.bytes c.self.invariant.remembers)
-    (framed g.D.Disk _ t _ _ s.frames.items _ s.disk frame s.calls len c.self.invariant.remembers c.self.invariant))
+    (framed g.D.Disk _ t _ _ s.frames _ s.disk frame s.calls len c.self.invariant.remembers c.self.invariant))
 
 pub invariant_of-self-in-Err : goal.invariant_of-self-in-Err
 invariant_of-self-in-Err g c =

@@ -10,7 +10,7 @@ use Rattle.vt_isect.proofs.IsSoundSection.{group_stands, quiet_sound}
 use Rattle.vt_isect.proofs.Members.{called, group_moves}
 use Rattle.vt_isect.proofs.Settling.{ends_sound}
 use Rattle.vt_isect.proofs.Writes.{writes_at}
-use Rattle.vt_isect.proofs.Remembers.{remembers_same}
+use Rattle.vt_isect.proofs.Remembers.{reads, remembers_same}
 use Rattle.vt_isect.proofs.section.Section.read_selector.Goals as goal
 
 pub invariant_of-self : goal.invariant_of-self
@@ -19,7 +19,7 @@ invariant_of-self g c =
     let phase = rw (← c.self.view_is) at c.requires.phase in
     let puts : PutsEntries s.phase = subst PutsEntries (sym phase) tt in
     record {
-      room = rw c.read_at.ensures.reads.size c.self.invariant.room;
+      room = rw c.read.ensures.reads.size c.self.invariant.room;
       name_len = c.self.invariant.name_len;
       head_len = c.self.invariant.head_len;
       frame_len = c.self.invariant.frame_len;
@@ -31,7 +31,9 @@ invariant_of-self g c =
       alone = λ no. absurd (no tt);
       rest = λ u. absurd (cc);
       goes = c.self.invariant.goes;
-      remembers = remembers_same g.D.Disk _ _ _ _ c.read_at.ensures.reads.bytes c.self.invariant.remembers;
+      remembers = rw c.in-Ok.ensures.remembers
+          (reads g.D.Disk s.disk c.read.new.disk s.buckets s.frames (s.bucket - s.head.first) c.bucket_place.result c.in-Ok.number c.bucket_place.ensures.place c.read.ensures.reads.bytes
+          (λ told. sym (c.in-Ok.ensures.named told)) c.self.invariant.remembers);
     }
 
 pub returns-in-Ok-clause-sound : goal.returns-in-Ok-clause-sound
@@ -45,8 +47,8 @@ returns-in-Ok-clause-sound g c told =
     (λ n. group_stands _ _ n refl refl refl refl refl puts tt (λ j. ap (λ (p : Phase). made_of p j) (sym phase)) (λ none. none))
     c.in-Ok.ensures.reads.bytes c.in-Ok.ensures.reads.images
     (λ k is region place. rw c.in-Ok.ensures.reads.bytes
-    (selector_read c.read_at.new.buf _ (s.bucket - s.head.first) k _ c.bucket_place-place.result region c.bucket_place-place.ensures.place place refl
-    (c.in-Ok.ensures.read told) is))
+    (selector_read c.in-Ok.number k (s.bucket - s.head.first) _ c.bucket_place.result region c.bucket_place.ensures.place place c.in-Ok.ensures.bound
+    (c.in-Ok.ensures.named told) is))
     (λ k is. absurd (cc)) (λ k entries is. absurd (cc)) sound)
     (λ score setup h known agrees. agrees_as score setup h _ _ known refl refl (inl (refl, λ entry way. (tt, way.1))) (λ entry way. (puts, way.1)) agrees))
 
@@ -73,4 +75,4 @@ returns-in-Ok-clause-written g c told =
     rw (← c.self.view_is) (writes_at ReadSelector _ _ _ phase c.in-Ok.ensures.reads.bytes)
 
 pub invariant_of-self-in-Err : goal.invariant_of-self-in-Err
-invariant_of-self-in-Err g c = rw c.read_at.ensures.reads.size (called g.D.Disk _ (state_of c.self.inside) _ _ _ _ _ _ (remembers_same g.D.Disk _ _ _ _ c.read_at.ensures.reads.bytes c.self.invariant.remembers) c.self.invariant)
+invariant_of-self-in-Err g c = rw (c.read.ensures.reads.size, c.in-Err.ensures.failed) (called g.D.Disk _ (state_of c.self.inside) _ _ _ _ _ _ (remembers_same g.D.Disk _ _ _ _ c.read.ensures.reads.bytes c.self.invariant.remembers) c.self.invariant)

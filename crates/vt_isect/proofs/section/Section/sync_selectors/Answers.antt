@@ -1,6 +1,7 @@
-use Rattle.std.proofs.Common.{◌≡◌, Ok, ⊎_elim, refl, sym, ap, ◌∙◌, subst, inl}
+use Rattle.std.proofs.Common.{◌≡◌, ◌%◌, Ok, ⊎_elim, refl, sym, ap, ◌∙◌, subst, inl}
 use Rattle.vt_twin.specs.declared.step.Step.TheVariants.{More}
 use Rattle.vt_isect.specs.Section.{PutsEntries}
+use Rattle.vt_isect.specs.Sound.{StillNames}
 use Rattle.vt_isect.specs.View.{state_of}
 use Rattle.vt_isect.proofs.Follows.{KeepsAt, agrees_as, keeps_quiet}
 use Rattle.vt_isect.proofs.IsSoundSection.{group_stands, quiet_sound}
@@ -43,8 +44,9 @@ returns-in-Ok-clause-sound g c told =
     let goes = rw (← c.self.view_is) at c.requires.goes in
     let from_is : c.go_on.inside.begun ≡ s.begun = ap (λ x. x.begun) (c.go_on.view_is ∙ c.end.ensures) in
     let to : GoesTo t c.sync.new.self c.saturating_add-self-inside.result c.go_on.inside.begun v = rw c.end.ensures at c.go_on-in-Ok.ensures.same in
-    let disk : v.disk ≡ c.sync.new.self = ⊎_elim (λ e. ap (λ x. x.disk) e) (λ e. ap (λ x. x.disk) e) to in
+    let disk : v.disk ≡ c.sync.new.self = ⊎_elim (λ e. ap (λ x. x.disk) e.1) (λ e. ap (λ x. x.disk) e) to in
     rw (← c.self.view_is)
     (subst (λ (d : g.row.D.Denot). KeepsAt (Ok More) t v (g.D.Disk.bytes s.disk) (g.D.Disk.images s.disk) (g.D.Disk.bytes d) (g.D.Disk.images d)) (sym disk)
     (keeps_settled t c.sync.new.self c.saturating_add-self-inside.result c.go_on.inside.begun v _ _ _ _ phase goes (c.self.invariant.group (subst PutsEntries (sym phase) tt)) from_is
-    c.sync.ensures.bytes c.sync.ensures.images (c.in-Ok.ensures.settled told) c.go_on-in-Ok.ensures.fits c.self.invariant.name_len c.go_on-in-Ok.ensures.begins to))
+    c.sync.ensures.bytes c.sync.ensures.images (c.in-Ok.ensures.settled told) c.go_on-in-Ok.ensures.fits c.self.invariant.name_len c.go_on-in-Ok.ensures.begins to
+    (λ k is. subst (λ (e : g.row.D.Denot). StillNames v (k % 2) (g.D.Disk.bytes e)) disk (c.go_on-in-Ok.ensures.named k told is))))

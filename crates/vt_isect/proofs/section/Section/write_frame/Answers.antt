@@ -1,8 +1,9 @@
-use Rattle.std.proofs.Common.{◌≡◌, ◌+◌, ◌-◌, ◌*◌, ℕ, List, Ok, length, inl, inr, ⊎_elim, refl, sym, ap, ◌∙◌, subst, arith}
+use Rattle.std.proofs.Common.{◌≡◌, ◌+◌, ◌-◌, ◌*◌, ◌%◌, ℕ, List, Ok, length, inl, inr, ⊎_elim, refl, sym, ap, ◌∙◌, subst, arith}
 use Rattle.vt_disk.specs.Disk.{with_bytes}
 use Rattle.vt_twin.specs.Frames.{with_frame}
 use Rattle.vt_twin.specs.declared.step.Step.TheVariants.{More}
 use Rattle.vt_isect.specs.Section.{HasBucket, PutsEntries}
+use Rattle.vt_isect.specs.Sound.{StillNames}
 use Rattle.vt_isect.specs.View.{state_of}
 use Rattle.vt_isect.proofs.Follows.{KeepsAt, agrees_as, keeps_quiet}
 use Rattle.vt_isect.proofs.Joining.{HasJoined, frame_stops, joined_sound, todo_before, todo_then}
@@ -83,7 +84,8 @@ returns-in-Ok-clause-sound g c told =
     (subst (λ (d : g.row.D.Denot). KeepsAt (Ok More) t c.join.new.self (g.D.Disk.bytes s.disk) (g.D.Disk.images s.disk) (g.D.Disk.bytes d) (g.D.Disk.images d)) (sym (ap (λ x. x.disk) same))
     (keeps_quiet _ _ _ _ _ _ _ (λ n done. let e = done.1 in cc)
     (λ known sound. joined_sound t c.join.new.self c.args.current phase group joined region _ known _ _ _ _ (group.current c.args.current phase) c.self.invariant.room c.self.invariant.frame_len
-    c.bucket_place-place.ensures.place fits (g.met.D.Disk.read_is_image s.disk told) (wrote_it.bytes told) wrote_it.images written sound)
+    c.bucket_place-place.ensures.place fits (g.met.D.Disk.read_is_image s.disk told) (wrote_it.bytes told) wrote_it.images written
+    (λ k is. subst (λ (d : g.row.D.Denot). StillNames c.join.new.self (k % 2) (g.D.Disk.bytes d)) (ap (λ x. x.disk) same) (c.join.ensures.named k told is)) sound)
     (λ score setup h known agrees. agrees_as score setup h _ _ known joined.head joined.buckets (inl (ap (λ x. x.next) same, todo_then t c.join.new.self c.args.current phase group joined))
     (todo_before t c.join.new.self c.args.current phase group joined) agrees)))
 

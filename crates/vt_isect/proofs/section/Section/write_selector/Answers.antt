@@ -40,21 +40,21 @@ overflow_sub-current-in-Ok g c =
     let it = group.members c.index.result.now (c.args.member, group.selector c.args.member phase, sym c.index.ensures) in
     omega (arith, it.1)
 
-pub index_mut-requires : goal.index_mut-requires
-index_mut-requires g c =
+pub put-requires-clause-bucket : goal.put-requires-clause-bucket
+put-requires-clause-bucket g c =
     let s = c.self.inside in
     let phase = rw (← c.self.view_is) at c.requires.phase in
     let group = c.self.invariant.group (subst PutsEntries (sym phase) tt) in
     let it = group.members c.index.result.now (c.args.member, group.selector c.args.member phase, sym c.index.ensures) in
-    omega (arith, it.0.0, it.0.1, c.self.invariant.remembers.each, s.frames.ok.0)
+    omega (arith, it.0.0, it.0.1, c.self.invariant.remembers.each)
 
-pub index_mut-requires-in-Err : goal.index_mut-requires-in-Err
-index_mut-requires-in-Err g c =
+pub forget-requires : goal.forget-requires
+forget-requires g c =
     let s = c.self.inside in
     let phase = rw (← c.self.view_is) at c.requires.phase in
     let group = c.self.invariant.group (subst PutsEntries (sym phase) tt) in
     let it = group.members c.index.result.now (c.args.member, group.selector c.args.member phase, sym c.index.ensures) in
-    omega (arith, it.0.0, it.0.1, c.self.invariant.remembers.each, s.frames.ok.0)
+    omega (arith, it.0.0, it.0.1, c.self.invariant.remembers.each)
 
 pub write_at-requires-clause-region : goal.write_at-requires-clause-region
 write_at-requires-clause-region g c =
@@ -77,10 +77,10 @@ invariant_of-self g c =
     let in_it = (group.members m (c.args.member, group.selector c.args.member phase, sym c.index.ensures)).0 in
     let region = c.bucket_place-place.result in
     let place = c.bucket_place-place.ensures.place in
-    rw c.write_at.ensures.writes.size (goes_on g.D.Disk _ (state_of s) _ _ _ _ _ _ _ puts (behind_puts c.args.member _ _ behind)
+    rw (c.write_at.ensures.writes.size, c.put.ensures) (goes_on g.D.Disk _ (state_of s) _ _ _ _ _ _ _ puts (behind_puts c.args.member _ _ behind)
     (λ has. absurd (behind_bucket c.args.member _ _ behind has)) (λ has. subst HasGroup (sym phase) tt)
     (λ k e. absurd (other.1 k e)) (behind_within c.args.member _ _ behind) (λ e. cc) other.2 other.3
-    (selector_learns g.D.Disk s.disk c.write_at.new.disk s.buckets s.frames.items (m.bucket - s.head.first) region place
+    (selector_learns g.D.Disk s.disk c.write_at.new.disk s.buckets s.frames (m.bucket - s.head.first) region place
     (wrote_selector g.D.Disk region (1 - m.current) c.selector_naming-selector.result s.disk c.write_at.new.disk place.len c.selector_naming-selector.ensures c.write_at.ensures.writes)
     c.self.invariant.remembers (1 - m.current) (omega arith)
     (λ told. selector_bytes_are region (1 - m.current) c.selector_naming-selector.result _ _ place.len c.selector_naming-selector.ensures (c.in-Ok.ensures.written told))
@@ -94,8 +94,8 @@ invariant_of-self-in-Err g c =
     let m = c.index.result.now in
     let region = c.bucket_place-place.result in
     let place = c.bucket_place-place.ensures.place in
-    rw c.write_at.ensures.writes.size (stopped g.D.Disk _ (state_of s) _ _ _ _ _ _ _ (λ e. cc)
-    (selector_forgets g.D.Disk s.disk c.write_at.new.disk s.buckets s.frames.items (m.bucket - s.head.first) region place
+    rw (c.write_at.ensures.writes.size, c.forget.ensures) (stopped g.D.Disk _ (state_of s) _ _ _ _ _ _ _ (λ e. cc)
+    (selector_forgets g.D.Disk s.disk c.write_at.new.disk s.buckets s.frames (m.bucket - s.head.first) region place
     (wrote_selector g.D.Disk region (1 - m.current) c.selector_naming-selector.result s.disk c.write_at.new.disk place.len c.selector_naming-selector.ensures c.write_at.ensures.writes)
     c.self.invariant.remembers)
     c.self.invariant)

@@ -10,7 +10,7 @@ use Rattle.vt_model.specs.Places.{bucket_of}
 use Rattle.vt_shard.specs.Shard.{ShardState, read_bucket}
 use Rattle.vt_shard.specs.Sound.{IsSoundFrom}
 use Rattle.vt_shard.specs.View.{state_of}
-use Rattle.vt_shard.specs.Writeback.{SettlesAll, written_back}
+use Rattle.vt_shard.specs.Writeback.{SettlesAll}
 use Rattle.vt_shard.proofs.Advances.{sound_ended, sound_on}
 use Rattle.vt_shard.proofs.IsWell.{goes_on, rest_of, under_way_of}
 use Rattle.vt_shard.proofs.KeepsPlace.{head_stays}
