@@ -1,52 +1,67 @@
 -- A call of a client as a store of blocks.
-use Rattle.std.proofs.Common.{◌≡◌, inl, inr, Bool, true, false, Option, Some, Result, Ok, Err, List, ℕ, refl, sym, ◌∙◌, ap}
+use Rattle.std.proofs.Common.{◌≡◌, inl, inr, Option, Some, Result, Ok, Err, List, ℕ, refl, sym, ◌∙◌, ap}
+use Rattle.std.specs.Option.{option_or}
 use Rattle.std.proofs.lemmas.Bool.{cases_Bool}
 use Rattle.vt_tree.specs.Calls.{Counts, counted}
 use Rattle.vt_tree.specs.declared.err.BlockErr.{BlockErr}
 use Rattle.vt_client.specs.declared.err.ClientErr.{ClientErr}
-use Rattle.vt_client.specs.declared.err.Side.{Side}
-use Rattle.vt_client.specs.Clients.{ClientState, Asks, spent_by}
+use Rattle.vt_client.specs.Clients.{ClientState, Asks}
 use Rattle.vt_client.specs.Exchanges.{Wanted}
 use Rattle.vt_client.specs.Members.{LinkOf}
-use Rattle.vt_client.specs.Stores.{DoesOnce, IsToldAs, side_after}
+use Rattle.vt_client.specs.Stores.{DoesOnce, IsToldAs}
 
 module _ {L T : Type 0} (link : LinkOf L) (score_of : List ℕ → List ℕ) (w : Wanted T)
     (c after : ClientState L) where
   -- a request counts nothing of its own
-  kept : (result : Result T ClientErr) → Asks link score_of w c after result
-      → (after.counts ≡ c.counts) × (after.side ≡ c.side)
+  pub record Keeps : Type 0 where
+    pub counts : after.counts ≡ c.counts
+    pub refused : after.refused ≡ c.refused
+    pub sent : after.sent ≡ c.sent
+
+  pub kept : (result : Result T ClientErr) → Asks link score_of w c after result → Keeps
   kept result asks = elim (cases_Bool c.spent) [
     | inl spent ↦
         let same = asks.untouched spent in
-        (ap (λ (s : ClientState L). s.counts) same, ap (λ (s : ClientState L). s.side) same)
+        record {
+          counts = ap (λ (s : ClientState L). s.counts) same;
+          refused = ap (λ (s : ClientState L). s.refused) same;
+          sent = ap (λ (s : ClientState L). s.sent) same;
+        }
     | inr unspent ↦
         let same = asks.goes_on unspent in
-        (ap (λ (s : ClientState L). s.counts) same, ap (λ (s : ClientState L). s.side) same)
+        record {
+          counts = ap (λ (s : ClientState L). s.counts) same;
+          refused = ap (λ (s : ClientState L). s.refused) same;
+          sent = ap (λ (s : ClientState L). s.sent) same;
+        }
   ]
 
-  pub counts_kept : (result : Result T ClientErr) → Asks link score_of w c after result
-      → after.counts ≡ c.counts
-  counts_kept result asks = (kept result asks).0
-
-  pub gave : (value : T) → Asks link score_of w c after (Ok value)
-      → DoesOnce link score_of w c after (Ok value)
-  gave value asks = record {
+  -- it was answered, behind which so many blocks were sent
+  pub gave : (value : T) (sent : ℕ) → Asks link score_of w c after (Ok value)
+      → DoesOnce link score_of w c (record after { sent = sent }) (Ok value)
+  gave value sent asks = record {
     result = Ok value;
     stands = refl;
     after = after;
     asked = asks;
-    is = ap (λ (s : Option Side). record after { counts = after.counts; side = s })
-        (kept (Ok value) asks).1;
+    is = ap (λ (s : Option ClientErr). record after {
+      counts = after.counts;
+      refused = s;
+      sent = sent;
+    }) (kept (Ok value) asks).refused;
   }
 
   module _ (why : ClientErr) (err : BlockErr) (told : IsToldAs why err) (c' : ClientState L)
       (left : c' ≡ record after {
         counts = counted (Some err) after.counts;
-        side = side_after why after.side;
+        refused = option_or after.refused (Some why);
       }) (asks : Asks link score_of w c after (Err why)) where
     pub refused_counts : c'.counts ≡ counted (Some err) c.counts
     refused_counts = ap (λ (s : ClientState L). s.counts) left
-        ∙ ap (counted (Some err)) (kept (Err why) asks).0
+        ∙ ap (counted (Some err)) (kept (Err why) asks).counts
+
+    pub refused_sent : c'.sent ≡ c.sent
+    refused_sent = ap (λ (s : ClientState L). s.sent) left ∙ (kept (Err why) asks).sent
 
     pub refused : DoesOnce link score_of w c c' (Err err)
     refused = record {
@@ -55,8 +70,18 @@ module _ {L T : Type 0} (link : LinkOf L) (score_of : List ℕ → List ℕ) (w 
       after = after;
       asked = asks;
       is = left
-          ∙ ap (λ (n : Counts). record after { counts = n; side = side_after why after.side })
-          (sym (ap (λ (s : ClientState L). s.counts) left))
-          ∙ ap (λ (s : Option Side). record after { counts = c'.counts; side = side_after why s })
-          (kept (Err why) asks).1;
+          ∙ ap (λ (n : Counts). record after {
+            counts = n;
+            refused = option_or after.refused (Some why);
+          }) (sym (ap (λ (s : ClientState L). s.counts) left))
+          ∙ ap (λ (n : ℕ). record after {
+            counts = c'.counts;
+            refused = option_or after.refused (Some why);
+            sent = n;
+          }) (sym (ap (λ (s : ClientState L). s.sent) left))
+          ∙ ap (λ (o : Option ClientErr). record after {
+            counts = c'.counts;
+            refused = option_or o (Some why);
+            sent = c'.sent;
+          }) (kept (Err why) asks).refused;
     }

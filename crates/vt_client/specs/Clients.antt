@@ -9,18 +9,19 @@ use Rattle.vt_wire.specs.Messages.{asked}
 use Rattle.vt_client.specs.declared.err.ClientErr.{ClientErr}
 use Rattle.vt_client.specs.declared.err.ClientErr.TheVariants as errs
 use Rattle.vt_client.specs.declared.err.Parted.{Parted}
-use Rattle.vt_client.specs.declared.err.Side.{Side}
 use Rattle.vt_client.specs.Exchanges.{Moves, Wanted, Answers, traffic_of}
 use Rattle.vt_client.specs.Members.{LinkOf}
 
--- the link; the tag of the next request; whether it is spent; and of its calls as a store of blocks
--- how many have failed and how many were refused, and which way the last fault was
+-- The link; the tag of the next request; whether it is spent; and of its calls as a store of blocks
+-- how many have failed and how many were refused, why the first of these was that wasn't taken out,
+-- and how many blocks the server took in.
 pub record ClientState (L : Type 0) : Type 0 where
   pub link : L
   pub tag : ℕ
   pub spent : Bool
   pub counts : Counts
-  pub side : Option Side
+  pub refused : Option ClientErr
+  pub sent : ℕ
 
 -- ---- what is wanted of a server
 
@@ -105,6 +106,10 @@ MayRefuse w errs.Spent = ⊤
 
 -- ---- one call
 
+-- the tag behind this one: a tag is a byte, and they run round
+abbrev pub next_tag : ℕ → ℕ
+next_tag tag = (tag + 1) % 256
+
 -- One request went out under the client's tag, and its one reply came in. A spent client touches
 -- nothing, and says so.
 pub record Asks {L T : Type 0} (link : LinkOf L) (score_of : List ℕ → List ℕ) (w : Wanted T)
@@ -117,7 +122,7 @@ pub record Asks {L T : Type 0} (link : LinkOf L) (score_of : List ℕ → List �
   pub untouched : c.spent ≡ true → c' ≡ c
   pub goes_on : c.spent ≡ false → c' ≡ record c {
     link = c'.link;
-    tag = (c.tag + 1) % 256;
+    tag = next_tag c.tag;
     spent = spent_by result;
   }
 

@@ -1,12 +1,12 @@
 -- A client as a store of blocks.
 use Rattle.std.specs.Prelude.{ℕ, ◌≡◌, ◌⊎◌, ⊤, Option, Some, Result, Ok, Err, List, codes}
+use Rattle.std.specs.Option.{option_or}
+use Rattle.vt_base.specs.Faults.{one_more}
 use Rattle.vt_tree.specs.declared.err.BlockErr.{BlockErr}
 use Rattle.vt_tree.specs.declared.err.BlockErr.TheVariants as blocks
 use Rattle.vt_tree.specs.Calls.{Call, get, put, sync, refusal_of, counted}
 use Rattle.vt_client.specs.declared.err.ClientErr.{ClientErr}
 use Rattle.vt_client.specs.declared.err.ClientErr.TheVariants as errs
-use Rattle.vt_client.specs.declared.err.Side.{Side}
-use Rattle.vt_client.specs.declared.err.Side.TheVariants.{Read, Write}
 use Rattle.vt_client.specs.Clients.{ClientState, Asks, block_of, taking_in, committing}
 use Rattle.vt_client.specs.Exchanges.{Wanted}
 use Rattle.vt_client.specs.Members.{LinkOf}
@@ -26,42 +26,38 @@ err_of (errs.WrongScore want found) = blocks.WrongScore want found
 err_of errs.Spent = blocks.Refused (codes "client spent")
 err_of errs.NoMemory = blocks.NoMemory
 
--- it is told with a text of this client's own
-abbrev pub HasOwnText : ClientErr → Type 0
-HasOwnText (errs.Remote text) = ⊥
-HasOwnText errs.ReadFault = ⊥
-HasOwnText errs.WriteFault = ⊥
-HasOwnText errs.Cut = ⊤
-HasOwnText (errs.BadReply place) = ⊤
-HasOwnText errs.NoVersion = ⊤
-HasOwnText (errs.WrongScore want found) = ⊥
-HasOwnText errs.Spent = ⊤
-HasOwnText errs.NoMemory = ⊥
+-- it is told with a text
+abbrev pub HasText : ClientErr → Type 0
+HasText (errs.Remote text) = ⊤
+HasText errs.ReadFault = ⊥
+HasText errs.WriteFault = ⊥
+HasText errs.Cut = ⊤
+HasText (errs.BadReply place) = ⊤
+HasText errs.NoVersion = ⊤
+HasText (errs.WrongScore want found) = ⊥
+HasText errs.Spent = ⊤
+HasText errs.NoMemory = ⊥
 
 -- it is told so, or memory ran out for its text
 abbrev pub IsToldAs : ClientErr → BlockErr → Type 0
-IsToldAs why err = (err ≡ err_of why) ⊎ (HasOwnText why × (err ≡ blocks.NoMemory))
+IsToldAs why err = (err ≡ err_of why) ⊎ (HasText why × (err ≡ blocks.NoMemory))
 
 -- the answer to a call of the store is that of the client
 abbrev pub StandsFor : {T : Type 0} → Result T BlockErr → Result T ClientErr → Type 0
 StandsFor (Ok value) result = result ≡ Ok value
 StandsFor (Err err) result = (why : ClientErr) × (result ≡ Err why) × IsToldAs why err
 
--- which way the last fault was
-abbrev pub side_after : ClientErr → Option Side → Option Side
-side_after errs.ReadFault before = Some Read
-side_after errs.WriteFault before = Some Write
-side_after (errs.Remote text) before = before
-side_after errs.Cut before = before
-side_after (errs.BadReply place) before = before
-side_after errs.NoVersion before = before
-side_after (errs.WrongScore want found) before = before
-side_after errs.Spent before = before
-side_after errs.NoMemory before = before
+-- why the first refusal was that wasn't taken out, after an answer of the client
+abbrev pub refused_after : {T : Type 0} → Result T ClientErr → Option ClientErr → Option ClientErr
+refused_after (Ok value) before = before
+refused_after (Err why) before = option_or before (Some why)
 
-abbrev pub side_behind : {T : Type 0} → Result T ClientErr → Option Side → Option Side
-side_behind (Ok value) before = before
-side_behind (Err why) before = side_after why before
+-- how many blocks the server took in, after a call
+abbrev pub sent_after : Call → ℕ → ℕ
+sent_after (get kind s answer) n = n
+sent_after (put b (Ok score)) n = one_more n
+sent_after (put b (Err err)) n = n
+sent_after (sync answer) n = n
 
 -- ---- a call
 
@@ -72,7 +68,11 @@ pub record DoesOnce {L T : Type 0} (link : LinkOf L) (score_of : List ℕ → Li
   pub stands : StandsFor answer result
   pub after : ClientState L
   pub asked : Asks link score_of w c after result
-  pub is : c' ≡ record after { counts = c'.counts; side = side_behind result c.side }
+  pub is : c' ≡ record after {
+    counts = c'.counts;
+    refused = refused_after result c.refused;
+    sent = c'.sent;
+  }
 
 abbrev pub AsksServer : {L : Type 0} → LinkOf L → (score_of : List ℕ → List ℕ) → ClientState L
     → Call → ClientState L → Type 0
@@ -83,8 +83,10 @@ AsksServer link score_of c (put b answer) c' =
 AsksServer link score_of c (sync answer) c' =
     DoesOnce link score_of committing c c' answer
 
--- What a client does at a call of the store. Each failed call counts, and each refused one.
+-- What a client does at a call of the store. Each failed call counts, each refused one, and each
+-- block that the server took in.
 pub record DoesAsClient {L : Type 0} (link : LinkOf L) (score_of : List ℕ → List ℕ)
     (c : ClientState L) (call : Call) (c' : ClientState L) : Type 0 where
   pub asks : AsksServer link score_of c call c'
   pub counts : c'.counts ≡ counted (refusal_of call) c.counts
+  pub sent : c'.sent ≡ sent_after call c.sent

@@ -3,7 +3,7 @@
 ghost use Rattle.std.specs.Prelude.{◌≡◌};
 ghost use Rattle.vt_client.specs.Stores.{IsToldAs};
 
-use crate::{Client, ClientErr, Side};
+use crate::{Client, ClientErr};
 use std::alloc::Global;
 use vt_base::{Bytes, Kind, NoMemory, Score, Scorer, Text};
 use vt_out::Link;
@@ -23,23 +23,20 @@ impl<L: Link, S: Scorer + Drop> Scorer for Client<L, S> {
 
 impl<L: Link, S: Scorer + Drop> Client<L, S> {
     ghost use Rattle.std.specs.Prelude.{◌≡◌, Some};
+    ghost use Rattle.std.specs.Option.{option_or};
     ghost use Rattle.vt_tree.specs.Calls.{counted};
-    ghost use Rattle.vt_client.specs.Stores.{IsToldAs, side_after};
+    ghost use Rattle.vt_client.specs.Stores.{IsToldAs};
 
-    /// What a refusal is to who sees a store of blocks, counted, with the side of a fault noted.
-    fn counted(&mut self, alloc: Global, why: ClientErr) -> BlockErr
+    /// What a refusal is to who sees a store of blocks, counted; why the first was is kept.
+    fn refuse(&mut self, alloc: Global, why: ClientErr) -> BlockErr
         ensures err { IsToldAs why result }
         ensures left { self.new ≡ record self.old {
           counts = counted (Some result) self.old.counts;
-          side = side_after why self.old.side;
+          refused = option_or self.old.refused (Some why);
         } }
     {
-        match why {
-            ClientErr::ReadFault => self.side = Some(Side::Read),
-            ClientErr::WriteFault => self.side = Some(Side::Write),
-            _ => {}
-        }
-        let err = told(alloc, why);
+        let err = told(alloc, &why);
+        self.refused = self.refused.take().or(Some(why));
         match err {
             BlockErr::Fault => self.faults = self.faults.saturating_add(1),
             BlockErr::NoMemory => {}
@@ -52,14 +49,17 @@ impl<L: Link, S: Scorer + Drop> Client<L, S> {
 }
 
 /// The refusal that says why, or want of memory for its text.
-fn told(alloc: Global, why: ClientErr) -> BlockErr
-    ensures { IsToldAs why result }
+fn told(alloc: Global, why: &ClientErr) -> BlockErr
+    ensures { IsToldAs why.now result }
 {
     let text = match why {
-        ClientErr::Remote(text) => return BlockErr::Refused(text),
         ClientErr::ReadFault | ClientErr::WriteFault => return BlockErr::Fault,
-        ClientErr::WrongScore { want, found } => return BlockErr::WrongScore { want, found },
+        ClientErr::WrongScore { want, found } => {
+            let (want, found) = (*want, *found);
+            return BlockErr::WrongScore { want, found };
+        }
         ClientErr::NoMemory => return BlockErr::NoMemory,
+        ClientErr::Remote(text) => text.as_slice(),
         ClientErr::Cut => b"peer cut".as_slice(),
         ClientErr::BadReply(_) => b"bad reply".as_slice(),
         ClientErr::NoVersion => b"no version".as_slice(),
@@ -92,21 +92,24 @@ impl<L: Link, S: Scorer + Drop> Blocks for Client<L, S> {
     fn get(&mut self, alloc: Global, kind: Kind, score: &Score) -> Result<Bytes, BlockErr> {
         match Client::get(self, alloc, kind, score) {
             Ok(bytes) => Ok(bytes),
-            Err(why) => Err(self.counted(alloc, why)),
+            Err(why) => Err(self.refuse(alloc, why)),
         }
     }
 
     fn put(&mut self, alloc: Global, kind: Kind, bytes: &[u8]) -> Result<Score, BlockErr> {
         match Client::put(self, alloc, kind, bytes) {
-            Ok(score) => Ok(score),
-            Err(why) => Err(self.counted(alloc, why)),
+            Ok(score) => {
+                self.sent = self.sent.saturating_add(1);
+                Ok(score)
+            }
+            Err(why) => Err(self.refuse(alloc, why)),
         }
     }
 
     fn sync(&mut self, alloc: Global) -> Result<(), BlockErr> {
         match Client::sync(self, alloc) {
             Ok(()) => Ok(()),
-            Err(why) => Err(self.counted(alloc, why)),
+            Err(why) => Err(self.refuse(alloc, why)),
         }
     }
 }

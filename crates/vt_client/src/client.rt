@@ -8,7 +8,7 @@ ghost use Rattle.vt_client.specs.Taking.{Reads};
 
 use crate::exchange::{FRAME_MAX, exchange, remote, reply_in};
 use crate::greeting::say_hello;
-use crate::{ClientErr, Parted, Side};
+use crate::{ClientErr, Parted};
 use std::alloc::Global;
 use std::marker::Model;
 use vt_base::{Bytes, Kind, MAX_BLOCK, Score, Scorer};
@@ -33,7 +33,8 @@ pub struct Client<L: Link, S: Scorer> {
     spent: bool,
     pub(crate) faults: u64,
     pub(crate) refusals: u64,
-    pub(crate) side: Option<Side>,
+    pub(crate) refused: Option<ClientErr>,
+    pub(crate) sent: u64,
     ghost buf_len: { length buf.items ≡ 65537 },
 }
 
@@ -47,7 +48,8 @@ impl<L: Link, S: Scorer> Model for Client<L, S> {
       tag = c.tag;
       spent = c.spent;
       counts = record { faults = c.faults; refusals = c.refusals };
-      side = c.side;
+      refused = c.refused;
+      sent = c.sent;
     } };
 }
 
@@ -73,7 +75,8 @@ impl<L: Link, S: Scorer + Drop> Client<L, S> {
           tag = 1;
           spent = false;
           counts = record { faults = 0; refusals = 0 };
-          side = None;
+          refused = None;
+          sent = 0;
         }) }
         ensures sides { MatchResult result
             (λ client. CountsSides {T = Unit {0}} L.Link link client.link (Ok tt))
@@ -94,7 +97,8 @@ impl<L: Link, S: Scorer + Drop> Client<L, S> {
                 spent: false,
                 faults: 0,
                 refusals: 0,
-                side: None,
+                refused: None,
+                sent: 0,
             }),
             Err(why) => Err(Parted { link, why }),
         }
@@ -181,7 +185,8 @@ impl<L: Link, S: Scorer + Drop> Client<L, S> {
             spent,
             faults: _,
             refusals: _,
-            side: _,
+            refused: _refused,
+            sent: _,
         } = self;
         let mut link = link;
         if spent {
@@ -199,12 +204,20 @@ impl<L: Link, S: Scorer + Drop> Client<L, S> {
         }
     }
 
-    /// Whether the last fault that this client answered as a store of blocks was one of reading or
-    /// of writing.
-    pub fn side(&self) -> Option<Side>
-        ensures { result ≡ self.now.side }
+    /// Takes out why the first call of this client as a store of blocks was refused, or failed, of
+    /// those since this was taken out.
+    pub fn take_refused(&mut self) -> Option<ClientErr>
+        ensures refused { result ≡ self.old.refused }
+        ensures left { self.new ≡ record self.old { refused = None } }
     {
-        self.side
+        self.refused.take()
+    }
+
+    /// How many blocks it was given as a store of blocks, and the server took in.
+    pub fn sent(&self) -> u64
+        ensures { result ≡ self.now.sent }
+    {
+        self.sent
     }
 }
 

@@ -63,10 +63,3 @@ pub struct Parted<L> {
     pub link: L,
     pub why: ClientErr,
 }
-
-/// A direction of a link.
-#[derive(Clone, Copy, Debug, PartialEq, Eq)]
-pub enum Side {
-    Read,
-    Write,
-}

@@ -9,7 +9,7 @@ mod greeting;
 pub mod laws;
 
 pub use client::Client;
-pub use err::{ClientErr, Parted, Side};
+pub use err::{ClientErr, Parted};
 
 #[cfg(test)]
 mod tests;

@@ -148,30 +148,53 @@ fn failing(
     }
 }
 
-/// A failed read and a failed write of the link are faults, of which the side is told. The line is
-/// read in sixteen calls, and a reply in two.
+/// A failed read and a failed write of the link are faults, and it is kept which they were. The
+/// line is read in sixteen calls, and a reply in two.
 #[test]
-fn faults_and_their_sides(rt: HostRuntime) -> Result<(), Fail> {
+fn faults_are_kept(rt: HostRuntime) -> Result<(), Fail> {
     let alloc = rt.alloc();
     let mut read = failing(alloc, b"\x00\x05\x0d\x01abc", &[19], &[])?;
-    assert_eq!(rt; read.side(), None);
+    assert!(rt; read.take_refused().is_none());
     let got = Blocks::get(&mut read, alloc, Kind::DATA, &ABC);
     assert!(rt; matches!(got, Err(BlockErr::Fault)));
-    assert_eq!(rt; read.side(), Some(Side::Read));
+    assert!(rt; matches!(read.take_refused(), Some(ClientErr::ReadFault)));
+    assert!(rt; read.take_refused().is_none());
     let mut written = failing(alloc, b"", &[], &[2])?;
     let put = Blocks::put(&mut written, alloc, Kind::DATA, b"abc");
     assert!(rt; matches!(put, Err(BlockErr::Fault)));
-    assert_eq!(rt; written.side(), Some(Side::Write));
     let Err(BlockErr::Refused(text)) = Blocks::sync(&mut written, alloc) else {
         return Err("no text".into());
     };
     assert_eq!(rt; text.as_slice(), b"client spent".as_slice());
-    assert_eq!(rt; written.side(), Some(Side::Write));
+    assert!(rt; matches!(written.take_refused(), Some(ClientErr::WriteFault)));
+    assert!(rt; Blocks::sync(&mut written, alloc).is_err());
+    assert!(rt; matches!(written.take_refused(), Some(ClientErr::Spent)));
+    assert_eq!(rt; written.sent(), 0);
     let Err(parted) = written.goodbye() else {
         return Err("a goodbye".into());
     };
     assert!(rt; matches!(parted.why, ClientErr::Spent));
     assert_eq!(rt; parted.link.sink.faults(), 1);
+    Ok(())
+}
+
+/// Blocks that the server took in are counted, and no others.
+#[test]
+fn blocks_that_were_sent(rt: HostRuntime) -> Result<(), Fail> {
+    let alloc = rt.alloc();
+    let mut replies = Vec::from_slice(alloc, b"\x00\x16\x0f\x01")?;
+    replies.extend_from_slice(&ABC.0)?;
+    replies.extend_from_slice(b"\x00\x05\x0d\x02abc\x00\x06\x01\x03\x00\x02no")?;
+    let mut one = client(alloc, &replies)?;
+    assert_eq!(rt; one.sent(), 0);
+    assert!(rt; Blocks::put(&mut one, alloc, Kind::DATA, b"abc").is_ok());
+    assert!(rt; Blocks::get(&mut one, alloc, Kind::DATA, &ABC).is_ok());
+    assert!(rt; Blocks::put(&mut one, alloc, Kind::DATA, b"abc").is_err());
+    let Some(ClientErr::Remote(text)) = one.take_refused() else {
+        return Err("no text".into());
+    };
+    assert_eq!(rt; text.as_slice(), b"no".as_slice());
+    assert_eq!(rt; one.sent(), 1);
     Ok(())
 }
 

@@ -7,7 +7,7 @@ use Rattle.vt_base.specs.declared.TheConstants.{MAX_BLOCK}
 use Rattle.vt_base.specs.declared.score.Score.{Score}
 use Rattle.vt_client.specs.declared.err.ClientErr.{ClientErr}
 use Rattle.vt_client.specs.declared.err.Parted.{Parted}
-use Rattle.vt_client.specs.Clients.{Asks, ClientState, SaysGoodbye, block_of, committing, spent_by, taking_in}
+use Rattle.vt_client.specs.Clients.{Asks, ClientState, SaysGoodbye, block_of, committing, next_tag, spent_by, taking_in}
 use Rattle.vt_client.specs.Exchanges.{Answers, Exchanges, Moves, Traffic, Wanted, traffic_of}
 use Rattle.vt_client.specs.Greetings.{Begins, Greets, welcome}
 use Rattle.vt_wire.specs.Messages.{asked}
@@ -24,13 +24,13 @@ module _ {L : Type 0} (link : LinkOf L) (score_of : List ℕ → List ℕ) (told
   exchanged_by w tag before after value (inr never) = absurd never
 
   -- a call that was answered well
-  record Step {T : Type 0} (w : Wanted T) (c next : ClientState L) (value : T) : Type 0 where
-    exchanged : Exchanges (traffic_of link c.link) (traffic_of link next.link) c.tag w.request
+  pub record Step {T : Type 0} (w : Wanted T) (c next : ClientState L) (value : T) : Type 0 where
+    pub exchanged : Exchanges (traffic_of link c.link) (traffic_of link next.link) c.tag w.request
         (w.reply value)
-    unspent : next.spent ≡ false
-    tag : next.tag ≡ (c.tag + 1) % 256
+    pub unspent : next.spent ≡ false
+    pub tag : next.tag ≡ next_tag c.tag
 
-  step : {T : Type 0} (w : Wanted T) (c next : ClientState L) (value : T) → c.spent ≡ false
+  pub step : {T : Type 0} (w : Wanted T) (c next : ClientState L) (value : T) → c.spent ≡ false
       → Asks link score_of w c next (Ok value) → Step w c next value
   step w c next value unspent asks =
       let same = asks.goes_on unspent in
@@ -65,8 +65,8 @@ module _ {L : Type 0} (link : LinkOf L) (score_of : List ℕ → List ℕ) (told
 
   module _ {Does : (c c' : ClientState L) → Type 0} (back : L) (x : Talks link score_of Does back)
       (calls : List (TMessage × RMessage)) where
-    all_of : ExchangesEach 1 calls (traffic_of link x.met.link) (traffic_of link x.last.link)
-        → x.last.spent ≡ false → x.last.tag ≡ 1 + length calls
+    pub all_of : ExchangesEach 1 calls (traffic_of link x.met.link) (traffic_of link x.last.link)
+        → x.last.spent ≡ false → x.last.tag ≡ (1 + length calls) % 256
         → Exchanged calls (traffic_of link back)
     all_of each unspent tag =
         let met = greeted (traffic_of link x.meets.made) (traffic_of link x.met.link)
@@ -91,10 +91,10 @@ module _ {L : Type 0} (link : LinkOf L) (score_of : List ℕ → List ℕ) (told
           );
         }
 
-    fresh_spent : x.met.spent ≡ false
+    pub fresh_spent : x.met.spent ≡ false
     fresh_spent = ap (λ (s : ClientState L). s.spent) x.meets.client
 
-    fresh_tag : x.met.tag ≡ 1
+    pub fresh_tag : x.met.tag ≡ 1
     fresh_tag = ap (λ (s : ClientState L). s.tag) x.meets.client
 
   pub block_read : (kind : ℕ) (s bytes : List ℕ) (back : L)
@@ -109,7 +109,7 @@ module _ {L : Type 0} (link : LinkOf L) (score_of : List ℕ → List ℕ) (told
             (fresh_tag back x []) did.exchanged,
         refl,
       )
-      did.unspent (did.tag ∙ ap (λ (t : ℕ). (t + 1) % 256) (fresh_tag back x []))
+      did.unspent (did.tag ∙ ap next_tag (fresh_tag back x []))
 
   pub block_written : (kind : ℕ) (bytes : List ℕ) (given : Score) (back : L)
       → Talks link score_of (PutsBlock link score_of kind bytes (Ok given)) back
@@ -121,7 +121,7 @@ module _ {L : Type 0} (link : LinkOf L) (score_of : List ℕ → List ℕ) (told
       x.does.1 in
       let committed = step committing mid x.last tt put.unspent x.does.2 in
       let second : mid.tag ≡ 2 =
-      put.tag ∙ ap (λ (t : ℕ). (t + 1) % 256) (fresh_tag back x []) in
+      put.tag ∙ ap next_tag (fresh_tag back x []) in
       all_of back x ((t_ask (write kind bytes), r_write given.0) ∷ (t_ask sync, r_sync) ∷ []) (
         traffic_of link mid.link,
         subst (λ (t : ℕ). Exchanges (traffic_of link x.met.link)
@@ -134,4 +134,4 @@ module _ {L : Type 0} (link : LinkOf L) (score_of : List ℕ → List ℕ) (told
           refl,
         ),
       )
-      committed.unspent (committed.tag ∙ ap (λ (t : ℕ). (t + 1) % 256) second)
+      committed.unspent (committed.tag ∙ ap next_tag second)

@@ -16,7 +16,7 @@ some old new rose = omega (arith, rose)
 
 module _ {L : Type 0} (link : LinkOf L) (score_of : List ℕ → List ℕ) where
   -- of one request
-  of_request : {T : Type 0} (w : Wanted T) (c c' : ClientState L) (why : ClientErr)
+  pub of_request : {T : Type 0} (w : Wanted T) (c c' : ClientState L) (why : ClientErr)
       → c.spent ≡ false → Asks link score_of w c c' (Err why) → HasCauseOver link why c'.link
   of_request w c c' errs.ReadFault unspent asks = some _ _ asks.sides.reads
   of_request w c c' errs.WriteFault unspent asks = some _ _ asks.sides.writes
@@ -29,7 +29,7 @@ module _ {L : Type 0} (link : LinkOf L) (score_of : List ℕ → List ℕ) where
   of_request w c c' errs.NoVersion unspent asks = tt
   of_request w c c' errs.NoMemory unspent asks = tt
 
-  spent_behind : {T : Type 0} (w : Wanted T) (c c' : ClientState L) (why : ClientErr)
+  pub spent_behind : {T : Type 0} (w : Wanted T) (c c' : ClientState L) (why : ClientErr)
       → c.spent ≡ false → Asks link score_of w c c' (Err why) → c'.spent ≡ spends why
   spent_behind w c c' why unspent asks = ap (λ (s : ClientState L). s.spent) (asks.goes_on unspent)
 
@@ -42,7 +42,7 @@ module _ {L : Type 0} (link : LinkOf L) (score_of : List ℕ → List ℕ) where
       (λ failed. let no : true ≡ false = sym spent ∙ failed.0 in absurd (cc)) says
 
   -- the same when it is parted from
-  behind : (why : ClientErr) (c : ClientState L) (parted : Result L (Parted L))
+  pub behind : (why : ClientErr) (c : ClientState L) (parted : Result L (Parted L))
       → c.spent ≡ spends why → SaysGoodbye link c parted → HasCauseOver link why c.link
       → HasCauseOver link why (link_in parted)
   behind errs.ReadFault c parted spent says cause =

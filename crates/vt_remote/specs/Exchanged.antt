@@ -1,7 +1,8 @@
 -- All that went over the link to a server of which a block was read, or to which one was written
 -- (venti(6)).
-use Rattle.std.specs.Prelude.{ℕ, ◌≡◌, ◌+◌, List, [], ◌∷◌, length, take, codes}
+use Rattle.std.specs.Prelude.{ℕ, ◌≡◌, ◌+◌, ◌%◌, List, [], ◌∷◌, length, take, codes}
 use Rattle.vt_base.specs.Protocol.{TMessage, RMessage, r_hello, t_goodbye, t_hello}
+use Rattle.vt_client.specs.Clients.{next_tag}
 use Rattle.vt_client.specs.Exchanges.{Traffic, Exchanges, Moves}
 use Rattle.vt_client.specs.Greetings.{Begins}
 use Rattle.vt_wire.specs.Messages.{asked}
@@ -11,7 +12,7 @@ abbrev pub ExchangesEach : (tag : ℕ) → List (TMessage × RMessage) → (befo
     → Type 0
 ExchangesEach tag [] before after = after ≡ before
 ExchangesEach tag (call ∷ calls) before after = (between : Traffic)
-    × Exchanges before between tag call.0 call.1 × ExchangesEach (tag + 1) calls between after
+    × Exchanges before between tag call.0 call.1 × ExchangesEach (next_tag tag) calls between after
 
 -- On a link over which nothing had gone, both sides said their line; a hello was answered; these
 -- requests had these replies; and a goodbye went out, or a front of it.
@@ -26,4 +27,4 @@ pub record Exchanged (calls : List (TMessage × RMessage)) (back : Traffic) : Ty
   pub hello : Exchanges between greeted 0 (t_hello (codes "02")) r_hello
   pub last : Traffic
   pub each : ExchangesEach 1 calls greeted last
-  pub goodbye : (n : ℕ) × Moves last back (take n (asked (1 + length calls) t_goodbye)) []
+  pub goodbye : (n : ℕ) × Moves last back (take n (asked ((1 + length calls) % 256) t_goodbye)) []

@@ -43,7 +43,8 @@ fresh_client link = record {
   tag = 1;
   spent = false;
   counts = record { faults = 0; refusals = 0 };
-  side = None;
+  refused = None;
+  sent = 0;
 }
 
 -- a new link, over which both sides greeted

@@ -14,7 +14,8 @@ returns-clause-asks g c =
       tag = old.tag;
       spent = old.spent;
       counts = record { faults = old.faults; refusals = old.refusals };
-      side = old.side;
+      refused = old.refused;
+      sent = old.sent;
     } in
     let answer = c.match-exchange.answer in
     let sent = block_of c.args.score.now.0 c.wire.result in

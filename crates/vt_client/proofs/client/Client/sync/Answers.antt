@@ -14,7 +14,8 @@ returns g c =
       tag = old.tag;
       spent = old.spent;
       counts = record { faults = old.faults; refusals = old.refusals };
-      side = old.side;
+      refused = old.refused;
+      sent = old.sent;
     } in
     let answer = c.match-exchange.answer in
     let sent = committing in

@@ -1,0 +1,5 @@
+pub mod Calling
+pub mod Causes
+pub mod Leaving
+pub mod Sending
+pub mod Whole
