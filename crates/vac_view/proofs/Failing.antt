@@ -35,7 +35,7 @@ use Rattle.vac_view.proofs.Calls.{RefusesFirst, view_refused}
 
 -- ---- what the store itself said
 
-accepted_first : (call : Call) (calls : List Call) → refusals_of (call ∷ calls) ≡ []
+pub accepted_first : (call : Call) (calls : List Call) → refusals_of (call ∷ calls) ≡ []
     → (refusal_of call ≡ None) × (refusals_of calls ≡ [])
 accepted_first call calls accepted = of (refusal_of call) refl accepted
   where
