@@ -21,7 +21,7 @@ use Rattle.vt_base.specs.declared.why.Why.{Why}
 use Rattle.vt_base.specs.declared.why.Why.TheVariants.{BadType, TooBig, TooSmall, Absent, Collision, IndexFull, ArenasFull, DiskFault, Stopped, Damaged, NoMemory}
 use Rattle.vt_base.specs.Protocol.{Operation, read, write, sync, r_read, r_write, r_refused}
 use Rattle.vt_disk.specs.Members.{DiskOf}
-use Rattle.vt_model.specs.Answer.{Outcome, adds, answer}
+use Rattle.vt_model.specs.Answer.{Outcome, adds}
 use Rattle.vt_model.specs.History.{Accepted, Block as BlockOf, History}
 use Rattle.vt_model.specs.Places.{Setup, next_arena}
 use Rattle.vt_isect.specs.Agreement.{IsEntryOf}
