@@ -245,10 +245,7 @@ fn fails_each<T: DrivenStore>(
 /// the filter is saved by four.
 fn fails_parts<T: DrivenStore>(alloc: Global, alone: bool) -> Result<(), &'static str> {
     see(fails_each::<T>(alloc, 1, alone)? == 9, "the first section")?;
-    see(
-        fails_each::<T>(alloc, 2, alone)? == 9,
-        "the second section",
-    )?;
+    see(fails_each::<T>(alloc, 2, alone)? == 9, "the second section")?;
     see(fails_each::<T>(alloc, 3, alone)? == 4, "the filter")
 }
 
