@@ -47,7 +47,7 @@ module _ {R K I P D N L : Type 0} (score : List ℕ → List ℕ) (disk : DiskOf
   module _ (opened left : CoreState D)
       (rises : OneRose (each_of disk.faults opened) (each_of disk.faults left)
       → HasFailed disk work.parts) where
-    why_told : (why : Why) → (tells_failure why ≡ Bool.true → FailsFor disk why opened left)
+    pub why_told : (why : Why) → (tells_failure why ≡ Bool.true → FailsFor disk why opened left)
         → HasCauseIn disk work (Err (refusal_for why))
     why_told whys.DiskFault it = inr (rises (it refl))
     why_told (whys.Stopped call) it = inr (rises (it refl))
@@ -116,7 +116,7 @@ module _ {R K I P D N L : Type 0} (link : LinkOf L) (score : List ℕ → List �
     (address : Address) (work : Work R K I P D N L)
     (reads : work.dialer.read_faults ≡ link.read_faults)
     (writes : work.dialer.write_faults ≡ link.write_faults) where
-  link_cause : (why : ClientErr) (back : L) → HasCauseOver link why back
+  pub link_cause : (why : ClientErr) (back : L) → HasCauseOver link why back
       → IsBack (IsTrue work.dialer.tells) address back work.dialer.old work.dialer.new
       → HasServerCause work.dialer (remote.Refused why)
   link_cause errs.ReadFault back cause is = record {
@@ -141,7 +141,7 @@ module _ {R K I P D N L : Type 0} (link : LinkOf L) (score : List ℕ → List �
 
   module _ (met : (why : ClientErr) (back : L) → MeetsInVain link score why back
       → HasCauseOver link why back) where
-    server_cause : {T : Type 0}
+    pub server_cause : {T : Type 0}
         (Does : Result T ClientErr → (c c' : ClientState L) → Type 0)
         → ((why : ClientErr) (back : L) → Talks link score (Does (Err why)) back
         → HasCauseOver link why back)
@@ -282,7 +282,7 @@ module _ {R K I P D N L : Type 0} (score : List ℕ → List ℕ) (disk : DiskOf
 
 -- ---- neither command ends as other words do
 
-refusal_never : (why : Why) → status_of (Err (refusal_for why)) ≢ 1
+pub refusal_never : (why : Why) → status_of (Err (refusal_for why)) ≢ 1
 refusal_never whys.DiskFault is = cc
 refusal_never (whys.Stopped call) is = cc
 refusal_never (whys.Damaged site want found) is = cc
@@ -323,13 +323,13 @@ no_block score_word type_word failure why = ⊎_elim
     (λ score. other_as failure _ score.1 (λ one. cc))
     (λ kind. no_type type_word failure kind.1) why
 
-refused_never : {R K I P D N L : Type 0} (IsWhy : Failure → Type 0) (outcome : Outcome)
+pub refused_never : {R K I P D N L : Type 0} (IsWhy : Failure → Type 0) (outcome : Outcome)
     (work : Work R K I P D N L) → ((failure : Failure) → IsWhy failure → IsOther failure)
     → RefusesWord IsWhy outcome work → status_of outcome ≢ 1
 refused_never IsWhy outcome work others x one =
     others x.failure x.why (ap status_of (sym x.outcome_is) ∙ one)
 
-no_conf : {R K I P D N L : Type 0} (file : List ℕ) (outcome : Outcome) (work : Work R K I P D N L)
+pub no_conf : {R K I P D N L : Type 0} (file : List ℕ) (outcome : Outcome) (work : Work R K I P D N L)
     → FindsNoConf file outcome work → status_of outcome ≢ 1
 no_conf file outcome work none one =
     none_never file none.failure work.files none.none (ap status_of (sym none.outcome_is) ∙ one)
@@ -359,11 +359,11 @@ served text (Ok value) outcome sink told = printed_never (text value) outcome si
 served text (Err bad) outcome sink told = λ one.
     server_never bad (ap status_of (sym told.0) ∙ one)
 
-idle_never : {R K I P D N L : Type 0} (outcome : Outcome) (work : Work R K I P D N L)
+pub idle_never : {R K I P D N L : Type 0} (outcome : Outcome) (work : Work R K I P D N L)
     → EndsIdle (Err NoMemory) outcome work → status_of outcome ≢ 1
 idle_never outcome work idle one = let is = ap status_of (sym idle.is) ∙ one in cc
 
-at_place : {R K I P D N L : Type 0} (store : List ℕ) (Does : Place → Type 0) (outcome : Outcome)
+pub at_place : {R K I P D N L : Type 0} (store : List ℕ) (Does : Place → Type 0) (outcome : Outcome)
     (work : Work R K I P D N L) → ((place : Place) → Does place → status_of outcome ≢ 1)
     → AtPlace store Does outcome work → status_of outcome ≢ 1
 at_place store Does outcome work never it = ⊎_elim

@@ -7,14 +7,14 @@ use Rattle.vt_session.specs.declared.Ended.TheVariants as ends
 use Rattle.vt_words.specs.declared.asked.Asked.{Asked}
 use Rattle.vt_words.specs.declared.asked.Asked.TheVariants.{Do, Help, Version, Faulty}
 use Rattle.vt_words.specs.declared.command.Command.{Command}
-use Rattle.vt_words.specs.declared.command.Command.TheVariants.{Session, FormatArenas, FormatSection, FormatFilter, FormatIndex, Read, Write, Rehearse}
+use Rattle.vt_words.specs.declared.command.Command.TheVariants.{Session, FormatArenas, FormatSection, FormatFilter, FormatIndex, RebuildIndex, CheckArenas, Read, Write, Rehearse, Vac, View}
 use Rattle.vt_words.specs.Words.{Asks, AreFaulty, IsFaulty}
 use Rattle.vt_words.proofs.Asking.{alone}
 use Rattle.vt_client.specs.declared.err.ClientErr.TheVariants as errs
 use Rattle.vt_remote.specs.declared.remote.RemoteBad.{RemoteBad}
 use Rattle.vt_remote.specs.declared.remote.RemoteBad.TheVariants as remote
 use Rattle.vt_prog.specs.declared.failure.Failure.{Failure}
-use Rattle.vt_prog.specs.declared.failure.Failure.TheVariants.{BadWords, BadConf, NotFormatted, TooSmall, Disagree, SameName, DiskFault, BadNumber, BadName, Cut, Malformed, Spent, ReadFault, FileFault, WriteFault, NoMemory, Damaged, BadScore, IndexFull, ArenasFull, Refused, Server}
+use Rattle.vt_prog.specs.declared.failure.Failure.TheVariants.{BadWords, BadConf, NotFormatted, TooSmall, Disagree, SameName, DiskFault, BadNumber, BadName, Cut, Malformed, Spent, ReadFault, FileFault, FolderFault, WriteFault, NoMemory, Damaged, BadScore, BadArchive, TooDeep, TooLong, IndexFull, ArenasFull, Refused, NoBlock, Server}
 use Rattle.vt_prog.specs.Change.{Work}
 use Rattle.vt_prog.specs.Commands.Fmtarenas.{AsksForNoArenas}
 use Rattle.vt_prog.specs.Commands.Fmtbloom.{AsksForNoFilter}
@@ -31,6 +31,9 @@ use Rattle.vt_prog.proofs.BlockCauses.{read_never, server_never, write_never}
 use Rattle.vt_prog.proofs.Causes.{formats_never, printed_never}
 use Rattle.vt_prog.proofs.IndexCauses.{index_never}
 use Rattle.vt_prog.proofs.SessionCauses.{outcome_never, session_conf_never}
+use Rattle.vt_prog.proofs.ViewCauses.{vacfs_never}
+use Rattle.vt_prog.proofs.UpkeepCauses.{check_never, rebuild_never}
+use Rattle.vt_prog.proofs.VacServedCauses.{vac_at_never}
 
 -- ---- by what the words ask for
 
@@ -47,14 +50,14 @@ module _ {R K I P D N L : Type 0} (disk : DiskOf D) (link : LinkOf L) (score : L
   pub done : (command : Command) → Asks words (Do command) → DoesWords disk link score words preface outcome work
       → Does disk link score command outcome work ⊎ EndsIdle (Err NoMemory) outcome work
   done command asks does = ⊎_elim
-      (λ it. inl (subst (λ asked. DoesAsked disk link score asked outcome work) (alone words command it.0 asks it.1) it.3))
+      (λ it. inl (subst (λ asked. DoesAsked disk link score asked outcome work) (alone words command it.0 asks it.1) it.2))
       (λ short. inr short.1)
       does
 
   pub refused : AreFaulty words → DoesWords disk link score words preface outcome work
       → EndsIdle (Err BadWords) outcome work ⊎ EndsIdle (Err NoMemory) outcome work
   refused faulty does = ⊎_elim
-      (λ it. inl (faulty_idle disk link score it.0 outcome work (faulty it.0 it.1) it.3))
+      (λ it. inl (faulty_idle disk link score it.0 outcome work (faulty it.0 it.1) it.2))
       (λ short. inr short.1)
       does
 
@@ -116,11 +119,15 @@ does_never disk link score (FormatFilter file size positions) outcome work does 
     (word_never (AsksForNoFilter size positions) outcome work (filter_words size positions))
     (λ x. formats_never disk file _ _ _ outcome work x.4) does
 does_never disk link score (FormatIndex file) outcome work does = index_never disk file outcome work does
+does_never disk link score (RebuildIndex file) outcome work does = rebuild_never score disk file outcome work does
+does_never disk link score (CheckArenas file) outcome work does = check_never score disk file outcome work does
 does_never disk link score (Read store score_word kind) outcome work does = read_never score disk link store score_word kind outcome work does
 does_never disk link score (Write store kind) outcome work does = write_never score disk link store kind outcome work does
 does_never disk link score (Rehearse seed count) outcome work does = ⊎_elim
     (word_never (AsksForNoRehearsal seed count) outcome work (rehearsal_words seed count))
     (λ x. rehearsal_never x.0 x.1 outcome work x.3) does
+does_never disk link score (Vac file folder size) outcome work does = vac_at_never score disk link file folder size does.0 outcome work does.1
+does_never disk link score (View store score_word) outcome work does = vacfs_never score disk link store score_word outcome work does
 
 pub never_bad : {R K I P D N L : Type 0} (disk : DiskOf D) (link : LinkOf L) (score : List ℕ → List ℕ) (command : Command) (outcome : Outcome) (work : Work R K I P D N L)
     → Does disk link score command outcome work ⊎ EndsIdle (Err NoMemory) outcome work → status_of outcome ≢ 1
@@ -148,9 +155,14 @@ line_of_one (Err WriteFault) one = absurd (cc)
 line_of_one (Err NoMemory) one = absurd (cc)
 line_of_one (Err (Damaged want found)) one = absurd (cc)
 line_of_one (Err (BadScore at)) one = absurd (cc)
+line_of_one (Err (BadArchive at)) one = absurd (cc)
+line_of_one (Err (TooDeep at)) one = absurd (cc)
+line_of_one (Err (TooLong at)) one = absurd (cc)
+line_of_one (Err FolderFault) one = absurd (cc)
 line_of_one (Err IndexFull) one = absurd (cc)
 line_of_one (Err ArenasFull) one = absurd (cc)
 line_of_one (Err (Refused why)) one = absurd (cc)
+line_of_one (Err (NoBlock text)) one = absurd (cc)
 line_of_one (Err (Server bad)) one = absurd (server_never bad one)
 
 -- ---- by the status
@@ -177,9 +189,14 @@ module _ {R K I P D N L : Type 0} (disk : DiskOf D) (work : Work R K I P D N L) 
   disk_risen (Err NoMemory) is cause = absurd (cc)
   disk_risen (Err (Damaged want found)) is cause = absurd (cc)
   disk_risen (Err (BadScore at)) is cause = absurd (cc)
+  disk_risen (Err (BadArchive at)) is cause = absurd (cc)
+  disk_risen (Err (TooDeep at)) is cause = absurd (cc)
+  disk_risen (Err (TooLong at)) is cause = absurd (cc)
+  disk_risen (Err FolderFault) is cause = absurd (cc)
   disk_risen (Err IndexFull) is cause = absurd (cc)
   disk_risen (Err ArenasFull) is cause = absurd (cc)
   disk_risen (Err (Refused why)) is cause = absurd (cc)
+  disk_risen (Err (NoBlock text)) is cause = absurd (cc)
   disk_risen (Err (Server bad)) is cause = absurd (not_disk bad is)
     where
       not_disk : (bad : RemoteBad) → server_status bad ≢ 4
@@ -197,6 +214,7 @@ module _ {R K I P D N L : Type 0} (disk : DiskOf D) (work : Work R K I P D N L) 
   pub read_risen : (outcome : Outcome) → status_of outcome ≡ 6 → HasCauseIn disk work outcome
       → HasRisen work.source.faults work.source.faults'
       ⊎ HasRisen work.files.faults work.files.faults'
+      ⊎ HasRisen work.folders.faults work.folders.faults'
       ⊎ HasRisen work.dialer.faults work.dialer.faults'
       ⊎ HasLinkFailed work.dialer.read_faults work.dialer
   read_risen (Ok done) is cause = absurd (cc)
@@ -214,15 +232,20 @@ module _ {R K I P D N L : Type 0} (disk : DiskOf D) (work : Work R K I P D N L) 
   read_risen (Err (Spent taken)) is cause = absurd (cc)
   read_risen (Err ReadFault) is cause = inl cause
   read_risen (Err FileFault) is cause = inr (inl cause)
+  read_risen (Err FolderFault) is cause = inr (inr (inl cause))
   read_risen (Err WriteFault) is cause = absurd (cc)
   read_risen (Err NoMemory) is cause = absurd (cc)
   read_risen (Err (Damaged want found)) is cause = absurd (cc)
   read_risen (Err (BadScore at)) is cause = absurd (cc)
+  read_risen (Err (BadArchive at)) is cause = absurd (cc)
+  read_risen (Err (TooDeep at)) is cause = absurd (cc)
+  read_risen (Err (TooLong at)) is cause = absurd (cc)
   read_risen (Err IndexFull) is cause = absurd (cc)
   read_risen (Err ArenasFull) is cause = absurd (cc)
   read_risen (Err (Refused why)) is cause = absurd (cc)
-  read_risen (Err (Server remote.Undialled)) is cause = inr (inr (inl cause))
-  read_risen (Err (Server (remote.Refused errs.ReadFault))) is cause = inr (inr (inr cause))
+  read_risen (Err (NoBlock text)) is cause = absurd (cc)
+  read_risen (Err (Server remote.Undialled)) is cause = inr (inr (inr (inl cause)))
+  read_risen (Err (Server (remote.Refused errs.ReadFault))) is cause = inr (inr (inr (inr cause)))
   read_risen (Err (Server (remote.Refused errs.WriteFault))) is cause = absurd (cc)
   read_risen (Err (Server (remote.Refused (errs.WrongScore want found)))) is cause = absurd (cc)
   read_risen (Err (Server (remote.Refused (errs.Remote text)))) is cause = absurd (cc)
@@ -254,9 +277,14 @@ module _ {R K I P D N L : Type 0} (disk : DiskOf D) (work : Work R K I P D N L) 
   write_risen (Err NoMemory) is cause = absurd (cc)
   write_risen (Err (Damaged want found)) is cause = absurd (cc)
   write_risen (Err (BadScore at)) is cause = absurd (cc)
+  write_risen (Err (BadArchive at)) is cause = absurd (cc)
+  write_risen (Err (TooDeep at)) is cause = absurd (cc)
+  write_risen (Err (TooLong at)) is cause = absurd (cc)
+  write_risen (Err FolderFault) is cause = absurd (cc)
   write_risen (Err IndexFull) is cause = absurd (cc)
   write_risen (Err ArenasFull) is cause = absurd (cc)
   write_risen (Err (Refused why)) is cause = absurd (cc)
+  write_risen (Err (NoBlock text)) is cause = absurd (cc)
   write_risen (Err (Server remote.Undialled)) is cause = absurd (cc)
   write_risen (Err (Server (remote.Refused errs.ReadFault))) is cause = absurd (cc)
   write_risen (Err (Server (remote.Refused errs.WriteFault))) is cause = inr cause

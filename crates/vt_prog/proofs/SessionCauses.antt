@@ -183,7 +183,7 @@ module _ {R K I P D N L : Type 0} (disk : DiskOf D) (work : Work R K I P D N L) 
     closed_cause (Ok done) it = tt
     closed_cause (Err why) it = causes why it
 
-    first_cause : (first second : Outcome) → HasCauseIn disk work first
+    pub first_cause : (first second : Outcome) → HasCauseIn disk work first
         → HasCauseIn disk work second → HasCauseIn disk work (first_of first second)
     first_cause (Ok done) second x y = y
     first_cause (Err failure) second x y = x
@@ -301,7 +301,7 @@ closed_never : (closed : Result (Unit {0}) Why) → status_of (closed_with close
 closed_never (Ok done) is = cc
 closed_never (Err why) is = why_never why is
 
-first_never : (first second : Outcome) → status_of first ≢ 1 → status_of second ≢ 1
+pub first_never : (first second : Outcome) → status_of first ≢ 1 → status_of second ≢ 1
     → status_of (first_of first second) ≢ 1
 first_never (Ok done) second x y = y
 first_never (Err failure) second x y = x

@@ -1,20 +1,23 @@
--- What a run did to the streams, the files, the partitions and the links of its host.
-use Rattle.std.specs.Prelude.{ℕ, ◌≡◌, ◌⊎◌, ◌++◌, Bool, IsTrue, List, Option}
+-- What a run did to the streams, the files, the partitions, the folders and the links of its host.
+use Rattle.std.specs.Prelude.{ℕ, ◌≡◌, ◌⊎◌, ◌++◌, Bool, IsTrue, List, [], Option}
 use Rattle.vt_base.specs.Faults.{HasRisen}
 use Rattle.vt_out.specs.Streams.{AppendsPrefix}
+use Rattle.vt_folders.specs.Standing.{Standing as FolderStanding}
 use Rattle.vt_parts.specs.Parts.{Standing}
 use Rattle.vt_dial.specs.Dialled.{Dialled}
 use Rattle.vt_prog.specs.Hosts.{Lent}
-use Rattle.vt_prog.specs.Members.{SourceOf, SinkOf, FilesOf, PartsOf, DialerOf, LinkOf}
+use Rattle.vt_prog.specs.Members.{SourceOf, SinkOf, FilesOf, PartsOf, FoldersOf, DialerOf, LinkOf}
 
 -- A stream before the run and behind it: the stream itself; its bytes, left or written, where it
--- tells them; and its count of faults.
+-- tells them, and of one that is read those that were taken; and its count of faults.
 pub record Change (Stream : Type 0) : Type 0 where
   pub before : Stream
   pub after : Stream
   pub tells : Bool
   pub old : List ℕ
   pub new : List ℕ
+  pub taken : List ℕ
+  pub taken' : List ℕ
   pub faults : ℕ
   pub faults' : ℕ
 
@@ -25,6 +28,8 @@ source_change source before after = record {
   tells = source.tells;
   old = source.left before;
   new = source.left after;
+  taken = source.given before;
+  taken' = source.given after;
   faults = source.faults before;
   faults' = source.faults after;
 }
@@ -36,6 +41,8 @@ sink_change sink before after = record {
   tells = sink.tells;
   old = sink.written before;
   new = sink.written after;
+  taken = [];
+  taken' = [];
   faults = sink.faults before;
   faults' = sink.faults after;
 }
@@ -109,6 +116,28 @@ dialer_change dialer link before after = record {
   write_faults = link.write_faults;
 }
 
+-- The folders before the run and behind it: what stands under which name, where they tell it; and
+-- their count of faults.
+pub record FoldersChange : Type 0 where
+  pub tells : Bool
+  pub old : (name : List ℕ) → FolderStanding
+  pub new : (name : List ℕ) → FolderStanding
+  pub faults : ℕ
+  pub faults' : ℕ
+
+abbrev pub folders_change : {G E : Type 0} → FoldersOf G E → (before after : G) → FoldersChange
+folders_change folders before after = record {
+  tells = folders.tells;
+  old = folders.standing before;
+  new = folders.standing after;
+  faults = folders.faults before;
+  faults' = folders.faults after;
+}
+
+-- none was handed out, and no call of one failed
+abbrev pub AreUnused : FoldersChange → Type 0
+AreUnused folders = (folders.new ≡ folders.old) × (folders.faults' ≡ folders.faults)
+
 -- what a run did before its line on the fault sink
 pub record Work (R K I P D N L : Type 0) : Type 0 where
   pub source : Change R
@@ -116,15 +145,18 @@ pub record Work (R K I P D N L : Type 0) : Type 0 where
   pub files : FilesChange I
   pub parts : PartsChange P D
   pub dialer : DialerChange N L
+  pub folders : FoldersChange
 
-abbrev pub work_of : {R K F I P D N L : Type 0} → SourceOf R → SinkOf K → FilesOf I → PartsOf P D
-    → DialerOf N L → LinkOf L → (before after : Lent R K F I P N) → Work R K I P D N L
-work_of source sink files parts dialer link before after = record {
+abbrev pub work_of : {R K F I P D G E N L : Type 0} → SourceOf R → SinkOf K → FilesOf I
+    → PartsOf P D → FoldersOf G E → DialerOf N L → LinkOf L
+    → (before after : Lent R K F I P N G) → Work R K I P D N L
+work_of source sink files parts folders dialer link before after = record {
   source = source_change source before.source after.source;
   sink = sink_change sink before.sink after.sink;
   files = files_change files before.files after.files;
   parts = parts_change parts before.parts after.parts;
   dialer = dialer_change dialer link before.dialer after.dialer;
+  folders = folders_change folders before.folders after.folders;
 }
 
 -- nothing but files was read, nothing was written or handed out, and no link was made

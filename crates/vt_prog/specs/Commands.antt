@@ -1,3 +1,5 @@
+pub mod Buildindex
+pub mod Checkarenas
 pub mod Fmtarenas
 pub mod Fmtbloom
 pub mod Fmtindex
@@ -5,5 +7,10 @@ pub mod Fmtisect
 pub mod Read
 pub mod Rehearse
 pub mod Session
+pub mod SessionAt
 pub mod SessionConf
+pub mod Vac
+pub mod VacAt
+pub mod VacServed
+pub mod Vacfs
 pub mod Write

@@ -13,7 +13,7 @@ use Rattle.hex.specs.Hex.{encode_lower}
 use Rattle.vt_disk.specs.Members.{DiskOf}
 use Rattle.vt_parts.specs.Parts.{there, HandsOut}
 use Rattle.vt_prog.specs.declared.failure.Failure.{Failure}
-use Rattle.vt_prog.specs.declared.failure.Failure.TheVariants.{BadWords, BadConf, NotFormatted, TooSmall, Disagree, SameName, DiskFault, BadNumber, BadName, BadScore, Cut, Malformed, Spent, ReadFault, FileFault, WriteFault, NoMemory, Damaged, IndexFull, ArenasFull, Refused, Server}
+use Rattle.vt_prog.specs.declared.failure.Failure.TheVariants.{BadWords, BadConf, NotFormatted, TooSmall, Disagree, SameName, DiskFault, BadNumber, BadName, BadScore, BadArchive, TooDeep, TooLong, Cut, Malformed, Spent, ReadFault, FileFault, FolderFault, WriteFault, NoMemory, Damaged, IndexFull, ArenasFull, Refused, NoBlock, Server}
 use Rattle.vt_prog.specs.Change.{DialerChange, PartsChange, Work}
 use Rattle.vt_prog.specs.Fields.{field_name, value_text}
 use Rattle.vt_remote.specs.declared.remote.RemoteBad.{RemoteBad}
@@ -47,17 +47,22 @@ status_of (Err DiskFault) = 4
 status_of (Err (BadNumber at)) = 5
 status_of (Err (BadName at)) = 5
 status_of (Err (BadScore at)) = 5
+status_of (Err (BadArchive at)) = 5
+status_of (Err (TooDeep at)) = 5
+status_of (Err (TooLong at)) = 5
 status_of (Err (Cut taken)) = 5
 status_of (Err (Malformed place)) = 5
 status_of (Err (Spent taken)) = 5
 status_of (Err ReadFault) = 6
 status_of (Err FileFault) = 6
+status_of (Err FolderFault) = 6
 status_of (Err WriteFault) = 7
 status_of (Err NoMemory) = 8
 status_of (Err (Damaged want found)) = 9
 status_of (Err IndexFull) = 10
 status_of (Err ArenasFull) = 10
 status_of (Err (Refused why)) = 11
+status_of (Err (NoBlock text)) = 11
 status_of (Err (Server bad)) = server_status bad
 
 -- a line on the fault sink
@@ -95,11 +100,15 @@ line_of (Err DiskFault) = line (codes "disk fault" ∷ [])
 line_of (Err (BadNumber at)) = line (codes "bad number at " ∷ decimal at ∷ [])
 line_of (Err (BadName at)) = line (codes "bad name at " ∷ decimal at ∷ [])
 line_of (Err (BadScore at)) = line (codes "bad score at " ∷ decimal at ∷ [])
+line_of (Err (BadArchive at)) = line (codes "bad archive at " ∷ decimal at ∷ [])
+line_of (Err (TooDeep at)) = line (codes "too deep at " ∷ decimal at ∷ [])
+line_of (Err (TooLong at)) = line (codes "too long at " ∷ decimal at ∷ [])
 line_of (Err (Cut taken)) = line (codes "cut at " ∷ decimal taken ∷ [])
 line_of (Err (Malformed place)) = line (codes "malformed at " ∷ decimal place ∷ [])
 line_of (Err (Spent taken)) = line (codes "spent at " ∷ decimal taken ∷ [])
 line_of (Err ReadFault) = line (codes "read fault" ∷ [])
 line_of (Err FileFault) = line (codes "read fault" ∷ [])
+line_of (Err FolderFault) = line (codes "read fault" ∷ [])
 line_of (Err WriteFault) = line (codes "write fault" ∷ [])
 line_of (Err NoMemory) = line (codes "no memory" ∷ [])
 line_of (Err (Damaged want found)) =
@@ -107,6 +116,7 @@ line_of (Err (Damaged want found)) =
 line_of (Err IndexFull) = line (codes "index full" ∷ [])
 line_of (Err ArenasFull) = line (codes "arenas full" ∷ [])
 line_of (Err (Refused why)) = line (codes "refused: " ∷ why_text_of why ∷ [])
+line_of (Err (NoBlock text)) = line (codes "refused: " ∷ text ∷ [])
 line_of (Err (Server bad)) = server_line bad
 
 -- calls failed meanwhile: the count is higher, or stands at the end of its type
@@ -139,8 +149,9 @@ HasServerCause dialer (remote.Refused errs.WriteFault) =
 HasServerCause dialer (remote.Refused (errs.WrongScore want found)) = want.0 ≢ found.0
 HasServerCause dialer (remote.Refused why) = ⊤
 
--- A fault is told only where the count of that stream rose, or that of the files, of a disk or of
--- the partitions; and of a partition that is refused, or damaged, two values are told that differ.
+-- A fault is told only where the count of that stream rose, or that of the files, of the folders,
+-- of a disk or of the partitions; and of a partition that is refused, or damaged, two values are
+-- told that differ.
 abbrev pub HasCauseIn : {R K I P D N L : Type 0} → DiskOf D → Work R K I P D N L → Outcome → Type 0
 HasCauseIn disk work (Err (TooSmall file len need)) = len < need
 HasCauseIn disk work (Err (Disagree file field found want)) = found ≢ want
@@ -148,6 +159,7 @@ HasCauseIn disk work (Err DiskFault) =
     HasRisen work.parts.faults work.parts.faults' ⊎ HasFailed disk work.parts
 HasCauseIn disk work (Err ReadFault) = HasRisen work.source.faults work.source.faults'
 HasCauseIn disk work (Err FileFault) = HasRisen work.files.faults work.files.faults'
+HasCauseIn disk work (Err FolderFault) = HasRisen work.folders.faults work.folders.faults'
 HasCauseIn disk work (Err WriteFault) = HasRisen work.sink.faults work.sink.faults'
 HasCauseIn disk work (Err (Damaged want found)) = Differ want found
 HasCauseIn disk work (Err (Server bad)) = HasServerCause work.dialer bad

@@ -11,6 +11,10 @@ pub mod Members
 pub mod Memory
 pub mod Places
 pub mod Run
+pub mod Said
 pub mod Served
 pub mod Servers
+pub mod Skipped
+pub mod Viewed
+pub mod Watched
 pub mod Words

@@ -1,5 +1,7 @@
 //! The commands, each in a file of its name.
 
+pub mod buildindex;
+pub mod checkarenas;
 pub mod fmtarenas;
 pub mod fmtbloom;
 pub mod fmtindex;
@@ -11,7 +13,12 @@ pub mod rehearse;
 #[cfg(test)]
 mod runs;
 pub mod session;
+pub mod session_at;
 pub mod session_conf;
 #[cfg(test)]
 mod tests;
+pub mod vac;
+pub mod vac_at;
+pub mod vac_served;
+pub mod vacfs;
 pub mod write;

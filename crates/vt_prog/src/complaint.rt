@@ -49,17 +49,22 @@ pub fn complain_of<F: Sink>(sink: &mut F, outcome: &Result<(), Failure>)
         Failure::BadNumber(at) => complain_at(sink, b"bad number at ", *at),
         Failure::BadName(at) => complain_at(sink, b"bad name at ", *at),
         Failure::BadScore(at) => complain_at(sink, b"bad score at ", *at),
+        Failure::BadArchive(at) => complain_at(sink, b"bad archive at ", *at),
+        Failure::TooDeep(at) => complain_at(sink, b"too deep at ", *at),
+        Failure::TooLong(at) => complain_at(sink, b"too long at ", *at),
         Failure::Cut(taken) => complain_at(sink, b"cut at ", *taken),
         Failure::Malformed(place) => complain_at(sink, b"malformed at ", *place),
         Failure::Spent(taken) => complain_at(sink, b"spent at ", *taken),
         Failure::ReadFault => complain(sink, &[b"read fault"]),
         Failure::FileFault => complain(sink, &[b"read fault"]),
+        Failure::FolderFault => complain(sink, &[b"read fault"]),
         Failure::WriteFault => complain(sink, &[b"write fault"]),
         Failure::NoMemory => complain(sink, &[b"no memory"]),
         Failure::Damaged { want, found } => complain_of_damage(sink, want, found),
         Failure::IndexFull => complain(sink, &[b"index full"]),
         Failure::ArenasFull => complain(sink, &[b"arenas full"]),
         Failure::Refused(why) => complain(sink, &[b"refused: ", why_text(why).as_bytes()]),
+        Failure::NoBlock(text) => complain(sink, &[b"refused: ", text.as_slice()]),
         Failure::Server(bad) => complain_of_server(sink, bad),
     }
 }
@@ -255,7 +260,7 @@ fn complain<F: Sink>(sink: &mut F, pieces: &[&[u8]])
 }
 
 /// Puts a line of these pieces, until a put fails.
-fn put_line<F: Sink>(sink: &mut F, pieces: &[&[u8]]) -> Result<(), Failed>
+pub fn put_line<F: Sink>(sink: &mut F, pieces: &[&[u8]]) -> Result<(), Failed>
     ensures appended { OnOk result (IsTrue F.tells → F.written sink.new
         ≡ F.written sink.old ++ line (map (λ piece. piece.now) pieces.now)) }
     ensures failed { OnErr result (IsTrue F.tells → AppendsPrefix (F.written sink.old)

@@ -45,6 +45,13 @@ pub enum Failure {
     BadName(u64),
     /// A word is no score; the place of its first wrong byte.
     BadScore(u64),
+    /// What stands at this place of a folder's metadata can't stand in an archive; 0 for any other
+    /// part of one.
+    BadArchive(u64),
+    /// A folder is within too many others; the place is 0.
+    TooDeep(u64),
+    /// A file, or what is kept of a folder's items, is longer than may be; the place is 0.
+    TooLong(u64),
     /// The input ended within the line or a message, behind so many bytes.
     Cut(u64),
     /// The input has a wrong byte of the line, or a size below 2, at this place.
@@ -54,6 +61,8 @@ pub enum Failure {
     ReadFault,
     /// A file couldn't be read.
     FileFault,
+    /// A folder couldn't be had, or a call of it failed.
+    FolderFault,
     WriteFault,
     NoMemory,
     /// What stands on a disk is damaged: another value was found than was wanted.
@@ -67,6 +76,8 @@ pub enum Failure {
     ArenasFull,
     /// The store says no, for this reason.
     Refused(Why),
+    /// A block of an archive is refused, for the reason that the text tells.
+    NoBlock(Text),
     /// The server at an address wasn't reached, or says no, or something other than what was asked.
     Server(RemoteBad),
 }
@@ -89,15 +100,18 @@ pub fn status(outcome: &Result<(), Failure>) -> u8
         Failure::BadNumber(_)
         | Failure::BadName(_)
         | Failure::BadScore(_)
+        | Failure::BadArchive(_)
+        | Failure::TooDeep(_)
+        | Failure::TooLong(_)
         | Failure::Cut(_)
         | Failure::Malformed(_)
         | Failure::Spent(_) => 5,
-        Failure::ReadFault | Failure::FileFault => 6,
+        Failure::ReadFault | Failure::FileFault | Failure::FolderFault => 6,
         Failure::WriteFault => 7,
         Failure::NoMemory => 8,
         Failure::Damaged { .. } => 9,
         Failure::IndexFull | Failure::ArenasFull => 10,
-        Failure::Refused(_) => 11,
+        Failure::Refused(_) | Failure::NoBlock(_) => 11,
         Failure::Server(bad) => server_status(bad),
     }
 }

@@ -2,16 +2,17 @@
 
 ghost use Rattle.std.specs.Prelude.{◌≡◌};
 ghost use Rattle.std.specs.Borrow.{sem, Lends};
-ghost use Rattle.vt_answer.specs.contracts.streams_client.StreamsClient.{the_row};
 ghost use Rattle.vt_prog.specs.Hosts.{Lent};
+ghost use Rattle.vt_prog.specs.contracts.streams.Streams.{the_row};
 
-use vt_answer::StreamsClient;
+use crate::streams::Streams;
 use vt_dial::Dialer;
+use vt_folders::Folders;
 use vt_out::{Clock, Files, Sink, Source};
 use vt_parts::Parts;
 
-/// Lends the program its streams, files and partitions by name, and what makes links to addresses,
-/// and tells it the time.
+/// Lends the program its streams, files, partitions and folders by name, and what makes links to
+/// addresses, and tells it the time.
 pub trait Host {
     type Source: Source;
 
@@ -25,19 +26,21 @@ pub trait Host {
 
     type Dialer: Dialer;
 
+    type Folders: Folders;
+
     /// What a long call tells meanwhile goes there.
     type Terminal: Sink + Drop;
 
     /// What it lends.
     ghost lent: { Self → Lent Self.Source Self.Sink Self.FaultSink Self.Files Self.Parts
-        Self.Dialer };
+        Self.Dialer Self.Folders };
 
     /// The host when it lends this.
     ghost lending: { Self → Lent Self.Source Self.Sink Self.FaultSink Self.Files Self.Parts
-        Self.Dialer → Self };
+        Self.Dialer Self.Folders → Self };
 
     /// The stream that is read, and that where results go.
-    fn streams(&mut self) -> &mut StreamsClient<Self::Source, Self::Sink>
+    fn streams(&mut self) -> &mut Streams<Self::Source, Self::Sink>
         ensures* lends { sem 𝓛 (Lends Self.row (the_row Self.Source.row Self.Sink.row) self.entry
             result (λ streams. lending self.old (record (lent self.old) {
               source = streams.source;
@@ -76,6 +79,12 @@ pub trait Host {
             (λ dialer. lending self.old (record (lent self.old) { dialer = dialer }))) }
         ensures dialer { result.now ≡ (lent self.old).dialer };
 
+    /// The folders.
+    fn folders(&mut self) -> &mut Self::Folders
+        ensures* lends { sem 𝓛 (Lends Self.row Self.Folders.row self.entry result
+            (λ folders. lending self.old (record (lent self.old) { folders = folders }))) }
+        ensures folders { result.now ≡ (lent self.old).folders };
+
     /// The terminal, where there is one that nobody took yet. No clause speaks of what goes there.
     fn terminal(&mut self) -> Option<Self::Terminal>
         ensures { lent self.new ≡ lent self.old };
@@ -85,23 +94,24 @@ pub trait Host {
         ensures { lent self.new ≡ lent self.old };
 
     ghost lent_again: { (host : Self)
-        (lent' : Lent Self.Source Self.Sink Self.FaultSink Self.Files Self.Parts Self.Dialer) →
-        lent (lending host lent') ≡ lent' };
+        (lent' : Lent Self.Source Self.Sink Self.FaultSink Self.Files Self.Parts Self.Dialer
+        Self.Folders) → lent (lending host lent') ≡ lent' };
 }
 
 /// A host that is what it lends, and a clock and a terminal, if there is one.
 #[derive(Drop)]
-pub struct Outside<S, K, F, I, P, N, C, T> {
-    pub streams: StreamsClient<S, K>,
+pub struct Outside<S, K, F, I, P, N, G, C, T> {
+    pub streams: Streams<S, K>,
     pub fault_sink: F,
     pub files: I,
     pub parts: P,
     pub dialer: N,
+    pub folders: G,
     pub clock: C,
     pub terminal: Option<T>,
 }
 
-impl<S, K, F, I, P, N, C, T> Host for Outside<S, K, F, I, P, N, C, T>
+impl<S, K, F, I, P, N, G, C, T> Host for Outside<S, K, F, I, P, N, G, C, T>
 where
     S: Source,
     K: Sink,
@@ -109,6 +119,7 @@ where
     I: Files,
     P: Parts,
     N: Dialer,
+    G: Folders,
     C: Clock,
     T: Sink + Drop,
 {
@@ -126,6 +137,8 @@ where
 
     type Dialer = N;
 
+    type Folders = G;
+
     type Terminal = T;
 
     ghost lent = { λ host. record {
@@ -135,6 +148,7 @@ where
       files = host.files;
       parts = host.parts;
       dialer = host.dialer;
+      folders = host.folders;
     } };
 
     ghost lending = { λ host lent. record {
@@ -143,13 +157,14 @@ where
       files = lent.files;
       parts = lent.parts;
       dialer = lent.dialer;
+      folders = lent.folders;
       clock = host.clock;
       terminal = host.terminal;
     } };
 
     ghost lent_again = { λ host lent. refl };
 
-    fn streams(&mut self) -> &mut StreamsClient<S, K> {
+    fn streams(&mut self) -> &mut Streams<S, K> {
         &mut self.streams
     }
 
@@ -172,6 +187,10 @@ where
 
     fn dialer(&mut self) -> &mut N {
         &mut self.dialer
+    }
+
+    fn folders(&mut self) -> &mut G {
+        &mut self.folders
     }
 
     fn terminal(&mut self) -> Option<T> {

@@ -1,6 +1,6 @@
 //! What a run tells, word by word and status by status.
 
-ghost use Rattle.std.specs.Prelude.{◌≡◌, ◌≢◌, ◌⊎◌, ◌++◌, ◌&&◌, ℕ, List, [], ◌∷◌, IsTrue, Err, codes};
+ghost use Rattle.std.specs.Prelude.{◌≡◌, ◌≢◌, ◌⊎◌, ◌++◌, ◌&&◌, ℕ, List, [], ◌∷◌, IsTrue, Err, Result, codes};
 ghost use Rattle.vt_base.specs.Faults.{HasRisen};
 ghost use Rattle.vt_words.specs.declared.command.Command.{Command};
 ghost use Rattle.vt_base.specs.Protocol.{read, write};
@@ -10,7 +10,7 @@ ghost use Rattle.vt_words.specs.declared.command.Command.TheVariants.{Session, R
 ghost use Rattle.vt_words.specs.declared.asked.Asked.TheVariants.{Do};
 ghost use Rattle.vt_words.specs.Words.{Asks, AreFaulty, session_words};
 ghost use Rattle.vt_prog.specs.declared.failure.Failure.TheVariants.{NoMemory};
-ghost use Rattle.vt_prog.specs.Change.{Change, PartsChange, Work, IsIdle, Attempts};
+ghost use Rattle.vt_prog.specs.Change.{Change, FoldersChange, PartsChange, Work, IsIdle, Attempts};
 ghost use Rattle.vt_prog.specs.Commands.SessionConf.{IsWellHandedIn, KeepsConf, NoneFails, OpensNone, ServesConf};
 ghost use Rattle.vt_conf.specs.declared.conf.Conf.{Conf};
 ghost use Rattle.vt_core.specs.Files.{PerDevice};
@@ -26,12 +26,18 @@ ghost use Rattle.vt_prog.specs.declared.place.Place.TheVariants as place;
 ghost use Rattle.vt_prog.specs.Answers.{TellsReplyOrMemory, WhereOpened};
 ghost use Rattle.vt_prog.specs.Blocks.{DoesStored, SaysNoType, SaysType};
 ghost use Rattle.vt_prog.specs.Commands.Read.{SaysBlock, SaysNoBlock};
+ghost use Rattle.vt_prog.specs.Commands.Vac.{StoresFolder, WhereStored};
+ghost use Rattle.vac_store.specs.declared.outcome.ArchiveBad.{ArchiveBad};
+ghost use Rattle.vac_store.specs.declared.outcome.StoredArchive.{StoredArchive};
+ghost use Rattle.vac_store.specs.Stored.{KeepsStored};
+ghost use Rattle.vac_write.specs.Archiving.{IsSeen};
 ghost use Rattle.vt_prog.specs.Formatting.{RefusesWord};
 ghost use Rattle.vt_prog.specs.Failure.{Outcome, HasFailed, HasLinkFailed, status_of, line};
 ghost use Rattle.vt_prog.specs.Places.{EndsIdle, Names, in_memory};
 ghost use Rattle.vt_prog.specs.Run.{Did, Does};
 ghost use Rattle.vt_prog.specs.Served.{EndsWell};
 
+use vac_store::stores_keep_archives;
 use vt_alone::{sessions_end_well, sessions_leave_all, sound_stores_need_memory};
 use vt_conf::laws::configurations_have_one_meaning;
 use vt_dial::Dialer;
@@ -69,8 +75,8 @@ pub fn did_tells<R: Source, K: Sink, F: Sink, I: Files, P: Parts, N: Dialer>()
         → Did P.Disk.Disk N.Link.Link score words status work complaint → (command : Command)
         → Asks words (Do command) → status ≢ 1 }
 
-    // A fault is told only where the count of that stream rose, or that of the files, of a disk, of
-    // the partitions or of the dialer, or a link that was made counts one.
+    // A fault is told only where the count of that stream rose, or that of the files, of the
+    // folders, of a disk, of the partitions or of the dialer, or a link that was made counts one.
     ensures disk_fault { (score : List ℕ → List ℕ) (words : List (List ℕ)) (status : ℕ)
         (work : Work R K I P P.Disk N N.Link) (complaint : Change F)
         → Did P.Disk.Disk N.Link.Link score words status work complaint → status ≡ 4
@@ -80,6 +86,7 @@ pub fn did_tells<R: Source, K: Sink, F: Sink, I: Files, P: Parts, N: Dialer>()
         → Did P.Disk.Disk N.Link.Link score words status work complaint → status ≡ 6
         → HasRisen work.source.faults work.source.faults'
         ⊎ HasRisen work.files.faults work.files.faults'
+        ⊎ HasRisen work.folders.faults work.folders.faults'
         ⊎ HasRisen work.dialer.faults work.dialer.faults'
         ⊎ HasLinkFailed work.dialer.read_faults work.dialer }
     ensures write_fault { (score : List ℕ → List ℕ) (words : List (List ℕ)) (status : ℕ)
@@ -205,4 +212,26 @@ pub fn blocks_are_answered<R: Source, K: Sink, F: Sink, I: Files, P: Parts, N: D
     stores_are_read::<P::Disk>();
     stores_are_written::<P::Disk>();
     failures_have_causes::<P::Disk>();
+}
+
+/// What a folder that is archived leaves of the store of a configuration, whatever calls failed,
+/// where all that is handed in tells what it holds, and every combination of the partitions' images
+/// stands for a prefix of one legal history: what a crash leaves stands for that, behind it for the
+/// first blocks of the folder's archive, and where a score is told for all of them. Where the store
+/// isn't opened, a crash loses nothing of it.
+pub fn archives_keep_the_store<P: Parts>()
+    ensures { (score : List ℕ → List ℕ) (name : List ℕ) (conf : Conf) (bsize : ℕ)
+        (result : Result StoredArchive ArchiveBad) (folders : FoldersChange)
+        (parts : PartsChange P P.Disk) (tables : List Table) (devices : PerDevice P.Disk)
+        (c : Setup) (h g : History) (base : ℕ)
+        (x : StoresFolder score P.Disk.Disk name conf bsize result folders parts)
+        → IsTrue parts.tells → IsTrue P.Disk.tells → AreUnder parts.old conf devices
+        → IsLogOf score P.Disk.Disk tables devices c h g base
+        → WhereStored (KeepsStored score P.Disk.Disk conf bsize (IsSeen x.tells x.held) result
+        parts.new tables (record c { base = base }) g) ((back : PerDevice P.Disk)
+        → AreUnder parts.new conf back → LeavesStanding score P.Disk.Disk tables devices back)
+        result }
+{
+    refused_stores_stand::<P::Disk>();
+    stores_keep_archives::<P::Disk>();
 }

@@ -17,8 +17,14 @@ mod refusal;
 mod run;
 mod served;
 mod shown;
+mod skipped;
+mod streams;
+mod viewed;
+mod watched;
 
 use crate::run::end;
+pub use commands::buildindex::buildindex;
+pub use commands::checkarenas::checkarenas;
 pub use commands::fmtarenas::fmtarenas;
 pub use commands::fmtbloom::fmtbloom;
 pub use commands::fmtindex::fmtindex;
@@ -26,6 +32,8 @@ pub use commands::fmtisect::fmtisect;
 pub use commands::read::read;
 pub use commands::rehearse::rehearse;
 pub use commands::session::session;
+pub use commands::vac::vac;
+pub use commands::vacfs::vacfs;
 pub use commands::write::write;
 pub use failure::{Failure, status};
 pub use host::{Host, Outside};
@@ -35,12 +43,12 @@ use std::env;
 use std::io::{ErrorKind, IsTerminal, Stderr};
 use std::process::ExitCode;
 use std::rt::Env;
-use vt_answer::StreamsClient;
-use vt_host::{FileParts, StdClock, StdDialer, StdFiles, StdSink, StdSource};
+pub use streams::Streams;
+use vt_host::{FileParts, StdClock, StdDialer, StdFiles, StdFolders, StdSink, StdSource};
 
 fn main(rt: HostRuntime) -> ExitCode {
     let mut host = Outside {
-        streams: StreamsClient {
+        streams: Streams {
             source: StdSource::new(rt.stdin()),
             sink: StdSink::new(rt.stdout()),
         },
@@ -48,12 +56,13 @@ fn main(rt: HostRuntime) -> ExitCode {
         files: StdFiles::new(rt),
         parts: FileParts::new(rt),
         dialer: StdDialer::new(rt),
+        folders: StdFolders::new(rt, rt),
         clock: StdClock(rt),
         terminal: terminal(rt),
     };
     ExitCode::from(match arguments(&rt) {
         Ok(args) => run(&rt, rt.alloc(), words_of(&args), &mut host),
-        Err(failure) => end(&mut host.fault_sink, &[], &Err(failure)),
+        Err(failure) => end(&mut host.fault_sink, Ok(()), &Err(failure)),
     })
 }
 

@@ -1,47 +1,60 @@
 //! The top call.
 
 ghost use Rattle.sha1.specs.Sha1.{sha1};
-ghost use Rattle.std.specs.Prelude.{◌≡◌, ◌++◌, map, string_bytes};
-ghost use Rattle.vt_prog.specs.Change.{work_of, sink_change, Attempts};
+ghost use Rattle.std.specs.Prelude.{◌≡◌, ◌⊎◌, ℕ, List, map, OnErr, OnOk};
+ghost use Rattle.vt_prog.specs.Change.{Attempts, folders_change, sink_change, work_of};
 ghost use Rattle.vt_prog.specs.Failure.{HasCauseIn, status_of, line_of};
-ghost use Rattle.vt_prog.specs.Run.{Did, Does, DoesWords};
+ghost use Rattle.vt_prog.specs.Run.{Did, DoesWords, IsArchive, OnlyForArchives, SaysAndDoes};
+ghost use Rattle.vt_prog.specs.Said.{Said};
 
+use crate::commands::buildindex::buildindex;
+use crate::commands::checkarenas::checkarenas;
 use crate::commands::fmtarenas::fmtarenas;
 use crate::commands::fmtbloom::fmtbloom;
 use crate::commands::fmtindex::fmtindex;
 use crate::commands::fmtisect::fmtisect;
 use crate::commands::read::read;
 use crate::commands::rehearse::rehearse;
-use crate::commands::session::session;
-use crate::commands::session_conf::session_conf;
+use crate::commands::session_at::session_at;
+use crate::commands::vac_at::vac_at;
+use crate::commands::vacfs::vacfs;
 use crate::commands::write::write;
 use crate::complaint::complain_of;
 use crate::failure::{Failure, status};
 use crate::host::Host;
-use crate::place::is_in_memory;
 use crate::printing::print;
 use std::alloc::Global;
 use std::convert::AsStr;
-use vt_base::{NoMemory, Scorer, Sha1Scorer};
+use std::thread::Threads;
+use vt_base::{Failed, NoMemory, Scorer, Sha1Scorer};
 use vt_out::Sink;
 use vt_words::{Asked, Command, ask};
 
 /// Does what the words of the command line say, and answers the exit status (venti(8)). A status
 /// other than 0 has its line on the fault sink, if that takes it.
 ///
-/// `session` answers what comes from the source, as it comes, as one session of venti(6), and writes
-/// the replies to the sink: over the store of a configuration, or `:memory:`, one in memory.
-/// `fmtarenas`, `fmtisect` and `fmtbloom` make the file that they name a partition of arenas, an index section or a Bloom
-/// filter, and print a line on the sink. `fmtindex` puts the sections that a configuration names to
-/// use as an index. `read` prints one block of a store, and `write` stores what comes in as one and
-/// prints its score. `rehearse` rehearses crashes of a store in memory, and prints what the rounds
-/// came to; its scores are by SHA-1, whatever the scorer. Help and the version are printed on the
-/// sink; where there is no command, short help goes to the fault sink, in front of the line.
-pub fn run<R, H: Host, W: AsStr>(rt: &R, alloc: Global, words: &[W], host: &mut H) -> u8
+/// `session` answers what comes from the source, as it comes, as one session of venti(6), and
+/// writes the replies to the sink: over the store of a configuration, or `:memory:`, one in memory.
+/// `fmtarenas`, `fmtisect` and `fmtbloom` make the file that they name a partition of arenas, an
+/// index section or a Bloom filter, and print a line on the sink. `fmtindex` puts the sections that
+/// a configuration names to use as an index, `buildindex` rebuilds it from the arenas, and
+/// `checkarenas` checks these, and prints a line for each. `read` prints one block of a store, and
+/// `write` stores what comes in as one and prints its score. `rehearse` rehearses crashes of a
+/// store in memory, and prints what the rounds came to; its scores are by SHA-1, whatever the
+/// scorer. `vac` stores a folder, says what it leaves out of it, and prints what the archive is
+/// found by. `vacfs` shows an archive as a tree of files to a client that speaks 9P2000 on the
+/// source and the sink. Help and the version are printed on the sink; where there is no command,
+/// short help goes to the fault sink, in front of the line.
+pub fn run<R: Threads + Sync, H: Host, W: AsStr>(
+    rt: &R,
+    alloc: Global,
+    words: &[W],
+    host: &mut H,
+) -> u8
     ensures did { Did H.Parts.Disk.Disk H.Dialer.Link.Link sha1 (map W.text words.now) result
         (work_of H.Source.Source H.Sink.Sink
-        H.Files.Files H.Parts.Parts H.Dialer.Dialer H.Dialer.Link.Link (H.lent host.old)
-        (H.lent host.new))
+        H.Files.Files H.Parts.Parts H.Folders.Folders H.Dialer.Dialer H.Dialer.Link.Link
+        (H.lent host.old) (H.lent host.new))
         (sink_change H.FaultSink.Sink
         (H.lent host.old).fault_sink (H.lent host.new).fault_sink) }
 {
@@ -49,8 +62,8 @@ pub fn run<R, H: Host, W: AsStr>(rt: &R, alloc: Global, words: &[W], host: &mut 
 }
 
 /// The same, with scores by any scorer.
-pub fn run_with<R, H: Host, S: Scorer, W: AsStr>(
-    _rt: &R,
+pub fn run_with<R: Threads + Sync, H: Host, S: Scorer + Sync, W: AsStr>(
+    rt: &R,
     alloc: Global,
     words: &[W],
     host: &mut H,
@@ -58,101 +71,116 @@ pub fn run_with<R, H: Host, S: Scorer, W: AsStr>(
 ) -> u8
     ensures did { Did H.Parts.Disk.Disk H.Dialer.Link.Link S.score_of (map W.text words.now) result
         (work_of H.Source.Source H.Sink.Sink
-        H.Files.Files H.Parts.Parts H.Dialer.Dialer H.Dialer.Link.Link (H.lent host.old)
-        (H.lent host.new))
+        H.Files.Files H.Parts.Parts H.Folders.Folders H.Dialer.Dialer H.Dialer.Link.Link
+        (H.lent host.old) (H.lent host.new))
         (sink_change H.FaultSink.Sink
         (H.lent host.old).fault_sink (H.lent host.new).fault_sink) }
 {
-    let (preface, outcome) = do_words(alloc, words, host, scorer);
-    end(host.fault_sink(), preface.as_bytes(), &outcome)
+    let (said, outcome) = do_words(rt, alloc, words, host, scorer);
+    end(host.fault_sink(), said, &outcome)
 }
 
-/// Says why a command did not end well, if it didn't, behind a text that goes before it, and gives
-/// the exit status.
-pub fn end<F: Sink>(fault_sink: &mut F, preface: &[u8], outcome: &Result<(), Failure>) -> u8
-    ensures complained { Attempts (sink_change F.Sink fault_sink.old fault_sink.new)
-        (preface.now ++ line_of outcome.now) }
+/// Says why a command did not end well, if it didn't, where the fault sink took what was said
+/// before, and gives the exit status.
+pub fn end<F: Sink>(
+    fault_sink: &mut F,
+    said: Result<(), Failed>,
+    outcome: &Result<(), Failure>,
+) -> u8
+    ensures complained { OnOk said
+        (Attempts (sink_change F.Sink fault_sink.old fault_sink.new) (line_of outcome.now)) }
+    ensures silent { OnErr said (fault_sink.new ≡ fault_sink.old) }
     ensures status { result ≡ status_of outcome.now }
 {
-    complain_behind(fault_sink, preface, outcome);
+    if said.is_ok() {
+        complain_of(fault_sink, outcome);
+    }
     status(outcome)
 }
 
-fn complain_behind<F: Sink>(sink: &mut F, preface: &[u8], outcome: &Result<(), Failure>)
-    ensures { Attempts (sink_change F.Sink sink.old sink.new) (preface.now ++ line_of outcome.now) }
-{
-    if preface.is_empty() {
-        return complain_of(sink, outcome);
-    }
-    match sink.put(preface) {
-        Ok(()) => complain_of(sink, outcome),
-        Err(_) => (),
-    }
-}
-
-/// Does what these words ask for, and gives what goes before the line on the fault sink.
-fn do_words<H: Host, S: Scorer, W: AsStr>(
+/// Does what these words ask for, and says whether the fault sink took what goes before the line.
+fn do_words<R: Threads + Sync, H: Host, S: Scorer + Sync, W: AsStr>(
+    rt: &R,
     alloc: Global,
     words: &[W],
     host: &mut H,
     scorer: &S,
-) -> (String, Result<(), Failure>)
+) -> (Result<(), Failed>, Result<(), Failure>)
     ensures cause { HasCauseIn H.Parts.Disk.Disk (work_of H.Source.Source H.Sink.Sink
-        H.Files.Files H.Parts.Parts H.Dialer.Dialer H.Dialer.Link.Link (H.lent host.old)
-        (H.lent host.new)) result.1 }
-    ensures does { DoesWords H.Parts.Disk.Disk H.Dialer.Link.Link S.score_of
-        (map W.text words.now)
-        (string_bytes result.0) result.1 (work_of H.Source.Source H.Sink.Sink
-        H.Files.Files H.Parts.Parts H.Dialer.Dialer H.Dialer.Link.Link (H.lent host.old)
-        (H.lent host.new)) }
-    ensures quiet { (H.lent host.new).fault_sink ≡ (H.lent host.old).fault_sink }
+        H.Files.Files H.Parts.Parts H.Folders.Folders H.Dialer.Dialer H.Dialer.Link.Link
+        (H.lent host.old) (H.lent host.new)) result.1 }
+    ensures does { (preface : List ℕ) × DoesWords H.Parts.Disk.Disk H.Dialer.Link.Link S.score_of
+        (map W.text words.now) preface result.1 (work_of H.Source.Source H.Sink.Sink
+        H.Files.Files H.Parts.Parts H.Folders.Folders H.Dialer.Dialer H.Dialer.Link.Link
+        (H.lent host.old) (H.lent host.new)) × Said result.0 (sink_change H.FaultSink.Sink
+        (H.lent host.old).fault_sink (H.lent host.new).fault_sink) preface }
+    ensures folders { OnlyForArchives (map W.text words.now) (folders_change H.Folders.Folders
+        (H.lent host.old).folders (H.lent host.new).folders) }
 {
-    let nothing = String::new(alloc);
     match ask(alloc, words) {
-        Ok(Asked::Do(command)) => (nothing, do_command(alloc, command, host, scorer)),
+        Ok(Asked::Do(command)) => do_command(rt, alloc, command, host, scorer),
         Ok(Asked::Help(text) | Asked::Version(text)) => {
-            (nothing, print(host.sink(), &[text.as_bytes()]))
+            (Ok(()), print(host.sink(), &[text.as_bytes()]))
         }
-        Ok(Asked::Faulty(text)) => (text, Err(Failure::BadWords)),
-        Err(NoMemory) => (nothing, Err(Failure::NoMemory)),
+        Ok(Asked::Faulty(text)) => (
+            host.fault_sink().put(text.as_bytes()),
+            Err(Failure::BadWords),
+        ),
+        Err(NoMemory) => (Ok(()), Err(Failure::NoMemory)),
     }
 }
 
 /// Does a command: one line for each.
-fn do_command<H: Host, S: Scorer>(
+fn do_command<R: Threads + Sync, H: Host, S: Scorer + Sync>(
+    rt: &R,
     alloc: Global,
     command: Command,
     host: &mut H,
     scorer: &S,
-) -> Result<(), Failure>
+) -> (Result<(), Failed>, Result<(), Failure>)
     ensures cause { HasCauseIn H.Parts.Disk.Disk (work_of H.Source.Source H.Sink.Sink
-        H.Files.Files H.Parts.Parts H.Dialer.Dialer H.Dialer.Link.Link (H.lent host.old)
-        (H.lent host.new)) result }
-    ensures does { Does H.Parts.Disk.Disk H.Dialer.Link.Link S.score_of command result (work_of H.Source.Source H.Sink.Sink
-        H.Files.Files H.Parts.Parts H.Dialer.Dialer H.Dialer.Link.Link (H.lent host.old)
-        (H.lent host.new)) }
-    ensures quiet { (H.lent host.new).fault_sink ≡ (H.lent host.old).fault_sink }
+        H.Files.Files H.Parts.Parts H.Folders.Folders H.Dialer.Dialer H.Dialer.Link.Link
+        (H.lent host.old) (H.lent host.new)) result.1 }
+    ensures does { SaysAndDoes H.Parts.Disk.Disk H.Dialer.Link.Link S.score_of command result.0
+        result.1 (work_of H.Source.Source H.Sink.Sink H.Files.Files H.Parts.Parts
+        H.Folders.Folders H.Dialer.Dialer H.Dialer.Link.Link (H.lent host.old) (H.lent host.new))
+        (sink_change H.FaultSink.Sink
+        (H.lent host.old).fault_sink (H.lent host.new).fault_sink) }
+    ensures folders { IsArchive command
+        ⊎ ((H.lent host.new).folders ≡ (H.lent host.old).folders) }
 {
     match command {
-        Command::Session { store } if is_in_memory(&store) => session(alloc, host, scorer),
-        Command::Session { store } => session_conf(alloc, host, &store, scorer),
+        Command::Session { store } => (Ok(()), session_at(alloc, host, &store, scorer)),
         Command::FormatArenas {
             file,
             name,
             length,
             arena_size,
-        } => fmtarenas(alloc, host, file, &name, &length, &arena_size),
-        Command::FormatSection { file, name, length } => fmtisect(
-            alloc, host, file, &name, &length,
+        } => (
+            Ok(()),
+            fmtarenas(alloc, host, file, &name, &length, &arena_size),
         ),
+        Command::FormatSection { file, name, length } => {
+            (Ok(()), fmtisect(alloc, host, file, &name, &length))
+        }
         Command::FormatFilter {
             file,
             size,
             positions,
-        } => fmtbloom(alloc, host, file, &size, &positions),
-        Command::FormatIndex { file } => fmtindex(alloc, host, &file, scorer),
-        Command::Read { store, score, kind } => read(alloc, host, &store, &score, &kind, scorer),
-        Command::Write { store, kind } => write(alloc, host, &store, &kind, scorer),
-        Command::Rehearse { seed, count } => rehearse(alloc, host, &seed, &count),
+        } => (Ok(()), fmtbloom(alloc, host, file, &size, &positions)),
+        Command::FormatIndex { file } => (Ok(()), fmtindex(alloc, host, &file, scorer)),
+        Command::RebuildIndex { file } => (Ok(()), buildindex(alloc, host, &file, scorer)),
+        Command::CheckArenas { file } => (Ok(()), checkarenas(rt, alloc, host, &file, scorer)),
+        Command::Read { store, score, kind } => {
+            (Ok(()), read(alloc, host, &store, &score, &kind, scorer))
+        }
+        Command::Write { store, kind } => (Ok(()), write(alloc, host, &store, &kind, scorer)),
+        Command::Rehearse { seed, count } => (Ok(()), rehearse(alloc, host, &seed, &count)),
+        Command::View { store, score } => (Ok(()), vacfs(alloc, host, &store, &score, scorer)),
+        Command::Vac {
+            store,
+            folder,
+            size,
+        } => vac_at(alloc, host, &store, &folder, &size, scorer),
     }
 }

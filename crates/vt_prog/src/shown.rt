@@ -7,8 +7,19 @@ use vt_out::{Progress, Sink};
 /// What the steps of a command are.
 #[derive(Clone, Copy, Debug)]
 pub enum Unit {
+    Arenas,
     Buckets,
     Rounds,
+}
+
+impl Unit {
+    fn text(self) -> &'static [u8] {
+        match self {
+            Unit::Arenas => b" arenas",
+            Unit::Buckets => b" buckets",
+            Unit::Rounds => b" rounds",
+        }
+    }
 }
 
 /// Shows on a terminal, if there is one, how far a command has come. That is no result: no clause
@@ -30,7 +41,9 @@ impl<K: Sink> Shown<K> {
         self.put(&[b"venti: a call failed of ", file, b"\n"]);
     }
 
-    fn count(&mut self, done: u64, all: u64, end: &[u8]) {
+    /// A line that is written over by the next one, unless it is the last.
+    fn count(&mut self, done: u64, all: u64) {
+        let end: &[u8] = if done == all { b"\n" } else { b"\r" };
         let mut done_digits = Buffer::new();
         let mut all_digits = Buffer::new();
         self.put(&[
@@ -38,6 +51,7 @@ impl<K: Sink> Shown<K> {
             done_digits.format(done).as_bytes(),
             b" of ",
             all_digits.format(all).as_bytes(),
+            self.unit.text(),
             end,
         ]);
     }
@@ -51,11 +65,6 @@ impl<K: Sink> Shown<K> {
 
 impl<K: Sink> Progress for Shown<K> {
     fn report(&mut self, done: u64, all: u64) {
-        match (self.unit, done == all) {
-            (Unit::Buckets, false) => self.count(done, all, b" buckets\r"),
-            (Unit::Buckets, true) => self.count(done, all, b" buckets\n"),
-            (Unit::Rounds, false) => self.count(done, all, b" rounds\r"),
-            (Unit::Rounds, true) => self.count(done, all, b" rounds\n"),
-        }
+        self.count(done, all);
     }
 }

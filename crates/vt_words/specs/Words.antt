@@ -12,7 +12,7 @@ use Rattle.clap.specs.declared.error.kind.ErrorKind.TheVariants.{DisplayHelp, Di
 use Rattle.vt_words.specs.declared.asked.Asked.{Asked}
 use Rattle.vt_words.specs.declared.asked.Asked.TheVariants.{Do, Help, Version, Faulty}
 use Rattle.vt_words.specs.declared.command.Command.{Command}
-use Rattle.vt_words.specs.declared.command.Command.TheVariants.{Session, FormatArenas, FormatSection, FormatFilter, FormatIndex, Read, Write, Rehearse}
+use Rattle.vt_words.specs.declared.command.Command.TheVariants.{Session, FormatArenas, FormatSection, FormatFilter, FormatIndex, RebuildIndex, CheckArenas, Read, Write, Rehearse, Vac, View}
 
 -- a word that a command wants, by the name that help shows
 abbrev pub wanted : Text → Rule
@@ -20,6 +20,10 @@ wanted id = record (new_rule id) { required = true }
 
 abbrev pub with_word : App → Text → App
 with_word app id = with_rule app (wanted id)
+
+-- a block size that may be asked for, as `-b BSIZE`
+abbrev pub with_size : App → App
+with_size app = with_rule app (record (new_rule (codes "BSIZE")) { short = Some 98 })
 
 -- ---- the commands, each with its words
 
@@ -44,6 +48,12 @@ fmtbloom =
 abbrev pub fmtindex : App
 fmtindex = with_word (new_app (codes "fmtindex")) (codes "CONF")
 
+abbrev pub buildindex : App
+buildindex = with_word (new_app (codes "buildindex")) (codes "CONF")
+
+abbrev pub checkarenas : App
+checkarenas = with_word (new_app (codes "checkarenas")) (codes "CONF")
+
 abbrev pub read : App
 read =
     with_word (with_word (with_word (new_app (codes "read"))
@@ -54,6 +64,12 @@ write = with_word (with_word (new_app (codes "write")) (codes "STORE")) (codes "
 
 abbrev pub rehearse : App
 rehearse = with_word (with_word (new_app (codes "rehearse")) (codes "SEED")) (codes "COUNT")
+
+abbrev pub vac : App
+vac = with_size (with_word (with_word (new_app (codes "vac")) (codes "STORE")) (codes "FOLDER"))
+
+abbrev pub vacfs : App
+vacfs = with_word (with_word (new_app (codes "vacfs")) (codes "STORE")) (codes "SCORE")
 
 -- the program: one of its commands, or a request for help or the version
 abbrev pub with_settings : Shape → Shape
@@ -68,10 +84,10 @@ with_settings shape = record shape {
 abbrev pub venti : App
 venti =
     with_subcommand (with_subcommand (with_subcommand (with_subcommand (with_subcommand
-    (with_subcommand (with_subcommand (with_subcommand
-    (on_top with_settings (new_app (codes "venti")))
-    session.top) fmtarenas.top) fmtisect.top) fmtbloom.top) fmtindex.top) read.top) write.top)
-    rehearse.top
+    (with_subcommand (with_subcommand (with_subcommand (with_subcommand (with_subcommand
+    (with_subcommand (with_subcommand (on_top with_settings (new_app (codes "venti"))) session.top)
+    fmtarenas.top) fmtisect.top) fmtbloom.top) fmtindex.top) buildindex.top) checkarenas.top)
+    read.top) write.top) rehearse.top) vac.top) vacfs.top
 
 -- ---- what its words ask for
 
@@ -102,6 +118,12 @@ filter_of rows =
 abbrev pub index_of : List Row → Option Command
 index_of rows = option_and_then (λ file. Some (FormatIndex file)) (first_of (codes "CONF") rows)
 
+abbrev pub rebuild_of : List Row → Option Command
+rebuild_of rows = option_and_then (λ file. Some (RebuildIndex file)) (first_of (codes "CONF") rows)
+
+abbrev pub check_of : List Row → Option Command
+check_of rows = option_and_then (λ file. Some (CheckArenas file)) (first_of (codes "CONF") rows)
+
 abbrev pub read_of : List Row → Option Command
 read_of rows =
     option_and_then (λ store. option_and_then (λ score. option_and_then (λ kind.
@@ -119,6 +141,17 @@ rehearsal_of rows =
     option_and_then (λ seed. option_and_then (λ count. Some (Rehearse seed count))
     (first_of (codes "COUNT") rows)) (first_of (codes "SEED") rows)
 
+abbrev pub vac_of : List Row → Option Command
+vac_of rows =
+    option_and_then (λ store. option_and_then (λ folder.
+    Some (Vac store folder (first_of (codes "BSIZE") rows)))
+    (first_of (codes "FOLDER") rows)) (first_of (codes "STORE") rows)
+
+abbrev pub view_of : List Row → Option Command
+view_of rows =
+    option_and_then (λ store. option_and_then (λ score. Some (View store score))
+    (first_of (codes "SCORE") rows)) (first_of (codes "STORE") rows)
+
 -- the command of this name, with the values of its words
 abbrev pub command_of : Text → List Row → Option Command
 command_of name rows =
@@ -127,9 +160,13 @@ command_of name rows =
     else if bytes_eq name (codes "fmtisect") then section_of rows
     else if bytes_eq name (codes "fmtbloom") then filter_of rows
     else if bytes_eq name (codes "fmtindex") then index_of rows
+    else if bytes_eq name (codes "buildindex") then rebuild_of rows
+    else if bytes_eq name (codes "checkarenas") then check_of rows
     else if bytes_eq name (codes "read") then read_of rows
     else if bytes_eq name (codes "write") then write_of rows
     else if bytes_eq name (codes "rehearse") then rehearsal_of rows
+    else if bytes_eq name (codes "vac") then vac_of rows
+    else if bytes_eq name (codes "vacfs") then view_of rows
     else None
 
 -- by the subcommand that was met, with its values

@@ -4,7 +4,7 @@ ghost use Rattle.std.specs.Prelude.{◌≡◌, IfOk};
 ghost use Rattle.clap.specs.Matches.{found_of};
 ghost use Rattle.clap.specs.Walk.{first_of, rows_of};
 ghost use Rattle.vt_words.specs.Words.{command_of, session_of, arenas_of, section_of, filter_of, index_of, rehearsal_of};
-ghost use Rattle.vt_words.specs.Words.{read_of, write_of};
+ghost use Rattle.vt_words.specs.Words.{rebuild_of, check_of, read_of, write_of, vac_of, view_of};
 
 use clap::ArgMatches;
 use std::alloc::Global;
@@ -40,6 +40,14 @@ pub enum Command {
     FormatIndex {
         file: Text,
     },
+    /// `buildindex CONF`
+    RebuildIndex {
+        file: Text,
+    },
+    /// `checkarenas CONF`
+    CheckArenas {
+        file: Text,
+    },
     /// `read STORE SCORE TYPE`
     Read {
         store: Text,
@@ -55,6 +63,17 @@ pub enum Command {
     Rehearse {
         seed: Text,
         count: Text,
+    },
+    /// `vac [-b BSIZE] STORE FOLDER`
+    Vac {
+        store: Text,
+        folder: Text,
+        size: Option<Text>,
+    },
+    /// `vacfs STORE SCORE`
+    View {
+        store: Text,
+        score: Text,
     },
 }
 
@@ -76,12 +95,20 @@ pub(crate) fn command_of(
         filter_of(alloc, found)
     } else if name == "fmtindex" {
         index_of(alloc, found)
+    } else if name == "buildindex" {
+        rebuild_of(alloc, found)
+    } else if name == "checkarenas" {
+        check_of(alloc, found)
     } else if name == "read" {
         read_of(alloc, found)
     } else if name == "write" {
         write_of(alloc, found)
     } else if name == "rehearse" {
         rehearsal_of(alloc, found)
+    } else if name == "vac" {
+        vac_of(alloc, found)
+    } else if name == "vacfs" {
+        view_of(alloc, found)
     } else {
         Ok(None)
     }
@@ -162,6 +189,24 @@ fn index_of(alloc: Global, found: &ArgMatches<'_>) -> Result<Option<Command>, No
     Ok(Some(Command::FormatIndex { file }))
 }
 
+fn rebuild_of(alloc: Global, found: &ArgMatches<'_>) -> Result<Option<Command>, NoMemory>
+    ensures { IfOk result (λ it. it ≡ rebuild_of (rows_of (found_of found.now))) }
+{
+    let Some(file) = value_of(alloc, found, "CONF")? else {
+        return Ok(None);
+    };
+    Ok(Some(Command::RebuildIndex { file }))
+}
+
+fn check_of(alloc: Global, found: &ArgMatches<'_>) -> Result<Option<Command>, NoMemory>
+    ensures { IfOk result (λ it. it ≡ check_of (rows_of (found_of found.now))) }
+{
+    let Some(file) = value_of(alloc, found, "CONF")? else {
+        return Ok(None);
+    };
+    Ok(Some(Command::CheckArenas { file }))
+}
+
 fn read_of(alloc: Global, found: &ArgMatches<'_>) -> Result<Option<Command>, NoMemory>
     ensures { IfOk result (λ it. it ≡ read_of (rows_of (found_of found.now))) }
 {
@@ -199,6 +244,35 @@ fn rehearsal_of(alloc: Global, found: &ArgMatches<'_>) -> Result<Option<Command>
         return Ok(None);
     };
     Ok(Some(Command::Rehearse { seed, count }))
+}
+
+fn vac_of(alloc: Global, found: &ArgMatches<'_>) -> Result<Option<Command>, NoMemory>
+    ensures { IfOk result (λ it. it ≡ vac_of (rows_of (found_of found.now))) }
+{
+    let Some(store) = value_of(alloc, found, "STORE")? else {
+        return Ok(None);
+    };
+    let Some(folder) = value_of(alloc, found, "FOLDER")? else {
+        return Ok(None);
+    };
+    let size = value_of(alloc, found, "BSIZE")?;
+    Ok(Some(Command::Vac {
+        store,
+        folder,
+        size,
+    }))
+}
+
+fn view_of(alloc: Global, found: &ArgMatches<'_>) -> Result<Option<Command>, NoMemory>
+    ensures { IfOk result (λ it. it ≡ view_of (rows_of (found_of found.now))) }
+{
+    let Some(store) = value_of(alloc, found, "STORE")? else {
+        return Ok(None);
+    };
+    let Some(score) = value_of(alloc, found, "SCORE")? else {
+        return Ok(None);
+    };
+    Ok(Some(Command::View { store, score }))
 }
 
 /// The first value of this name, if there is one.

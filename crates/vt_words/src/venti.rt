@@ -6,6 +6,7 @@ ghost use Rattle.clap.specs.Words.{app_of, new_app, shape_of, with_subcommand};
 ghost use Rattle.clap.specs.declared.builder.command.Command.TheViews.{out-Command as fields_of};
 ghost use Rattle.vt_words.specs.Words.{with_settings, with_word, venti};
 ghost use Rattle.vt_words.specs.Words.{session, fmtarenas, fmtisect, fmtbloom, fmtindex, read, write, rehearse};
+ghost use Rattle.vt_words.specs.Words.{buildindex, checkarenas, vac, vacfs, with_size};
 
 use clap::{Arg, Command};
 use std::alloc::{AllocError, Global};
@@ -28,6 +29,16 @@ A block of it, whose score is printed, and which is read again:
   printf abc | venti write store/venti.conf 13
   venti read store/venti.conf a9993e364706816aba3e25717850c26c9cd0d89d 13
 
+A folder that is archived in it, whose score is printed; by it a client of 9P2000 is shown the archive:
+
+  venti vac store/venti.conf home
+  venti vacfs store/venti.conf SCORE
+
+Its index, built again from its arenas, and these, checked:
+
+  venti buildindex store/venti.conf
+  venti checkarenas store/venti.conf
+
 A session in memory, which is spoken on the standard streams:
 
   venti session :memory: < samples/abc.venti | od -An -tx1";
@@ -42,9 +53,13 @@ pub(crate) fn venti<'a>(alloc: Global) -> Result<Command<'a>, AllocError>
     let program = with_command(program, fmtisect(alloc)?)?;
     let program = with_command(program, fmtbloom(alloc)?)?;
     let program = with_command(program, fmtindex(alloc)?)?;
+    let program = with_command(program, buildindex(alloc)?)?;
+    let program = with_command(program, checkarenas(alloc)?)?;
     let program = with_command(program, read(alloc)?)?;
     let program = with_command(program, write(alloc)?)?;
-    with_command(program, rehearse(alloc)?)
+    let program = with_command(program, rehearse(alloc)?)?;
+    let program = with_command(program, vac(alloc)?)?;
+    with_command(program, vacfs(alloc)?)
 }
 
 /// The program without its commands.
@@ -82,6 +97,16 @@ fn with_word<'a>(
         (fields_of it).has_globals ≡ (fields_of command.entry).has_globals) }
 {
     command.arg(Arg::new(alloc, id).required(true).help(help))
+}
+
+/// The command with a size that may be asked for.
+fn with_size<'a>(alloc: Global, command: Command<'a>) -> Result<Command<'a>, AllocError>
+    ensures app { IfOk result (λ it. app_of it ≡ with_size (app_of command.entry)) }
+    ensures local { IfOk result (λ it.
+        (fields_of it).has_globals ≡ (fields_of command.entry).has_globals) }
+{
+    let help = "how many bytes a block has at most, from 512 to 53248; else 8192";
+    command.arg(Arg::new(alloc, "BSIZE").short('b').help(help))
 }
 
 /// A command of no words yet.
@@ -153,18 +178,34 @@ fn fmtbloom<'a>(alloc: Global) -> Result<Command<'a>, AllocError>
     )
 }
 
+const CONF: &str =
+    "the configuration, a line for each partition: 'arenas FILE', 'isect FILE', 'bloom FILE'";
+
 fn fmtindex<'a>(alloc: Global) -> Result<Command<'a>, AllocError>
     ensures app { IfOk result (λ it. app_of it ≡ fmtindex) }
     ensures local { IfOk result (λ it. (fields_of it).has_globals ≡ false) }
 {
     let about = "Puts the index sections that a configuration names to use, without entries";
     let command = command_of(alloc, "fmtindex", about);
-    with_word(
-        alloc,
-        command,
-        "CONF",
-        "the configuration, a line for each partition: 'arenas FILE', 'isect FILE', 'bloom FILE'",
-    )
+    with_word(alloc, command, "CONF", CONF)
+}
+
+fn buildindex<'a>(alloc: Global) -> Result<Command<'a>, AllocError>
+    ensures app { IfOk result (λ it. app_of it ≡ buildindex) }
+    ensures local { IfOk result (λ it. (fields_of it).has_globals ≡ false) }
+{
+    let about = "Rebuilds the index of a store from its arenas, whatever its sections hold";
+    let command = command_of(alloc, "buildindex", about);
+    with_word(alloc, command, "CONF", CONF)
+}
+
+fn checkarenas<'a>(alloc: Global) -> Result<Command<'a>, AllocError>
+    ensures app { IfOk result (λ it. app_of it ≡ checkarenas) }
+    ensures local { IfOk result (λ it. (fields_of it).has_globals ≡ false) }
+{
+    let about = "Checks the arenas of a store, with each of their blocks, and writes nothing";
+    let command = command_of(alloc, "checkarenas", about);
+    with_word(alloc, command, "CONF", CONF)
 }
 
 const STORE: &str = "the file of a configuration, a server's address as tcp!HOST!PORT, or :memory:";
@@ -205,4 +246,35 @@ fn rehearse<'a>(alloc: Global) -> Result<Command<'a>, AllocError>
         "COUNT",
         "how many rounds there are, below 2^32",
     )
+}
+
+fn vac<'a>(alloc: Global) -> Result<Command<'a>, AllocError>
+    ensures app { IfOk result (λ it. app_of it ≡ vac) }
+    ensures local { IfOk result (λ it. (fields_of it).has_globals ≡ false) }
+{
+    let about = "Stores a folder with all that is in it, and prints the score of that";
+    let command = command_of(alloc, "vac", about);
+    let command = with_word(
+        alloc,
+        command,
+        "STORE",
+        "the file of a configuration, or a server's address as tcp!HOST!PORT",
+    )?;
+    let command = with_word(
+        alloc,
+        command,
+        "FOLDER",
+        "the folder, of which no link is followed",
+    )?;
+    with_size(alloc, command)
+}
+
+fn vacfs<'a>(alloc: Global) -> Result<Command<'a>, AllocError>
+    ensures app { IfOk result (λ it. app_of it ≡ vacfs) }
+    ensures local { IfOk result (λ it. (fields_of it).has_globals ≡ false) }
+{
+    let about = "Shows an archive as files to a client that speaks 9P2000 on the standard streams";
+    let command = command_of(alloc, "vacfs", about);
+    let command = with_word(alloc, command, "STORE", STORE)?;
+    with_word(alloc, command, "SCORE", "the 40 digits of its score")
 }

@@ -36,7 +36,8 @@ arenas_line name size count =
     ∷ decimal size ∷ codes " bytes\n" ∷ [])
 
 -- its words were refused, or the file was made a partition of arenas, of this name
-abbrev pub DoesFmtarenas : {R K I P D N L : Type 0} → DiskOf D → (file name length arena_size : List ℕ)
+abbrev pub DoesFmtarenas : {R K I P D N L : Type 0} → DiskOf D
+    → (file name length arena_size : List ℕ)
     → Outcome → Work R K I P D N L → Type 0
 DoesFmtarenas disk file name length arena_size outcome work =
     RefusesWord (AsksForNoArenas name length arena_size) outcome work

@@ -31,7 +31,8 @@ filter_line bytes bits =
     ∷ codes " positions\n" ∷ [])
 
 -- its words were refused, or the file was made a filter
-abbrev pub DoesFmtbloom : {R K I P D N L : Type 0} → DiskOf D → (file size positions : List ℕ) → Outcome
+abbrev pub DoesFmtbloom : {R K I P D N L : Type 0} → DiskOf D
+    → (file size positions : List ℕ) → Outcome
     → Work R K I P D N L → Type 0
 DoesFmtbloom disk file size positions outcome work =
     RefusesWord (AsksForNoFilter size positions) outcome work

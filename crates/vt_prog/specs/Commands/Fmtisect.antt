@@ -31,7 +31,8 @@ section_line name count =
     concat (codes "fmtisect " ∷ name ∷ codes ": " ∷ decimal count ∷ codes " buckets\n" ∷ [])
 
 -- its words were refused, or the file was made a section, of this name
-abbrev pub DoesFmtisect : {R K I P D N L : Type 0} → DiskOf D → (file name length : List ℕ) → Outcome
+abbrev pub DoesFmtisect : {R K I P D N L : Type 0} → DiskOf D
+    → (file name length : List ℕ) → Outcome
     → Work R K I P D N L → Type 0
 DoesFmtisect disk file name length outcome work =
     RefusesWord (AsksForNoSection name length) outcome work

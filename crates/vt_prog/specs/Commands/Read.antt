@@ -64,7 +64,8 @@ PrintsKept score disk file s kind outcome work =
 -- The server at this address was asked for a block, which was printed, or it is told why not.
 -- Whatever the server sent, what is printed has that score.
 pub record PrintsServed {R K I P D N L : Type 0} (link : LinkOf L) (score : List ℕ → List ℕ)
-    (address : Address) (s : List ℕ) (kind : ℕ) (outcome : Outcome) (work : Work R K I P D N L) : Type 0 where
+    (address : Address) (s : List ℕ) (kind : ℕ) (outcome : Outcome)
+    (work : Work R K I P D N L) : Type 0 where
   pub does : AsksAt link score address (AsksForBlock link score kind s)
       (λ (bytes : List ℕ). bytes) outcome work
   pub scored : IfOk does.result (λ (bytes : List ℕ). score bytes ≡ s)

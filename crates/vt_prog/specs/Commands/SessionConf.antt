@@ -155,7 +155,8 @@ pub record IsWellHandedIn {R K I P D N L : Type 0} (score : List ℕ → List �
   pub limits : KeepsLimits tables c
 
 -- no call failed: no count rose, of the streams, the files, the partitions or a disk of these
-pub record NoneFails {R K I P D N L : Type 0} (disk : DiskOf D) (work : Work R K I P D N L) : Type 0 where
+pub record NoneFails {R K I P D N L : Type 0} (disk : DiskOf D) (work : Work R K I P D N L)
+    : Type 0 where
   pub source : ¬ HasRisen work.source.faults work.source.faults'
   pub sink : ¬ HasRisen work.sink.faults work.sink.faults'
   pub files : ¬ HasRisen work.files.faults work.files.faults'

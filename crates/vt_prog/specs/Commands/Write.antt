@@ -119,7 +119,8 @@ pub record PutsTo {R K I P D N L : Type 0} (link : LinkOf L) (score : List ℕ �
   pub scored : IfOk does.result (λ (given : Score). given.0 ≡ score bytes)
 
 -- no block was taken, and no file read; or one was written
-abbrev pub PutsInput : {R K I P D N L : Type 0} → LinkOf L → (List ℕ → List ℕ) → Address → (kind : ℕ)
+abbrev pub PutsInput : {R K I P D N L : Type 0} → LinkOf L → (List ℕ → List ℕ) → Address
+    → (kind : ℕ)
     → Outcome → Work R K I P D N L → Type 0
 PutsInput link score address kind outcome work =
     (TakesNoBlock outcome work × (work.files.after ≡ work.files.before))

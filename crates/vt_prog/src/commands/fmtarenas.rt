@@ -29,12 +29,13 @@ pub fn fmtarenas<H: Host>(
 ) -> Result<(), Failure>
     ensures does { DoesFmtarenas H.Parts.Disk.Disk file name.now length.now arena_size.now result
         (work_of H.Source.Source H.Sink.Sink
-        H.Files.Files H.Parts.Parts H.Dialer.Dialer H.Dialer.Link.Link (H.lent host.old)
-        (H.lent host.new)) }
+        H.Files.Files H.Parts.Parts H.Folders.Folders H.Dialer.Dialer H.Dialer.Link.Link
+        (H.lent host.old) (H.lent host.new)) }
     ensures cause { HasCauseIn H.Parts.Disk.Disk (work_of H.Source.Source H.Sink.Sink
-        H.Files.Files H.Parts.Parts H.Dialer.Dialer H.Dialer.Link.Link (H.lent host.old)
-        (H.lent host.new)) result }
+        H.Files.Files H.Parts.Parts H.Folders.Folders H.Dialer.Dialer H.Dialer.Link.Link
+        (H.lent host.old) (H.lent host.new)) result }
     ensures quiet { (H.lent host.new).fault_sink ≡ (H.lent host.old).fault_sink }
+    ensures folders { (H.lent host.new).folders ≡ (H.lent host.old).folders }
 {
     let (len, size) = read_words(name, length, arena_size)?;
     match format_arenas(alloc, host.parts(), &file, name, len, size) {

@@ -28,13 +28,15 @@ pub fn fmtindex<H: Host, S: Scorer>(
     file: &Text,
     scorer: &S,
 ) -> Result<(), Failure>
-    ensures does { DoesFmtindex H.Parts.Disk.Disk file.now result (work_of H.Source.Source H.Sink.Sink
-        H.Files.Files H.Parts.Parts H.Dialer.Dialer H.Dialer.Link.Link (H.lent host.old)
-        (H.lent host.new)) }
+    ensures does { DoesFmtindex H.Parts.Disk.Disk file.now result
+        (work_of H.Source.Source H.Sink.Sink H.Files.Files
+        H.Parts.Parts H.Folders.Folders H.Dialer.Dialer H.Dialer.Link.Link
+        (H.lent host.old) (H.lent host.new)) }
     ensures cause { HasCauseIn H.Parts.Disk.Disk (work_of H.Source.Source H.Sink.Sink
-        H.Files.Files H.Parts.Parts H.Dialer.Dialer H.Dialer.Link.Link (H.lent host.old)
-        (H.lent host.new)) result }
+        H.Files.Files H.Parts.Parts H.Folders.Folders H.Dialer.Dialer H.Dialer.Link.Link
+        (H.lent host.old) (H.lent host.new)) result }
     ensures quiet { (H.lent host.new).fault_sink ≡ (H.lent host.old).fault_sink }
+    ensures folders { (H.lent host.new).folders ≡ (H.lent host.old).folders }
 {
     configurations_number_their_files();
     let conf = read_conf(alloc, host.files(), file)?;
@@ -59,6 +61,7 @@ fn index_conf<H: Host, S: Scorer, T: Sink>(
     ensures dialer { (H.lent host.new).dialer ≡ (H.lent host.old).dialer }
     ensures files { (H.lent host.new).files ≡ (H.lent host.old).files }
     ensures fault_sink { (H.lent host.new).fault_sink ≡ (H.lent host.old).fault_sink }
+    ensures folders { (H.lent host.new).folders ≡ (H.lent host.old).folders }
 {
     match format_index(alloc, host.parts(), scorer, shown, conf) {
         Ok(index) => print_index(host.sink(), &conf.index, index),

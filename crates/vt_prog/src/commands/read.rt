@@ -36,10 +36,13 @@ pub fn read<H: Host, S: Scorer>(
     ensures does { DoesRead S.score_of H.Parts.Disk.Disk H.Dialer.Link.Link store.now score.now
         kind.now result
         (work_of H.Source.Source H.Sink.Sink H.Files.Files
-        H.Parts.Parts H.Dialer.Dialer H.Dialer.Link.Link (H.lent host.old) (H.lent host.new)) }
+        H.Parts.Parts H.Folders.Folders H.Dialer.Dialer H.Dialer.Link.Link
+        (H.lent host.old) (H.lent host.new)) }
     ensures cause { HasCauseIn H.Parts.Disk.Disk (work_of H.Source.Source H.Sink.Sink H.Files.Files
-        H.Parts.Parts H.Dialer.Dialer H.Dialer.Link.Link (H.lent host.old) (H.lent host.new)) result }
+        H.Parts.Parts H.Folders.Folders H.Dialer.Dialer H.Dialer.Link.Link
+        (H.lent host.old) (H.lent host.new)) result }
     ensures quiet { (H.lent host.new).fault_sink ≡ (H.lent host.old).fault_sink }
+    ensures folders { (H.lent host.new).folders ≡ (H.lent host.old).folders }
 {
     let score = score_in(score)?;
     let kind = type_in(kind)?;
@@ -60,10 +63,13 @@ fn print_made<H: Host, S: Scorer>(
 ) -> Result<(), Failure>
     ensures does { PrintsMade S.score_of score.now.0 kind result
         (work_of H.Source.Source H.Sink.Sink H.Files.Files
-        H.Parts.Parts H.Dialer.Dialer H.Dialer.Link.Link (H.lent host.old) (H.lent host.new)) }
+        H.Parts.Parts H.Folders.Folders H.Dialer.Dialer H.Dialer.Link.Link
+        (H.lent host.old) (H.lent host.new)) }
     ensures cause { HasCauseIn H.Parts.Disk.Disk (work_of H.Source.Source H.Sink.Sink H.Files.Files
-        H.Parts.Parts H.Dialer.Dialer H.Dialer.Link.Link (H.lent host.old) (H.lent host.new)) result }
+        H.Parts.Parts H.Folders.Folders H.Dialer.Dialer H.Dialer.Link.Link
+        (H.lent host.old) (H.lent host.new)) result }
     ensures quiet { (H.lent host.new).fault_sink ≡ (H.lent host.old).fault_sink }
+    ensures folders { (H.lent host.new).folders ≡ (H.lent host.old).folders }
 {
     match read_made(alloc, scorer, kind, score) {
         Ok(block) => print(host.sink(), &[block.as_slice()]),
@@ -82,10 +88,13 @@ fn print_kept<H: Host, S: Scorer>(
 ) -> Result<(), Failure>
     ensures does { PrintsKept S.score_of H.Parts.Disk.Disk file.now score.now.0 kind result
         (work_of H.Source.Source H.Sink.Sink H.Files.Files
-        H.Parts.Parts H.Dialer.Dialer H.Dialer.Link.Link (H.lent host.old) (H.lent host.new)) }
+        H.Parts.Parts H.Folders.Folders H.Dialer.Dialer H.Dialer.Link.Link
+        (H.lent host.old) (H.lent host.new)) }
     ensures cause { HasCauseIn H.Parts.Disk.Disk (work_of H.Source.Source H.Sink.Sink H.Files.Files
-        H.Parts.Parts H.Dialer.Dialer H.Dialer.Link.Link (H.lent host.old) (H.lent host.new)) result }
+        H.Parts.Parts H.Folders.Folders H.Dialer.Dialer H.Dialer.Link.Link
+        (H.lent host.old) (H.lent host.new)) result }
     ensures quiet { (H.lent host.new).fault_sink ≡ (H.lent host.old).fault_sink }
+    ensures folders { (H.lent host.new).folders ≡ (H.lent host.old).folders }
 {
     configurations_can_be_opened();
     failures_have_causes::<<H::Parts as Parts>::Disk>();
@@ -107,10 +116,13 @@ fn print_served<H: Host, S: Scorer>(
 ) -> Result<(), Failure>
     ensures does { PrintsServed H.Dialer.Link.Link S.score_of address.now score.now.0 kind result
         (work_of H.Source.Source H.Sink.Sink H.Files.Files
-        H.Parts.Parts H.Dialer.Dialer H.Dialer.Link.Link (H.lent host.old) (H.lent host.new)) }
+        H.Parts.Parts H.Folders.Folders H.Dialer.Dialer H.Dialer.Link.Link
+        (H.lent host.old) (H.lent host.new)) }
     ensures cause { HasCauseIn H.Parts.Disk.Disk (work_of H.Source.Source H.Sink.Sink H.Files.Files
-        H.Parts.Parts H.Dialer.Dialer H.Dialer.Link.Link (H.lent host.old) (H.lent host.new)) result }
+        H.Parts.Parts H.Folders.Folders H.Dialer.Dialer H.Dialer.Link.Link
+        (H.lent host.old) (H.lent host.new)) result }
     ensures quiet { (H.lent host.new).fault_sink ≡ (H.lent host.old).fault_sink }
+    ensures folders { (H.lent host.new).folders ≡ (H.lent host.old).folders }
 {
     refusals_have_causes::<<H::Dialer as Dialer>::Link>();
     match read_remote(alloc, host.dialer(), address, scorer, kind, score) {

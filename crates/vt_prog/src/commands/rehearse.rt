@@ -27,11 +27,13 @@ pub fn rehearse<H: Host>(
 ) -> Result<(), Failure>
     ensures does { DoesRehearse seed.now count.now result
         (work_of H.Source.Source H.Sink.Sink H.Files.Files
-        H.Parts.Parts H.Dialer.Dialer H.Dialer.Link.Link (H.lent host.old) (H.lent host.new)) }
+        H.Parts.Parts H.Folders.Folders H.Dialer.Dialer H.Dialer.Link.Link
+        (H.lent host.old) (H.lent host.new)) }
     ensures cause { HasCauseIn H.Parts.Disk.Disk (work_of H.Source.Source H.Sink.Sink H.Files.Files
-        H.Parts.Parts H.Dialer.Dialer H.Dialer.Link.Link (H.lent host.old)
-        (H.lent host.new)) result }
+        H.Parts.Parts H.Folders.Folders H.Dialer.Dialer H.Dialer.Link.Link
+        (H.lent host.old) (H.lent host.new)) result }
     ensures quiet { (H.lent host.new).fault_sink ≡ (H.lent host.old).fault_sink }
+    ensures folders { (H.lent host.new).folders ≡ (H.lent host.old).folders }
 {
     let (seed, rounds) = read_words(seed, count)?;
     let mut shown = Shown::new(host.terminal(), Unit::Rounds);

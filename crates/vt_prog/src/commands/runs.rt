@@ -1,11 +1,14 @@
 //! Runs of the program over streams, files and partitions in memory, and what they leave.
 
-use crate::{Outside, run_with};
+use crate::{Outside, Streams, run_with};
 use std::alloc::Global;
 use std::test::Fail;
-use vt_answer::StreamsClient;
+use std::thread::Threads;
 use vt_base::{Bytes, NoMemory, Scorer, Sha1Scorer, Text};
 use vt_dial::MemDialer;
+use vt_disk::Disk;
+use vt_folder::MemFolder;
+use vt_folders::MemFolders;
 use vt_memdisk::{CrashMode, Listed, MemDisk};
 use vt_memparts::{Failing, MemParts};
 use vt_out::{MemClock, MemFiles, MemLink, MemSink, MemSource};
@@ -88,6 +91,11 @@ pub fn see_ran(ran: &Ran, output: &[u8], status: u8, complaint: &str) -> Result<
     )
 }
 
+/// What a test hands to the program.
+pub trait Runtime: Threads + Sync + AllocGlobal {}
+
+impl<R: Threads + Sync + AllocGlobal> Runtime for R {}
+
 /// A dialer whose one server nobody asks for.
 pub fn no_server(alloc: Global) -> Result<MemDialer, Fail> {
     let link = MemLink {
@@ -97,10 +105,16 @@ pub fn no_server(alloc: Global) -> Result<MemDialer, Fail> {
     Ok(MemDialer::new(Text::copy_of(alloc, b"nobody")?, 1, link))
 }
 
+/// A folder of a name that nobody asks for.
+pub fn no_folder(alloc: Global) -> Result<MemFolders, Fail> {
+    let folder = MemFolder::new(alloc, Vec::new(alloc));
+    Ok(MemFolders::new(Text::copy_of(alloc, b"nowhere")?, folder))
+}
+
 /// Runs the program with these words over these streams, files and partitions, and gives the
 /// partitions back.
-pub fn run_over<S: Scorer, P: Parts + Drop>(
-    alloc: Global,
+pub fn run_over<S: Scorer + Sync, P: Parts + Drop>(
+    rt: &impl Runtime,
     words: &[&str],
     source: MemSource,
     sink: MemSink,
@@ -108,16 +122,18 @@ pub fn run_over<S: Scorer, P: Parts + Drop>(
     parts: P,
     scorer: &S,
 ) -> Result<(Ran, P), Fail> {
+    let alloc = rt.alloc();
     let mut host = Outside {
-        streams: StreamsClient { source, sink },
+        streams: Streams { source, sink },
         fault_sink: MemSink::new(alloc, 200)?,
         files,
         parts,
         dialer: no_server(alloc)?,
+        folders: no_folder(alloc)?,
         clock: MemClock::new(0),
         terminal: None::<MemSink>,
     };
-    let status = run_with(&(), alloc, words, &mut host, scorer);
+    let status = run_with(rt, alloc, words, &mut host, scorer);
     let ran = Ran {
         status,
         output: Vec::from_slice(alloc, host.streams.sink.written())?,
@@ -171,10 +187,10 @@ pub const PARTITIONS: Commands = &[
 pub const INDEX: &[&str] = &["fmtindex", "v.conf"];
 
 /// The commands are done over these partitions, and end well.
-pub fn make<P: Parts + Drop>(alloc: Global, parts: P, commands: &[&[&str]]) -> Result<P, Fail> {
+pub fn make<P: Parts + Drop>(rt: &impl Runtime, parts: P, commands: &[&[&str]]) -> Result<P, Fail> {
     let mut parts = parts;
     for words in commands {
-        let (ran, made) = run_conf(alloc, words, b"", parts, &Sha1Scorer)?;
+        let (ran, made) = run_conf(rt, words, b"", parts, &Sha1Scorer)?;
         see(ran.status == 0, "a command that doesn't end well")?;
         parts = made;
     }
@@ -182,22 +198,24 @@ pub fn make<P: Parts + Drop>(alloc: Global, parts: P, commands: &[&[&str]]) -> R
 }
 
 /// A store of the configuration `v.conf`, without blocks.
-pub fn store<P: TestParts>(alloc: Global) -> Result<P, Fail> {
-    let parts = make(alloc, P::failing(alloc, Vec::new(alloc)), PARTITIONS)?;
-    make(alloc, parts, &[INDEX])
+pub fn store<P: TestParts>(rt: &impl Runtime) -> Result<P, Fail> {
+    let alloc = rt.alloc();
+    let parts = make(rt, P::failing(alloc, Vec::new(alloc)), PARTITIONS)?;
+    make(rt, parts, &[INDEX])
 }
 
 /// Runs the program with these words on this input, beside the files of the configurations.
-pub fn run_conf<S: Scorer, P: Parts + Drop>(
-    alloc: Global,
+pub fn run_conf<S: Scorer + Sync, P: Parts + Drop>(
+    rt: &impl Runtime,
     words: &[&str],
     input: &[u8],
     parts: P,
     scorer: &S,
 ) -> Result<(Ran, P), Fail> {
+    let alloc = rt.alloc();
     let source = MemSource::new(alloc, Vec::from_slice(alloc, input)?);
     let sink = MemSink::new(alloc, 1 << 16)?;
-    run_over(alloc, words, source, sink, confs(alloc)?, parts, scorer)
+    run_over(rt, words, source, sink, confs(alloc)?, parts, scorer)
 }
 
 /// The partitions of a small store with a filter, each made by one command, whose second word is
@@ -211,11 +229,12 @@ pub const FILTERED: Commands = &[
 /// All of them but the one with this number. Of each disk that is made for these partitions so many
 /// calls fail, from this one on.
 pub fn all_but<P: TestParts>(
-    alloc: Global,
+    rt: &impl Runtime,
     number: usize,
     first: u64,
     span: u64,
 ) -> Result<P, Fail> {
+    let alloc = rt.alloc();
     let mut calls = Vec::new(alloc);
     for behind in 0..span {
         calls.push(first.saturating_add(behind))?;
@@ -223,15 +242,16 @@ pub fn all_but<P: TestParts>(
     let mut parts = P::failing(alloc, calls);
     for (other, words) in FILTERED.iter().enumerate() {
         if other != number {
-            parts = with_made(alloc, parts, words)?;
+            parts = with_made(rt, parts, words)?;
         }
     }
     Ok(parts)
 }
 
 /// With the partition that this command makes, of which no call fails.
-fn with_made<P: TestParts>(alloc: Global, parts: P, words: &[&str]) -> Result<P, Fail> {
-    let mut made = make(alloc, P::failing(alloc, Vec::new(alloc)), &[words])?;
+fn with_made<P: TestParts>(rt: &impl Runtime, parts: P, words: &[&str]) -> Result<P, Fail> {
+    let alloc = rt.alloc();
+    let mut made = make(rt, P::failing(alloc, Vec::new(alloc)), &[words])?;
     let name = named(alloc, words)?;
     let disk = made.part(alloc, &name, None)?;
     Ok(parts.with(name, disk)?)
@@ -243,4 +263,23 @@ pub fn named(alloc: Global, words: &[&str]) -> Result<Text, Fail> {
         return Err("no name".into());
     };
     Ok(Text::copy_of(alloc, name.as_bytes())?)
+}
+
+/// The bytes of the partition of this name are these at this place.
+pub fn spoil<P: TestParts>(
+    alloc: Global,
+    parts: P,
+    name: &str,
+    at: u64,
+    bytes: &[u8],
+) -> Result<P, Fail> {
+    let mut parts = parts;
+    let name = Text::copy_of(alloc, name.as_bytes())?;
+    let mut disk = parts.part(alloc, &name, None)?;
+    if disk.len() < at || disk.len() - at < bytes.len() as u64 {
+        return Err("the partition ends before")?;
+    }
+    disk.write_at(at, bytes)?;
+    parts.done(&name, disk);
+    Ok(parts)
 }

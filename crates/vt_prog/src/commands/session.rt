@@ -25,12 +25,13 @@ mod tests;
 /// out, before more is read.
 pub fn session<H: Host, S: Scorer>(alloc: Global, host: &mut H, scorer: &S) -> Result<(), Failure>
     ensures does { DoesSession S.score_of result (work_of H.Source.Source H.Sink.Sink
-        H.Files.Files H.Parts.Parts H.Dialer.Dialer H.Dialer.Link.Link (H.lent host.old)
-        (H.lent host.new)) }
+        H.Files.Files H.Parts.Parts H.Folders.Folders H.Dialer.Dialer H.Dialer.Link.Link
+        (H.lent host.old) (H.lent host.new)) }
     ensures cause { HasCauseIn H.Parts.Disk.Disk (work_of H.Source.Source H.Sink.Sink
-        H.Files.Files H.Parts.Parts H.Dialer.Dialer H.Dialer.Link.Link (H.lent host.old)
-        (H.lent host.new)) result }
+        H.Files.Files H.Parts.Parts H.Folders.Folders H.Dialer.Dialer H.Dialer.Link.Link
+        (H.lent host.old) (H.lent host.new)) result }
     ensures quiet { (H.lent host.new).fault_sink ≡ (H.lent host.old).fault_sink }
+    ensures folders { (H.lent host.new).folders ≡ (H.lent host.old).folders }
 {
     let now = host.now();
     outcome_of(serve_memory(alloc, host, scorer, now))
@@ -47,9 +48,10 @@ fn serve_memory<H: Host, S: Scorer>(
         (source_change H.Source.Source (H.lent host.old).source (H.lent host.new).source)
         (sink_change H.Sink.Sink (H.lent host.old).sink (H.lent host.new).sink) }
     ensures idle { result.ended ≡ Ended.NoMemory → IsIdle (work_of H.Source.Source H.Sink.Sink
-        H.Files.Files H.Parts.Parts H.Dialer.Dialer H.Dialer.Link.Link (H.lent host.old)
-        (H.lent host.new)) }
+        H.Files.Files H.Parts.Parts H.Folders.Folders H.Dialer.Dialer H.Dialer.Link.Link
+        (H.lent host.old) (H.lent host.new)) }
     ensures fault_sink { (H.lent host.new).fault_sink ≡ (H.lent host.old).fault_sink }
+    ensures folders { (H.lent host.new).folders ≡ (H.lent host.old).folders }
     ensures files { (H.lent host.new).files ≡ (H.lent host.old).files }
     ensures parts { (H.lent host.new).parts ≡ (H.lent host.old).parts }
     ensures dialer { (H.lent host.new).dialer ≡ (H.lent host.old).dialer }

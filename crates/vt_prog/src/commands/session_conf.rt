@@ -12,14 +12,15 @@ use crate::commands::fmtindex::{name_at, refusal_among};
 use crate::configuration::read_conf;
 use crate::failure::Failure;
 use crate::host::Host;
-use crate::refusal::name_failed;
 use crate::served::outcome_of;
+use crate::shown::{Shown, Unit};
 use std::alloc::Global;
 use vt_alone::{serve_store, sessions_are_runs};
 use vt_base::{NoMemory, Scorer, Text};
 use vt_conf::Conf;
 use vt_core::Core;
 use vt_open::{OpenBad, close_store, configurations_can_be_opened, open_store, shapes_are_kept};
+use vt_out::Sink;
 use vt_parts::Parts;
 
 #[cfg(test)]
@@ -33,13 +34,15 @@ pub fn session_conf<H: Host, S: Scorer>(
     file: &Text,
     scorer: &S,
 ) -> Result<(), Failure>
-    ensures does { DoesSessionConf S.score_of H.Parts.Disk.Disk file.now result (work_of H.Source.Source H.Sink.Sink
-        H.Files.Files H.Parts.Parts H.Dialer.Dialer H.Dialer.Link.Link (H.lent host.old)
-        (H.lent host.new)) }
+    ensures does { DoesSessionConf S.score_of H.Parts.Disk.Disk file.now result
+        (work_of H.Source.Source H.Sink.Sink H.Files.Files
+        H.Parts.Parts H.Folders.Folders H.Dialer.Dialer H.Dialer.Link.Link
+        (H.lent host.old) (H.lent host.new)) }
     ensures cause { HasCauseIn H.Parts.Disk.Disk (work_of H.Source.Source H.Sink.Sink
-        H.Files.Files H.Parts.Parts H.Dialer.Dialer H.Dialer.Link.Link (H.lent host.old)
-        (H.lent host.new)) result }
+        H.Files.Files H.Parts.Parts H.Folders.Folders H.Dialer.Dialer H.Dialer.Link.Link
+        (H.lent host.old) (H.lent host.new)) result }
     ensures quiet { (H.lent host.new).fault_sink ≡ (H.lent host.old).fault_sink }
+    ensures folders { (H.lent host.new).folders ≡ (H.lent host.old).folders }
 {
     configurations_can_be_opened();
     let conf = read_conf(alloc, host.files(), file)?;
@@ -68,6 +71,7 @@ fn serve_conf<H: Host, S: Scorer>(
     ensures files { (H.lent host.new).files ≡ (H.lent host.old).files }
     ensures dialer { (H.lent host.new).dialer ≡ (H.lent host.old).dialer }
     ensures fault_sink { (H.lent host.new).fault_sink ≡ (H.lent host.old).fault_sink }
+    ensures folders { (H.lent host.new).folders ≡ (H.lent host.old).folders }
 {
     let now = host.now();
     match open_store(alloc, host.parts(), conf, 1, scorer) {
@@ -96,6 +100,7 @@ fn serve_opened<H: Host, S: Scorer + Drop>(
     ensures files { (H.lent host.new).files ≡ (H.lent host.old).files }
     ensures dialer { (H.lent host.new).dialer ≡ (H.lent host.old).dialer }
     ensures fault_sink { (H.lent host.new).fault_sink ≡ (H.lent host.old).fault_sink }
+    ensures folders { (H.lent host.new).folders ≡ (H.lent host.old).folders }
 {
     sessions_are_runs::<<H::Parts as Parts>::Disk>();
     shapes_are_kept::<<H::Parts as Parts>::Disk>();
@@ -115,9 +120,23 @@ pub(crate) fn told<H: Host>(
     ensures told { IsOpenRefusal file.now conf.now bad result }
     ensures same { H.lent host.new ≡ H.lent host.old }
 {
+    let mut shown = Shown::new(host.terminal(), Unit::Buckets);
+    told_on(alloc, &mut shown, file, conf, bad)
+}
+
+/// The same, where the terminal shows how far a command has come.
+pub(crate) fn told_on<T: Sink>(
+    alloc: Global,
+    shown: &mut Shown<T>,
+    file: &Text,
+    conf: &Conf,
+    bad: OpenBad,
+) -> Failure
+    ensures { IsOpenRefusal file.now conf.now bad result }
+{
     match bad {
         OpenBad::Missing { part } => {
-            name_failed(host, name_at(file, conf, part));
+            shown.name(name_at(file, conf, part).as_slice());
             Failure::DiskFault
         }
         OpenBad::Refused(bad) => match refusal_among(alloc, file, conf, bad) {

@@ -2,7 +2,8 @@
 //! fault sink.
 
 use crate::commands::runs::{
-    FILTERED, INDEX, InMemory, TestParts, all_but, confs, make, run_conf, run_over, see, see_ran,
+    FILTERED, INDEX, InMemory, Runtime, TestParts, all_but, confs, make, run_conf, run_over, see,
+    see_ran,
 };
 use std::alloc::Global;
 use std::test::Fail;
@@ -244,66 +245,69 @@ const ROWS: [Row; 39] = [
 ];
 
 /// Runs the program without input, and sees that it leaves this. Gives the partitions back.
-fn see_row<P: Parts + Drop>(alloc: Global, parts: P, row: Row) -> Result<P, Fail> {
+fn see_row<P: Parts + Drop>(rt: &impl Runtime, parts: P, row: Row) -> Result<P, Fail> {
     let (words, status, output, complaint) = row;
-    let (ran, parts) = run_conf(alloc, words, b"", parts, &Sha1Scorer)?;
+    let (ran, parts) = run_conf(rt, words, b"", parts, &Sha1Scorer)?;
     see_ran(&ran, output.as_bytes(), status, complaint)?;
     Ok(parts)
 }
 
 /// Runs the rows one after another.
-fn see_rows<P: Parts + Drop>(alloc: Global, parts: P) -> Result<(), Fail> {
+fn see_rows<P: Parts + Drop>(rt: &impl Runtime, parts: P) -> Result<(), Fail> {
+    let alloc = rt.alloc();
     let mut parts = parts;
     let lent = Text::copy_of(alloc, b"lent.part")?;
     let _lent = parts.part(alloc, &lent, Some(8192))?;
     for row in ROWS {
-        parts = see_row(alloc, parts, row)?;
+        parts = see_row(rt, parts, row)?;
     }
     Ok(())
 }
 
 /// A configuration has one byte more than it may have.
-fn see_long<P: Parts + Drop>(alloc: Global, parts: P) -> Result<(), Fail> {
+fn see_long<P: Parts + Drop>(rt: &impl Runtime, parts: P) -> Result<(), Fail> {
+    let alloc = rt.alloc();
     let words = ["fmtindex", "long.conf"];
     let source = MemSource::new(alloc, Vec::new(alloc));
     let sink = MemSink::new(alloc, 10)?;
     let long = Bytes::from_vec(vec![in alloc; b'#'; 65_537]?);
     let files = MemFiles::new(alloc).with(Text::copy_of(alloc, b"long.conf")?, long)?;
-    let (ran, _) = run_over(alloc, &words, source, sink, files, parts, &Sha1Scorer)?;
+    let (ran, _) = run_over(rt, &words, source, sink, files, parts, &Sha1Scorer)?;
     see_ran(&ran, b"", 2, "venti: config line 0: too long\n")
 }
 
 /// The sink takes ten bytes, and the file is formatted.
-fn see_full_sink<P: Parts + Drop>(alloc: Global, parts: P) -> Result<(), Fail> {
+fn see_full_sink<P: Parts + Drop>(rt: &impl Runtime, parts: P) -> Result<(), Fail> {
+    let alloc = rt.alloc();
     let words = ["fmtisect", "i.part", "i0", "92160"];
     let source = MemSource::new(alloc, Vec::new(alloc));
     let sink = MemSink::new(alloc, 10)?;
     let files = confs(alloc)?;
-    let (ran, _) = run_over(alloc, &words, source, sink, files, parts, &Sha1Scorer)?;
+    let (ran, _) = run_over(rt, &words, source, sink, files, parts, &Sha1Scorer)?;
     see_ran(&ran, b"fmtisect i", 7, "venti: write fault\n")
 }
 
 #[test]
 fn files_are_formatted(rt: HostRuntime) -> Result<(), Fail> {
     let alloc = rt.alloc();
-    see_rows::<InMemory>(alloc, TestParts::failing(alloc, Vec::new(alloc)))?;
-    see_long::<InMemory>(alloc, TestParts::failing(alloc, Vec::new(alloc)))?;
-    see_full_sink::<InMemory>(alloc, TestParts::failing(alloc, Vec::new(alloc)))
+    see_rows::<InMemory>(&rt, TestParts::failing(alloc, Vec::new(alloc)))?;
+    see_long::<InMemory>(&rt, TestParts::failing(alloc, Vec::new(alloc)))?;
+    see_full_sink::<InMemory>(&rt, TestParts::failing(alloc, Vec::new(alloc)))
 }
 
 /// What is said where this call of the command that makes a partition fails: `w` that the partition
 /// was made; else, by `fmtindex` behind it, `n` that the file isn't formatted, or `f` that the
 /// index is. Done again, the command ends well.
-fn letter<P: TestParts>(alloc: Global, number: usize, call: u64) -> Result<char, Fail> {
-    let parts = all_but::<P>(alloc, number, call, 1)?;
+fn letter<P: TestParts>(rt: &impl Runtime, number: usize, call: u64) -> Result<char, Fail> {
+    let parts = all_but::<P>(rt, number, call, 1)?;
     let words = FILTERED.get(number).ok_or("no such partition")?;
-    let (stopped, parts) = run_conf(alloc, words, b"", parts, &Sha1Scorer)?;
+    let (stopped, parts) = run_conf(rt, words, b"", parts, &Sha1Scorer)?;
     if stopped.status == 0 {
         return Ok('w');
     }
     see_ran(&stopped, b"", 4, "venti: disk fault\n")?;
-    let (index, parts) = run_conf(alloc, INDEX, b"", parts, &Sha1Scorer)?;
-    make(alloc, parts, &[words])?;
+    let (index, parts) = run_conf(rt, INDEX, b"", parts, &Sha1Scorer)?;
+    make(rt, parts, &[words])?;
     Ok(if index.complaint.ends_with(b": not formatted\n") {
         'n'
     } else if index.status == 0 {
@@ -314,10 +318,11 @@ fn letter<P: TestParts>(alloc: Global, number: usize, call: u64) -> Result<char,
 }
 
 /// Where each call of the command that makes this partition fails, in turn, this is said.
-fn see_letters<P: TestParts>(alloc: Global, number: usize, letters: &str) -> Result<(), Fail> {
+fn see_letters<P: TestParts>(rt: &impl Runtime, number: usize, letters: &str) -> Result<(), Fail> {
+    let alloc = rt.alloc();
     let mut found = String::new(alloc);
     for call in 0..letters.len() {
-        found.push(letter::<P>(alloc, number, call as u64)?)?;
+        found.push(letter::<P>(rt, number, call as u64)?)?;
     }
     see(found.as_str() == letters, "something else is said")
 }
@@ -326,9 +331,8 @@ fn see_letters<P: TestParts>(alloc: Global, number: usize, letters: &str) -> Res
 /// the sync fails that follows, or a read.
 #[test]
 fn a_file_is_formatted_by_its_last_write(rt: HostRuntime) -> Result<(), Fail> {
-    let alloc = rt.alloc();
     for (number, letters) in ["nnnnffw", "nffw", "nffw"].iter().enumerate() {
-        see_letters::<InMemory>(alloc, number, letters)?;
+        see_letters::<InMemory>(&rt, number, letters)?;
     }
     Ok(())
 }

@@ -15,8 +15,8 @@ use crate::host::Host;
 use crate::memory::write_made;
 use crate::place::{Place, place_of};
 use crate::printing::print;
+use crate::streams::Streams;
 use std::alloc::Global;
-use vt_answer::StreamsClient;
 use vt_base::{Bytes, Failed, Kind, MAX_BLOCK, Score, Scorer, Text, Why};
 use vt_conf::Address;
 use vt_dial::Dialer;
@@ -40,10 +40,13 @@ pub fn write<H: Host, S: Scorer>(
     ensures does { DoesWrite S.score_of H.Parts.Disk.Disk H.Dialer.Link.Link store.now kind.now
         result
         (work_of H.Source.Source H.Sink.Sink H.Files.Files
-        H.Parts.Parts H.Dialer.Dialer H.Dialer.Link.Link (H.lent host.old) (H.lent host.new)) }
+        H.Parts.Parts H.Folders.Folders H.Dialer.Dialer H.Dialer.Link.Link
+        (H.lent host.old) (H.lent host.new)) }
     ensures cause { HasCauseIn H.Parts.Disk.Disk (work_of H.Source.Source H.Sink.Sink H.Files.Files
-        H.Parts.Parts H.Dialer.Dialer H.Dialer.Link.Link (H.lent host.old) (H.lent host.new)) result }
+        H.Parts.Parts H.Folders.Folders H.Dialer.Dialer H.Dialer.Link.Link
+        (H.lent host.old) (H.lent host.new)) result }
     ensures quiet { (H.lent host.new).fault_sink ≡ (H.lent host.old).fault_sink }
+    ensures folders { (H.lent host.new).folders ≡ (H.lent host.old).folders }
 {
     let kind = type_in(kind)?;
     match place_of(alloc, store)? {
@@ -62,10 +65,13 @@ fn make_input<H: Host, S: Scorer>(
 ) -> Result<(), Failure>
     ensures does { MakesInput S.score_of kind result
         (work_of H.Source.Source H.Sink.Sink H.Files.Files
-        H.Parts.Parts H.Dialer.Dialer H.Dialer.Link.Link (H.lent host.old) (H.lent host.new)) }
+        H.Parts.Parts H.Folders.Folders H.Dialer.Dialer H.Dialer.Link.Link
+        (H.lent host.old) (H.lent host.new)) }
     ensures cause { HasCauseIn H.Parts.Disk.Disk (work_of H.Source.Source H.Sink.Sink H.Files.Files
-        H.Parts.Parts H.Dialer.Dialer H.Dialer.Link.Link (H.lent host.old) (H.lent host.new)) result }
+        H.Parts.Parts H.Folders.Folders H.Dialer.Dialer H.Dialer.Link.Link
+        (H.lent host.old) (H.lent host.new)) result }
     ensures quiet { (H.lent host.new).fault_sink ≡ (H.lent host.old).fault_sink }
+    ensures folders { (H.lent host.new).folders ≡ (H.lent host.old).folders }
 {
     let block = take_block(alloc, host.streams())?;
     let now = host.now();
@@ -87,10 +93,13 @@ fn keep_input<H: Host, S: Scorer>(
 ) -> Result<(), Failure>
     ensures does { KeepsInput S.score_of H.Parts.Disk.Disk file.now kind result
         (work_of H.Source.Source H.Sink.Sink H.Files.Files
-        H.Parts.Parts H.Dialer.Dialer H.Dialer.Link.Link (H.lent host.old) (H.lent host.new)) }
+        H.Parts.Parts H.Folders.Folders H.Dialer.Dialer H.Dialer.Link.Link
+        (H.lent host.old) (H.lent host.new)) }
     ensures cause { HasCauseIn H.Parts.Disk.Disk (work_of H.Source.Source H.Sink.Sink H.Files.Files
-        H.Parts.Parts H.Dialer.Dialer H.Dialer.Link.Link (H.lent host.old) (H.lent host.new)) result }
+        H.Parts.Parts H.Folders.Folders H.Dialer.Dialer H.Dialer.Link.Link
+        (H.lent host.old) (H.lent host.new)) result }
     ensures quiet { (H.lent host.new).fault_sink ≡ (H.lent host.old).fault_sink }
+    ensures folders { (H.lent host.new).folders ≡ (H.lent host.old).folders }
 {
     configurations_can_be_opened();
     failures_have_causes::<<H::Parts as Parts>::Disk>();
@@ -122,10 +131,13 @@ fn put_input<H: Host, S: Scorer>(
 ) -> Result<(), Failure>
     ensures does { PutsInput H.Dialer.Link.Link S.score_of address.now kind result
         (work_of H.Source.Source H.Sink.Sink H.Files.Files
-        H.Parts.Parts H.Dialer.Dialer H.Dialer.Link.Link (H.lent host.old) (H.lent host.new)) }
+        H.Parts.Parts H.Folders.Folders H.Dialer.Dialer H.Dialer.Link.Link
+        (H.lent host.old) (H.lent host.new)) }
     ensures cause { HasCauseIn H.Parts.Disk.Disk (work_of H.Source.Source H.Sink.Sink H.Files.Files
-        H.Parts.Parts H.Dialer.Dialer H.Dialer.Link.Link (H.lent host.old) (H.lent host.new)) result }
+        H.Parts.Parts H.Folders.Folders H.Dialer.Dialer H.Dialer.Link.Link
+        (H.lent host.old) (H.lent host.new)) result }
     ensures quiet { (H.lent host.new).fault_sink ≡ (H.lent host.old).fault_sink }
+    ensures folders { (H.lent host.new).folders ≡ (H.lent host.old).folders }
 {
     refusals_have_causes::<<H::Dialer as Dialer>::Link>();
     let block = take_block(alloc, host.streams())?;
@@ -153,6 +165,7 @@ fn take_input<H: Host>(alloc: Global, host: &mut H) -> Result<Bytes, Failure>
     ensures parts { (H.lent host.new).parts ≡ (H.lent host.old).parts }
     ensures dialer { (H.lent host.new).dialer ≡ (H.lent host.old).dialer }
     ensures fault_sink { (H.lent host.new).fault_sink ≡ (H.lent host.old).fault_sink }
+    ensures folders { (H.lent host.new).folders ≡ (H.lent host.old).folders }
 {
     take_block(alloc, host.streams())
 }
@@ -160,7 +173,7 @@ fn take_input<H: Host>(alloc: Global, host: &mut H) -> Result<Bytes, Failure>
 /// What comes in to its end, if it isn't more than a block.
 fn take_block<R: Source, K: Sink>(
     alloc: Global,
-    streams: &mut StreamsClient<R, K>,
+    streams: &mut Streams<R, K>,
 ) -> Result<Bytes, Failure>
     ensures taken { IfOk result (λ bytes. TakesBlock bytes
         (source_change R.Source streams.old.source streams.new.source)) }

@@ -54,6 +54,9 @@ returns-in-Damaged g c tells = rw (c.in-Err.is, c.in-Damaged.is) (c.complain_of_
 pub returns-in-BadScore : goal.returns-in-BadScore
 returns-in-BadScore g c tells = rw (c.in-Err.is, c.in-BadScore.is) (c.complain_at-in-BadScore.ensures tells)
 
+pub returns-in-BadArchive : goal.returns-in-BadArchive
+returns-in-BadArchive g c tells = rw (c.in-Err.is, c.in-BadArchive.is) (c.complain_at-in-BadArchive.ensures tells)
+
 pub returns-in-IndexFull : goal.returns-in-IndexFull
 returns-in-IndexFull g c tells = rw (c.in-Err.is, c.in-IndexFull.is) (c.complain-in-IndexFull.ensures tells)
 
@@ -64,5 +67,18 @@ pub returns-in-Refused : goal.returns-in-Refused
 returns-in-Refused g c tells = rw (c.in-Err.is, c.in-Refused.is)
     (rw (c.as_bytes.ensures.value ∙ c.why_text.ensures) at (c.complain-in-Refused.ensures tells))
 
+pub returns-in-NoBlock : goal.returns-in-NoBlock
+returns-in-NoBlock g c tells = rw (c.in-Err.is, c.in-NoBlock.is)
+    (rw c.as_slice-in-NoBlock.ensures at (c.complain-in-NoBlock.ensures tells))
+
 pub returns-in-Server : goal.returns-in-Server
 returns-in-Server g c tells = rw (c.in-Err.is, c.in-Server.is) (c.complain_of_server.ensures tells)
+
+pub returns-in-TooDeep : goal.returns-in-TooDeep
+returns-in-TooDeep g c tells = rw (c.in-Err.is, c.in-TooDeep.is) (c.complain_at-in-TooDeep.ensures tells)
+
+pub returns-in-TooLong : goal.returns-in-TooLong
+returns-in-TooLong g c tells = rw (c.in-Err.is, c.in-TooLong.is) (c.complain_at-in-TooLong.ensures tells)
+
+pub returns-in-FolderFault : goal.returns-in-FolderFault
+returns-in-FolderFault g c tells = rw (c.in-Err.is, c.in-FolderFault.is) (c.complain-in-FolderFault.ensures tells)

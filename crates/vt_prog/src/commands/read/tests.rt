@@ -1,7 +1,7 @@
 //! Blocks that go to the store of a configuration and come back: words, what comes in, the status,
 //! what goes out, and the line on the fault sink.
 
-use crate::commands::runs::{Ran, run_over, see, see_ran};
+use crate::commands::runs::{Ran, Runtime, run_over, see, see_ran};
 use std::alloc::Global;
 use std::test::Fail;
 use vt_base::{Bytes, Scorer, Sha1Scorer, Text, score_text};
@@ -181,11 +181,12 @@ const CONFS: [(&str, &str); 2] = [
 
 /// Runs the program with these words, and what comes in. Gives the partitions back.
 fn run<P: Parts + Drop>(
-    alloc: Global,
+    rt: &impl Runtime,
     parts: P,
     words: &[&str],
     input: &[u8],
 ) -> Result<(Ran, P), Fail> {
+    let alloc = rt.alloc();
     let source = MemSource::new(alloc, Vec::from_slice(alloc, input)?);
     let sink = MemSink::new(alloc, 60_000)?;
     let mut files = MemFiles::new(alloc);
@@ -193,14 +194,14 @@ fn run<P: Parts + Drop>(
         let name = Text::copy_of(alloc, name.as_bytes())?;
         files = files.with(name, Bytes::copy_of(alloc, text.as_bytes())?)?;
     }
-    run_over(alloc, words, source, sink, files, parts, &Sha1Scorer)
+    run_over(rt, words, source, sink, files, parts, &Sha1Scorer)
 }
 
 /// The commands are done over these partitions, and end well.
-fn make<P: Parts + Drop>(alloc: Global, parts: P, commands: &[&[&str]]) -> Result<P, Fail> {
+fn make<P: Parts + Drop>(rt: &impl Runtime, parts: P, commands: &[&[&str]]) -> Result<P, Fail> {
     let mut parts = parts;
     for words in commands {
-        let (ran, made) = run(alloc, parts, words, b"")?;
+        let (ran, made) = run(rt, parts, words, b"")?;
         see(ran.status == 0, "a command isn't done")?;
         parts = made;
     }
@@ -208,21 +209,21 @@ fn make<P: Parts + Drop>(alloc: Global, parts: P, commands: &[&[&str]]) -> Resul
 }
 
 /// Runs the rows one after another.
-fn see_rows<P: Parts + Drop>(alloc: Global, parts: P, rows: &[Row]) -> Result<P, Fail> {
+fn see_rows<P: Parts + Drop>(rt: &impl Runtime, parts: P, rows: &[Row]) -> Result<P, Fail> {
     let mut parts = parts;
     for row in rows {
         let (words, input, status, output, complaint) = *row;
-        let (ran, left) = run(alloc, parts, words, input)?;
+        let (ran, left) = run(rt, parts, words, input)?;
         see_ran(&ran, output, status, complaint)?;
         parts = left;
     }
     Ok(parts)
 }
 
-fn see_kept<P: Parts + Drop>(alloc: Global, parts: P) -> Result<(), Fail> {
-    let parts = see_rows(alloc, parts, &REFUSED)?;
-    let parts = make(alloc, parts, LARGE)?;
-    see_rows(alloc, parts, &KEPT)?;
+fn see_kept<P: Parts + Drop>(rt: &impl Runtime, parts: P) -> Result<(), Fail> {
+    let parts = see_rows(rt, parts, &REFUSED)?;
+    let parts = make(rt, parts, LARGE)?;
+    see_rows(rt, parts, &KEPT)?;
     Ok(())
 }
 
@@ -230,7 +231,7 @@ fn see_kept<P: Parts + Drop>(alloc: Global, parts: P) -> Result<(), Fail> {
 fn a_block_goes_in_and_comes_out(rt: HostRuntime) -> Result<(), Fail> {
     let alloc = rt.alloc();
     see_kept(
-        alloc,
+        &rt,
         MemParts::new(alloc, Failing::new(Vec::<u64>::new(alloc))),
     )
 }
@@ -247,33 +248,34 @@ fn score_line(alloc: Global, block: &[u8]) -> Result<Vec<u8>, Fail> {
 
 /// A block of so many bytes is written, and ends so.
 fn see_len<P: Parts + Drop>(
-    alloc: Global,
+    rt: &impl Runtime,
     parts: P,
     len: usize,
     status: u8,
     complaint: &str,
 ) -> Result<P, Fail> {
+    let alloc = rt.alloc();
     let block = vec![in alloc; 7; len]?;
     let output = if status == 0 {
         score_line(alloc, &block)?
     } else {
         Vec::new(alloc)
     };
-    let (ran, parts) = run(alloc, parts, WRITE, &block)?;
+    let (ran, parts) = run(rt, parts, WRITE, &block)?;
     see_ran(&ran, &output, status, complaint)?;
     Ok(parts)
 }
 
 /// The largest block goes to a store that has room for it, and no larger one to any.
-fn see_large<P: Parts + Drop>(alloc: Global, small: P, large: P) -> Result<(), Fail> {
-    let small = make(alloc, small, SMALL)?;
-    let small = see_len(alloc, small, 8_130, 10, "venti: arenas full\n")?;
-    let small = see_len(alloc, small, 57_344, 10, "venti: arenas full\n")?;
-    let small = see_len(alloc, small, 57_345, 11, "venti: refused: block too big\n")?;
-    see_len(alloc, small, 8_129, 0, "")?;
-    let large = make(alloc, large, LARGE)?;
-    let large = see_len(alloc, large, 57_344, 0, "")?;
-    see_len(alloc, large, 57_345, 11, "venti: refused: block too big\n")?;
+fn see_large<P: Parts + Drop>(rt: &impl Runtime, small: P, large: P) -> Result<(), Fail> {
+    let small = make(rt, small, SMALL)?;
+    let small = see_len(rt, small, 8_130, 10, "venti: arenas full\n")?;
+    let small = see_len(rt, small, 57_344, 10, "venti: arenas full\n")?;
+    let small = see_len(rt, small, 57_345, 11, "venti: refused: block too big\n")?;
+    see_len(rt, small, 8_129, 0, "")?;
+    let large = make(rt, large, LARGE)?;
+    let large = see_len(rt, large, 57_344, 0, "")?;
+    see_len(rt, large, 57_345, 11, "venti: refused: block too big\n")?;
     Ok(())
 }
 
@@ -281,7 +283,7 @@ fn see_large<P: Parts + Drop>(alloc: Global, small: P, large: P) -> Result<(), F
 fn a_block_may_be_too_large(rt: HostRuntime) -> Result<(), Fail> {
     let alloc = rt.alloc();
     see_large(
-        alloc,
+        &rt,
         MemParts::new(alloc, Failing::new(Vec::<u64>::new(alloc))),
         MemParts::new(alloc, Failing::new(Vec::<u64>::new(alloc))),
     )
@@ -301,14 +303,15 @@ fn writes(alloc: Global, count: u16) -> Result<Vec<u8>, Fail> {
 }
 
 /// Where the one bucket is full, a block that stands there is written again, and no other one is.
-fn see_full<P: Parts + Drop>(alloc: Global, parts: P) -> Result<(), Fail> {
-    let parts = make(alloc, parts, ONE_BUCKET)?;
+fn see_full<P: Parts + Drop>(rt: &impl Runtime, parts: P) -> Result<(), Fail> {
+    let alloc = rt.alloc();
+    let parts = make(rt, parts, ONE_BUCKET)?;
     let input = writes(alloc, 263)?;
-    let (ran, parts) = run(alloc, parts, &["session", "v.conf"], &input)?;
+    let (ran, parts) = run(rt, parts, &["session", "v.conf"], &input)?;
     see(ran.status == 0, "another status")?;
-    let (ran, parts) = run(alloc, parts, WRITE, b"abc")?;
+    let (ran, parts) = run(rt, parts, WRITE, b"abc")?;
     see_ran(&ran, b"", 10, "venti: index full\n")?;
-    let (ran, _) = run(alloc, parts, WRITE, b"\x00\x07")?;
+    let (ran, _) = run(rt, parts, WRITE, b"\x00\x07")?;
     see_ran(&ran, &score_line(alloc, b"\x00\x07")?, 0, "")
 }
 
@@ -316,7 +319,7 @@ fn see_full<P: Parts + Drop>(alloc: Global, parts: P) -> Result<(), Fail> {
 fn a_bucket_may_be_full(rt: HostRuntime) -> Result<(), Fail> {
     let alloc = rt.alloc();
     see_full(
-        alloc,
+        &rt,
         MemParts::new(alloc, Failing::new(Vec::<u64>::new(alloc))),
     )
 }

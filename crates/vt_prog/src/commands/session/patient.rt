@@ -3,12 +3,11 @@
 ghost use Rattle.std.specs.Prelude.{◌<◌, ◌^◌};
 
 use crate::commands::messages::OUR_LINE;
-use crate::commands::runs::{Ran, TestParts, confs, no_server};
-use crate::{Outside, run_with};
+use crate::commands::runs::{Ran, Runtime, TestParts, confs, no_folder, no_server};
+use crate::{Outside, Streams, run_with};
 use std::alloc::Global;
 use std::cell::Cell;
 use std::test::Fail;
-use vt_answer::StreamsClient;
 use vt_base::{Failed, Sha1Scorer};
 use vt_out::{MemClock, MemSink, Sink, Source};
 
@@ -104,12 +103,13 @@ impl Sink for PatientSink<'_> {
 /// Runs the program with these words over these partitions for this client, whose pieces have so
 /// many bytes at most. Gives the partitions back.
 pub fn run_patient<P: TestParts>(
-    alloc: Global,
+    rt: &impl Runtime,
     words: &[&str],
     sent: &[Part],
     cut: usize,
     parts: P,
 ) -> Result<(Ran, P), Fail> {
+    let alloc = rt.alloc();
     let said = Cell::new(0);
     let source = PatientSource {
         parts: sent,
@@ -125,15 +125,16 @@ pub fn run_patient<P: TestParts>(
         failed: 0,
     };
     let mut host = Outside {
-        streams: StreamsClient { source, sink },
+        streams: Streams { source, sink },
         fault_sink: MemSink::new(alloc, 100)?,
         files: confs(alloc)?,
         parts,
         dialer: no_server(alloc)?,
+        folders: no_folder(alloc)?,
         clock: MemClock::new(0),
         terminal: None::<MemSink>,
     };
-    let status = run_with(&(), alloc, words, &mut host, &Sha1Scorer);
+    let status = run_with(rt, alloc, words, &mut host, &Sha1Scorer);
     let ran = Ran {
         status,
         output: host.streams.sink.written,

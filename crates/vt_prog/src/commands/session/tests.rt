@@ -4,7 +4,7 @@ use crate::commands::messages::{
     GAVE_ABC, GOODBYE, HELLO, LINE, OUR_LINE, READ_ABC, SYNC, SYNCED, WELCOME, WRITE_ABC, WROTE_ABC,
 };
 use crate::commands::runs::{
-    InMemory, TestParts, confs, joined, run_conf, run_over, see, see_ran, store, write_of,
+    InMemory, Runtime, TestParts, confs, joined, run_conf, run_over, see, see_ran, store, write_of,
 };
 use crate::commands::session::patient::{Part, run_patient};
 use std::alloc::Global;
@@ -174,70 +174,73 @@ const STORES: [&str; 2] = [":memory:", "v.conf"];
 
 /// Holds a session over a store of each kind, and sees that both leave what the row says. Gives the
 /// partitions back.
-fn see_row<S: Scorer, P: TestParts>(
-    alloc: Global,
+fn see_row<S: Scorer + Sync, P: TestParts>(
+    rt: &impl Runtime,
     parts: P,
     scorer: &S,
     row: Row<'_>,
 ) -> Result<P, Fail> {
+    let alloc = rt.alloc();
     let (input, output, status, complaint) = row;
     let input = joined(alloc, input)?;
     let output = joined(alloc, output)?;
     let output = joined(alloc, &[OUR_LINE, &output])?;
     let mut parts = parts;
     for store in STORES {
-        let (ran, back) = run_conf(alloc, &["session", store], &input, parts, scorer)?;
+        let (ran, back) = run_conf(rt, &["session", store], &input, parts, scorer)?;
         see_ran(&ran, &output, status, complaint)?;
         parts = back;
     }
     Ok(parts)
 }
 
-fn see_rows<P: TestParts>(alloc: Global, parts: P) -> Result<P, Fail> {
+fn see_rows<P: TestParts>(rt: &impl Runtime, parts: P) -> Result<P, Fail> {
     let mut parts = parts;
     for row in ROWS {
-        parts = see_row(alloc, parts, &Sha1Scorer, row)?;
+        parts = see_row(rt, parts, &Sha1Scorer, row)?;
     }
     Ok(parts)
 }
 
 /// A write of a block of so many bytes, behind a line and a hello, is answered so.
 fn see_block<P: TestParts>(
-    alloc: Global,
+    rt: &impl Runtime,
     parts: P,
     block: &[u8],
     answer: &[&[u8]],
 ) -> Result<P, Fail> {
+    let alloc = rt.alloc();
     let write = write_of(alloc, block)?;
     let answer = joined(alloc, answer)?;
     let row: Row<'_> = (&[LINE, HELLO, &write], &[WELCOME, &answer], 0, "");
-    see_row(alloc, parts, &Sha1Scorer, row)
+    see_row(rt, parts, &Sha1Scorer, row)
 }
 
 /// The largest block is taken, and a larger one isn't.
-fn see_large_blocks<P: TestParts>(alloc: Global, parts: P) -> Result<P, Fail> {
+fn see_large_blocks<P: TestParts>(rt: &impl Runtime, parts: P) -> Result<P, Fail> {
+    let alloc = rt.alloc();
     let block = vec![in alloc; 7; 57_345]?;
     let largest = block.get(1..).unwrap_or(&[]);
     let score = Sha1Scorer.score(largest);
-    let parts = see_block(alloc, parts, largest, &[WROTE, &score.0])?;
+    let parts = see_block(rt, parts, largest, &[WROTE, &score.0])?;
     see_block(
-        alloc,
+        rt,
         parts,
         &block,
         &[b"\x00\x11\x01\x01\x00\x0dblock too big"],
     )
 }
 
-fn see_all<P: TestParts>(alloc: Global) -> Result<(), Fail> {
-    let parts = see_rows(alloc, store::<P>(alloc)?)?;
-    see_large_blocks(alloc, parts)?;
-    see_row(alloc, store::<P>(alloc)?, &ShortScorer, COLLISIONS)?;
+fn see_all<P: TestParts>(rt: &impl Runtime) -> Result<(), Fail> {
+    let parts = see_rows(rt, store::<P>(rt)?)?;
+    see_large_blocks(rt, parts)?;
+    see_row(rt, store::<P>(rt)?, &ShortScorer, COLLISIONS)?;
     Ok(())
 }
 
 #[test]
 fn sessions_are_answered(rt: HostRuntime) -> Result<(), Fail> {
-    see_all::<InMemory>(rt.alloc())
+    see_all::<InMemory>(&rt)
 }
 
 /// A session of a write, a read, a sync and a goodbye.
@@ -247,7 +250,8 @@ const SAMPLE: Parts<'static> = &[LINE, HELLO, WRITE_ABC, READ_ABC, SYNC, GOODBYE
 const SAMPLE_OUTPUT: Parts<'static> = &[OUR_LINE, WELCOME, WROTE_ABC, GAVE_ABC, SYNCED];
 
 /// Input in pieces of so many bytes gives the same output, over a store of either kind.
-fn see_pieces<P: TestParts>(alloc: Global, parts: P, cut: usize) -> Result<P, Fail> {
+fn see_pieces<P: TestParts>(rt: &impl Runtime, parts: P, cut: usize) -> Result<P, Fail> {
+    let alloc = rt.alloc();
     let mut parts = parts;
     for store in STORES {
         let input = joined(alloc, SAMPLE)?;
@@ -255,7 +259,7 @@ fn see_pieces<P: TestParts>(alloc: Global, parts: P, cut: usize) -> Result<P, Fa
         let sink = MemSink::new(alloc, 1000)?;
         let words = ["session", store];
         let files = confs(alloc)?;
-        let (ran, back) = run_over(alloc, &words, source, sink, files, parts, &Sha1Scorer)?;
+        let (ran, back) = run_over(rt, &words, source, sink, files, parts, &Sha1Scorer)?;
         see_ran(&ran, &joined(alloc, SAMPLE_OUTPUT)?, 0, "")?;
         parts = back;
     }
@@ -265,35 +269,37 @@ fn see_pieces<P: TestParts>(alloc: Global, parts: P, cut: usize) -> Result<P, Fa
 /// How many bytes come in at a time.
 const CUTS: [usize; 5] = [1, 2, 3, 5, 65_537];
 
-fn see_all_pieces<P: TestParts>(alloc: Global, parts: P) -> Result<P, Fail> {
+fn see_all_pieces<P: TestParts>(rt: &impl Runtime, parts: P) -> Result<P, Fail> {
     let mut parts = parts;
     for cut in CUTS {
-        parts = see_pieces(alloc, parts, cut)?;
+        parts = see_pieces(rt, parts, cut)?;
     }
     Ok(parts)
 }
 
 /// A read that fails: what was taken is answered.
-fn see_failed_read<P: TestParts>(alloc: Global, parts: P, store: &str) -> Result<P, Fail> {
+fn see_failed_read<P: TestParts>(rt: &impl Runtime, parts: P, store: &str) -> Result<P, Fail> {
+    let alloc = rt.alloc();
     let source = MemSource::new(alloc, joined(alloc, SAMPLE)?)
         .in_pieces(vec![in alloc; 40]?)
         .failing(vec![in alloc; 1]?);
     let sink = MemSink::new(alloc, 1000)?;
     let files = confs(alloc)?;
     let words = ["session", store];
-    let (ran, parts) = run_over(alloc, &words, source, sink, files, parts, &Sha1Scorer)?;
+    let (ran, parts) = run_over(rt, &words, source, sink, files, parts, &Sha1Scorer)?;
     let output = joined(alloc, &[OUR_LINE, WELCOME, WROTE_ABC])?;
     see_ran(&ran, &output, 6, "venti: read fault\n")?;
     Ok(parts)
 }
 
 /// A write that fails: a front of the output stands.
-fn see_full_sink<P: TestParts>(alloc: Global, parts: P, store: &str) -> Result<P, Fail> {
+fn see_full_sink<P: TestParts>(rt: &impl Runtime, parts: P, store: &str) -> Result<P, Fail> {
+    let alloc = rt.alloc();
     let source = MemSource::new(alloc, joined(alloc, SAMPLE)?);
     let sink = MemSink::new(alloc, 20)?;
     let files = confs(alloc)?;
     let words = ["session", store];
-    let (ran, parts) = run_over(alloc, &words, source, sink, files, parts, &Sha1Scorer)?;
+    let (ran, parts) = run_over(rt, &words, source, sink, files, parts, &Sha1Scorer)?;
     let output = joined(alloc, SAMPLE_OUTPUT)?;
     see(output.starts_with(ran.output.as_slice()), "another front")?;
     see_ran(&ran, ran.output.as_slice(), 7, "venti: write fault\n")?;
@@ -301,7 +307,8 @@ fn see_full_sink<P: TestParts>(alloc: Global, parts: P, store: &str) -> Result<P
 }
 
 /// Words that are no command.
-fn see_bad_words<P: TestParts>(alloc: Global, parts: P) -> Result<(), Fail> {
+fn see_bad_words<P: TestParts>(rt: &impl Runtime, parts: P) -> Result<(), Fail> {
+    let alloc = rt.alloc();
     let cases: [&[&str]; 3] = [
         &["session"],
         &["serve", ":memory:"],
@@ -310,25 +317,25 @@ fn see_bad_words<P: TestParts>(alloc: Global, parts: P) -> Result<(), Fail> {
     let mut parts = parts;
     for words in cases {
         let input = joined(alloc, SAMPLE)?;
-        let (ran, back) = run_conf(alloc, words, &input, parts, &Sha1Scorer)?;
+        let (ran, back) = run_conf(rt, words, &input, parts, &Sha1Scorer)?;
         see_ran(&ran, b"", 1, "venti: bad command line\n")?;
         parts = back;
     }
     Ok(())
 }
 
-fn see_streams<P: TestParts>(alloc: Global) -> Result<(), Fail> {
-    let mut parts = see_all_pieces(alloc, store::<P>(alloc)?)?;
+fn see_streams<P: TestParts>(rt: &impl Runtime) -> Result<(), Fail> {
+    let mut parts = see_all_pieces(rt, store::<P>(rt)?)?;
     for store in STORES {
-        parts = see_failed_read(alloc, parts, store)?;
-        parts = see_full_sink(alloc, parts, store)?;
+        parts = see_failed_read(rt, parts, store)?;
+        parts = see_full_sink(rt, parts, store)?;
     }
-    see_bad_words(alloc, parts)
+    see_bad_words(rt, parts)
 }
 
 #[test]
 fn pieces_and_faults_leave_a_front(rt: HostRuntime) -> Result<(), Fail> {
-    see_streams::<InMemory>(rt.alloc())
+    see_streams::<InMemory>(&rt)
 }
 
 /// What a patient client sends, and how many bytes it is told before it sends more.
@@ -342,10 +349,11 @@ const PATIENT: [Part; 6] = [
 ];
 
 /// A client that waits for each reply gets it, over a store of either kind.
-fn see_waits<P: TestParts>(alloc: Global, parts: P, cut: usize) -> Result<P, Fail> {
+fn see_waits<P: TestParts>(rt: &impl Runtime, parts: P, cut: usize) -> Result<P, Fail> {
+    let alloc = rt.alloc();
     let mut parts = parts;
     for store in STORES {
-        let (ran, back) = run_patient(alloc, &["session", store], &PATIENT, cut, parts)?;
+        let (ran, back) = run_patient(rt, &["session", store], &PATIENT, cut, parts)?;
         see_ran(&ran, &joined(alloc, SAMPLE_OUTPUT)?, 0, "")?;
         parts = back;
     }
@@ -353,15 +361,15 @@ fn see_waits<P: TestParts>(alloc: Global, parts: P, cut: usize) -> Result<P, Fai
 }
 
 /// However its bytes come in.
-fn see_patience<P: TestParts>(alloc: Global) -> Result<(), Fail> {
-    let mut parts = store::<P>(alloc)?;
+fn see_patience<P: TestParts>(rt: &impl Runtime) -> Result<(), Fail> {
+    let mut parts = store::<P>(rt)?;
     for cut in CUTS {
-        parts = see_waits(alloc, parts, cut)?;
+        parts = see_waits(rt, parts, cut)?;
     }
     Ok(())
 }
 
 #[test]
 fn no_reply_waits(rt: HostRuntime) -> Result<(), Fail> {
-    see_patience::<InMemory>(rt.alloc())
+    see_patience::<InMemory>(&rt)
 }

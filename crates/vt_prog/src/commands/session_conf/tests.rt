@@ -5,13 +5,12 @@ use crate::commands::messages::{
     GAVE_ABC, HELLO, LINE, OUR_LINE, READ_ABC, SYNC, SYNCED, WELCOME, WRITE_ABC, WROTE_ABC,
 };
 use crate::commands::runs::{
-    Commands, FILTERED, INDEX, InMemory, PARTITIONS, Ran, TestParts, all_but, joined, make, named,
-    run_conf, see, see_ran, store, write_of,
+    Commands, FILTERED, INDEX, InMemory, PARTITIONS, Ran, Runtime, TestParts, all_but, joined,
+    make, named, run_conf, see, see_ran, spoil, store, write_of,
 };
 use std::alloc::Global;
 use std::test::Fail;
-use vt_base::{Scorer, Sha1Scorer, Text};
-use vt_disk::Disk;
+use vt_base::{Scorer, Sha1Scorer};
 use vt_memdisk::CrashMode;
 
 /// What comes in, or goes out, in parts.
@@ -56,21 +55,23 @@ fn welcomed(alloc: Global, output: &[&[u8]]) -> Result<Vec<u8>, Fail> {
 /// Runs the program on an input behind a greeting, and sees that it says this behind a welcome and
 /// ends well. Gives the partitions back.
 fn see_answers<P: TestParts>(
-    alloc: Global,
+    rt: &impl Runtime,
     parts: P,
     input: &[&[u8]],
     output: &[&[u8]],
 ) -> Result<P, Fail> {
+    let alloc = rt.alloc();
     let input = greeted(alloc, input)?;
-    let (ran, parts) = run_conf(alloc, SMALL, &input, parts, &Sha1Scorer)?;
+    let (ran, parts) = run_conf(rt, SMALL, &input, parts, &Sha1Scorer)?;
     see_ran(&ran, &welcomed(alloc, output)?, 0, "")?;
     Ok(parts)
 }
 
-fn see_row<P: TestParts>(alloc: Global, parts: P, row: Row) -> Result<P, Fail> {
+fn see_row<P: TestParts>(rt: &impl Runtime, parts: P, row: Row) -> Result<P, Fail> {
+    let alloc = rt.alloc();
     let (words, input, status, output, complaint) = row;
     let input = greeted(alloc, input)?;
-    let (ran, parts) = run_conf(alloc, words, &input, parts, &Sha1Scorer)?;
+    let (ran, parts) = run_conf(rt, words, &input, parts, &Sha1Scorer)?;
     if output.is_empty() {
         see_ran(&ran, b"", status, complaint)?;
     } else {
@@ -80,10 +81,10 @@ fn see_row<P: TestParts>(alloc: Global, parts: P, row: Row) -> Result<P, Fail> {
 }
 
 /// The rows one behind another, each over what those before it left.
-fn see_rows<P: TestParts>(alloc: Global, parts: P, rows: &[Row]) -> Result<P, Fail> {
+fn see_rows<P: TestParts>(rt: &impl Runtime, parts: P, rows: &[Row]) -> Result<P, Fail> {
     let mut parts = parts;
     for row in rows {
-        parts = see_row(alloc, parts, *row)?;
+        parts = see_row(rt, parts, *row)?;
     }
     Ok(parts)
 }
@@ -141,35 +142,23 @@ const DAMAGED: [Row; 1] = [(
 cb4cc28df0fdbe0ecf9d9662e294b118092a5735\n",
 )];
 
-/// The partition's bytes are these at this place.
-fn spoil<P: TestParts>(alloc: Global, parts: P, at: u64, bytes: &[u8]) -> Result<P, Fail> {
-    let mut parts = parts;
-    let name = Text::copy_of(alloc, b"a.part")?;
-    let mut disk = parts.part(alloc, &name, None)?;
-    if disk.len() < at || disk.len() - at < bytes.len() as u64 {
-        return Err("the partition ends before")?;
-    }
-    disk.write_at(at, bytes)?;
-    parts.done(&name, disk);
-    Ok(parts)
-}
-
 /// A store from before it is there to a block of it that is damaged.
-fn see_store<P: TestParts>(alloc: Global) -> Result<(), Fail> {
+fn see_store<P: TestParts>(rt: &impl Runtime) -> Result<(), Fail> {
+    let alloc = rt.alloc();
     let parts = P::failing(alloc, Vec::new(alloc));
-    let parts = see_rows(alloc, parts, &UNOPENED)?;
-    let parts = make(alloc, parts, PARTITIONS)?;
-    let parts = see_rows(alloc, parts, &UNUSED)?;
-    let parts = make(alloc, parts, &[INDEX])?;
-    let parts = see_rows(alloc, parts, &KEPT)?;
-    let parts = spoil(alloc, parts, 8_192 + 24_576 + 38 + 2, b"d")?;
-    see_rows(alloc, parts, &DAMAGED)?;
+    let parts = see_rows(rt, parts, &UNOPENED)?;
+    let parts = make(rt, parts, PARTITIONS)?;
+    let parts = see_rows(rt, parts, &UNUSED)?;
+    let parts = make(rt, parts, &[INDEX])?;
+    let parts = see_rows(rt, parts, &KEPT)?;
+    let parts = spoil(alloc, parts, "a.part", 8_192 + 24_576 + 38 + 2, b"d")?;
+    see_rows(rt, parts, &DAMAGED)?;
     Ok(())
 }
 
 #[test]
 fn a_store_is_opened_used_and_damaged(rt: HostRuntime) -> Result<(), Fail> {
-    see_store::<InMemory>(rt.alloc())
+    see_store::<InMemory>(&rt)
 }
 
 // ---- a full store
@@ -228,25 +217,27 @@ fn many(alloc: Global, count: u16) -> Result<(Vec<u8>, Vec<u8>), Fail> {
 /// So many blocks are taken without a sync, the next one is refused, and the first one is still
 /// there.
 fn see_full<P: TestParts>(
-    alloc: Global,
+    rt: &impl Runtime,
     commands: Commands,
     count: u16,
     refusal: &[u8],
 ) -> Result<P, Fail> {
-    let parts = make(alloc, P::failing(alloc, Vec::new(alloc)), commands)?;
+    let alloc = rt.alloc();
+    let parts = make(rt, P::failing(alloc, Vec::new(alloc)), commands)?;
     let (writes, wrote) = many(alloc, count)?;
     let (next, _) = numbered(alloc, count)?;
     let (again, held) = numbered(alloc, 0)?;
     let input = [writes.as_slice(), &next, &again];
-    see_answers(alloc, parts, &input, &[&wrote, refusal, &held])
+    see_answers(rt, parts, &input, &[&wrote, refusal, &held])
 }
 
 /// As the first block an arena takes one of so many bytes, and none of one byte more.
-fn see_largest<P: TestParts>(alloc: Global) -> Result<(), Fail> {
-    let parts = make(alloc, P::failing(alloc, Vec::new(alloc)), SMALL_ARENA)?;
+fn see_largest<P: TestParts>(rt: &impl Runtime) -> Result<(), Fail> {
+    let alloc = rt.alloc();
+    let parts = make(rt, P::failing(alloc, Vec::new(alloc)), SMALL_ARENA)?;
     let (large, _) = written(alloc, &vec![in alloc; 7; 8_130]?)?;
     let (fits, wrote) = written(alloc, &vec![in alloc; 7; 8_129]?)?;
-    see_answers(alloc, parts, &[&large, &fits], &[ARENAS_FULL, &wrote])?;
+    see_answers(rt, parts, &[&large, &fits], &[ARENAS_FULL, &wrote])?;
     Ok(())
 }
 
@@ -276,27 +267,28 @@ const REFUSED: [Row; 2] = [
     ),
 ];
 
-fn see_refused<P: TestParts>(alloc: Global) -> Result<(), Fail> {
+fn see_refused<P: TestParts>(rt: &impl Runtime) -> Result<(), Fail> {
+    let alloc = rt.alloc();
     let (writes, wrote) = many(alloc, 264)?;
-    let parts = see_answers(alloc, store::<P>(alloc)?, &[&writes], &[&wrote])?;
-    let parts = make(alloc, parts, FEWER_BUCKETS)?;
-    let parts = make(alloc, parts, SAME_NAME)?;
-    see_rows(alloc, parts, &REFUSED)?;
+    let parts = see_answers(rt, store::<P>(rt)?, &[&writes], &[&wrote])?;
+    let parts = make(rt, parts, FEWER_BUCKETS)?;
+    let parts = make(rt, parts, SAME_NAME)?;
+    see_rows(rt, parts, &REFUSED)?;
     Ok(())
 }
 
 /// What a full store says, and what is then refused.
-fn see_limits<P: TestParts>(alloc: Global) -> Result<(), Fail> {
-    see_full::<P>(alloc, SMALL_ARENA, 124, ARENAS_FULL)?;
-    see_full::<P>(alloc, TWO_ARENAS, 248, ARENAS_FULL)?;
-    see_full::<P>(alloc, ONE_BUCKET, 263, INDEX_FULL)?;
-    see_largest::<P>(alloc)?;
-    see_refused::<P>(alloc)
+fn see_limits<P: TestParts>(rt: &impl Runtime) -> Result<(), Fail> {
+    see_full::<P>(rt, SMALL_ARENA, 124, ARENAS_FULL)?;
+    see_full::<P>(rt, TWO_ARENAS, 248, ARENAS_FULL)?;
+    see_full::<P>(rt, ONE_BUCKET, 263, INDEX_FULL)?;
+    see_largest::<P>(rt)?;
+    see_refused::<P>(rt)
 }
 
 #[test]
 fn a_full_store_refuses_the_next_block(rt: HostRuntime) -> Result<(), Fail> {
-    see_limits::<InMemory>(rt.alloc())
+    see_limits::<InMemory>(&rt)
 }
 
 // ---- partitions of which calls fail
@@ -307,18 +299,18 @@ const FROM_THEN_ON: u64 = 128;
 /// The partitions of a small store, of which so many calls of the one with this number fail, from
 /// this one on; if they can be made.
 fn failing_store<P: TestParts>(
-    alloc: Global,
+    rt: &impl Runtime,
     number: usize,
     first: u64,
     span: u64,
 ) -> Result<Option<P>, Fail> {
-    let parts = all_but::<P>(alloc, number, first, span)?;
+    let parts = all_but::<P>(rt, number, first, span)?;
     let words = FILTERED.get(number).ok_or("no such partition")?;
-    let (ran, parts) = run_conf(alloc, words, b"", parts, &Sha1Scorer)?;
+    let (ran, parts) = run_conf(rt, words, b"", parts, &Sha1Scorer)?;
     if ran.status != 0 {
         return Ok(None);
     }
-    let (ran, parts) = run_conf(alloc, INDEX, b"", parts, &Sha1Scorer)?;
+    let (ran, parts) = run_conf(rt, INDEX, b"", parts, &Sha1Scorer)?;
     Ok(if ran.status == 0 { Some(parts) } else { None })
 }
 
@@ -348,9 +340,10 @@ fn crash<P: TestParts>(alloc: Global, parts: P, mode: CrashMode) -> Result<P, Fa
 
 /// A session finds each block whose write and a sync behind that were answered in `SCRIPT`, and
 /// none without the one that was written before.
-fn see_found<P: TestParts>(alloc: Global, parts: P, said: &[u8]) -> Result<(), Fail> {
+fn see_found<P: TestParts>(rt: &impl Runtime, parts: P, said: &[u8]) -> Result<(), Fail> {
+    let alloc = rt.alloc();
     let input = greeted(alloc, &[READ_ABC, READ_ABD])?;
-    let (ran, _) = run_conf(alloc, SESSION, &input, parts, &Sha1Scorer)?;
+    let (ran, _) = run_conf(rt, SESSION, &input, parts, &Sha1Scorer)?;
     see(ran.status == 0, "another end behind a crash")?;
     let abc = reply(&ran.output, 1) == GIVEN;
     let abd = reply(&ran.output, 2) == GIVEN;
@@ -385,18 +378,19 @@ fn letter(alloc: Global, ran: &Ran) -> Result<char, Fail> {
 
 /// The letter of a session in which these calls fail. What it synced is found behind a crash.
 fn fails<P: TestParts>(
-    alloc: Global,
+    rt: &impl Runtime,
     number: usize,
     first: u64,
     span: u64,
     mode: CrashMode,
 ) -> Result<char, Fail> {
-    let Some(parts) = failing_store::<P>(alloc, number, first, span)? else {
+    let alloc = rt.alloc();
+    let Some(parts) = failing_store::<P>(rt, number, first, span)? else {
         return Ok('m');
     };
     let input = greeted(alloc, SCRIPT)?;
-    let (ran, parts) = run_conf(alloc, SESSION, &input, parts, &Sha1Scorer)?;
-    see_found(alloc, crash(alloc, parts, mode)?, &ran.output)?;
+    let (ran, parts) = run_conf(rt, SESSION, &input, parts, &Sha1Scorer)?;
+    see_found(rt, crash(alloc, parts, mode)?, &ran.output)?;
     letter(alloc, &ran)
 }
 
@@ -410,21 +404,22 @@ const FAILING: [Failing; 3] = [
 ];
 
 /// It fails alone, or with all of so many behind it. Crashes take turns.
-fn see_letters<P: TestParts>(alloc: Global, failing: Failing, span: u64) -> Result<(), Fail> {
+fn see_letters<P: TestParts>(rt: &impl Runtime, failing: Failing, span: u64) -> Result<(), Fail> {
+    let alloc = rt.alloc();
     let (number, first, letters) = failing;
     let mut found = String::new(alloc);
     for call in 0..letters.len() as u64 {
         let call = first.saturating_add(call);
         let mode = CrashMode::ALL[call as usize % 4];
-        found.push(fails::<P>(alloc, number, call, span, mode)?)?;
+        found.push(fails::<P>(rt, number, call, span, mode)?)?;
     }
     see(found.as_str() == letters, "something else is said")
 }
 
 /// The first sync of the arenas fails behind opening: what is queued is read, and nothing more is
 /// taken.
-fn see_stopped<P: TestParts>(alloc: Global) -> Result<(), Fail> {
-    let parts = failing_store::<P>(alloc, 0, 15, 1)?.ok_or("no store")?;
+fn see_stopped<P: TestParts>(rt: &impl Runtime) -> Result<(), Fail> {
+    let parts = failing_store::<P>(rt, 0, 15, 1)?.ok_or("no store")?;
     let row: Row = (
         SESSION,
         SCRIPT,
@@ -438,22 +433,22 @@ fn see_stopped<P: TestParts>(alloc: Global) -> Result<(), Fail> {
         ],
         "venti: disk fault\n",
     );
-    see_row(alloc, parts, row)?;
+    see_row(rt, parts, row)?;
     Ok(())
 }
 
-fn see_failing<P: TestParts>(alloc: Global) -> Result<(), Fail> {
-    see_stopped::<P>(alloc)?;
+fn see_failing<P: TestParts>(rt: &impl Runtime) -> Result<(), Fail> {
+    see_stopped::<P>(rt)?;
     for failing in FAILING {
-        see_letters::<P>(alloc, failing, 1)?;
-        see_letters::<P>(alloc, failing, FROM_THEN_ON)?;
+        see_letters::<P>(rt, failing, 1)?;
+        see_letters::<P>(rt, failing, FROM_THEN_ON)?;
     }
     Ok(())
 }
 
 #[test]
 fn calls_of_a_partition_fail(rt: HostRuntime) -> Result<(), Fail> {
-    see_failing::<InMemory>(rt.alloc())
+    see_failing::<InMemory>(&rt)
 }
 
 // ---- how many calls are made
@@ -461,17 +456,18 @@ fn calls_of_a_partition_fail(rt: HostRuntime) -> Result<(), Fail> {
 /// Whether sessions of these inputs, one behind another over a new store, all end well where each
 /// call of the partition with this number fails from this one on.
 fn end_well<P: TestParts>(
-    alloc: Global,
+    rt: &impl Runtime,
     number: usize,
     first: u64,
     inputs: &[Bits],
 ) -> Result<bool, Fail> {
-    let Some(mut parts) = failing_store::<P>(alloc, number, first, FROM_THEN_ON)? else {
+    let alloc = rt.alloc();
+    let Some(mut parts) = failing_store::<P>(rt, number, first, FROM_THEN_ON)? else {
         return Ok(false);
     };
     for input in inputs {
         let input = greeted(alloc, input)?;
-        let (ran, back) = run_conf(alloc, SESSION, &input, parts, &Sha1Scorer)?;
+        let (ran, back) = run_conf(rt, SESSION, &input, parts, &Sha1Scorer)?;
         if ran.status != 0 {
             return Ok(false);
         }
@@ -482,11 +478,11 @@ fn end_well<P: TestParts>(
 
 /// How many calls of the partition they make, with those that make the store: behind them all may
 /// fail.
-fn calls<P: TestParts>(alloc: Global, number: usize, inputs: &[Bits]) -> Result<u64, Fail> {
+fn calls<P: TestParts>(rt: &impl Runtime, number: usize, inputs: &[Bits]) -> Result<u64, Fail> {
     let (mut least, mut most) = (0u64, FROM_THEN_ON);
     for _ in 0..8 {
         let middle = least.saturating_add(most) / 2;
-        if end_well::<P>(alloc, number, middle, inputs)? {
+        if end_well::<P>(rt, number, middle, inputs)? {
             most = middle;
         } else {
             least = middle.saturating_add(1);
@@ -498,28 +494,28 @@ fn calls<P: TestParts>(alloc: Global, number: usize, inputs: &[Bits]) -> Result<
 
 /// A block that was read is in memory. And opening a store that has a block makes as many calls as
 /// opening one that has none: no entry of a directory is read.
-fn see_calls<P: TestParts>(alloc: Global, number: usize) -> Result<(), Fail> {
-    let read = calls::<P>(alloc, number, &[&[WRITE_ABC], &[READ_ABC]])?;
-    let twice = calls::<P>(alloc, number, &[&[WRITE_ABC], &[READ_ABC, READ_ABC]])?;
+fn see_calls<P: TestParts>(rt: &impl Runtime, number: usize) -> Result<(), Fail> {
+    let read = calls::<P>(rt, number, &[&[WRITE_ABC], &[READ_ABC]])?;
+    let twice = calls::<P>(rt, number, &[&[WRITE_ABC], &[READ_ABC, READ_ABC]])?;
     see(read == twice, "a second read makes calls")?;
-    let written = calls::<P>(alloc, number, &[&[WRITE_ABC]])?;
-    let opened = calls::<P>(alloc, number, &[&[WRITE_ABC], &[]])?;
-    let none = calls::<P>(alloc, number, &[&[]])?;
-    let again = calls::<P>(alloc, number, &[&[], &[]])?;
+    let written = calls::<P>(rt, number, &[&[WRITE_ABC]])?;
+    let opened = calls::<P>(rt, number, &[&[WRITE_ABC], &[]])?;
+    let none = calls::<P>(rt, number, &[&[]])?;
+    let again = calls::<P>(rt, number, &[&[], &[]])?;
     see(
         opened.abs_diff(written) == again.abs_diff(none),
         "a block makes calls while its store is opened",
     )
 }
 
-fn see_all_calls<P: TestParts>(alloc: Global) -> Result<(), Fail> {
+fn see_all_calls<P: TestParts>(rt: &impl Runtime) -> Result<(), Fail> {
     for number in 0..3 {
-        see_calls::<P>(alloc, number)?;
+        see_calls::<P>(rt, number)?;
     }
     Ok(())
 }
 
 #[test]
 fn what_is_in_memory_is_not_read(rt: HostRuntime) -> Result<(), Fail> {
-    see_all_calls::<InMemory>(rt.alloc())
+    see_all_calls::<InMemory>(&rt)
 }

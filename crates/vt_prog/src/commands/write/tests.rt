@@ -1,11 +1,10 @@
 //! Blocks that go to a server in memory, which says what was written down before, and come back; and
 //! those of the store in memory.
 
-use crate::commands::runs::{Ran, see, see_ran};
-use crate::{Outside, run_with};
+use crate::commands::runs::{Ran, Runtime, no_folder, see, see_ran};
+use crate::{Outside, Streams, run_with};
 use std::alloc::Global;
 use std::test::Fail;
-use vt_answer::StreamsClient;
 use vt_base::{Sha1Scorer, Text};
 use vt_dial::MemDialer;
 use vt_memparts::{Failing, MemParts};
@@ -148,14 +147,15 @@ fn server(alloc: Global, says: &[u8]) -> Result<MemDialer, Fail> {
 
 /// Runs the program with these words, what comes in, and this server. Gives the dialer back.
 fn run<P: Parts + Drop>(
-    alloc: Global,
+    rt: &impl Runtime,
     parts: P,
     words: &[&str],
     input: &[u8],
     server: MemDialer,
 ) -> Result<(Ran, MemDialer), Fail> {
+    let alloc = rt.alloc();
     let mut host = Outside {
-        streams: StreamsClient {
+        streams: Streams {
             source: MemSource::new(alloc, Vec::from_slice(alloc, input)?),
             sink: MemSink::new(alloc, 100)?,
         },
@@ -163,10 +163,11 @@ fn run<P: Parts + Drop>(
         files: MemFiles::new(alloc),
         parts,
         dialer: server,
+        folders: no_folder(alloc)?,
         clock: MemClock::new(0),
         terminal: None::<MemSink>,
     };
-    let status = run_with(&(), alloc, words, &mut host, &Sha1Scorer);
+    let status = run_with(rt, alloc, words, &mut host, &Sha1Scorer);
     let ran = Ran {
         status,
         output: Vec::from_slice(alloc, host.streams.sink.written())?,
@@ -175,10 +176,11 @@ fn run<P: Parts + Drop>(
     Ok((ran, host.dialer))
 }
 
-fn see_row<P: Parts + Drop>(alloc: Global, parts: P, row: &Row) -> Result<(), Fail> {
+fn see_row<P: Parts + Drop>(rt: &impl Runtime, parts: P, row: &Row) -> Result<(), Fail> {
+    let alloc = rt.alloc();
     let (words, input, says, status, output, complaint) = *row;
     let server = server(alloc, says)?;
-    let (ran, _) = run(alloc, parts, words, input, server)?;
+    let (ran, _) = run(rt, parts, words, input, server)?;
     see_ran(&ran, output, status, complaint)
 }
 
@@ -187,7 +189,7 @@ fn a_server_may_say_anything(rt: HostRuntime) -> Result<(), Fail> {
     let alloc = rt.alloc();
     for row in &ROWS {
         let parts = MemParts::new(alloc, Failing::new(Vec::<u64>::new(alloc)));
-        see_row(alloc, parts, row)?;
+        see_row(&rt, parts, row)?;
     }
     Ok(())
 }
@@ -197,11 +199,12 @@ const HEARD: &[u8] = b"venti-02-rattle\n\
 \x00\x14\x04\x00\x00\x0202\x00\x09anonymous\x00\x00\x00\
 \x00\x09\x0e\x01\x0d\x00\x00\x00abc\x00\x02\x10\x02\x00\x02\x06\x03";
 
-fn see_heard<P: Parts + Drop>(alloc: Global, parts: P) -> Result<(), Fail> {
+fn see_heard<P: Parts + Drop>(rt: &impl Runtime, parts: P) -> Result<(), Fail> {
+    let alloc = rt.alloc();
     let mut says = Vec::from_slice(alloc, WROTE)?;
     says.extend_from_slice(b"\x00\x02\x11\x02")?;
     let server = server(alloc, &says)?;
-    let (ran, server) = run(alloc, parts, WRITE, b"abc", server)?;
+    let (ran, server) = run(rt, parts, WRITE, b"abc", server)?;
     see_ran(&ran, LINE, 0, "")?;
     let Some(link) = server.into_link() else {
         return Err("no link".into());
@@ -213,7 +216,7 @@ fn see_heard<P: Parts + Drop>(alloc: Global, parts: P) -> Result<(), Fail> {
 fn a_block_goes_to_a_server(rt: HostRuntime) -> Result<(), Fail> {
     let alloc = rt.alloc();
     see_heard(
-        alloc,
+        &rt,
         MemParts::new(alloc, Failing::new(Vec::<u64>::new(alloc))),
     )
 }

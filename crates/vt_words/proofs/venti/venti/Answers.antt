@@ -22,9 +22,17 @@ returns c =
     let five = c.in_ok-program-6.ensures
     ∙ ap₂ with_subcommand four (ap top c.in_ok-fmtindex.ensures.app) in
     let six = c.in_ok-program-7.ensures
-    ∙ ap₂ with_subcommand five (ap top c.in_ok-read.ensures.app) in
+    ∙ ap₂ with_subcommand five (ap top c.in_ok-buildindex.ensures.app) in
     let seven = c.in_ok-program-8.ensures
-    ∙ ap₂ with_subcommand six (ap top c.in_ok-write.ensures.app) in
-    IfOk-weaker c.with_command-8.result _ _
-    (λ it adds. adds ∙ ap₂ with_subcommand seven (ap top c.in_ok-rehearse.ensures.app))
-    c.with_command-8.ensures
+    ∙ ap₂ with_subcommand six (ap top c.in_ok-checkarenas.ensures.app) in
+    let eight = c.in_ok-program-9.ensures
+    ∙ ap₂ with_subcommand seven (ap top c.in_ok-read.ensures.app) in
+    let nine = c.in_ok-program-10.ensures
+    ∙ ap₂ with_subcommand eight (ap top c.in_ok-write.ensures.app) in
+    let ten = c.in_ok-program-11.ensures
+    ∙ ap₂ with_subcommand nine (ap top c.in_ok-rehearse.ensures.app) in
+    let eleven = c.in_ok-program-12.ensures
+    ∙ ap₂ with_subcommand ten (ap top c.in_ok-vac.ensures.app) in
+    IfOk-weaker c.with_command-12.result _ _
+    (λ it adds. adds ∙ ap₂ with_subcommand eleven (ap top c.in_ok-vacfs.ensures.app))
+    c.with_command-12.ensures

@@ -44,4 +44,4 @@ returns-in-Ok-clause-cause g c =
     let before = g.H.Host.lent c.args.host.now in
     let after = record before { sink = c.print_summary.new.sink } in
     simp (again, c.terminal.ensures) (printed_has_cause g.H.Parts.Disk.Disk (summary_text c.in-Ok.summary) c.print_summary.result
-    (work_of g.H.Source.Source g.H.Sink.Sink g.H.Files.Files g.H.Parts.Parts g.H.Dialer.Dialer g.H.Dialer.Link.Link before after) (rw sink_is at c.print_summary.ensures))
+    (work_of g.H.Source.Source g.H.Sink.Sink g.H.Files.Files g.H.Parts.Parts g.H.Folders.Folders g.H.Dialer.Dialer g.H.Dialer.Link.Link before after) (rw sink_is at c.print_summary.ensures))

@@ -21,5 +21,5 @@ returns-clause-cause g c =
     let serve = rw c.now-now.ensures at c.serve_memory.ensures in
     rw c.outcome_of.ensures (memory_served_cause g.H.Parts.Disk.Disk
     (work_of g.H.Source.Source g.H.Sink.Sink g.H.Files.Files g.H.Parts.Parts
-    g.H.Dialer.Dialer g.H.Dialer.Link.Link (g.H.Host.lent c.args.host.now)
+    g.H.Folders.Folders g.H.Dialer.Dialer g.H.Dialer.Link.Link (g.H.Host.lent c.args.host.now)
     (g.H.Host.lent c.serve_memory.new.host)) g.S.Scorer.score_of c.serve_memory.result serve.serves)

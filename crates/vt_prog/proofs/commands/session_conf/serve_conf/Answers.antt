@@ -45,3 +45,8 @@ returns-in-Err-clause-serves g c =
       unread = refl;
       unwritten = refl;
     }))))
+
+pub returns-in-Ok-clause-folders : goal.returns-in-Ok-clause-folders
+returns-in-Ok-clause-folders g c =
+    let again = g.met.H.Host.lent_again in
+    rw c.now-now.ensures at (simp again at c.serve_opened.ensures.folders)

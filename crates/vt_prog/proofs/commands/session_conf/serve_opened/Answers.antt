@@ -71,3 +71,6 @@ returns-clause-dialer g c = let again = g.met.H.Host.lent_again in simp again re
 
 pub returns-clause-fault_sink : goal.returns-clause-fault_sink
 returns-clause-fault_sink g c = let again = g.met.H.Host.lent_again in simp again refl
+
+pub returns-clause-folders : goal.returns-clause-folders
+returns-clause-folders g c = let again = g.met.H.Host.lent_again in simp again refl

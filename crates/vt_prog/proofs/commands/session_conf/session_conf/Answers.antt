@@ -28,7 +28,7 @@ returns-clause-cause g c =
     let again = g.met.H.Host.lent_again in
     session_has_cause g.S.Scorer.score_of g.H.Parts.Disk.Disk g.met.H.Parts.Disk.Disk.faults_fit c.args.file.now c.in_ok-conf.conf
     (work_of g.H.Source.Source g.H.Sink.Sink g.H.Files.Files g.H.Parts.Parts
-    g.H.Dialer.Dialer g.H.Dialer.Link.Link (g.H.Host.lent c.args.host.now)
+    g.H.Folders.Folders g.H.Dialer.Dialer g.H.Dialer.Link.Link (g.H.Host.lent c.args.host.now)
     (g.H.Host.lent c.serve_conf.new.host)) c.serve_conf.result (simp again at c.serve_conf.ensures.serves)
 
 pub returns-in_err-conf-clause-does : goal.returns-in_err-conf-clause-does
@@ -49,7 +49,7 @@ returns-in_err-conf-clause-cause g c =
     let before = g.H.Host.lent c.args.host.now in
     let after = record before { files = c.read_conf.new.files } in
     let work = work_of g.H.Source.Source g.H.Sink.Sink g.H.Files.Files g.H.Parts.Parts
-    g.H.Dialer.Dialer g.H.Dialer.Link.Link before after in
+    g.H.Folders.Folders g.H.Dialer.Dialer g.H.Dialer.Link.Link before after in
     let none = subst (λ files. ReadsNone c.args.file.now failure (files_change g.H.Files.Files files c.read_conf.new.files))
     c.files.ensures.files c.in_err-conf.ensures.refused in
     simp again (subst (HasCauseIn disk work) (sym is) (none_has_cause disk c.args.file.now work failure none))

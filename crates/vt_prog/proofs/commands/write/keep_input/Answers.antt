@@ -157,3 +157,9 @@ returns-in_err-block-clause-cause g c =
     kept_write_cause score g.H.Parts.Disk.Disk _ _ c.args.file.now c.args.kind
     (λ now bytes why opened left none does. c.failures_have_causes.ensures.written score now
     c.args.kind bytes (Err why) opened left does none) (returns-in_err-block-clause-does g c)
+
+pub returns-in-Ok-clause-folders : goal.returns-in-Ok-clause-folders
+returns-in-Ok-clause-folders g c =
+    let again = g.met.H.Host.lent_again in
+    simp again (ap (λ lent. lent.folders) c.now-now.ensures
+    ∙ (simp again at c.take_input.ensures.folders))

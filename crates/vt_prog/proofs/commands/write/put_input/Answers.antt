@@ -14,7 +14,16 @@ returns-in-Ok-clause-does g c =
     let source_is = c.streams.ensures.source in
     let dialer_is = simp again at c.dialer.ensures.dialer in
     let sink_is = simp again at c.sink.ensures.sink in
-    simp again (inr (record {
+    let host = c.args.host.now in
+    let first = record (g.H.Host.lent host) {
+      source = c.take_block.new.streams.source;
+      sink = c.take_block.new.streams.sink;
+    } in
+    let met = g.H.Host.lending host first in
+    let second = record (g.H.Host.lent met) { dialer = c.write_remote.new.dialer } in
+    let asked = g.H.Host.lending met second in
+    let third = record (g.H.Host.lent asked) { sink = c.print_score.new.sink } in
+    rw (again asked third, again met second, again host first) (inr (record {
       bytes = c.in_ok-block.block;
       takes = rw source_is at c.in_ok-block.ensures.taken;
       does = record {

@@ -1,0 +1,46 @@
+-- Folders by name, of which one was handed out and is back.
+use Rattle.std.proofs.Common.{◌≡◌, ◌≢◌, ⊎_elim, ℕ, ◌+◌, ◌-◌, ◌<◌, ◌^◌, Bool, true, false, List, Result, Ok, Err, sym, ◌∙◌, ap, arith}
+use Rattle.std.specs.Prelude.{bytes_eq, min, MatchBool}
+use Rattle.std.proofs.lemmas.Bool.{cases_Bool}
+use Rattle.std.proofs.lemmas.Slice.Eq.{bytes_eq-Decides}
+use Rattle.vt_base.specs.Faults.{CountsFault, HasRisen}
+use Rattle.vt_folder.specs.declared.item.Facts.{Facts}
+use Rattle.vt_folder.specs.Items.{Items}
+use Rattle.vt_folders.specs.Standing.{Standing, lent, there}
+
+-- under this name and under others
+pub same_everywhere : (old new : List ℕ → Standing) (name : List ℕ) → new name ≡ old name
+    → ((other : List ℕ) → other ≢ name → new other ≡ old other) → (other : List ℕ)
+    → new other ≡ old other
+same_everywhere old new name here apart other = ⊎_elim
+    (λ (yes : bytes_eq other name ≡ true).
+    let same = (bytes_eq-Decides other name).0 yes in
+    ap new same ∙ here ∙ sym (ap old same))
+    (λ (no : bytes_eq other name ≡ false). apart other
+    (λ is. let both = sym no ∙ (bytes_eq-Decides other name).1 is in cc))
+    (cases_Bool (bytes_eq other name))
+
+-- one that is back with what it held
+pub back_again : (old mid new : List ℕ → Standing) (name : List ℕ) (held left : Items Facts)
+    → old name ≡ there held → mid name ≡ lent → (mid name ≡ lent → new name ≡ there left)
+    → left ≡ held
+    → ((other : List ℕ) → other ≢ name → mid other ≡ old other)
+    → ((other : List ℕ) → other ≢ name → new other ≡ mid other) → (other : List ℕ)
+    → new other ≡ old other
+back_again old mid new name held left was out back same apart apart' = same_everywhere old new name
+    (back out ∙ ap there same ∙ sym was)
+    (λ other differs. apart' other differs ∙ apart other differs)
+
+-- its failed call counts among those of the folders
+pub counts_back : {T E : Type 0} (is_fault : E → Bool) (result : Result T E) (f f' old new : ℕ)
+    → f ≡ 0
+    → CountsFault is_fault result f f' → new ≡ min (old + f') (2 ^ 64 - 1) → old < 2 ^ 64
+    → CountsFault is_fault result old new
+counts_back is_fault (Ok value) f f' old new zero counts sum fits = omega
+    (arith, zero, counts, sum, fits)
+counts_back is_fault (Err bad) f f' old new zero counts sum fits = by (is_fault bad) counts
+  where
+    by : (b : Bool) → MatchBool b (HasRisen f f') (f' ≡ f)
+        → MatchBool b (HasRisen old new) (new ≡ old)
+    by true rose = omega (arith, zero, rose, sum, fits)
+    by false stayed = omega (arith, zero, stayed, sum, fits)
