@@ -11,7 +11,7 @@ ghost use Rattle.vt_host.specs.Paths.{FolderCall, looked, listed, opened, PieceC
 use std::alloc::Global;
 use std::fs::{File, Files, Metadata, OpenOptions};
 use std::io;
-use std::io::Read;
+use std::io::{BufReader, Read};
 use std::os::unix::fs::{FileExt, MetadataExt};
 use vt_folder::ItemKind;
 
@@ -98,8 +98,9 @@ impl<R: Files<File = File> + Copy> FolderCalls for R {
     }
 
     fn names(&mut self, alloc: Global, path: &str) -> io::Result<Vec<u8>> {
+        let folder = self.open_dir(path)?;
         let mut names = Vec::new(alloc);
-        self.open_dir(path)?.read_to_end(&mut names)?;
+        BufReader::new(alloc, folder)?.read_to_end(&mut names)?;
         Ok(names)
     }
 
