@@ -6,7 +6,6 @@ ghost use Rattle.vt_tree.specs.Entries.{IsEntry};
 ghost use Rattle.vac_meta.specs.Records.{IsName};
 ghost use Rattle.nine_view.specs.Files.{IsTold};
 
-use crate::failure::failure_words;
 use crate::{Ended, View, serve_nine};
 use std::alloc::Global;
 use std::test::Fail;
@@ -138,29 +137,7 @@ fn top_block(first: &[u8; 40], second: &[u8; 40]) -> [u8; 80] {
 fn sample(alloc: Global, blocks: &mut Store) -> Result<View, Fail> {
     let first = entries(alloc, blocks)?.encode();
     let second = metadata(alloc, blocks)?.encode();
-    view_of(alloc, blocks, &first, &second)
-}
-
-/// The record of a file `n`, whose user has a name of 100 bytes.
-const WIDE_RECORD: &[u8] =
-    b"\0\x01n\0\0\0\0\0\0\0\x01\xa4\0\0\0\x07\0\0\0\0\0\0\0\x01\0duuuuuuuuuuuuuuuuuuuuuuuuuuuuuuuuuuuuuuuuuuuuuuuuuuuuuuuuuuuuuuuuuuuuuuuuuuuuuuuuuuuuuuuuuuuuuuuuuuuu\0\x01g";
-
-/// The view of an archive of that file alone, of which 251 bytes tell.
-fn wide_sample(alloc: Global, blocks: &mut Store) -> Result<View, Fail> {
-    let file = stream(alloc, blocks, b"", false)?.encode();
-    let first = stream(alloc, blocks, &file, true)?.encode();
-    let second = stream(alloc, blocks, WIDE_RECORD, false)?.encode();
-    view_of(alloc, blocks, &first, &second)
-}
-
-/// The view of an archive with these two entries of its top folder.
-fn view_of(
-    alloc: Global,
-    blocks: &mut Store,
-    first: &[u8; 40],
-    second: &[u8; 40],
-) -> Result<View, Fail> {
-    let top = top_block(first, second);
+    let top = top_block(&first, &second);
     let mut root = Root {
         name: [0; 128],
         kind: [0; 128],
@@ -184,201 +161,6 @@ fn link(alloc: Global, input: &[u8], piece: usize, room: usize) -> Result<MemLin
         sink: MemSink::new(alloc, room)?,
     })
 }
-
-/// What is asked of a view, and what it has to reply.
-#[derive(Drop)]
-struct Talk {
-    asked: Vec<u8>,
-    replied: Vec<u8>,
-}
-
-impl Talk {
-    fn new(alloc: Global) -> Self {
-        Talk {
-            asked: Vec::new(alloc),
-            replied: Vec::new(alloc),
-        }
-    }
-
-    fn add(&mut self, rows: &[(&[u8], &[u8])]) -> Result<(), Fail> {
-        for (asked, replied) in rows {
-            self.asked.extend_from_slice(asked)?;
-            self.replied.extend_from_slice(replied)?;
-        }
-        Ok(())
-    }
-
-    /// Attaches of so many fids, from 0 on.
-    fn add_attaches(&mut self, count: u32) -> Result<(), Fail> {
-        for fid in 0..count {
-            self.asked.extend_from_slice(b"\x14\0\0\0h\x01\0")?;
-            self.asked.extend_from_slice(&fid.to_le_bytes())?;
-            self.asked
-                .extend_from_slice(b"\xff\xff\xff\xff\x01\0u\0\0")?;
-            self.replied
-                .extend_from_slice(b"\x14\0\0\0i\x01\0\x80\0\0\0\0\0\0\0\0\0\0\0\0")?;
-        }
-        Ok(())
-    }
-
-    /// Reads of the top folder by so many bytes, one behind the other, from its start to its end:
-    /// as many files are told as have room, each whole and once.
-    fn add_reads(&mut self, count: u32) -> Result<(), Fail> {
-        let most = (count / 53).saturating_mul(53);
-        for n in 0..5u32 {
-            let from = n.saturating_mul(most).min(212);
-            let to = from.saturating_add(most).min(212);
-            self.asked
-                .extend_from_slice(b"\x17\0\0\0t\x01\0\x01\0\0\0")?;
-            self.asked
-                .extend_from_slice(&u64::from(from).to_le_bytes())?;
-            self.asked.extend_from_slice(&count.to_le_bytes())?;
-            if most == 0 {
-                self.replied
-                    .extend_from_slice(b"\x18\0\0\0k\x01\0\x0f\0count too small")?;
-            } else {
-                let len = to.saturating_sub(from);
-                let files = FILES.get(from as usize..to as usize).ok_or("no files")?;
-                self.replied
-                    .extend_from_slice(&len.saturating_add(11).to_le_bytes())?;
-                self.replied.extend_from_slice(b"u\x01\0")?;
-                self.replied.extend_from_slice(&len.to_le_bytes())?;
-                self.replied.extend_from_slice(files)?;
-            }
-        }
-        Ok(())
-    }
-}
-
-/// Serves a client that asks so, and tells the first failure, if the replies are these.
-fn serve(
-    alloc: Global,
-    view: &mut View,
-    blocks: &mut Store,
-    talk: &Talk,
-) -> Result<Option<VacBad>, Fail> {
-    let mut link = link(alloc, &talk.asked, 100, 400_000)?;
-    let came = serve_nine(alloc, view, blocks, &mut link);
-    if link.sink.written() != talk.replied.as_slice() || came.ended != Ended::Closed {
-        return Err("other replies".into());
-    }
-    Ok(came.failure)
-}
-
-/// A store of which the next call fails.
-fn failing_next(alloc: Global, blocks: Store) -> Result<Store, Fail> {
-    let calls = blocks.puts().len().saturating_add(blocks.gets().len());
-    Ok(blocks.failing(vec![in alloc; calls as u64]?))
-}
-
-/// What the top folder tells of its four files.
-const FILES: &[u8] =
-    b"3\0\0\0\0\0\0\0\0\0\0\0\0\x01\0\0\0\0\0\0\0\xa4\x01\0\0\x07\0\0\0\x07\0\0\0\0\0\0\0\0\0\0\0\x01\0a\x01\0u\x01\0g\x01\0u3\0\0\0\0\0\0\0\0\0\0\0\0\x02\0\0\0\0\0\0\0\x80\x01\0\0\x09\0\0\0\x09\0\0\0\x03\0\0\0\0\0\0\0\x01\0b\x01\0u\x01\0g\x01\0u3\0\0\0\0\0\0\0\x80\0\0\0\0\x03\0\0\0\0\0\0\0\xed\x01\0\x80\x0b\0\0\0\x0b\0\0\0\0\0\0\0\0\0\0\0\x01\0d\x01\0u\x01\0g\x01\0u3\0\0\0\0\0\0\0\x80\0\0\0\0\x05\0\0\0\0\0\0\0\xed\x01\0\x80\x0b\0\0\0\x0b\0\0\0\0\0\0\0\0\0\0\0\x01\0e\x01\0u\x01\0g\x01\0u";
-
-/// What a client begins with: a version, the top folder's fid, and that it is opened.
-const VERSION: (&[u8], &[u8]) = (
-    b"\x13\0\0\0d\xff\xff\0 \0\0\x06\09P2000",
-    b"\x13\0\0\0e\xff\xff\0 \0\0\x06\09P2000",
-);
-
-const ATTACH: (&[u8], &[u8]) = (
-    b"\x14\0\0\0h\x01\0\x01\0\0\0\xff\xff\xff\xff\x01\0u\0\0",
-    b"\x14\0\0\0i\x01\0\x80\0\0\0\0\0\0\0\0\0\0\0\0",
-);
-
-const OPEN: (&[u8], &[u8]) = (
-    b"\x0c\0\0\0p\x01\0\x01\0\0\0\0",
-    b"\x18\0\0\0q\x01\0\x80\0\0\0\0\0\0\0\0\0\0\0\0\xe8\x1f\0\0",
-);
-
-/// Where fids 0 to 1,023 are set, before and behind a clunk.
-const FULL: &[(&[u8], &[u8])] = &[
-    (
-        b"\x14\0\0\0h\x01\0\0\x04\0\0\xff\xff\xff\xff\x01\0u\0\0",
-        b"\x16\0\0\0k\x01\0\x0d\0too many fids",
-    ),
-    (
-        b"\x11\0\0\0n\x01\0\0\0\0\0\0\x04\0\0\0\0",
-        b"\x16\0\0\0k\x01\0\x0d\0too many fids",
-    ),
-    (
-        b"\x11\0\0\0n\x01\0\0\0\0\0\0\0\0\0\0\0",
-        b"\x09\0\0\0o\x01\0\0\0",
-    ),
-    (b"\x0b\0\0\0x\x01\0\x05\0\0\0", b"\x07\0\0\0y\x01\0"),
-    (
-        b"\x11\0\0\0n\x01\0\0\0\0\0\0\x04\0\0\0\0",
-        b"\x09\0\0\0o\x01\0\0\0",
-    ),
-];
-
-/// What has no room in messages of 259 bytes is told in those of 260.
-const WIDE: &[(&[u8], &[u8])] = &[
-    (
-        b"\x13\0\0\0d\xff\xff\x03\x01\0\0\x06\09P2000",
-        b"\x13\0\0\0e\xff\xff\x03\x01\0\0\x06\09P2000",
-    ),
-    (
-        b"\x14\0\0\0h\x01\0\x01\0\0\0\xff\xff\xff\xff\x01\0u\0\0",
-        b"\x14\0\0\0i\x01\0\x80\0\0\0\0\0\0\0\0\0\0\0\0",
-    ),
-    (
-        b"\x14\0\0\0n\x01\0\x01\0\0\0\x02\0\0\0\x01\0\x01\0n",
-        b"\x16\0\0\0o\x01\0\x01\0\0\0\0\0\0\x01\0\0\0\0\0\0\0",
-    ),
-    (
-        b"\x0b\0\0\0|\x01\0\x02\0\0\0",
-        b"\x18\0\0\0k\x01\0\x0f\0count too small",
-    ),
-    (
-        b"\x0c\0\0\0p\x01\0\x01\0\0\0\0",
-        b"\x18\0\0\0q\x01\0\x80\0\0\0\0\0\0\0\0\0\0\0\0\xeb\0\0\0",
-    ),
-    (
-        b"\x17\0\0\0t\x01\0\x01\0\0\0\0\0\0\0\0\0\0\0\0 \0\0",
-        b"\x18\0\0\0k\x01\0\x0f\0count too small",
-    ),
-    (
-        b"\x13\0\0\0d\xff\xff\x04\x01\0\0\x06\09P2000",
-        b"\x13\0\0\0e\xff\xff\x04\x01\0\0\x06\09P2000",
-    ),
-    (
-        b"\x14\0\0\0h\x01\0\x01\0\0\0\xff\xff\xff\xff\x01\0u\0\0",
-        b"\x14\0\0\0i\x01\0\x80\0\0\0\0\0\0\0\0\0\0\0\0",
-    ),
-    (
-        b"\x14\0\0\0n\x01\0\x01\0\0\0\x02\0\0\0\x01\0\x01\0n",
-        b"\x16\0\0\0o\x01\0\x01\0\0\0\0\0\0\x01\0\0\0\0\0\0\0",
-    ),
-    (
-        b"\x0b\0\0\0|\x01\0\x02\0\0\0",
-        b"\x04\x01\0\0}\x01\0\xfb\0\xf9\0\0\0\0\0\0\0\0\0\0\0\0\x01\0\0\0\0\0\0\0\xa4\x01\0\0\x07\0\0\0\x07\0\0\0\0\0\0\0\0\0\0\0\x01\0nd\0uuuuuuuuuuuuuuuuuuuuuuuuuuuuuuuuuuuuuuuuuuuuuuuuuuuuuuuuuuuuuuuuuuuuuuuuuuuuuuuuuuuuuuuuuuuuuuuuuuuu\x01\0gd\0uuuuuuuuuuuuuuuuuuuuuuuuuuuuuuuuuuuuuuuuuuuuuuuuuuuuuuuuuuuuuuuuuuuuuuuuuuuuuuuuuuuuuuuuuuuuuuuuuuuu",
-    ),
-];
-
-/// Where the next call of the store fails.
-const FAILING: &[(&[u8], &[u8])] = &[
-    (
-        b"\x14\0\0\0n\x01\0\x01\0\0\0\x02\0\0\0\x01\0\x01\0d",
-        b"\x13\0\0\0k\x01\0\x0a\0disk fault",
-    ),
-    (
-        b"\x0b\0\0\0|\x01\0\x02\0\0\0",
-        b"\x14\0\0\0k\x01\0\x0b\0unknown fid",
-    ),
-    (
-        b"\x14\0\0\0n\x01\0\x01\0\0\0\x02\0\0\0\x01\0\x01\0b",
-        b"\x16\0\0\0o\x01\0\x01\0\0\0\0\0\0\x02\0\0\0\0\0\0\0",
-    ),
-    (
-        b"\x0c\0\0\0p\x01\0\x02\0\0\0\0",
-        b"\x18\0\0\0q\x01\0\0\0\0\0\0\x02\0\0\0\0\0\0\0\xe8\x1f\0\0",
-    ),
-    (
-        b"\x17\0\0\0t\x01\0\x02\0\0\0\0\0\0\0\0\0\0\0\x05\0\0\0",
-        b"\x16\0\0\0k\x01\0\x0d\0no such block",
-    ),
-];
 
 /// What is asked, one message after another, and what is replied.
 const ROWS: &[(&[u8], &[u8])] = &[
@@ -807,15 +589,19 @@ fn each_message_has_its_reply(rt: HostRuntime) -> Result<(), Fail> {
 #[test]
 fn cuts_change_nothing(rt: HostRuntime) -> Result<(), Fail> {
     let alloc = rt.alloc();
-    let mut talk = Talk::new(alloc);
-    talk.add(ROWS)?;
+    let mut input = Vec::new(alloc);
+    let mut wanted = Vec::new(alloc);
+    for (asked, replied) in ROWS {
+        input.extend_from_slice(asked)?;
+        wanted.extend_from_slice(replied)?;
+    }
     for piece in [1, 2, 3, 5] {
         let mut blocks = MemBlocks::new(alloc, Sha1Scorer);
         let mut view = sample(alloc, &mut blocks)?;
-        let mut link = link(alloc, &talk.asked, piece, 100_000)?;
+        let mut link = link(alloc, &input, piece, 100_000)?;
         let came = serve_nine(alloc, &mut view, &mut blocks, &mut link);
-        assert!(rt; link.sink.written() == talk.replied.as_slice());
-        assert_eq!(rt; came.taken, talk.asked.len() as u64);
+        assert!(rt; link.sink.written() == wanted.as_slice());
+        assert_eq!(rt; came.taken, input.len() as u64);
         // The first failure is kept.
         assert!(rt;
             matches!(
@@ -824,56 +610,6 @@ fn cuts_change_nothing(rt: HostRuntime) -> Result<(), Fail> {
             )
         );
     }
-    Ok(())
-}
-
-#[test]
-fn rooms_have_their_ends(rt: HostRuntime) -> Result<(), Fail> {
-    let alloc = rt.alloc();
-    let mut blocks = MemBlocks::new(alloc, Sha1Scorer);
-    let mut view = sample(alloc, &mut blocks)?;
-    let mut talk = Talk::new(alloc);
-    talk.add(&[VERSION, ATTACH, OPEN])?;
-    for count in 0..241u32 {
-        talk.add_reads(count)?;
-    }
-    let failure = serve(alloc, &mut view, &mut blocks, &talk)?;
-    assert!(rt; failure.is_none());
-
-    let mut talk = Talk::new(alloc);
-    talk.add(&[VERSION])?;
-    talk.add_attaches(1024)?;
-    talk.add(FULL)?;
-    let failure = serve(alloc, &mut view, &mut blocks, &talk)?;
-    assert!(rt; failure.is_none());
-
-    let mut view = wide_sample(alloc, &mut blocks)?;
-    let mut talk = Talk::new(alloc);
-    talk.add(WIDE)?;
-    let failure = serve(alloc, &mut view, &mut blocks, &talk)?;
-    assert!(rt; failure.is_none());
-    Ok(())
-}
-
-#[test]
-fn failures_are_told(rt: HostRuntime) -> Result<(), Fail> {
-    let alloc = rt.alloc();
-    let mut blocks = MemBlocks::new(alloc, Sha1Scorer);
-    let mut view = sample(alloc, &mut blocks)?;
-    let mut talk = Talk::new(alloc);
-    talk.add(&[VERSION, ATTACH])?;
-    talk.add(FAILING)?;
-    let mut blocks = failing_next(alloc, blocks)?;
-    let failure = serve(alloc, &mut view, &mut blocks, &talk)?;
-    // The first failure is kept.
-    assert!(rt; matches!(failure, Some(VacBad::Tree(TreeErr::Block(BlockErr::Fault)))));
-    // A text of the store's is cut to what a message has room for.
-    let text = [b'x'; 300];
-    let refused = BlockErr::Refused(Text::copy_of(alloc, &text)?);
-    let bad = VacBad::Tree(TreeErr::Block(refused));
-    assert_eq!(rt; failure_words(256, &bad), &text[..247]);
-    assert_eq!(rt; failure_words(308, &bad), &text[..299]);
-    assert_eq!(rt; failure_words(309, &bad), &text[..]);
     Ok(())
 }
 

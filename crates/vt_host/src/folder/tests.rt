@@ -1,6 +1,5 @@
 //! Folders of the system, on a real one.
 
-use super::seconds;
 use crate::StdFolders;
 use std::alloc::Global;
 use std::os::unix::fs::symlink;
@@ -133,19 +132,4 @@ fn a_folder_of_the_system_is_listed_and_read(rt: HostRuntime) -> Result<(), Fail
     see_none(&rt, alloc, &mut folders, b"\xff")?;
     fs::remove_dir_all(&rt, name.as_str())?;
     Ok(())
-}
-
-#[test]
-fn a_time_has_32_bits(rt: HostRuntime) {
-    for (time, wanted) in [
-        (i64::MIN, 0),
-        (-1, 0),
-        (0, 0),
-        (1_700_000_000, 1_700_000_000),
-        (4_294_967_295, u32::MAX),
-        (4_294_967_296, u32::MAX),
-        (i64::MAX, u32::MAX),
-    ] {
-        assert_eq!(rt; seconds(time), wanted);
-    }
 }
