@@ -23,9 +23,6 @@ use vt_open::configurations_can_be_opened;
 use vt_out::Sink;
 use vt_upkeep::{UpkeepBad, check_store};
 
-#[cfg(test)]
-mod tests;
-
 /// Reads the configuration, checks the arenas of its store, and prints a line for each of them, also
 /// behind a damaged one.
 pub fn checkarenas<H: Host, S: Scorer + Sync>(

@@ -43,9 +43,6 @@ use vt_out::{OutErr, Sink};
 use vt_parts::Parts;
 use vt_tree::TreeErr;
 
-#[cfg(test)]
-mod tests;
-
 /// The block size where none is asked for.
 const BLOCK_SIZE: u16 = 8192;
 

@@ -30,9 +30,6 @@ use vt_folders::Folders;
 use vt_out::{OutErr, Sink};
 use vt_remote::refusals_have_causes;
 
-#[cfg(test)]
-mod tests;
-
 /// Reads the word, archives the folder of this name at the server at an address, says on the fault
 /// sink what was left out, and prints what the archive is found by. Gives too whether the fault
 /// sink took that.

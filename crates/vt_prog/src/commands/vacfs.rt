@@ -30,9 +30,6 @@ use vt_open::{close_store, configurations_can_be_opened, open_store, shapes_are_
 use vt_parts::Parts;
 use vt_remote::{meet, part, refusals_have_causes};
 
-#[cfg(test)]
-mod tests;
-
 /// Reads the word, and serves the archive that it names until the client has ended.
 pub fn vacfs<H: Host, S: Scorer>(
     alloc: Global,
