@@ -6,17 +6,11 @@ pub mod fmtarenas;
 pub mod fmtbloom;
 pub mod fmtindex;
 pub mod fmtisect;
-#[cfg(test)]
-mod messages;
 pub mod read;
 pub mod rehearse;
-#[cfg(test)]
-mod runs;
 pub mod session;
 pub mod session_at;
 pub mod session_conf;
-#[cfg(test)]
-mod tests;
 pub mod vac;
 pub mod vac_at;
 pub mod vac_served;

@@ -21,9 +21,6 @@ use vt_parts::Parts;
 use vt_remote::{read_remote, refusals_have_causes};
 use vt_single::{failures_have_causes, read_stored};
 
-#[cfg(test)]
-mod tests;
-
 /// Reads the words, and prints the block that they ask for.
 pub fn read<H: Host, S: Scorer>(
     alloc: Global,

@@ -16,11 +16,6 @@ use vt_fresh::laws::memory_never_fails;
 use vt_memdisk::MemDisk;
 use vt_session::Ended;
 
-#[cfg(test)]
-mod patient;
-#[cfg(test)]
-mod tests;
-
 /// Serves one session over a store that begins empty. What can be answered is answered, and has gone
 /// out, before more is read.
 pub fn session<H: Host, S: Scorer>(alloc: Global, host: &mut H, scorer: &S) -> Result<(), Failure>

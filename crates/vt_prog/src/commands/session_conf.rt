@@ -23,9 +23,6 @@ use vt_open::{OpenBad, close_store, configurations_can_be_opened, open_store, sh
 use vt_out::Sink;
 use vt_parts::Parts;
 
-#[cfg(test)]
-mod tests;
-
 /// Reads the configuration, opens its store, serves one session over it, and closes it, whatever
 /// ended the session. Where the store isn't opened, nothing is read or written.
 pub fn session_conf<H: Host, S: Scorer>(

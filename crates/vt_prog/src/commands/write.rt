@@ -26,9 +26,6 @@ use vt_parts::Parts;
 use vt_remote::{refusals_have_causes, write_remote};
 use vt_single::{failures_have_causes, write_stored};
 
-#[cfg(test)]
-mod tests;
-
 /// Reads the word, and stores what comes in as a block of this type.
 pub fn write<H: Host, S: Scorer>(
     alloc: Global,
