@@ -11,7 +11,7 @@ mod link_client;
 mod output;
 mod serving;
 mod store;
-mod streams_client;
+mod streams;
 
 pub use answering::Answering;
 pub use asking::{Said, ask, reply};
@@ -20,7 +20,7 @@ pub use link_client::LinkClient;
 pub use output::Output;
 pub use serving::Served;
 pub use store::Store;
-pub use streams_client::StreamsClient;
+pub use streams::Streams;
 
 #[cfg(test)]
 mod tests;

@@ -133,7 +133,7 @@ fn long_replies(rt: HostRuntime) -> Result<(), Fail> {
     for (failing, ended, written) in cases {
         let input = joined(alloc, &[GREETING, READ, READ, READ])?;
         let failing = Vec::from_slice(alloc, failing)?;
-        let mut client = StreamsClient {
+        let mut client = Streams {
             source: MemSource::new(alloc, input),
             sink: MemSink::new(alloc, 1 << 18)?.failing(failing),
         };
@@ -154,7 +154,7 @@ fn asked_alone(rt: HostRuntime) -> Result<(), Fail> {
     let mut store = answering_reads(3);
     let answer = ask(alloc, &mut store, &Request::Sync);
     assert_eq!(rt; reply(&answer), Reply::Sync);
-    let mut client = StreamsClient {
+    let mut client = Streams {
         source: MemSource::new(alloc, Vec::new(alloc)),
         sink: MemSink::new(alloc, 100)?,
     };
@@ -354,7 +354,7 @@ fn streams_in_memory(rt: HostRuntime) -> Result<(), Fail> {
     let input = joined(alloc, &[GREETING, READ])?;
     let source = MemSource::new(alloc, input).failing(vec![in alloc; 1]?);
     let sink = MemSink::new(alloc, 1_000)?;
-    let mut client = StreamsClient { source, sink };
+    let mut client = Streams { source, sink };
     let mut answering = Answering::new(alloc)?;
     let served = answering.serve(alloc, &mut store, &mut client);
     assert_eq!(rt; served.ended, Ended::ReadFault);

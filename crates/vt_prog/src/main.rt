@@ -3,47 +3,12 @@
 
 ghost use Rattle.std.specs.Prelude.{◌≡◌, drop};
 
-mod block;
-mod commands;
-mod complaint;
-mod configuration;
-mod failure;
-mod host;
-pub mod laws;
-mod memory;
-mod place;
-mod printing;
-mod refusal;
-mod run;
-mod served;
-mod shown;
-mod skipped;
-mod streams;
-mod viewed;
-mod watched;
-
-use crate::run::end;
-pub use commands::buildindex::buildindex;
-pub use commands::checkarenas::checkarenas;
-pub use commands::fmtarenas::fmtarenas;
-pub use commands::fmtbloom::fmtbloom;
-pub use commands::fmtindex::fmtindex;
-pub use commands::fmtisect::fmtisect;
-pub use commands::read::read;
-pub use commands::rehearse::rehearse;
-pub use commands::session::session;
-pub use commands::vac::vac;
-pub use commands::vacfs::vacfs;
-pub use commands::write::write;
-pub use failure::{Failure, status};
-pub use host::{Host, Outside};
-pub use run::{run, run_with};
 use std::alloc::Global;
 use std::env;
 use std::io::{ErrorKind, IsTerminal, Stderr};
 use std::process::ExitCode;
 use std::rt::Env;
-pub use streams::Streams;
+use vt_commands::{Failure, Outside, Streams, end, run};
 use vt_host::{FileParts, StdClock, StdDialer, StdFiles, StdFolders, StdSink, StdSource};
 
 fn main(rt: HostRuntime) -> ExitCode {

@@ -1,0 +1,118 @@
+-- the configuration is accepted, its store is opened, and what it answers is the model's
+use Rattle.std.proofs.Common.{◌≡◌, ⊎_elim, inl, inr, ℕ, List, Err, sym, ◌∙◌, ap, subst}
+use Rattle.vt_base.specs.Protocol.{read, write, r_read, r_write}
+use Rattle.vt_base.specs.declared.TheConstants.{MAX_BLOCK}
+use Rattle.vt_base.specs.declared.score.Score.{Score}
+use Rattle.vt_conf.specs.Configuration.{Configures}
+use Rattle.vt_model.specs.Answer.{answer}
+use Rattle.vt_single.specs.Single.{ReadsBlock, WritesBlock}
+use Rattle.vt_words.specs.declared.command.Command.TheVariants.{Read, Write}
+use Rattle.vt_commands.specs.declared.failure.Failure.{Failure}
+use Rattle.vt_commands.specs.Answers.{TellsReplyOrMemory}
+use Rattle.vt_commands.specs.Commands.Read.{PrintsBlock}
+use Rattle.vt_commands.specs.Commands.Write.{WritesInput, score_line}
+use Rattle.vt_commands.specs.Failure.{HasCauseIn, Outcome}
+use Rattle.vt_commands.proofs.Answered.{first_tells, in_file, none_taken, printed_well, stored_well}
+use Rattle.vt_commands.proofs.CompleteConf.{none_read, under_same}
+use Rattle.vt_commands.proofs.DidTells.{done}
+use Rattle.vt_commands.proofs.laws.blocks_are_answered.Goals as goal
+
+pub returns-clause-read : goal.returns-clause-read
+returns-clause-read g c score words status work complaint file score_word type_word did asks names it fails =
+    let disk = g.P.Disk.Disk in
+    let link = g.N.Link.Link in
+    let outcome = did.outcome in
+    let setup = record it.c { base = it.base } in
+    let cause_of = λ (failure : Failure) (is : outcome ≡ Err failure).
+    subst (λ (o : Outcome). HasCauseIn disk work o) is did.cause in
+    ⊎_elim
+    (λ does. ⊎_elim (λ refused. inl refused)
+    (λ said.
+    let s : List ℕ = said.0 in
+    let kind : ℕ = said.1 in
+    inr (inr (
+      s,
+      kind,
+      said.2,
+      ⊎_elim (λ idle. inl idle.is)
+          (λ at. in_file file (PrintsBlock score disk link file s kind outcome work) names
+          (λ does. ⊎_elim
+          (λ none. inl (none.outcome_is ∙ ap Err (none_read file it.text it.conf none.failure work.files it.says
+          (λ line why. c.configurations_have_one_meaning.ensures.accepted it.text it.conf line why it.says)
+          it.files it.content none.none
+          (λ fault. fails.files (subst (λ (f : Failure). HasCauseIn disk work (Err f)) fault
+          (cause_of none.failure none.outcome_is))))))
+          (λ x.
+          let text_is : x.reads.text ≡ it.text = (let is = sym (x.reads.content it.files) ∙ it.content in cc) in
+          let same = c.configurations_have_one_meaning.ensures.one x.reads.text it.conf x.conf
+          (subst (λ t. Configures t it.conf) (sym text_is) it.says) x.reads.says in
+          let under = under_same work.parts.old it.conf x.conf it.devices same it.under in
+          stored_well score disk file x.conf work fails (ReadsBlock score disk kind s)
+          (λ (bytes : List ℕ). r_read bytes) (λ (bytes : List ℕ). bytes) (read s kind MAX_BLOCK) setup it.g
+          (λ bytes ended prints. printed_well score disk file x.conf work fails bytes ended prints)
+          (λ why opened left none reads. c.failures_have_causes.ensures.read score kind s (Err why) opened left
+          reads none)
+          (λ result uses. (c.stores_are_read.ensures score work.parts.tells x.conf kind s result work.parts.old
+          work.parts.new it.tables it.devices it.c it.h it.g it.base it.parts it.disks uses under it.log).answers)
+          (λ bad refuses. c.refused_stores_stand.ensures.found score work.parts.tells x.conf work.parts.old
+          work.parts.new work.parts.faults work.parts.faults' bad it.tables it.devices it.c it.h it.g it.base
+          it.parts it.disks refuses under it.log it.limits)
+          outcome did.cause x.does)
+          does)
+          at.0 at.1 at.2) said.3,
+    ))) does)
+    (λ idle. inr (inl idle.is))
+    (done disk link score words did.preface outcome work (Read file score_word type_word) asks did.does)
+
+pub returns-clause-written : goal.returns-clause-written
+returns-clause-written g c score words status work complaint file type_word did asks names it fails =
+    let disk = g.P.Disk.Disk in
+    let link = g.N.Link.Link in
+    let outcome = did.outcome in
+    let setup = record it.c { base = it.base } in
+    let tells = first_tells work.source.tells work.sink.tells it.streams in
+    let cause_of = λ (failure : Failure) (is : outcome ≡ Err failure).
+    subst (λ (o : Outcome). HasCauseIn disk work o) is did.cause in
+    ⊎_elim
+    (λ does. ⊎_elim (λ refused. inl refused)
+    (λ said.
+    let kind : ℕ = said.0 in
+    inr (inr (
+      kind,
+      said.1,
+      ⊎_elim (λ idle. inl idle.is)
+          (λ at. in_file file (WritesInput score disk link file kind outcome work) names
+          (λ does. ⊎_elim
+          (λ none. inl (none.outcome_is ∙ ap Err (none_read file it.text it.conf none.failure work.files it.says
+          (λ line why. c.configurations_have_one_meaning.ensures.accepted it.text it.conf line why it.says)
+          it.files it.content none.none
+          (λ fault. fails.files (subst (λ (f : Failure). HasCauseIn disk work (Err f)) fault
+          (cause_of none.failure none.outcome_is))))))
+          (λ had.
+          let conf = had.0 in
+          let text_is : had.1.text ≡ it.text = (let is = sym (had.1.content it.files) ∙ it.content in cc) in
+          let same = c.configurations_have_one_meaning.ensures.one had.1.text it.conf conf
+          (subst (λ t. Configures t it.conf) (sym text_is) it.says) had.1.says in
+          let under = under_same work.parts.old it.conf conf it.devices same it.under in
+          ⊎_elim
+          (λ none. none_taken score disk outcome work fails did.cause setup it.g kind said.1.1 tells none)
+          (λ x. subst (λ (bytes : List ℕ). TellsReplyOrMemory (answer score setup it.g (write kind bytes)).reply
+          outcome work.sink) (sym (x.takes.all tells).0)
+          (stored_well score disk file conf work fails (WritesBlock score disk x.now kind x.bytes)
+          (λ (given : Score). r_write given.0) score_line (write kind x.bytes) setup it.g
+          (λ given ended prints. printed_well score disk file conf work fails (score_line given) ended prints)
+          (λ why opened left none writes. c.failures_have_causes.ensures.written score x.now kind x.bytes
+          (Err why) opened left writes none)
+          (λ result uses. (c.stores_are_written.ensures score work.parts.tells conf x.now kind x.bytes result
+          work.parts.old work.parts.new it.tables it.devices it.c it.h it.g it.base it.parts it.disks uses under
+          it.log).answers)
+          (λ bad refuses. c.refused_stores_stand.ensures.found score work.parts.tells conf work.parts.old
+          work.parts.new work.parts.faults work.parts.faults' bad it.tables it.devices it.c it.h it.g it.base
+          it.parts it.disks refuses under it.log it.limits)
+          outcome did.cause x.does))
+          had.2)
+          does)
+          at.0 at.1 at.2) said.2,
+    ))) does)
+    (λ idle. inr (inl idle.is))
+    (done disk link score words did.preface outcome work (Write file type_word) asks did.does)

@@ -1,0 +1,115 @@
+-- What the program did: one line for each command.
+use Rattle.std.specs.Prelude.{ℕ, ◌≡◌, ◌⊎◌, ◌++◌, ⊤, List, [], Result, Err, string_bytes}
+use Rattle.vt_base.specs.declared.why.Failed.{Failed}
+use Rattle.vt_disk.specs.Members.{DiskOf}
+use Rattle.vt_words.specs.declared.asked.Asked.{Asked}
+use Rattle.vt_words.specs.declared.asked.Asked.TheVariants.{Do, Help, Version, Faulty}
+use Rattle.vt_words.specs.declared.command.Command.{Command}
+use Rattle.vt_words.specs.declared.command.Command.TheVariants.{Session, FormatArenas, FormatSection, FormatFilter, FormatIndex, RebuildIndex, CheckArenas, Read, Write, Rehearse, Vac, View}
+use Rattle.vt_words.specs.Words.{Asks}
+use Rattle.vt_commands.specs.Change.{AreUnused, Change, FoldersChange, Work, Attempts}
+use Rattle.vt_commands.specs.Failure.{Outcome, status_of, line_of, HasCauseIn}
+use Rattle.vt_commands.specs.Formatting.{Prints}
+use Rattle.vt_commands.specs.Members.{LinkOf}
+use Rattle.vt_commands.specs.Places.{EndsIdle}
+use Rattle.vt_commands.specs.Said.{Said}
+use Rattle.vt_commands.specs.declared.failure.Failure.TheVariants.{BadWords, NoMemory}
+use Rattle.vt_commands.specs.Commands.Buildindex.{DoesBuildindex}
+use Rattle.vt_commands.specs.Commands.Checkarenas.{DoesCheckarenas}
+use Rattle.vt_commands.specs.Commands.Fmtarenas.{DoesFmtarenas}
+use Rattle.vt_commands.specs.Commands.Fmtbloom.{DoesFmtbloom}
+use Rattle.vt_commands.specs.Commands.Fmtindex.{DoesFmtindex}
+use Rattle.vt_commands.specs.Commands.Fmtisect.{DoesFmtisect}
+use Rattle.vt_commands.specs.Commands.Read.{DoesRead}
+use Rattle.vt_commands.specs.Commands.Rehearse.{DoesRehearse}
+use Rattle.vt_commands.specs.Commands.SessionAt.{DoesSessionAt}
+use Rattle.vt_commands.specs.Commands.VacAt.{DoesVacAt}
+use Rattle.vt_commands.specs.Commands.Vacfs.{DoesVacfs}
+use Rattle.vt_commands.specs.Commands.Write.{DoesWrite}
+
+abbrev pub Does : {R K I P D N L : Type 0} → DiskOf D → LinkOf L → (score : List ℕ → List ℕ)
+    → Command → Outcome → Work R K I P D N L → Type 0
+Does disk link score (Session store) outcome work = DoesSessionAt score disk store outcome work
+Does disk link score (FormatArenas file name length arena_size) outcome work =
+    DoesFmtarenas disk file name length arena_size outcome work
+Does disk link score (FormatSection file name length) outcome work =
+    DoesFmtisect disk file name length outcome work
+Does disk link score (FormatFilter file size positions) outcome work =
+    DoesFmtbloom disk file size positions outcome work
+Does disk link score (FormatIndex file) outcome work = DoesFmtindex disk file outcome work
+Does disk link score (RebuildIndex file) outcome work = DoesBuildindex score disk file outcome work
+Does disk link score (CheckArenas file) outcome work = DoesCheckarenas score disk file outcome work
+Does disk link score (Read store score_word kind) outcome work =
+    DoesRead score disk link store score_word kind outcome work
+Does disk link score (Write store kind) outcome work =
+    DoesWrite score disk link store kind outcome work
+Does disk link score (Rehearse seed count) outcome work = DoesRehearse seed count outcome work
+Does disk link score (Vac store folder size) outcome work =
+    (preface : List ℕ) × DoesVacAt score disk link store folder size preface outcome work
+Does disk link score (View store score_word) outcome work =
+    DoesVacfs score disk link store score_word outcome work
+
+-- a text is printed, and nothing else is done
+pub record Shows {R K I P D N L : Type 0} (text : List ℕ) (outcome : Outcome)
+    (work : Work R K I P D N L) : Type 0 where
+  pub printed : Prints text outcome work.sink
+  pub unread : work.source.after ≡ work.source.before
+  pub unopened : work.files.after ≡ work.files.before
+  pub unused : work.parts.after ≡ work.parts.before
+  pub undialled : work.dialer.after ≡ work.dialer.before
+
+-- what words ask for is done
+abbrev pub DoesAsked : {R K I P D N L : Type 0} → DiskOf D → LinkOf L
+    → (score : List ℕ → List ℕ) → Asked → Outcome → Work R K I P D N L → Type 0
+DoesAsked disk link score (Do command) outcome work = Does disk link score command outcome work
+DoesAsked disk link score (Help text) outcome work = Shows (string_bytes text) outcome work
+DoesAsked disk link score (Version text) outcome work = Shows (string_bytes text) outcome work
+DoesAsked disk link score (Faulty text) outcome work = EndsIdle (Err BadWords) outcome work
+
+-- what stands before the line on the fault sink: the short help, where there is no command, and
+-- what an archive leaves out
+abbrev pub preface_of : {R K I P D N L : Type 0} → (disk : DiskOf D) (link : LinkOf L)
+    (score : List ℕ → List ℕ) (asked : Asked) (outcome : Outcome) (work : Work R K I P D N L)
+    → DoesAsked disk link score asked outcome work → List ℕ
+preface_of disk link score (Faulty text) outcome work does = string_bytes text
+preface_of disk link score (Do (Vac store folder size)) outcome work does = does.0
+preface_of disk link score asked outcome work does = []
+
+-- What was done before the fault sink was written: what the words ask for; or memory ran out before
+-- it was known what that is.
+abbrev pub DoesWords : {R K I P D N L : Type 0} → DiskOf D → LinkOf L → (score : List ℕ → List ℕ)
+    → (words : List (List ℕ)) → (preface : List ℕ) → Outcome → Work R K I P D N L → Type 0
+DoesWords disk link score words preface outcome work =
+    ((asked : Asked) × Asks words asked × (does : DoesAsked disk link score asked outcome work)
+    × (preface ≡ preface_of disk link score asked outcome work does))
+    ⊎ ((preface ≡ []) × EndsIdle (Err NoMemory) outcome work)
+
+-- a command was done, and what goes before the line was said
+abbrev pub SaysAndDoes : {R K F I P D N L : Type 0} → DiskOf D → LinkOf L
+    → (score : List ℕ → List ℕ) → Command → Result (Unit {0}) Failed → Outcome
+    → Work R K I P D N L → Change F → Type 0
+SaysAndDoes disk link score command said outcome work sink =
+    (does : Does disk link score command outcome work)
+    × Said said sink (preface_of disk link score (Do command) outcome work does)
+
+abbrev pub IsArchive : Command → Type 0
+IsArchive (Vac store folder size) = ⊤
+IsArchive command = ⊥
+
+-- the words ask for an archive, or no folder is handed out
+abbrev pub OnlyForArchives : (words : List (List ℕ)) → FoldersChange → Type 0
+OnlyForArchives words folders =
+    ((command : Command) × Asks words (Do command) × IsArchive command) ⊎ AreUnused folders
+
+-- What the words ask for was done, with an outcome, which the status tells, and the line on the
+-- fault sink; a fault sink that fails changes no status.
+pub record Did {R K F I P D N L : Type 0} (disk : DiskOf D) (link : LinkOf L)
+    (score : List ℕ → List ℕ) (words : List (List ℕ)) (status : ℕ) (work : Work R K I P D N L)
+    (complaint : Change F) : Type 0 where
+  pub outcome : Outcome
+  pub status_is : status ≡ status_of outcome
+  pub cause : HasCauseIn disk work outcome
+  pub preface : List ℕ
+  pub does : DoesWords disk link score words preface outcome work
+  pub folders : OnlyForArchives words work.folders
+  pub complained : Attempts complaint (preface ++ line_of outcome)

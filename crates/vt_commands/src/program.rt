@@ -1,0 +1,186 @@
+//! The top call.
+
+ghost use Rattle.sha1.specs.Sha1.{sha1};
+ghost use Rattle.std.specs.Prelude.{◌≡◌, ◌⊎◌, ℕ, List, map, OnErr, OnOk};
+ghost use Rattle.vt_commands.specs.Change.{Attempts, folders_change, sink_change, work_of};
+ghost use Rattle.vt_commands.specs.Failure.{HasCauseIn, status_of, line_of};
+ghost use Rattle.vt_commands.specs.Run.{Did, DoesWords, IsArchive, OnlyForArchives, SaysAndDoes};
+ghost use Rattle.vt_commands.specs.Said.{Said};
+
+use crate::commands::buildindex::buildindex;
+use crate::commands::checkarenas::checkarenas;
+use crate::commands::fmtarenas::fmtarenas;
+use crate::commands::fmtbloom::fmtbloom;
+use crate::commands::fmtindex::fmtindex;
+use crate::commands::fmtisect::fmtisect;
+use crate::commands::read::read;
+use crate::commands::rehearse::rehearse;
+use crate::commands::session_at::session_at;
+use crate::commands::vac_at::vac_at;
+use crate::commands::vacfs::vacfs;
+use crate::commands::write::write;
+use crate::complaint::complain_of;
+use crate::failure::{Failure, status};
+use crate::host::Host;
+use crate::printing::print;
+use std::alloc::Global;
+use std::convert::AsStr;
+use std::thread::Threads;
+use vt_base::{Failed, NoMemory, Scorer, Sha1Scorer};
+use vt_out::Sink;
+use vt_words::{Asked, Command, ask};
+
+/// Does what the words of the command line say, and answers the exit status (venti(8)). A status
+/// other than 0 has its line on the fault sink, if that takes it.
+///
+/// `session` answers what comes from the source, as it comes, as one session of venti(6), and
+/// writes the replies to the sink: over the store of a configuration, or `:memory:`, one in memory.
+/// `fmtarenas`, `fmtisect` and `fmtbloom` make the file that they name a partition of arenas, an
+/// index section or a Bloom filter, and print a line on the sink. `fmtindex` puts the sections that
+/// a configuration names to use as an index, `buildindex` rebuilds it from the arenas, and
+/// `checkarenas` checks these, and prints a line for each. `read` prints one block of a store, and
+/// `write` stores what comes in as one and prints its score. `rehearse` rehearses crashes of a
+/// store in memory, and prints what the rounds came to; its scores are by SHA-1, whatever the
+/// scorer. `vac` stores a folder, says what it leaves out of it, and prints what the archive is
+/// found by. `vacfs` shows an archive as a tree of files to a client that speaks 9P2000 on the
+/// source and the sink. Help and the version are printed on the sink; where there is no command,
+/// short help goes to the fault sink, in front of the line.
+pub fn run<R: Threads + Sync, H: Host, W: AsStr>(
+    rt: &R,
+    alloc: Global,
+    words: &[W],
+    host: &mut H,
+) -> u8
+    ensures did { Did H.Parts.Disk.Disk H.Dialer.Link.Link sha1 (map W.text words.now) result
+        (work_of H.Source.Source H.Sink.Sink
+        H.Files.Files H.Parts.Parts H.Folders.Folders H.Dialer.Dialer H.Dialer.Link.Link
+        (H.lent host.old) (H.lent host.new))
+        (sink_change H.FaultSink.Sink
+        (H.lent host.old).fault_sink (H.lent host.new).fault_sink) }
+{
+    run_with(rt, alloc, words, host, &Sha1Scorer)
+}
+
+/// The same, with scores by any scorer.
+pub fn run_with<R: Threads + Sync, H: Host, S: Scorer + Sync, W: AsStr>(
+    rt: &R,
+    alloc: Global,
+    words: &[W],
+    host: &mut H,
+    scorer: &S,
+) -> u8
+    ensures did { Did H.Parts.Disk.Disk H.Dialer.Link.Link S.score_of (map W.text words.now) result
+        (work_of H.Source.Source H.Sink.Sink
+        H.Files.Files H.Parts.Parts H.Folders.Folders H.Dialer.Dialer H.Dialer.Link.Link
+        (H.lent host.old) (H.lent host.new))
+        (sink_change H.FaultSink.Sink
+        (H.lent host.old).fault_sink (H.lent host.new).fault_sink) }
+{
+    let (said, outcome) = do_words(rt, alloc, words, host, scorer);
+    end(host.fault_sink(), said, &outcome)
+}
+
+/// Says why a command did not end well, if it didn't, where the fault sink took what was said
+/// before, and gives the exit status.
+pub fn end<F: Sink>(
+    fault_sink: &mut F,
+    said: Result<(), Failed>,
+    outcome: &Result<(), Failure>,
+) -> u8
+    ensures complained { OnOk said
+        (Attempts (sink_change F.Sink fault_sink.old fault_sink.new) (line_of outcome.now)) }
+    ensures silent { OnErr said (fault_sink.new ≡ fault_sink.old) }
+    ensures status { result ≡ status_of outcome.now }
+{
+    if said.is_ok() {
+        complain_of(fault_sink, outcome);
+    }
+    status(outcome)
+}
+
+/// Does what these words ask for, and says whether the fault sink took what goes before the line.
+fn do_words<R: Threads + Sync, H: Host, S: Scorer + Sync, W: AsStr>(
+    rt: &R,
+    alloc: Global,
+    words: &[W],
+    host: &mut H,
+    scorer: &S,
+) -> (Result<(), Failed>, Result<(), Failure>)
+    ensures cause { HasCauseIn H.Parts.Disk.Disk (work_of H.Source.Source H.Sink.Sink
+        H.Files.Files H.Parts.Parts H.Folders.Folders H.Dialer.Dialer H.Dialer.Link.Link
+        (H.lent host.old) (H.lent host.new)) result.1 }
+    ensures does { (preface : List ℕ) × DoesWords H.Parts.Disk.Disk H.Dialer.Link.Link S.score_of
+        (map W.text words.now) preface result.1 (work_of H.Source.Source H.Sink.Sink
+        H.Files.Files H.Parts.Parts H.Folders.Folders H.Dialer.Dialer H.Dialer.Link.Link
+        (H.lent host.old) (H.lent host.new)) × Said result.0 (sink_change H.FaultSink.Sink
+        (H.lent host.old).fault_sink (H.lent host.new).fault_sink) preface }
+    ensures folders { OnlyForArchives (map W.text words.now) (folders_change H.Folders.Folders
+        (H.lent host.old).folders (H.lent host.new).folders) }
+{
+    match ask(alloc, words) {
+        Ok(Asked::Do(command)) => do_command(rt, alloc, command, host, scorer),
+        Ok(Asked::Help(text) | Asked::Version(text)) => {
+            (Ok(()), print(host.sink(), &[text.as_bytes()]))
+        }
+        Ok(Asked::Faulty(text)) => (
+            host.fault_sink().put(text.as_bytes()),
+            Err(Failure::BadWords),
+        ),
+        Err(NoMemory) => (Ok(()), Err(Failure::NoMemory)),
+    }
+}
+
+/// Does a command: one line for each.
+fn do_command<R: Threads + Sync, H: Host, S: Scorer + Sync>(
+    rt: &R,
+    alloc: Global,
+    command: Command,
+    host: &mut H,
+    scorer: &S,
+) -> (Result<(), Failed>, Result<(), Failure>)
+    ensures cause { HasCauseIn H.Parts.Disk.Disk (work_of H.Source.Source H.Sink.Sink
+        H.Files.Files H.Parts.Parts H.Folders.Folders H.Dialer.Dialer H.Dialer.Link.Link
+        (H.lent host.old) (H.lent host.new)) result.1 }
+    ensures does { SaysAndDoes H.Parts.Disk.Disk H.Dialer.Link.Link S.score_of command result.0
+        result.1 (work_of H.Source.Source H.Sink.Sink H.Files.Files H.Parts.Parts
+        H.Folders.Folders H.Dialer.Dialer H.Dialer.Link.Link (H.lent host.old) (H.lent host.new))
+        (sink_change H.FaultSink.Sink
+        (H.lent host.old).fault_sink (H.lent host.new).fault_sink) }
+    ensures folders { IsArchive command
+        ⊎ ((H.lent host.new).folders ≡ (H.lent host.old).folders) }
+{
+    match command {
+        Command::Session { store } => (Ok(()), session_at(alloc, host, &store, scorer)),
+        Command::FormatArenas {
+            file,
+            name,
+            length,
+            arena_size,
+        } => (
+            Ok(()),
+            fmtarenas(alloc, host, file, &name, &length, &arena_size),
+        ),
+        Command::FormatSection { file, name, length } => {
+            (Ok(()), fmtisect(alloc, host, file, &name, &length))
+        }
+        Command::FormatFilter {
+            file,
+            size,
+            positions,
+        } => (Ok(()), fmtbloom(alloc, host, file, &size, &positions)),
+        Command::FormatIndex { file } => (Ok(()), fmtindex(alloc, host, &file, scorer)),
+        Command::RebuildIndex { file } => (Ok(()), buildindex(alloc, host, &file, scorer)),
+        Command::CheckArenas { file } => (Ok(()), checkarenas(rt, alloc, host, &file, scorer)),
+        Command::Read { store, score, kind } => {
+            (Ok(()), read(alloc, host, &store, &score, &kind, scorer))
+        }
+        Command::Write { store, kind } => (Ok(()), write(alloc, host, &store, &kind, scorer)),
+        Command::Rehearse { seed, count } => (Ok(()), rehearse(alloc, host, &seed, &count)),
+        Command::View { store, score } => (Ok(()), vacfs(alloc, host, &store, &score, scorer)),
+        Command::Vac {
+            store,
+            folder,
+            size,
+        } => vac_at(alloc, host, &store, &folder, &size, scorer),
+    }
+}
