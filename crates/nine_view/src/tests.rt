@@ -6,6 +6,8 @@ ghost use Rattle.vt_tree.specs.Entries.{IsEntry};
 ghost use Rattle.vac_meta.specs.Records.{IsName};
 ghost use Rattle.nine_view.specs.Files.{IsTold};
 
+mod ends;
+
 use crate::{Ended, View, serve_nine};
 use std::alloc::Global;
 use std::test::Fail;
@@ -18,7 +20,7 @@ use vt_tree::{BlockErr, Blocks, Entry, MemBlocks, Root, TreeErr, write_stream};
 type Store = MemBlocks<Sha1Scorer>;
 
 /// Puts a block that has to be taken.
-fn put(alloc: Global, blocks: &mut Store, kind: Kind, bytes: &[u8]) -> Result<Score, Fail>
+fn put<B: Blocks>(alloc: Global, blocks: &mut B, kind: Kind, bytes: &[u8]) -> Result<Score, Fail>
     requires { length bytes.now ≤ 57344 }
 {
     match blocks.put(alloc, kind, bytes) {
@@ -28,7 +30,12 @@ fn put(alloc: Global, blocks: &mut Store, kind: Kind, bytes: &[u8]) -> Result<Sc
 }
 
 /// A stream of bytes.
-fn stream(alloc: Global, blocks: &mut Store, bytes: &[u8], is_dir: bool) -> Result<Entry, Fail>
+fn stream<B: Blocks>(
+    alloc: Global,
+    blocks: &mut B,
+    bytes: &[u8],
+    is_dir: bool,
+) -> Result<Entry, Fail>
     ensures { IfOk result IsEntry }
 {
     let mut source = MemSource::new(alloc, Vec::from_slice(alloc, bytes)?);
@@ -137,7 +144,17 @@ fn top_block(first: &[u8; 40], second: &[u8; 40]) -> [u8; 80] {
 fn sample(alloc: Global, blocks: &mut Store) -> Result<View, Fail> {
     let first = entries(alloc, blocks)?.encode();
     let second = metadata(alloc, blocks)?.encode();
-    let top = top_block(&first, &second);
+    view_of(alloc, blocks, &first, &second)
+}
+
+/// The view of an archive with these two entries of its top folder.
+fn view_of<B: Blocks>(
+    alloc: Global,
+    blocks: &mut B,
+    first: &[u8; 40],
+    second: &[u8; 40],
+) -> Result<View, Fail> {
+    let top = top_block(first, second);
     let mut root = Root {
         name: [0; 128],
         kind: [0; 128],

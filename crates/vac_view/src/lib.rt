@@ -9,3 +9,6 @@ mod stored;
 
 pub use archive::view_archive;
 pub use stored::view_on;
+
+#[cfg(test)]
+mod tests;

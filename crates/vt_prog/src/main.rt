@@ -3,6 +3,9 @@
 
 ghost use Rattle.std.specs.Prelude.{◌≡◌, drop};
 
+#[cfg(test)]
+mod tests;
+
 use std::alloc::Global;
 use std::env;
 use std::io::{ErrorKind, IsTerminal, Stderr};
