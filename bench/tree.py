@@ -87,12 +87,13 @@ def make(folder):
         out.write("sha1_rate: sha1\ntree_rate: vt_base vt_out vt_tree\n")
     programs = {"sha1_rate": RATE.replace("8_192", f"{BLOCK:_}"), "tree_rate": TREE}
     for name, text in programs.items():
-        crate = os.path.join(crates, name)
-        os.makedirs(os.path.join(crate, "src"))
-        with open(os.path.join(crate, "src", "main.rt"), "w") as out:
+        source = os.path.join(crates, name, "src")
+        os.makedirs(source)
+        with open(os.path.join(source, "main.rt"), "w") as out:
             out.write(text)
-        subprocess.run(["rt", "run"], cwd=crate, stdin=subprocess.DEVNULL, stdout=subprocess.DEVNULL,
-                       stderr=subprocess.DEVNULL, check=True)
+    for name in programs:
+        subprocess.run(["rt", "run"], cwd=os.path.join(crates, name), stdin=subprocess.DEVNULL,
+                       stdout=subprocess.DEVNULL, stderr=subprocess.DEVNULL, check=True)
     return [os.path.join(crates, name, "out", name) for name in programs]
 
 
