@@ -1,5 +1,6 @@
 //! Folders of the system, on a real one.
 
+use super::seconds;
 use crate::StdFolders;
 use std::alloc::Global;
 use std::os::unix::fs::symlink;
@@ -7,7 +8,7 @@ use std::process::Abort;
 use std::test::Fail;
 use std::{fs, process};
 use vt_base::{Failed, Text};
-use vt_folder::{Folder, ItemKind};
+use vt_folder::{Folder, Item, ItemKind};
 use vt_folders::Folders;
 use vt_out::OutErr;
 
@@ -100,6 +101,62 @@ fn see_folder<G: Folders>(
     Ok(())
 }
 
+/// What is named so by its number.
+fn numbered(alloc: Global, folder: &str, n: u32) -> Result<String, Fail> {
+    Ok(format!(in alloc; "{folder}/a file that has a name of its own, number {n}")?)
+}
+
+/// Makes a folder of this name with so many files.
+fn make_many(rt: HostRuntime, folder: &str, files: u32) -> Result<(), Fail> {
+    fs::create_dir(&rt, folder)?;
+    for n in 0..files {
+        let file = numbered(rt.alloc(), folder, n)?;
+        fs::write(&rt, file.as_str(), b"")?;
+    }
+    Ok(())
+}
+
+/// Among the items is one file of this name.
+fn see_file(items: &[Item], name: &[u8]) -> Result<(), Fail> {
+    let found = items.iter().find(|item| item.name.as_slice() == name);
+    match found {
+        Some(item) if item.kind == ItemKind::File => Ok(()),
+        _ => Err("a file that isn't listed".into()),
+    }
+}
+
+/// The items are so many files of these names.
+fn see_numbered(alloc: Global, items: &[Item], files: u32) -> Result<(), Fail> {
+    for n in 0..files {
+        let name = numbered(alloc, "", n)?;
+        see_file(items, name.as_bytes().get(1..).unwrap_or(b""))?;
+    }
+    if items.len() == files as usize {
+        return Ok(());
+    }
+    Err("another count of items".into())
+}
+
+/// What stands under this name is handed out, and lists so many files.
+fn see_many<G: Folders>(
+    alloc: Global,
+    folders: &mut G,
+    name: &[u8],
+    files: u32,
+) -> Result<(), Fail> {
+    let name = text(alloc, name)?;
+    let mut folder = match folders.folder(alloc, &name) {
+        Ok(folder) => folder,
+        Err(_) => return Err("no folder".into()),
+    };
+    let listed = match folder.list(alloc, &[]) {
+        Ok(listing) => see_numbered(alloc, listing.as_slice(), files),
+        Err(_) => Err("no listing".into()),
+    };
+    folders.done(&name, folder);
+    listed
+}
+
 /// Under this name stands no folder.
 fn see_none<G: Folders>(
     rt: &impl Abort,
@@ -132,4 +189,36 @@ fn a_folder_of_the_system_is_listed_and_read(rt: HostRuntime) -> Result<(), Fail
     see_none(&rt, alloc, &mut folders, b"\xff")?;
     fs::remove_dir_all(&rt, name.as_str())?;
     Ok(())
+}
+
+#[test]
+fn a_folder_of_many_files_is_listed_whole(rt: HostRuntime) -> Result<(), Fail> {
+    let alloc = rt.alloc();
+    let temp = std::env::temp_dir(&rt)?;
+    let name = format!(in alloc;
+        "{}/vt_host_many_{}",
+        temp.display(),
+        process::id(rt.process())
+    )?;
+    make_many(rt, name.as_str(), 300)?;
+    let mut folders = StdFolders::new(rt, rt);
+    see_many(alloc, &mut folders, name.as_bytes(), 300)?;
+    fs::remove_dir_all(&rt, name.as_str())?;
+    Ok(())
+}
+
+/// A file of this time has this one in 32 bits.
+fn has_time(time: i64, wanted: u32) -> bool {
+    seconds(time) == wanted
+}
+
+#[test]
+fn a_time_has_32_bits(rt: HostRuntime) {
+    assert!(rt; has_time(i64::MIN, 0));
+    assert!(rt; has_time(-1, 0));
+    assert!(rt; has_time(0, 0));
+    assert!(rt; has_time(1_700_000_000, 1_700_000_000));
+    assert!(rt; has_time(4_294_967_295, u32::MAX));
+    assert!(rt; has_time(4_294_967_296, u32::MAX));
+    assert!(rt; has_time(i64::MAX, u32::MAX));
 }
