@@ -329,8 +329,8 @@ fn a_text_is_cut(rt: HostRuntime) -> Result<(), Fail> {
     let refused = BlockErr::Refused(Text::copy_of(alloc, &text)?);
     let bad = VacBad::Tree(TreeErr::Block(refused));
     // A text of the store's is cut to what a message has room for.
-    assert_eq!(rt; failure_words(256, &bad).len(), 247);
-    assert_eq!(rt; failure_words(308, &bad).len(), 299);
-    assert_eq!(rt; failure_words(309, &bad).len(), 300);
+    assert_eq!(rt; failure_words(256, &bad), &text[..247]);
+    assert_eq!(rt; failure_words(308, &bad), &text[..299]);
+    assert_eq!(rt; failure_words(309, &bad), &text[..]);
     Ok(())
 }
