@@ -1,6 +1,7 @@
 //! Tests of the whole program over streams, files, partitions, folders and servers in memory.
 
 mod checkarenas;
+mod edges;
 mod formatting;
 mod messages;
 mod patient;

@@ -127,7 +127,7 @@ const ARCHIVED: [Archived; 10] = [
 
 /// The folder of the first row is as it was, for a client of 9P2000: a version, the top folder, a
 /// walk to `d` and to nothing behind it, after which the new fid is unknown, one to nothing, one to
-/// `d/f`, its bytes, and a removal of the top folder, after which its fid is unknown, too.
+/// `d/f`, its bytes, the list of the top folder, and a removal of it, after which its fid is unknown, too.
 const SHOWN: &[Row] = &[(
     &[
         "vacfs",
@@ -143,6 +143,8 @@ const SHOWN: &[Row] = &[(
         b"\x17\0\0\0n\x05\0\x01\0\0\0\x02\0\0\0\x02\0\x01\0d\x01\0f",
         b"\x0c\0\0\0p\x06\0\x02\0\0\0\0",
         b"\x17\0\0\0t\x07\0\x02\0\0\0\0\0\0\0\0\0\0\0d\0\0\0",
+        b"\x0c\0\0\0p\x0a\0\x01\0\0\0\0",
+        b"\x17\0\0\0t\x0b\0\x01\0\0\0\0\0\0\0\0\0\0\0\0\x20\0\0",
         b"\x0b\0\0\0z\x08\0\x01\0\0\0",
         b"\x0b\0\0\0x\x09\0\x01\0\0\0",
     ],
@@ -156,6 +158,10 @@ const SHOWN: &[Row] = &[(
         b"\x23\0\0\0o\x05\0\x02\0\x80\0\0\0\0\x02\0\0\0\0\0\0\0\0\0\0\0\0\x03\0\0\0\0\0\0\0",
         b"\x18\0\0\0q\x06\0\0\0\0\0\0\x03\0\0\0\0\0\0\0\xe8\x1f\0\0",
         b"\x0e\0\0\0u\x07\0\x03\0\0\0abc",
+        b"\x18\0\0\0q\x0a\0\x80\0\0\0\0\0\0\0\0\0\0\0\0\xe8\x1f\0\0",
+        b"\x75\0\0\0u\x0b\0\x6a\0\0\0",
+        b"3\0\0\0\0\0\0\0\0\0\0\0\0\x01\0\0\0\0\0\0\0\xa4\x01\0\0\x07\0\0\0\x07\0\0\0\0\0\0\0\0\0\0\0\x01\0a\x01\0u\x01\0g\x01\0u",
+        b"3\0\0\0\0\0\0\0\x80\0\0\0\0\x02\0\0\0\0\0\0\0\xed\x01\0\x80\x07\0\0\0\x07\0\0\0\0\0\0\0\0\0\0\0\x01\0d\x01\0u\x01\0g\x01\0u",
         b"\x1e\0\0\0k\x08\0\x15\0read-only file system",
         b"\x14\0\0\0k\x09\0\x0b\0unknown fid",
     ],
