@@ -1,0 +1,41 @@
+//! What the rows of a test came to: the first one that doesn't hold, and where it stands.
+#![tactic(auto)]
+
+/// The rows that a test compared: the first of them that didn't hold.
+#[derive(Clone, Copy)]
+pub struct Rows {
+    wrong: Option<Wrong>,
+}
+
+/// A row that didn't hold: what it compared, and its number in its table, from 0.
+#[derive(Clone, Copy, Debug)]
+pub struct Wrong {
+    pub what: &'static str,
+    pub row: usize,
+}
+
+impl Rows {
+    pub fn new() -> Rows {
+        Rows { wrong: None }
+    }
+
+    /// Notes whether a comparison holds.
+    pub fn is(&mut self, what: &'static str, holds: bool) {
+        self.nth(0, what, holds);
+    }
+
+    /// Notes whether a comparison of this row of a table holds.
+    pub fn nth(&mut self, row: usize, what: &'static str, holds: bool) {
+        if !holds && self.wrong.is_none() {
+            self.wrong = Some(Wrong { what, row });
+        }
+    }
+
+    /// Refuses with the first comparison that didn't hold.
+    pub fn all(&self) -> Result<(), Wrong> {
+        match self.wrong {
+            None => Ok(()),
+            Some(wrong) => Err(wrong),
+        }
+    }
+}
