@@ -1,17 +1,18 @@
 #!/usr/bin/env python3
 """Runs `rt ci`, and tells how long each crate's proof, tests, edits and runs took.
 
-Run it as bench/gate.py, at the top of the repository. The lines of `rt ci` come on standard error, each behind the
-seconds since the start, and the table comes on standard output. The status is that of `rt ci`. It needs Python 3, and
-a Linux /proc.
+Run it as bench/gate.py, at the top of the repository, with --anew where nothing that earlier runs passed is to be
+taken. The lines of `rt ci` come on standard error, each behind the seconds since the start, and the tables come on
+standard output. The status is that of `rt ci`. It needs Python 3, and a Linux /proc.
 
 What it tells is processor time: it looks five times a second at the processes that `rt ci` started, and goes by their
-command lines and folders. A check of a crate in a folder rt-edit-* is one of an edit, or the one that edits begin with.
-What can't be told so, as formatting, linking, and what came between two looks, is in the row `other`.
+command lines and folders. A check of a crate in a folder rt-edit-* is one of an edit, or, where it keeps its work in a
+folder seed, the one that edits begin with. A check of tests proves the functions of their crate once more. What can't
+be told so, as formatting, linking, and what came between two looks, is in the row `other`. The peak of a process's
+memory is what the system says of it.
 
 Given names of crates, it doesn't run the gate. It proves each of these from nothing, proves and runs its tests over
-that, and tries its edits, one job at a time, and prints a row of seconds of processor time for each. The gate proves a
-crate once more with its tests, and once more before its edits, which here is a part of what the edits take.
+that, and tries its edits, one job at a time, and prints a row for each.
 """
 import os
 import re
@@ -24,7 +25,15 @@ import time
 
 TOP = os.path.dirname(os.path.dirname(os.path.abspath(__file__)))
 TICKS = os.sysconf("SC_CLK_TCK")
-KINDS = ["proof", "tests", "edits", "runs"]
+KINDS = {
+    "proof": "proofs",
+    "tests": "proofs once more, with their tests",
+    "before": "the checks that edits begin with",
+    "edits": "edits",
+    "runs": "runs",
+}
+# How many crates have a row of their own, and how many peaks of memory are told.
+SHOWN, PEAKS = 12, 3
 
 
 def read(path):
@@ -45,8 +54,9 @@ def kind_of(pid):
         folder = ""
     if "--crate-name" in words[:-1] and os.path.basename(words[0]) == "rattle":
         crate = words[words.index("--crate-name") + 1]
-        is_edit = "/rt-edit-" in folder
-        return crate, "edits" if is_edit else "tests" if "--test" in words else "proof"
+        if "/rt-edit-" in folder:
+            return crate, "before" if any(it.endswith("/seed") for it in words) else "edits"
+        return crate, "tests" if "--test" in words else "proof"
     for word in words:
         made = re.search(r"/rt-run-[^/]*/bin/(\w+?)(_tests)?$", word)
         if made:
@@ -55,10 +65,10 @@ def kind_of(pid):
 
 
 class Watch:
-    """The processor time of each process below one, by what it does."""
+    """The processor time of each process below one, and its peak of memory in KiB, by what it does."""
 
     def __init__(self, root):
-        self.root, self.seconds, self.kinds, self.edits = root, {}, {}, {}
+        self.root, self.seconds, self.kinds, self.peaks = root, {}, {}, {}
         self.is_over = threading.Event()
         self.thread = threading.Thread(target=self.look_on, daemon=True)
         self.thread.start()
@@ -85,11 +95,17 @@ class Watch:
                 found = kind_of(pid)
                 if found:
                     self.kinds[pid, began] = found
+                    peak = re.search(rb"VmHWM:\s+(\d+)", read(f"/proc/{pid}/status"))
+                    self.peaks[pid, began] = int(peak[1]) if peak else self.peaks.get((pid, began), 0)
                 self.seconds[pid, began] = seconds
 
     def end(self):
         self.is_over.set()
         self.thread.join()
+
+    def largest(self):
+        """The largest peaks: how many KiB, and of what."""
+        return sorted(((peak, *self.kinds[it]) for it, peak in self.peaks.items()), reverse=True)[:PEAKS]
 
     def table(self):
         """Seconds by crate and kind."""
@@ -120,63 +136,97 @@ class Lines:
             self.tried[tried[1]] = self.tried.get(tried[1], 0) + 1
 
 
+def row_of(name, after, row, tried):
+    cells = [f"{row[kind]:.0f}" for kind in KINDS]
+    return f"| {name} | {after} | {' | '.join(cells[:-1])} | {tried} | {cells[-1]} | {sum(row.values()):.0f} |"
+
+
+def total(rows):
+    return {kind: sum(row[kind] for row in rows) for kind in KINDS}
+
+
 def show(watch, lines, seconds, processor):
     rows = watch.table()
-    print("| crate | proved after | proof | tests | edits | tried | runs | all |")
-    print("|---|---|---|---|---|---|---|---|")
-    whole = dict.fromkeys(KINDS, 0.0)
-    for crate in sorted({*rows, *lines.proved}, key=lambda it: -sum(rows.get(it, {}).values())):
-        row = rows.get(crate, dict.fromkeys(KINDS, 0.0))
-        for kind in KINDS:
-            whole[kind] += row[kind]
-        after = f"{lines.proved[crate]:.0f}" if crate in lines.proved else ""
-        print(f"| `{crate}` | {after} | {row['proof']:.0f} | {row['tests']:.0f} | {row['edits']:.0f} | "
-              f"{lines.tried.get(crate, 0)} | {row['runs']:.0f} | {sum(row.values()):.0f} |")
+    whole = total(rows.values())
     told = sum(whole.values())
-    print(f"| other | | | | | | | {max(0, processor - told):.0f} |")
-    print(f"| all | {seconds:.0f} | {whole['proof']:.0f} | {whole['tests']:.0f} | {whole['edits']:.0f} | "
-          f"{sum(lines.tried.values())} | {whole['runs']:.0f} | {max(processor, told):.0f} |")
-    print(f"\nSeconds of processor time, on {len(os.sched_getaffinity(0))} processors; in `proved after` and its last "
-          "row, seconds since the start.")
+    other = max(0.0, processor - told)
+    print("| crate | proved after | proof | tests | before edits | edits | tried | runs | all |")
+    print("|---|---|---|---|---|---|---|---|---|")
+    names = sorted(rows, key=lambda it: -sum(rows[it].values()))
+    for name in names[:SHOWN]:
+        after = f"{lines.proved[name]:.0f}" if name in lines.proved else ""
+        print(row_of(f"`{name}`", after, rows[name], lines.tried.get(name, 0)))
+    rest = names[SHOWN:]
+    if rest:
+        tried = sum(lines.tried.get(it, 0) for it in rest)
+        print(row_of(f"the other {len(rest)}", "", total([rows[it] for it in rest]), tried))
+    print(row_of("all", f"{seconds:.0f}", whole, sum(lines.tried.values())))
+    print("\n| kind | seconds | share |\n|---|---|---|")
+    for kind, took in [*((KINDS[it], whole[it]) for it in KINDS), ("other", other)]:
+        print(f"| {kind} | {took:.0f} | {100 * took / max(told + other, 1):.0f} % |")
+    print(f"| all | {told + other:.0f} | |")
+    count = len(os.sched_getaffinity(0))
+    print(f"\nSeconds of processor time, on {count} processors; in `proved after`, seconds since the start.")
+    show_peaks(watch.largest())
     if not rows:
         print("No process could be told by its crate, so only the whole and the stamps of the lines are known.")
     if lines.kept:
         print(f"Kept from earlier runs, in whole or in part: {', '.join(sorted(lines.kept))}.")
 
 
-def seconds_of(folder, *words):
-    """Runs rt in a folder, and gives the processor time that it took. What it prints comes on standard error."""
-    before = resource.getrusage(resource.RUSAGE_CHILDREN)
-    status = subprocess.run(["rt", *words], cwd=folder, stdin=subprocess.DEVNULL, stdout=sys.stderr).returncode
-    after = resource.getrusage(resource.RUSAGE_CHILDREN)
+def show_peaks(peaks):
+    told = [f"{peak / 1024:,.0f} MiB of `{crate}` ({KINDS[kind]})" for peak, crate, kind in peaks]
+    print(f"The largest peaks of memory of one process: {', '.join(told) or 'none was seen'}.")
+
+
+def run(folder, *words):
+    """Runs a command in a folder. What it prints comes on standard error."""
+    env = {**os.environ, "RT_JOBS": "1"}
+    status = subprocess.run(words, cwd=folder, stdin=subprocess.DEVNULL, stdout=sys.stderr, env=env).returncode
     if status:
-        sys.exit(f"rt {' '.join(words)} ended with status {status} in {folder}")
-    return after.ru_utime + after.ru_stime - before.ru_utime - before.ru_stime
+        sys.exit(f"{' '.join(words)} ended with status {status} in {folder}")
+
+
+def alone():
+    """The command rt as it is where no other checkout on this machine keeps anything, if the toolchain has it so."""
+    script = os.path.join(os.path.dirname(os.path.realpath(shutil.which("rt"))), "rtlib.py")
+    return [sys.executable, script] if os.path.exists(script) else ["rt"]
 
 
 def measure(names):
     """Proves these crates, and prints what each took."""
-    print("| crate | proof | tests beside it | edits | tried |")
-    print("|---|---|---|---|---|", flush=True)
+    print("| crate | proof | tests beside it | before edits | edits | tried |")
+    print("|---|---|---|---|---|---|", flush=True)
+    peaks = []
     for name in names:
         folder = f"{TOP}/crates/{name}"
         # (the crates below are built first)
-        seconds_of(folder, "check", "--only=")
+        run(folder, "rt", "check", "--only=")
         shutil.rmtree(f"{folder}/out/incremental", ignore_errors=True)
-        proof = seconds_of(folder, "check", "--jobs", "1")
-        tests = seconds_of(folder, "test", "--jobs", "1")
-        edits = seconds_of(TOP, "must-fail", name)
-        tried = sum(it.endswith(".edit") for it in os.listdir(f"{folder}/must-fail"))
-        print(f"| `{name}` | {proof:.0f} | {tests:.0f} | {edits:.0f} | {tried} |", flush=True)
+        watch = Watch(os.getpid())
+        run(folder, *alone(), "check", "--jobs", "1")
+        run(folder, *alone(), "test", "--jobs", "1")
+        run(TOP, "rt", "must-fail", "--anew", name)
+        watch.end()
+        row = watch.table().get(name, dict.fromkeys(KINDS, 0.0))
+        cells = [f"{row[kind]:.0f}" for kind in KINDS if kind != "runs"]
+        edits = f"{folder}/must-fail"
+        tried = sum(it.endswith(".edit") for it in os.listdir(edits)) if os.path.isdir(edits) else 0
+        print(f"| `{name}` | {' | '.join(cells)} | {tried} |", flush=True)
+        peaks += watch.largest()
+    print()
+    show_peaks(sorted(peaks, reverse=True)[:PEAKS])
     return 0
 
 
 def main():
-    if sys.argv[1:]:
-        return measure(sys.argv[1:])
+    flags = [it for it in sys.argv[1:] if it == "--anew"]
+    names = [it for it in sys.argv[1:] if it not in flags]
+    if names:
+        return measure(names)
     began, lines = time.monotonic(), Lines()
     before = resource.getrusage(resource.RUSAGE_CHILDREN)
-    ran = subprocess.Popen(["rt", "ci"], cwd=TOP, stdin=subprocess.DEVNULL, stdout=subprocess.PIPE,
+    ran = subprocess.Popen(["rt", "ci", *flags], cwd=TOP, stdin=subprocess.DEVNULL, stdout=subprocess.PIPE,
                            stderr=subprocess.STDOUT, text=True, errors="replace")
     watch = Watch(ran.pid)
     for line in ran.stdout:
