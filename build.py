@@ -4,9 +4,20 @@ program is missing or old.
 
 What it does and how far it is comes on standard error, and nothing on standard output. What the toolchain says is kept
 in crates/vt_prog/out/build.log. A run that is cut off loses only the crates that it was at. It needs Python 3.8.
+
+Each crate is a job of its own, done by the calls of the script rt itself, so that those with the longest chain of
+others behind them come first. Where the script lacks these calls, `rt all check` does the same: it begins with a pass
+over all sources in one process, and takes the crates in their order.
 """
+import importlib.machinery
+import importlib.util
+import inspect
+import io
+import operator
 import os
+import queue
 import shutil
+import signal
 import subprocess
 import sys
 import threading
@@ -18,31 +29,16 @@ FOLDER = os.path.join(TOP, "crates", PROGRAM)
 LOG = os.path.join(FOLDER, "out", "build.log")
 # What the check of the largest crate takes of the memory; most take half of that.
 MEMORY = 2 << 30
+# What is called of the script rt, with arguments as they are given here.
+CALLS = [
+    ("share_work", [True]), ("rtlib.guarded", []), ("rtlib.lock", [[]]), ("rtlib.stop_on_links", [""]),
+    ("rtlib.files_of", [""]), ("rtlib.text_of", [""]), ("rtlib.Crate", ["", "", {}]), ("rtlib.Crate.below", [None]),
+    ("rtlib.Crate.is_built", [None]), ("rtlib.Crate.build_rlib", [None, [], False]),
+]
 
 
 def say(text):
     print(f"venti: {text}", file=sys.stderr, flush=True)
-
-
-def crates():
-    """Each crate that the program stands on, with those of them that it uses, in the order in which rt begins them."""
-    rows, uses = {}, {}
-    with open(os.path.join(TOP, "crates.txt")) as lines:
-        for line in lines:
-            name, colon, used = line.partition("#")[0].partition(":")
-            if colon:
-                rows[name.strip()] = used.split()
-
-    def below(name):
-        found = []
-        for it in rows[name]:
-            if it in rows:
-                found += [lower for lower in [*below(it), it] if lower not in found]
-        return found
-
-    for name in sorted([*below(PROGRAM), PROGRAM], key=lambda name: len(below(name))):
-        uses[name] = below(name)
-    return uses
 
 
 def at_once():
@@ -52,63 +48,128 @@ def at_once():
     return max(1, min(len(os.sched_getaffinity(0)), free // MEMORY))
 
 
-class Progress:
-    """What is proved, and what is under way. Each minute in which nothing else is said, that is said again."""
+def toolchain():
+    """The script rt as a module, or None where it lacks a call."""
+    loader = importlib.machinery.SourceFileLoader("rt", os.path.realpath(shutil.which("rt")))
+    rt = importlib.util.module_from_spec(importlib.util.spec_from_loader("rt", loader))
+    try:
+        loader.exec_module(rt)
+        for name, given in CALLS:
+            inspect.signature(operator.attrgetter(name)(rt)).bind(*given)
+    except Exception:
+        return None
+    return rt
 
-    def __init__(self, uses, lanes):
-        self.uses, self.lanes = uses, lanes
-        self.begun, self.done = [], []
-        self.said = time.monotonic()
-        threading.Thread(target=self.repeat, daemon=True).start()
+
+def lines_of(rt, crate):
+    return sum(rt.rtlib.text_of(it).count("\n") for it in rt.rtlib.files_of(crate.folder))
+
+
+class Jobs:
+    """The crates below the program: which are left, under way and proved. Those come first that have the most lines in
+    the longest chain of crates that wait for them, their own among these."""
+
+    def __init__(self, rt, crates, log):
+        self.log, self.lanes, self.count = log, at_once(), len(crates) + 1
+        self.running, self.ended, behind = [], queue.Queue(), {}
+        for it in reversed(crates):
+            behind[it] = lines_of(rt, it) + max([behind[above] for above in behind if it in above.deps], default=0)
+        self.done = {it for it in crates if it.is_built()}
+        self.left = sorted({*crates} - self.done, key=lambda it: -behind[it])
+
+    def prove(self, crate):
+        """Proves one crate, in a thread of its own, and keeps its library for those above."""
+        status, crate.out = 1, io.StringIO()
+        try:
+            status = crate.build_rlib(["--jobs", "1"], False)
+        finally:
+            self.ended.put((crate, status))
 
     def begin(self):
-        """Says which crates are begun now: each lane takes the next one, and waits for those below it."""
-        taken = list(self.uses)[: len(self.done) + self.lanes]
-        for name in taken:
-            if name not in self.begun and all(it in self.done for it in self.uses[name]):
-                self.begun.append(name)
-                self.said = time.monotonic()
-                say(f"proving {name}, {len(self.begun)} of {len(self.uses)}")
+        ready = [it for it in self.left if self.done.issuperset(it.below())]
+        for crate in ready[: self.lanes - len(self.running)]:
+            self.left.remove(crate)
+            self.running.append(crate)
+            say(f"proving {crate.name}, {len(self.done) + len(self.running)} of {self.count}")
+            threading.Thread(target=self.prove, args=[crate], daemon=True).start()
 
-    def end(self, name):
-        if name in self.uses and name not in self.done:
-            self.begun += [name] * (name not in self.begun)
-            self.done.append(name)
+    def end(self):
+        """Waits for a crate to end, and gives whether all is well. After a minute it says what is under way."""
+        try:
+            crate, status = self.ended.get(timeout=60)
+        except queue.Empty:
+            names = " and ".join(it.name for it in self.running)
+            say(f"proving {names}, {len(self.done)} of {self.count} are done")
+            return True
+        self.running.remove(crate)
+        self.log.write(f"== {crate.name}\n{crate.out.getvalue()}")
+        if status == 0:
+            self.done.add(crate)
+        elif status == -signal.SIGKILL and self.running:
+            self.lanes = len(self.running)
+            self.left.insert(0, crate)
+            say(f"{crate.name} was killed, most likely for memory: {self.lanes} at a time from now on")
+        return status == 0 or crate in self.left
+
+    def are_proved(self):
+        while self.left or self.running:
             self.begin()
-
-    def repeat(self):
-        while len(self.done) < len(self.uses):
-            time.sleep(1)
-            left = [it for it in self.begun if it not in self.done]
-            if left and time.monotonic() - self.said > 60:
-                self.said = time.monotonic()
-                say(f"proving {' and '.join(left)}, {len(self.done)} of {len(self.uses)} are done")
+            if not self.end():
+                return False
+        return True
 
 
-def prove(uses, log):
-    """Whether all crates are proved."""
-    lanes = at_once()
-    say(f"{PROGRAM} and the {len(uses) - 1} crates below it are proved first, {lanes} at a time: see README.md")
-    progress = Progress(uses, lanes)
-    progress.begin()
-    words = ["rt", "all", "check", "--jobs", str(lanes)]
-    with subprocess.Popen(words, cwd=FOLDER, stdin=subprocess.DEVNULL, stdout=subprocess.PIPE, stderr=subprocess.STDOUT,
-                          text=True, errors="replace") as ran:
-        for line in ran.stdout:
-            log.write(line)
-            # (a crate's lines come when it has ended, under its name)
-            if line.startswith("== "):
-                progress.end(line[3:].strip())
-    return ran.returncode == 0
+def prove_each(rt, log):
+    """Whether each crate below the program is proved, as a job of its own."""
+    rt.share_work(True)
+    # (what it starts ends with this process; the first call has to come from the main thread)
+    rt.rtlib.guarded()
+    program = rt.rtlib.Crate(FOLDER, TOP, {})
+    crates = program.below()
+    held = rt.rtlib.lock([*crates, program])
+    for it in [*crates, program]:
+        rt.rtlib.stop_on_links(it.folder)
+    jobs = Jobs(rt, crates, log)
+    if jobs.left:
+        say(f"{PROGRAM} and the crates below it are proved first, {jobs.lanes} at a time: see README.md")
+    is_proved = jobs.are_proved()
+    for it in held:
+        os.close(it)
+    return is_proved
+
+
+def runs(words, log, what):
+    """Whether rt ends well with these words, in the program's folder. Each minute it says what goes on."""
+    ran = subprocess.Popen(["rt", *words], cwd=FOLDER, stdin=subprocess.DEVNULL, stdout=log, stderr=subprocess.STDOUT)
+    try:
+        while True:
+            try:
+                return ran.wait(60) == 0
+            except subprocess.TimeoutExpired:
+                say(what())
+    finally:
+        # (where this is cut off)
+        ran.kill()
+
+
+def logged():
+    with open(LOG, encoding="utf-8", errors="replace") as log:
+        return log.read()
+
+
+def prove_all(log):
+    """Whether `rt all check` proves the program and each crate below it."""
+    say("the crates are proved first, by rt all check, which reads all sources before: see README.md")
+    words = ["all", "check", "--jobs", str(at_once())]
+    return runs(words, log, lambda: f"rt all check goes on, {logged().count('== ')} crates are done")
 
 
 def build(log):
-    """Whether the program is built, from what was proved just now."""
-    say("building the program")
+    """Whether the program itself is proved, and built."""
+    say(f"proving and building {PROGRAM}")
+    log.write(f"== {PROGRAM}\n")
     log.flush()
-    ran = subprocess.run(["rt", "run", "--", "session", ":memory:"], cwd=FOLDER, stdin=subprocess.DEVNULL, stdout=log,
-                         stderr=subprocess.STDOUT)
-    return ran.returncode == 0
+    return runs(["run", "--", "session", ":memory:"], log, lambda: f"proving and building {PROGRAM}")
 
 
 def main():
@@ -118,10 +179,10 @@ def main():
     began = time.time()
     os.makedirs(os.path.dirname(LOG), exist_ok=True)
     with open(LOG, "w", encoding="utf-8") as log:
-        is_built = prove(crates(), log) and build(log)
+        rt = toolchain()
+        is_built = (prove_each(rt, log) if rt else prove_all(log)) and build(log)
     if not is_built:
-        with open(LOG, encoding="utf-8") as log:
-            sys.stderr.writelines(log.readlines()[-40:])
+        sys.stderr.writelines(logged().splitlines(True)[-40:])
         say(f"crates/{PROGRAM} was not proved and built: {LOG} has all that was said")
         return 1
     # (a source that changed meanwhile is newer)

@@ -41,6 +41,3 @@ const _: () = prove!(MAX_FIDS == 1024);
 pub const MAX_NAMES: u16 = 16;
 
 const _: () = prove!(MAX_NAMES == 16);
-
-#[cfg(test)]
-mod tests;

@@ -20,6 +20,3 @@ pub use stat::{Qid, Stat};
 pub const NO_FID: u32 = 0xffff_ffff;
 
 const _: () = prove!(NO_FID == 0xffff_ffff);
-
-#[cfg(test)]
-mod tests;

@@ -17,6 +17,3 @@ pub use record::{Record, RecordKind, Records};
 pub const MAX_NAME: usize = 255;
 
 const _: () = prove!(MAX_NAME == 255);
-
-#[cfg(test)]
-mod tests;

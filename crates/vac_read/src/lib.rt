@@ -14,6 +14,3 @@ pub use archive::Archive;
 pub use err::{RootField, VacBad};
 pub use folders::{find_item, list, read, walk};
 pub use node::{Node, Nodes, Stored};
-
-#[cfg(test)]
-mod tests;

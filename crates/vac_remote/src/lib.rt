@@ -8,6 +8,3 @@ mod remote;
 pub use laws::{refusals_have_causes, sent_archives_are_exchanged, truthful_servers_keep_archives};
 pub use outcome::{SentArchive, SentBad};
 pub use remote::archive_remote;
-
-#[cfg(test)]
-mod tests;

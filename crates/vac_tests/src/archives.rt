@@ -1,12 +1,13 @@
 //! Folders in memory become archives, with scores from an encoder of its own.
 
-use crate::items::{Sample, facts, file, folder, items_of, link, long_named, nested};
+use crate::items::{Sample, facts, file, folder, items_of, link, long_named, nested, one, two};
 use std::alloc::Global;
 use std::test::Fail;
 use vac_write::{Archived, Paths, VacErr, archive};
-use vt_base::{Failed, NoMemory, Sha1Scorer, Text, parse_score};
+use vt_base::{Failed, NoMemory, Score, Sha1Scorer, Text, parse_score};
 use vt_folder::{Folder, Item, ItemKind, Listing, MemContent, MemFolder, MemItem};
 use vt_out::OutErr;
+use vt_rows::Rows;
 use vt_tree::{BlockErr, Blocks, MemBlocks, TreeErr};
 
 /// Archives a folder in blocks of this size, or of the nearest that may be. It is generic, so that no
@@ -21,7 +22,7 @@ fn archived<F: Folder, B: Blocks>(
 }
 
 /// What an archiving left.
-#[derive(Clone, Copy, Debug, PartialEq, Eq)]
+#[derive(Clone, Copy)]
 struct Left {
     /// How many blocks were put, how many are held, and how many of these are synced.
     puts: usize,
@@ -93,7 +94,7 @@ fn listed(alloc: Global, paths: &Paths) -> Result<Vec<u8>, NoMemory> {
 /// what is skipped.
 type Row = (Sample, u16, &'static str, usize, usize, &'static str);
 
-const ROWS: [Row; 7] = [
+const ROWS: &[Row] = &[
     (
         Sample::Empty,
         8192,
@@ -152,35 +153,81 @@ const ROWS: [Row; 7] = [
     ),
 ];
 
-/// Whether the folder's archive is the known one, and the same again puts the same, of which nothing
-/// is new.
-fn is_known(alloc: Global, row: Row) -> Result<bool, Fail> {
+/// The score of what was archived.
+fn score_of(answer: &Result<Archived, VacErr>) -> Option<Score> {
+    match answer {
+        Ok(archived) => Some(archived.score),
+        Err(_) => None,
+    }
+}
+
+/// Whether these paths, with a space behind each, were skipped.
+fn skips(alloc: Global, answer: &Result<Archived, VacErr>, wanted: &[u8]) -> bool {
+    let Ok(archived) = answer else {
+        return false;
+    };
+    match listed(alloc, &archived.skipped) {
+        Ok(names) => names.as_slice() == wanted,
+        Err(_) => false,
+    }
+}
+
+/// The folder's archive is the known one.
+fn see_known(alloc: Global, n: usize, row: Row, rows: &mut Rows) -> Result<(), Fail> {
     let (which, bsize, score, puts, bytes, skipped) = row;
-    let none = Vec::new(alloc);
+    let score = parse_score(score.as_bytes()).ok().ok_or("no score")?;
     let items = items_of(alloc, which)?;
-    let (first, left) = archive_items(alloc, items, bsize, none, Vec::new(alloc));
-    let (second, puts_twice, held) = archive_again(alloc, items_of(alloc, which)?, bsize);
-    let Ok(found) = first else {
-        return Ok(false);
-    };
-    let Ok(again) = second else {
-        return Ok(false);
-    };
-    let names = listed(alloc, &found.skipped)?;
-    Ok(
-        Ok(found.score) == parse_score(score.as_bytes())
-            && (left.puts, left.held, left.synced, left.bytes) == (puts, puts, puts, bytes)
-            && names.as_slice() == skipped.as_bytes()
-            && again.score == found.score
-            && (puts_twice, held) == (puts.saturating_mul(2), puts),
-    )
+    let (found, left) = archive_items(alloc, items, bsize, Vec::new(alloc), Vec::new(alloc));
+    rows.nth(n, "the archive's score", score_of(&found) == Some(score));
+    rows.nth(n, "how many blocks are put", left.puts == puts);
+    rows.nth(n, "how many blocks are held", left.held == puts);
+    rows.nth(n, "how many blocks are synced", left.synced == puts);
+    rows.nth(n, "how many bytes are held", left.bytes == bytes);
+    rows.nth(
+        n,
+        "what is skipped",
+        skips(alloc, &found, skipped.as_bytes()),
+    );
+    Ok(())
+}
+
+/// The same again puts the same, of which nothing is new.
+fn see_again(alloc: Global, n: usize, row: Row, rows: &mut Rows) -> Result<(), Fail> {
+    let (which, bsize, score, puts, ..) = row;
+    let score = parse_score(score.as_bytes()).ok().ok_or("no score")?;
+    let items = items_of(alloc, which)?;
+    let (again, puts_twice, held) = archive_again(alloc, items, bsize);
+    rows.nth(
+        n,
+        "the score of the same again",
+        score_of(&again) == Some(score),
+    );
+    rows.nth(
+        n,
+        "how many blocks are put in both",
+        puts_twice == puts.saturating_mul(2),
+    );
+    rows.nth(n, "how many blocks both hold", held == puts);
+    Ok(())
 }
 
 #[test]
 fn archives_have_their_scores(rt: HostRuntime) -> Result<(), Fail> {
-    for row in ROWS {
-        assert!(rt; is_known(rt.alloc(), row)?, "{:?}", row.0);
+    let mut rows = Rows::new();
+    for (n, row) in ROWS.iter().enumerate() {
+        see_known(rt.alloc(), n, *row, &mut rows)?;
     }
+    rows.all()?;
+    Ok(())
+}
+
+#[test]
+fn archives_again_hold_nothing_new(rt: HostRuntime) -> Result<(), Fail> {
+    let mut rows = Rows::new();
+    for (n, row) in ROWS.iter().enumerate() {
+        see_again(rt.alloc(), n, *row, &mut rows)?;
+    }
+    rows.all()?;
     Ok(())
 }
 
@@ -191,6 +238,29 @@ fn refusal(alloc: Global, items: Vec<MemItem>) -> Option<VacErr> {
         .err()
 }
 
+/// An empty file of this name and owner.
+fn named(alloc: Global, name: &[u8], owner: &[u8]) -> Result<MemItem, Fail> {
+    let about = facts(alloc, name, 0, 0, owner, owner)?;
+    Ok(MemItem::File(about, MemContent::from_vec(Vec::new(alloc))))
+}
+
+/// The file `e`, and a folder of a link `c` and this item.
+fn around(alloc: Global, item: MemItem) -> Result<Vec<MemItem>, Fail> {
+    let c = link(alloc, b"c")?;
+    let d = folder(alloc, b"d", two(alloc, c, item)?)?;
+    let e = file(alloc, b"e", 0, b"")?;
+    two(alloc, e, d)
+}
+
+/// Whether the item of this path is refused; or none, where there is none.
+fn is_for(refusal: &Option<VacErr>, path: Option<&[u8]>) -> bool {
+    match (refusal, path) {
+        (None, None) => true,
+        (Some(VacErr::BadName(found)), Some(path)) => found.as_slice() == path,
+        _ => false,
+    }
+}
+
 /// Whether a folder of the item, a link `c`, and the file `c` where there are two, is refused for
 /// the item of this path; or archived, where there is none.
 fn is_refused_for(
@@ -199,35 +269,44 @@ fn is_refused_for(
     owner: &[u8],
     path: Option<&[u8]>,
 ) -> Result<bool, Fail> {
-    let about = facts(alloc, name, 0, 0, owner, owner)?;
-    let item = MemItem::File(about, MemContent::from_vec(Vec::new(alloc)));
-    let inside = vec![in alloc; link(alloc, b"c")?, item]?;
-    let items = vec![in alloc; file(alloc, b"e", 0, b"")?, folder(alloc, b"d", inside)?]?;
-    Ok(match (refusal(alloc, items), path) {
-        (None, None) => true,
-        (Some(VacErr::BadName(found)), Some(path)) => found.as_slice() == path,
-        _ => false,
-    })
+    let item = named(alloc, name, owner)?;
+    let items = around(alloc, item)?;
+    Ok(is_for(&refusal(alloc, items), path))
 }
+
+/// A name that is too long by one byte.
+const LONG: [u8; 256] = [b'n'; 256];
+
+/// The longest name.
+const MOST: [u8; 255] = [b'n'; 255];
+
+/// Where the long name stands.
+const LONG_PATH: &[u8] = b"d/\
+    nnnnnnnnnnnnnnnnnnnnnnnnnnnnnnnnnnnnnnnnnnnnnnnnnnnnnnnnnnnnnnnn\
+    nnnnnnnnnnnnnnnnnnnnnnnnnnnnnnnnnnnnnnnnnnnnnnnnnnnnnnnnnnnnnnnn\
+    nnnnnnnnnnnnnnnnnnnnnnnnnnnnnnnnnnnnnnnnnnnnnnnnnnnnnnnnnnnnnnnn\
+    nnnnnnnnnnnnnnnnnnnnnnnnnnnnnnnnnnnnnnnnnnnnnnnnnnnnnnnnnnnnnnnn";
+
+/// An item's name and owner, and the path that is refused, where there is one.
+const ITEMS: &[(&[u8], &[u8], Option<&[u8]>)] = &[
+    (b"", b"u", Some(b"d/")),
+    (b"a/b", b"u", Some(b"d/a/b")),
+    (b"a\0", b"u", Some(b"d/a\0")),
+    (b"c", b"u", Some(b"d/c")),
+    (&LONG, b"u", Some(LONG_PATH)),
+    (b"a", &LONG, Some(b"d/a")),
+    (&MOST, &MOST, None),
+    (b"\xff", b"", None),
+];
 
 #[test]
 fn items_that_cannot_be_archived_are_named(rt: HostRuntime) -> Result<(), Fail> {
-    let alloc = rt.alloc();
-    let long = vec![in alloc; b'n'; 256]?;
-    let long_path = [b"d/".as_slice(), &long];
-    let long_path = long_path.concat(alloc)?;
-    for (name, owner, path) in [
-        (b"".as_slice(), b"u".as_slice(), Some(b"d/".as_slice())),
-        (b"a/b", b"u", Some(b"d/a/b")),
-        (b"a\0", b"u", Some(b"d/a\0")),
-        (b"c", b"u", Some(b"d/c")),
-        (&long, b"u", Some(&long_path)),
-        (b"a", &long, Some(b"d/a")),
-        (&long[1..], &long[1..], None),
-        (b"\xff", b"", None),
-    ] {
-        assert!(rt; is_refused_for(alloc, name, owner, path)?, "{name:?}");
+    let mut rows = Rows::new();
+    for (n, (name, owner, path)) in ITEMS.iter().enumerate() {
+        let is_told = is_refused_for(rt.alloc(), name, owner, *path)?;
+        rows.nth(n, "the path of the item that is refused", is_told);
     }
+    rows.all()?;
     Ok(())
 }
 
@@ -247,18 +326,39 @@ fn is_told(alloc: Global, count: u32, fits: bool) -> Result<bool, Fail> {
     )
 }
 
+/// The path that is told of so many folders in one another, where they are too deep.
+fn too_deep(alloc: Global, depth: u32) -> Result<Option<Text>, Fail> {
+    let items = nested(alloc, depth)?;
+    match refusal(alloc, items) {
+        None => Ok(None),
+        Some(VacErr::TooDeep(path)) => Ok(Some(path)),
+        Some(_) => Err("another refusal".into()),
+    }
+}
+
 #[test]
 fn metadata_and_depth_have_their_limits(rt: HostRuntime) -> Result<(), Fail> {
     let alloc = rt.alloc();
     // Metadata has 2^24 bytes at most.
-    assert!(rt; is_told(alloc, 21_183, true)?);
-    assert!(rt; is_told(alloc, 21_184, false)?);
-    assert!(rt; refusal(alloc, nested(alloc, 256)?).is_none());
-    let Some(VacErr::TooDeep(path)) = refusal(alloc, nested(alloc, 257)?) else {
+    let fits = is_told(alloc, 21_183, true)?;
+    let is_too_long = is_told(alloc, 21_184, false)?;
+    let deepest = too_deep(alloc, 256)?.is_none();
+    let Some(path) = too_deep(alloc, 257)? else {
         return Err("not too deep".into());
     };
-    assert_eq!(rt; path.len(), 2 * 257 - 1);
-    assert!(rt; path.as_slice().starts_with(b"d/d/d/"));
+    let mut rows = Rows::new();
+    rows.is("the longest metadata", fits);
+    rows.is("metadata that is too long", is_too_long);
+    rows.is("the deepest folder", deepest);
+    rows.is(
+        "how long the path of a deeper one is",
+        path.len() == 2 * 257 - 1,
+    );
+    rows.is(
+        "the path of a deeper one",
+        path.as_slice().starts_with(b"d/d/d/"),
+    );
+    rows.all()?;
     Ok(())
 }
 
@@ -286,14 +386,18 @@ fn blocks_fail_at(alloc: Global, call: u64) -> Result<bool, Fail> {
 
 #[test]
 fn archiving_is_given_up_where_a_call_fails(rt: HostRuntime) -> Result<(), Fail> {
+    let mut rows = Rows::new();
     // Two folders are listed, and two files read, one of them twice.
-    for call in 0..5 {
-        assert!(rt; folder_fails_at(rt.alloc(), call)?, "{call}");
+    for call in 0..5u64 {
+        let is_told = folder_fails_at(rt.alloc(), call)?;
+        rows.nth(call as usize, "a call of the folder that fails", is_told);
     }
     // Seven blocks are put, and then all is committed.
-    for call in 0..8 {
-        assert!(rt; blocks_fail_at(rt.alloc(), call)?, "{call}");
+    for call in 0..8u64 {
+        let is_told = blocks_fail_at(rt.alloc(), call)?;
+        rows.nth(call as usize, "a call of the store that fails", is_told);
     }
+    rows.all()?;
     Ok(())
 }
 
@@ -342,18 +446,27 @@ fn growing_file(alloc: Global) -> Result<Item, NoMemory> {
     facts(alloc, b"f", 0o644, 0, b"u", b"g")?.listed(alloc, ItemKind::File)
 }
 
-#[test]
-fn a_file_is_what_its_reads_gave(rt: HostRuntime) -> Result<(), Fail> {
-    let alloc = rt.alloc();
+/// The score of the archive of a growing file, and how often it is read.
+fn grown(alloc: Global) -> (Option<Score>, u8) {
     let mut growing = Growing { reads: 0 };
     let mut blocks = MemBlocks::new(alloc, Sha1Scorer);
     let grown = archived(alloc, &mut growing, &mut blocks, 8192);
-    let still = vec![in alloc; file(alloc, b"f", 0o644, b"abc")?]?;
+    (score_of(&grown), growing.reads)
+}
+
+#[test]
+fn a_file_is_what_its_reads_gave(rt: HostRuntime) -> Result<(), Fail> {
+    let alloc = rt.alloc();
+    let still = one(alloc, file(alloc, b"f", 0o644, b"abc")?)?;
     let (whole, _) = archive_items(alloc, still, 8192, Vec::new(alloc), Vec::new(alloc));
-    match (grown, whole) {
-        (Ok(grown), Ok(whole)) => assert_eq!(rt; grown.score, whole.score),
-        _ => return Err("not archived".into()),
-    }
-    assert_eq!(rt; growing.reads, 4);
+    let (score, reads) = grown(alloc);
+    let mut rows = Rows::new();
+    rows.is("the score of a growing file's archive", score.is_some());
+    rows.is(
+        "the score of the same file that stands still",
+        score_of(&whole) == score,
+    );
+    rows.is("how often the file is read", reads == 4);
+    rows.all()?;
     Ok(())
 }

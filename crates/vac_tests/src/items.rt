@@ -52,7 +52,7 @@ fn with_holes(alloc: Global) -> Result<Vec<u8>, Fail> {
 }
 
 /// Folders whose archives are known.
-#[derive(Clone, Copy, Debug)]
+#[derive(Clone, Copy)]
 pub enum Sample {
     Empty,
     /// The empty file `a`, and the folder `d` with the file `f` of `abc`.
@@ -75,10 +75,25 @@ pub fn items_of(alloc: Global, which: Sample) -> Result<Vec<MemItem>, Fail> {
     }
 }
 
+/// A folder's items.
+pub fn one(alloc: Global, item: MemItem) -> Result<Vec<MemItem>, Fail> {
+    Ok(vec![in alloc; item]?)
+}
+
+pub fn two(alloc: Global, first: MemItem, second: MemItem) -> Result<Vec<MemItem>, Fail> {
+    Ok(vec![in alloc; first, second]?)
+}
+
+/// A folder of one item.
+fn folder_of(alloc: Global, name: &[u8], item: MemItem) -> Result<MemItem, Fail> {
+    folder(alloc, name, one(alloc, item)?)
+}
+
 fn small(alloc: Global) -> Result<Vec<MemItem>, Fail> {
     let f = file(alloc, b"f", 0o644, b"abc")?;
-    let d = folder(alloc, b"d", vec![in alloc; f]?)?;
-    Ok(vec![in alloc; file(alloc, b"a", 0o644, b"")?, d]?)
+    let d = folder_of(alloc, b"d", f)?;
+    let a = file(alloc, b"a", 0o644, b"")?;
+    two(alloc, a, d)
 }
 
 /// A file or a link: its name, mode and time, whether it has an owner, and the file's bytes.
@@ -121,10 +136,21 @@ fn mixed(alloc: Global) -> Result<Vec<MemItem>, Fail> {
     Ok(items)
 }
 
+fn big_file(alloc: Global) -> Result<MemItem, Fail> {
+    let bytes = some_bytes(alloc, 20_000)?;
+    file(alloc, b"big", 0o644, &bytes)
+}
+
+fn file_with_holes(alloc: Global) -> Result<MemItem, Fail> {
+    let bytes = with_holes(alloc)?;
+    file(alloc, b"z", 0o644, &bytes)
+}
+
 fn large(alloc: Global) -> Result<Vec<MemItem>, Fail> {
-    let big = file(alloc, b"big", 0o644, &some_bytes(alloc, 20_000)?)?;
-    let hole = file(alloc, b"z", 0o644, &with_holes(alloc)?)?;
-    Ok(vec![in alloc; big, folder(alloc, b"hole", vec![in alloc; hole]?)?]?)
+    let hole = file_with_holes(alloc)?;
+    let folder = folder_of(alloc, b"hole", hole)?;
+    let big = big_file(alloc)?;
+    two(alloc, big, folder)
 }
 
 fn many(alloc: Global) -> Result<Vec<MemItem>, Fail> {
@@ -137,11 +163,18 @@ fn many(alloc: Global) -> Result<Vec<MemItem>, Fail> {
     Ok(items)
 }
 
+/// Items in a folder named `d`, beside a link.
+fn around(alloc: Global, inside: Vec<MemItem>) -> Result<Vec<MemItem>, Fail> {
+    let d = folder(alloc, b"d", inside)?;
+    let c = link(alloc, b"c")?;
+    two(alloc, c, d)
+}
+
 /// So many folders named `d`, each beside a link and one in another, and a file in the last.
 pub fn nested(alloc: Global, depth: u32) -> Result<Vec<MemItem>, Fail> {
-    let mut items = vec![in alloc; file(alloc, b"f", 0, b"abc")?]?;
+    let mut items = one(alloc, file(alloc, b"f", 0, b"abc")?)?;
     for _ in 0..depth {
-        items = vec![in alloc; link(alloc, b"c")?, folder(alloc, b"d", items)?]?;
+        items = around(alloc, items)?;
     }
     Ok(items)
 }

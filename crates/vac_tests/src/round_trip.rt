@@ -1,13 +1,16 @@
 //! Folders in memory are archived and read back.
 
+ghost use Rattle.std.specs.Prelude.{IfOk};
 ghost use Rattle.vac_read.specs.Nodes.{AreEntries};
 
+use crate::items::one;
 use std::alloc::Global;
 use std::test::Fail;
 use vac_read::{Archive, Node, list, read, walk};
 use vac_write::archive;
 use vt_base::{Sha1Scorer, Text};
 use vt_folder::{Facts, Folder, Item, ItemKind, MemContent, MemFolder, MemItem};
+use vt_rows::Rows;
 use vt_tree::{Blocks, MemBlocks};
 
 fn facts(alloc: Global, name: &[u8], mode: u32) -> Result<Facts, Fail> {
@@ -34,23 +37,49 @@ fn file(alloc: Global, name: &[u8], len: u32) -> Result<MemItem, Fail> {
     Ok(MemItem::File(facts(alloc, name, 0o100640)?, MemContent::from_vec(bytes)))
 }
 
-/// Files of many lengths, folders in folders, a link, and names that are no text.
-fn sample(alloc: Global) -> Result<MemFolder, Fail> {
-    let mut inside = Vec::new(alloc);
+/// Sixty files of each length below 60, the last name first.
+fn short_files(alloc: Global) -> Result<Vec<MemItem>, Fail> {
+    let mut files = Vec::new(alloc);
     for i in 0..60u32 {
         let name = format!(in alloc; "{:02}", 59 - i)?;
-        inside.push(file(alloc, name.as_bytes(), i)?)?;
+        files.push(file(alloc, name.as_bytes(), i)?)?;
     }
-    let deeper = vec![in alloc; file(alloc, b"\xff\x01", 1000)?]?;
-    inside.push(MemItem::Folder(facts(alloc, b"30+", 0o40700)?, deeper))?;
-    let link = MemItem::Other(facts(alloc, b"link", 0o777)?);
-    let items = vec![in alloc;
-        file(alloc, b"z", 20_000)?,
-        MemItem::Folder(facts(alloc, b"many", 0o42755)?, inside),
-        link,
-        MemItem::Folder(facts(alloc, b"empty", 0o40000)?, Vec::new(alloc)),
-        file(alloc, b"a", 512)?,
-    ]?;
+    Ok(files)
+}
+
+/// A folder whose file has a name that is no text.
+fn deeper(alloc: Global) -> Result<MemItem, Fail> {
+    let about = facts(alloc, b"30+", 0o40700)?;
+    let inside = one(alloc, file(alloc, b"\xff\x01", 1000)?)?;
+    Ok(MemItem::Folder(about, inside))
+}
+
+/// A folder of these.
+fn many(alloc: Global) -> Result<MemItem, Fail> {
+    let about = facts(alloc, b"many", 0o42755)?;
+    let deeper = deeper(alloc)?;
+    let mut inside = short_files(alloc)?;
+    inside.push(deeper)?;
+    Ok(MemItem::Folder(about, inside))
+}
+
+/// The items of the sample, by their places.
+fn part(alloc: Global, place: u32) -> Result<MemItem, Fail> {
+    match place {
+        0 => file(alloc, b"z", 20_000),
+        1 => many(alloc),
+        2 => Ok(MemItem::Other(facts(alloc, b"link", 0o777)?)),
+        3 => Ok(MemItem::Folder(facts(alloc, b"empty", 0o40000)?, Vec::new(alloc))),
+        _ => file(alloc, b"a", 512),
+    }
+}
+
+/// Files of many lengths, folders in folders, a link, and names that are no text.
+fn sample(alloc: Global) -> Result<MemFolder, Fail> {
+    let mut items = Vec::new(alloc);
+    for place in 0..5u32 {
+        items.push(part(alloc, place)?)?;
+    }
     Ok(MemFolder::new(alloc, items))
 }
 
@@ -105,58 +134,54 @@ fn path_of(alloc: Global, names: &[&[u8]]) -> Result<Vec<Text>, Fail> {
     Ok(path)
 }
 
-/// The items of the archive's folder at this path are those of the folder in memory.
-fn see_folder<F: Folder, B: Blocks>(
+/// Whether the items of the archive's folder at this path are those of the folder in memory.
+fn is_folder<F: Folder, B: Blocks>(
     alloc: Global,
     folder: &mut F,
     blocks: &mut B,
     top: &Node,
-    path: &[Text],
-) -> Result<(), Fail>
+    names: &[&[u8]],
+) -> Result<bool, Fail>
     requires { AreEntries top.now.stored }
 {
-    let Ok(Some(node)) = walk(alloc, blocks, top, path) else {
-        return Err("no way".into());
+    let path = path_of(alloc, names)?;
+    let items = listed(alloc, folder, &path)?;
+    let Ok(Some(node)) = walk(alloc, blocks, top, &path) else {
+        return Ok(false);
     };
-    let Ok(nodes) = list(alloc, blocks, &node) else {
-        return Err("no list".into());
-    };
-    let items = listed(alloc, folder, path)?;
-    if !are_same(nodes.as_slice(), &items) {
-        return Err("other items".into());
+    match list(alloc, blocks, &node) {
+        Ok(nodes) => Ok(are_same(nodes.as_slice(), &items)),
+        Err(_) => Ok(false),
     }
-    Ok(())
 }
 
-/// The file at this path has this number, and the bytes of that in memory.
-fn see_file<F: Folder, B: Blocks>(
+/// Whether the file at this path has this number, and the bytes of that in memory.
+fn is_file<F: Folder, B: Blocks>(
     alloc: Global,
     folder: &mut F,
     blocks: &mut B,
     top: &Node,
-    path: &[Text],
+    names: &[&[u8]],
     qid: u64,
-) -> Result<(), Fail>
+) -> Result<bool, Fail>
     requires { AreEntries top.now.stored }
 {
-    let Ok(Some(node)) = walk(alloc, blocks, top, path) else {
-        return Err("no way".into());
+    let path = path_of(alloc, names)?;
+    let wanted = content(alloc, folder, &path)?;
+    let Ok(Some(node)) = walk(alloc, blocks, top, &path) else {
+        return Ok(false);
     };
-    let Ok(found) = read(alloc, blocks, &node, 0, 40_000) else {
-        return Err("not read".into());
-    };
-    let wanted = content(alloc, folder, path)?;
-    if found.as_slice() != wanted.as_slice() || node.qid != qid {
-        return Err("another file".into());
+    match read(alloc, blocks, &node, 0, 40_000) {
+        Ok(found) => Ok(node.qid == qid && found.as_slice() == wanted.as_slice()),
+        Err(_) => Ok(false),
     }
-    Ok(())
 }
 
 /// Folders of the sample.
-const FOLDERS: [&[&[u8]]; 3] = [&[b"many"], &[b"many", b"30+"], &[b"empty"]];
+const FOLDERS: &[&[&[u8]]] = &[&[], &[b"many"], &[b"many", b"30+"], &[b"empty"]];
 
 /// Files of the sample, and their numbers.
-const FILES: [(&[&[u8]], u64); 7] = [
+const FILES: &[(&[&[u8]], u64)] = &[
     (&[b"a"], 1),
     (&[b"many", b"00"], 4),
     (&[b"many", b"30"], 34),
@@ -166,60 +191,115 @@ const FILES: [(&[&[u8]], u64); 7] = [
     (&[b"z"], 66),
 ];
 
-/// Archives the sample in blocks of this size, and reads it back. It is generic, so that no clause is
-/// looked at with the folder and the blocks in memory.
+/// The top folder of the archive of a folder, in blocks of this size. It is generic, so that no clause
+/// is looked at with the folder and the blocks in memory.
+fn archived<F: Folder, B: Blocks>(
+    alloc: Global,
+    folder: &mut F,
+    blocks: &mut B,
+    bsize: u16,
+) -> Result<Node, Fail>
+    ensures { IfOk result (λ node. AreEntries node.stored) }
+{
+    let Ok(archived) = archive(alloc, folder, blocks, bsize.clamp(512, 53_248)) else {
+        return Err("not archived".into());
+    };
+    match Archive::at(alloc, blocks, &archived.score) {
+        Ok(found) => Ok(found.top),
+        Err(_) => Err("not opened".into()),
+    }
+}
+
+/// The sample's folders are read back.
+fn see_folders<F: Folder, B: Blocks>(
+    alloc: Global,
+    folder: &mut F,
+    blocks: &mut B,
+    top: &Node,
+    rows: &mut Rows,
+) -> Result<(), Fail>
+    requires { AreEntries top.now.stored }
+{
+    for (n, names) in FOLDERS.iter().enumerate() {
+        let is_same = is_folder(alloc, folder, blocks, top, names)?;
+        rows.nth(n, "the items of the folder", is_same);
+    }
+    Ok(())
+}
+
+/// The sample's files are read back.
+fn see_files<F: Folder, B: Blocks>(
+    alloc: Global,
+    folder: &mut F,
+    blocks: &mut B,
+    top: &Node,
+    rows: &mut Rows,
+) -> Result<(), Fail>
+    requires { AreEntries top.now.stored }
+{
+    for (n, (names, qid)) in FILES.iter().enumerate() {
+        let is_same = is_file(alloc, folder, blocks, top, names, *qid)?;
+        rows.nth(n, "the number and the bytes of the file", is_same);
+    }
+    Ok(())
+}
+
+/// Archives the sample in blocks of this size, and reads it back.
 fn see_sample<F: Folder, B: Blocks>(
     alloc: Global,
     folder: &mut F,
     blocks: &mut B,
     bsize: u16,
+    rows: &mut Rows,
 ) -> Result<(), Fail> {
-    let Ok(archived) = archive(alloc, folder, blocks, bsize.clamp(512, 53_248)) else {
-        return Err("not archived".into());
-    };
-    let Ok(found) = Archive::at(alloc, blocks, &archived.score) else {
-        return Err("not opened".into());
-    };
-    see_folder(alloc, folder, blocks, &found.top, &Vec::new(alloc))?;
-    for names in FOLDERS {
-        let path = path_of(alloc, names)?;
-        see_folder(alloc, folder, blocks, &found.top, &path)?;
-    }
-    for (names, qid) in FILES {
-        let path = path_of(alloc, names)?;
-        see_file(alloc, folder, blocks, &found.top, &path, qid)?;
-    }
+    let top = archived(alloc, folder, blocks, bsize)?;
+    see_folders(alloc, folder, blocks, &top, rows)?;
+    see_files(alloc, folder, blocks, &top, rows)
+}
+
+/// The sample is read back from blocks of this size.
+fn see_blocks_of(alloc: Global, bsize: u16) -> Result<(), Fail> {
+    let mut rows = Rows::new();
+    let mut folder = sample(alloc)?;
+    let mut blocks = MemBlocks::new(alloc, Sha1Scorer);
+    see_sample(alloc, &mut folder, &mut blocks, bsize, &mut rows)?;
+    rows.all()?;
     Ok(())
 }
 
 #[test]
-fn folders_are_read_back(rt: HostRuntime) -> Result<(), Fail> {
-    let alloc = rt.alloc();
-    for bsize in [512, 8192, 53_248] {
-        let mut folder = sample(alloc)?;
-        let mut blocks = MemBlocks::new(alloc, Sha1Scorer);
-        see_sample(alloc, &mut folder, &mut blocks, bsize)?;
-    }
-    Ok(())
+fn folders_are_read_back_from_blocks_of_512(rt: HostRuntime) -> Result<(), Fail> {
+    see_blocks_of(rt.alloc(), 512)
 }
 
-/// Whether these names lead to an item of the archive.
+#[test]
+fn folders_are_read_back_from_blocks_of_8192(rt: HostRuntime) -> Result<(), Fail> {
+    see_blocks_of(rt.alloc(), 8192)
+}
+
+#[test]
+fn folders_are_read_back_from_blocks_of_53248(rt: HostRuntime) -> Result<(), Fail> {
+    see_blocks_of(rt.alloc(), 53_248)
+}
+
+/// Whether these names lead to an item of the archive, where the way can be read.
 fn leads<B: Blocks>(
     alloc: Global,
     blocks: &mut B,
     top: &Node,
     names: &[&[u8]],
-) -> Result<bool, Fail>
+) -> Result<Option<bool>, Fail>
     requires { AreEntries top.now.stored }
 {
-    match walk(alloc, blocks, top, &path_of(alloc, names)?) {
-        Ok(end) => Ok(end.is_some()),
-        Err(_) => Err("no way".into()),
+    let path = path_of(alloc, names)?;
+    match walk(alloc, blocks, top, &path) {
+        Ok(end) => Ok(Some(end.is_some())),
+        Err(_) => Ok(None),
     }
 }
 
 /// Names, and whether the sample has something there.
-const ENDS: [(&[&[u8]], bool); 7] = [
+const ENDS: &[(&[&[u8]], bool)] = &[
     (&[b"many", b"07"], true),
     (&[b"many", b"60"], false),
     (&[b"Many", b"07"], false),
@@ -230,29 +310,43 @@ const ENDS: [(&[&[u8]], bool); 7] = [
 ];
 
 /// Names lead to what the sample has, and to nothing else.
-fn see_absent<F: Folder, B: Blocks>(
+fn see_ends<B: Blocks>(
+    alloc: Global,
+    blocks: &mut B,
+    top: &Node,
+    rows: &mut Rows,
+) -> Result<(), Fail>
+    requires { AreEntries top.now.stored }
+{
+    for (n, (names, is_there)) in ENDS.iter().enumerate() {
+        let end = leads(alloc, blocks, top, names)?;
+        rows.nth(
+            n,
+            "whether the names lead to an item",
+            end == Some(*is_there),
+        );
+    }
+    Ok(())
+}
+
+/// Archives the sample, and walks it.
+fn see_walks<F: Folder, B: Blocks>(
     alloc: Global,
     folder: &mut F,
     blocks: &mut B,
+    rows: &mut Rows,
 ) -> Result<(), Fail> {
-    let Ok(archived) = archive(alloc, folder, blocks, 512) else {
-        return Err("not archived".into());
-    };
-    let Ok(found) = Archive::at(alloc, blocks, &archived.score) else {
-        return Err("not opened".into());
-    };
-    for (names, is_there) in ENDS {
-        if leads(alloc, blocks, &found.top, names)? != is_there {
-            return Err("another end".into());
-        }
-    }
-    Ok(())
+    let top = archived(alloc, folder, blocks, 512)?;
+    see_ends(alloc, blocks, &top, rows)
 }
 
 #[test]
 fn absent_names_lead_nowhere(rt: HostRuntime) -> Result<(), Fail> {
     let alloc = rt.alloc();
+    let mut rows = Rows::new();
     let mut folder = sample(alloc)?;
     let mut blocks = MemBlocks::new(alloc, Sha1Scorer);
-    see_absent(alloc, &mut folder, &mut blocks)
+    see_walks(alloc, &mut folder, &mut blocks, &mut rows)?;
+    rows.all()?;
+    Ok(())
 }

@@ -1,14 +1,16 @@
 //! Folders in memory are archived into the store of a configuration, on partitions in memory that
 //! are kept from one run to the next, and read back.
 
+ghost use Rattle.std.specs.Prelude.{IfSome};
+ghost use Rattle.vac_read.specs.Nodes.{AreEntries};
+
 use crate::items::{Sample, items_of};
 use std::alloc::Global;
-use std::process::Abort;
 use std::test::Fail;
-use vac_read::{Archive, read, walk};
+use vac_read::{Archive, Node, read, walk};
 use vac_store::{ArchiveBad, StoredArchive, archive_stored};
 use vac_write::VacErr;
-use vt_base::{Score, Sha1Scorer, Text, Why, parse_score};
+use vt_base::{NoMemory, Score, Sha1Scorer, Text, Why, parse_score};
 use vt_conf::parse_conf;
 use vt_drive::Driven;
 use vt_folder::{Folder, MemFolder};
@@ -20,6 +22,7 @@ use vt_memparts::{Failing, MemParts};
 use vt_open::{configurations_can_be_opened, open_store};
 use vt_out::Silent;
 use vt_parts::Parts;
+use vt_rows::Rows;
 use vt_tree::Blocks;
 
 /// Partitions of a store.
@@ -57,47 +60,88 @@ impl<P: Parts> Stores<P> {
         Ok(())
     }
 
-    /// Archives a folder into the store of a configuration.
+    /// Archives a folder into the store of a configuration, and says whether this is told.
     fn archive<F: Folder>(
         &mut self,
         text: &[u8],
         folder: &mut F,
         bsize: u16,
-    ) -> Result<Result<StoredArchive, ArchiveBad>, Fail> {
+        wanted: Wanted,
+    ) -> Result<bool, Fail> {
         configurations_can_be_opened();
         let conf = parse_conf(self.alloc, text).ok().ok_or("configuration")?;
         let bsize = bsize.clamp(512, 53_248);
         let parts = &mut self.parts;
-        Ok(archive_stored(self.alloc, parts, &conf, &Sha1Scorer, 1, folder, bsize))
+        let answer = archive_stored(self.alloc, parts, &conf, &Sha1Scorer, 1, folder, bsize);
+        Ok(is_wanted(&answer, wanted))
     }
 
-    /// The bytes of the file `d/f` of an archive in the store of a configuration.
-    fn read_back(&mut self, text: &[u8], score: &Score) -> Result<Vec<u8>, Fail> {
+    /// Whether the file `d/f` of an archive in the store of a configuration has these bytes.
+    fn gives(&mut self, text: &[u8], score: &Score, wanted: &[u8]) -> Result<bool, Fail> {
         configurations_can_be_opened();
         let conf = parse_conf(self.alloc, text).ok().ok_or("configuration")?;
         let core = open_store(self.alloc, &mut self.parts, &conf, 1, Sha1Scorer);
         let core = core.ok().ok_or("not opened")?;
         let mut blocks = Local::new(Driven::new(core, self.alloc, 0), Sha1Scorer);
-        content(self.alloc, &mut blocks, score)
+        Ok(has_file(self.alloc, &mut blocks, score, wanted))
     }
 }
 
-fn content<B: Blocks>(alloc: Global, blocks: &mut B, score: &Score) -> Result<Vec<u8>, Fail> {
-    let Ok(found) = Archive::at(alloc, blocks, score) else {
-        return Err("no archive".into());
+/// The names that lead to the file `d/f`.
+fn names(alloc: Global) -> Result<[Text; 2], NoMemory> {
+    Ok([Text::copy_of(alloc, b"d")?, Text::copy_of(alloc, b"f")?])
+}
+
+/// The node that these names lead to.
+fn found<B: Blocks>(alloc: Global, blocks: &mut B, top: &Node, names: &[Text]) -> Option<Node>
+    requires { AreEntries top.now.stored }
+    ensures { IfSome result (λ node. AreEntries node.stored) }
+{
+    match walk(alloc, blocks, top, names) {
+        Ok(end) => end,
+        Err(_) => None,
+    }
+}
+
+/// Whether a file has these bytes.
+fn is_file<B: Blocks>(alloc: Global, blocks: &mut B, node: &Node, wanted: &[u8]) -> bool
+    requires { AreEntries node.now.stored }
+{
+    match read(alloc, blocks, node, 0, 100) {
+        Ok(bytes) => bytes.as_slice() == wanted,
+        Err(_) => false,
+    }
+}
+
+/// Whether names lead to a file that has these bytes.
+fn leads<B: Blocks>(
+    alloc: Global,
+    blocks: &mut B,
+    top: &Node,
+    names: &[Text],
+    wanted: &[u8],
+) -> bool
+    requires { AreEntries top.now.stored }
+{
+    match found(alloc, blocks, top, names) {
+        Some(node) => is_file(alloc, blocks, &node, wanted),
+        None => false,
+    }
+}
+
+/// Whether the file `d/f` of an archive has these bytes.
+fn has_file<B: Blocks>(alloc: Global, blocks: &mut B, score: &Score, wanted: &[u8]) -> bool {
+    let Ok(names) = names(alloc) else {
+        return false;
     };
-    let path = vec![in alloc; Text::copy_of(alloc, b"d")?, Text::copy_of(alloc, b"f")?]?;
-    let Ok(Some(node)) = walk(alloc, blocks, &found.top, &path) else {
-        return Err("no way".into());
-    };
-    let Ok(bytes) = read(alloc, blocks, &node, 0, 100) else {
-        return Err("not read".into());
-    };
-    Ok(Vec::from_slice(alloc, bytes.as_slice())?)
+    match Archive::at(alloc, blocks, score) {
+        Ok(archive) => leads(alloc, blocks, &archive.top, &names, wanted),
+        Err(_) => false,
+    }
 }
 
 /// What is to be told of an archiving.
-#[derive(Clone, Copy, Debug)]
+#[derive(Clone, Copy)]
 enum Wanted {
     /// The archive's score, and how many blocks are new.
     Stored(&'static str, u64),
@@ -130,7 +174,7 @@ type Row = (&'static [u8], Sample, u16, u64, Wanted);
 /// A call that is never made.
 const NEVER: u64 = u64::MAX;
 
-const ROWS: [Row; 8] = [
+const ROWS: &[Row] = &[
     (CONF, Sample::Empty, 8192, NEVER, Wanted::Stored(EMPTY, 2)),
     (CONF, Sample::Empty, 8192, NEVER, Wanted::Stored(EMPTY, 0)),
     (CONF, Sample::Small, 8192, 4, Wanted::FolderFault),
@@ -153,27 +197,34 @@ const ROWS: [Row; 8] = [
     (CONF, Sample::Empty, 8192, NEVER, Wanted::Stored(EMPTY, 0)),
 ];
 
+/// A folder of which this call fails.
+fn folder_of(alloc: Global, which: Sample, failing: u64) -> Result<MemFolder, Fail> {
+    let failing = vec![in alloc; failing]?;
+    let items = items_of(alloc, which)?;
+    Ok(MemFolder::new(alloc, items).failing(failing))
+}
+
 /// Whether a row is told as it is to be.
 fn goes_as<P: Parts>(to: &mut Stores<P>, row: Row) -> Result<bool, Fail> {
     let (text, which, bsize, failing, wanted) = row;
-    let failing = vec![in to.alloc; failing]?;
-    let mut folder = MemFolder::new(to.alloc, items_of(to.alloc, which)?).failing(failing);
-    let answer = to.archive(text, &mut folder, bsize)?;
-    Ok(is_wanted(&answer, wanted))
+    let mut folder = folder_of(to.alloc, which, failing)?;
+    to.archive(text, &mut folder, bsize, wanted)
 }
 
-fn archives_each<P: Parts>(rt: &impl Abort, to: &mut Stores<P>) -> Result<(), Fail> {
+fn archives_each<P: Parts>(to: &mut Stores<P>) -> Result<(), Fail> {
+    let small = parse_score(SMALL.as_bytes()).ok().ok_or("score")?;
     to.arenas(b"a")?;
     to.section(b"i")?;
     to.index(CONF)?;
-    for row in ROWS {
-        assert!(rt; goes_as(to, row)?, "{:?}", row.4);
+    let mut rows = Rows::new();
+    for (n, row) in ROWS.iter().enumerate() {
+        rows.nth(n, "what is told of the archiving", goes_as(to, *row)?);
     }
-    let Ok(small) = parse_score(SMALL.as_bytes()) else {
-        return Err("score".into());
-    };
-    let found = to.read_back(CONF, &small)?;
-    assert_eq!(rt; found.as_slice(), b"abc".as_slice());
+    rows.is(
+        "the file that is read back",
+        to.gives(CONF, &small, b"abc")?,
+    );
+    rows.all()?;
     Ok(())
 }
 
@@ -182,5 +233,5 @@ fn stores_keep_archives_from_run_to_run(rt: HostRuntime) -> Result<(), Fail> {
     let alloc = rt.alloc();
     let maker = Failing::new(Vec::new(alloc));
     let parts = MemParts::<MemDisk<Listed>, Failing<Global>>::new(alloc, maker);
-    archives_each(&rt, &mut Stores { alloc, parts })
+    archives_each(&mut Stores { alloc, parts })
 }

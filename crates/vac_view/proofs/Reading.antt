@@ -18,8 +18,7 @@ use Rattle.vt_core.specs.Core.{CoreState, devices_of, setup_of}
 use Rattle.vt_core.specs.Files.{all_of}
 use Rattle.vt_core.specs.Mounting.{EachStands}
 use Rattle.vt_core.specs.Sound.{IsSound}
-use Rattle.vt_core.proofs.Standing.{held_twice}
-use Rattle.vt_core.proofs.Held.{hold_still}
+use Rattle.vt_recover.proofs.Held.{held_twice, hold_still}
 use Rattle.vt_drive.specs.Driven.{DoesRequest, DrivenState}
 use Rattle.vt_alone.specs.Sessions.{at_time, store_on}
 use Rattle.vt_single.specs.Single.{ReadsBlock, ReadsTrue}

@@ -9,6 +9,3 @@ mod stored;
 
 pub use archive::view_archive;
 pub use stored::view_on;
-
-#[cfg(test)]
-mod tests;

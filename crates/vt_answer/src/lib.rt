@@ -21,6 +21,3 @@ pub use output::Output;
 pub use serving::Served;
 pub use store::Store;
 pub use streams::Streams;
-
-#[cfg(test)]
-mod tests;

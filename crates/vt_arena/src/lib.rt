@@ -83,6 +83,3 @@ pub fn has_room(len: u64, used: u64, clumps: u32, n: u32) -> bool
 
 ghost use Rattle.std.specs.Prelude.{◌≡◌, ◌≤◌, ◌^◌};
 ghost use Rattle.vt_arena.specs.Places.{block_room, directory_room, arena_room, has_room};
-
-#[cfg(test)]
-mod tests;

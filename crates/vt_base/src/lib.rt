@@ -26,6 +26,3 @@ pub use why::{Failed, FieldValue, NoMemory, Site, Why, why_text};
 pub const MAX_BLOCK: usize = 57_344;
 
 const _: () = prove!(MAX_BLOCK == 56 * 1024);
-
-#[cfg(test)]
-mod tests;

@@ -27,6 +27,3 @@ use vt_disk::BLOCK_LEN;
 pub const LEAST_LEN: u64 = 2 * (BLOCK_LEN as u64 + 8192) + BLOCK_LEN as u64;
 
 const _: () = prove!(LEAST_LEN == 40_960);
-
-#[cfg(test)]
-mod tests;

@@ -46,6 +46,3 @@ pub struct Bucket {
     ghost within: { len ≤ BUCKET_ROOM },
     ghost ascending: { IsAscending (take len table) },
 }
-
-#[cfg(test)]
-mod tests;

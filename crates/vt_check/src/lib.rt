@@ -5,6 +5,3 @@ mod checking;
 mod clumps;
 
 pub use checking::{ArenaReport, BYTES_AT_ONCE, CLUMPS_AT_ONCE, CheckErr, Damage, Report, check};
-
-#[cfg(test)]
-mod tests;

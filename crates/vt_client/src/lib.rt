@@ -10,6 +10,3 @@ pub mod laws;
 
 pub use client::Client;
 pub use err::{ClientErr, Parted};
-
-#[cfg(test)]
-mod tests;

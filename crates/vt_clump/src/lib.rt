@@ -12,6 +12,3 @@ pub use laws::clumps_are_told_apart;
 pub use packed::Packed;
 pub use packing::pack;
 pub use reading::{Clump, ClumpBad, Encoding, unpack, unpack_block};
-
-#[cfg(test)]
-mod tests;

@@ -24,19 +24,19 @@ use Rattle.vt_single.specs.declared.stored.StoredBad.{StoredBad}
 use Rattle.vt_single.specs.declared.stored.StoredBad.TheVariants as stored
 use Rattle.vt_single.specs.Single.{IsAnswer}
 use Rattle.vt_single.specs.Stored.{Uses, UsesStore}
-use Rattle.vt_commands.specs.declared.failure.Failure.{Failure}
-use Rattle.vt_commands.specs.declared.failure.Failure.TheVariants.{NoMemory, ReadFault, Refused as RefusedBy, WriteFault}
-use Rattle.vt_commands.specs.declared.place.Place.{Place}
-use Rattle.vt_commands.specs.declared.place.Place.TheVariants.{Memory, Server, Conf}
+use Rattle.run_base.specs.declared.failure.Failure.{Failure}
+use Rattle.run_base.specs.declared.failure.Failure.TheVariants.{NoMemory, ReadFault, Refused as RefusedBy, WriteFault}
+use Rattle.run_base.specs.declared.place.Place.{Place}
+use Rattle.run_base.specs.declared.place.Place.TheVariants.{Memory, Server, Conf}
 use Rattle.vt_commands.specs.Answers.{TellsReply, TellsReplyOrMemory, WhereOpened}
-use Rattle.vt_commands.specs.Blocks.{DoesStored, TellsStored, refusal_for}
-use Rattle.vt_commands.specs.Change.{Work}
-use Rattle.vt_commands.specs.Commands.SessionConf.{NoneFails}
-use Rattle.vt_commands.specs.Commands.Write.{TakesNoBlock, TakesNone}
-use Rattle.vt_commands.specs.Failure.{HasCauseIn, Outcome}
-use Rattle.vt_commands.specs.Formatting.{Prints}
-use Rattle.vt_commands.specs.Places.{Names}
-use Rattle.vt_commands.proofs.BlockCauses.{used_rises}
+use Rattle.run_base.specs.Blocks.{DoesStored, TellsStored, refusal_for}
+use Rattle.run_base.specs.Change.{Work}
+use Rattle.run_sessions.specs.SessionConf.{NoneFails}
+use Rattle.run_sessions.specs.Write.{TakesNoBlock, TakesNone}
+use Rattle.run_base.specs.Failure.{HasCauseIn, Outcome}
+use Rattle.run_base.specs.Formatting.{Prints}
+use Rattle.run_base.specs.Places.{Names}
+use Rattle.run_base.proofs.StoredCauses.{used_rises}
 use Rattle.vt_commands.proofs.CompleteConf.{none_opened_well}
 
 -- ---- by whether the store was opened

@@ -15,11 +15,11 @@ use Rattle.vt_answer.specs.Links.{ReadCause}
 use Rattle.vt_answer.specs.Sessions.{SinkCause}
 use Rattle.vt_alone.specs.declared.serving.StoreServed.{StoreServed}
 use Rattle.vt_alone.specs.Sessions.{NeedsMemory}
-use Rattle.vt_commands.specs.declared.failure.Failure.TheVariants as failures
-use Rattle.vt_commands.specs.Change.{Change, Work}
-use Rattle.vt_commands.specs.Commands.Session.{DoesSession}
-use Rattle.vt_commands.specs.Failure.{Outcome}
-use Rattle.vt_commands.specs.Served.{EndsWell, PassesOver, closed_with, failed_in, failure_for, first_of, outcome_of, outcome_of_end}
+use Rattle.run_base.specs.declared.failure.Failure.TheVariants as failures
+use Rattle.run_base.specs.Change.{Change, Work}
+use Rattle.run_sessions.specs.Session.{DoesSession}
+use Rattle.run_base.specs.Failure.{Outcome}
+use Rattle.run_base.specs.Served.{EndsWell, PassesOver, closed_with, failed_in, failure_for, first_of, outcome_of, outcome_of_end}
 
 -- an input that ends well ends no other way
 well_is : (had : List ℕ) (items : List Item) (ended : Ended) → EndsWell had → Heard had items ended → (ended ≡ Goodbye) ⊎ (ended ≡ Closed)

@@ -10,19 +10,19 @@ use Rattle.vt_conf.specs.declared.why.ConfWhy.{ConfWhy}
 use Rattle.vt_conf.specs.Configuration.{Configures, IsFirstCause, SameConf}
 use Rattle.vt_disk.specs.Members.{DiskOf}
 use Rattle.vt_format.specs.Index.{files_of as files_in}
-use Rattle.vt_core.specs.Files.{PerDevice}
+use Rattle.vt_core.specs.Files.{PerDevice, all_of}
 use Rattle.vt_open.specs.declared.bad.OpenBad.{OpenBad}
 use Rattle.vt_open.specs.declared.bad.OpenBad.TheVariants.{Missing, Refused}
 use Rattle.vt_open.specs.Names.{AreUnder, HaveOneShape, StandUnder, files_of}
-use Rattle.vt_core.specs.Files.{all_of}
 use Rattle.vt_open.specs.Opening.{IsFaultOrMemory}
 use Rattle.vt_parts.specs.Parts.{Standing}
-use Rattle.vt_commands.specs.declared.failure.Failure.{Failure}
-use Rattle.vt_commands.specs.declared.failure.Failure.TheVariants.{BadConf, DiskFault, FileFault, NoMemory}
-use Rattle.vt_commands.specs.Change.{FilesChange, Work}
-use Rattle.vt_commands.specs.Commands.SessionConf.{IsOpenRefusal, NoneFails}
-use Rattle.vt_commands.specs.Configurations.{IsRefusalAmong, IsWrong, ReadsNone}
-use Rattle.vt_commands.specs.Failure.{HasCauseIn}
+use Rattle.run_base.specs.declared.failure.Failure.{Failure}
+use Rattle.run_base.specs.declared.failure.Failure.TheVariants.{BadConf, DiskFault, FileFault, NoMemory}
+use Rattle.run_base.specs.Change.{FilesChange, Work}
+use Rattle.run_base.specs.Unopened.{IsOpenRefusal}
+use Rattle.run_sessions.specs.SessionConf.{NoneFails}
+use Rattle.run_base.specs.Configurations.{IsRefusalAmong, IsWrong, ReadsNone}
+use Rattle.run_base.specs.Failure.{HasCauseIn}
 
 -- ---- the configuration
 

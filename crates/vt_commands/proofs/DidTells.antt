@@ -11,27 +11,29 @@ use Rattle.vt_words.proofs.Asking.{alone}
 use Rattle.vt_client.specs.declared.err.ClientErr.TheVariants as errs
 use Rattle.vt_remote.specs.declared.remote.RemoteBad.{RemoteBad}
 use Rattle.vt_remote.specs.declared.remote.RemoteBad.TheVariants as remote
-use Rattle.vt_commands.specs.declared.failure.Failure.{Failure}
-use Rattle.vt_commands.specs.declared.failure.Failure.TheVariants.{BadWords, BadConf, NotFormatted, TooSmall, Disagree, SameName, DiskFault, BadNumber, BadName, Cut, Malformed, Spent, ReadFault, FileFault, FolderFault, WriteFault, NoMemory, Damaged, BadScore, BadArchive, TooDeep, TooLong, IndexFull, ArenasFull, Refused, NoBlock, Server}
-use Rattle.vt_commands.specs.Change.{Work}
-use Rattle.vt_commands.specs.Commands.Fmtarenas.{AsksForNoArenas}
-use Rattle.vt_commands.specs.Commands.Fmtbloom.{AsksForNoFilter}
-use Rattle.vt_commands.specs.Commands.Fmtisect.{AsksForNoSection}
-use Rattle.vt_commands.specs.Commands.Rehearse.{AsksForNoRehearsal, Rehearses}
-use Rattle.vt_commands.specs.Commands.Session.{DoesSession}
-use Rattle.vt_commands.specs.Commands.SessionConf.{DoesSessionConf}
-use Rattle.vt_commands.specs.Failure.{Outcome, HasFailed, HasLinkFailed, server_status, status_of, line_of, line, HasCauseIn}
-use Rattle.vt_commands.specs.Formatting.{RefusesWord}
-use Rattle.vt_commands.specs.Members.{LinkOf}
-use Rattle.vt_commands.specs.Places.{EndsIdle, in_memory}
+use Rattle.run_base.specs.declared.failure.Failure.{Failure}
+use Rattle.run_base.specs.declared.failure.Failure.TheVariants.{BadWords, BadConf, NotFormatted, TooSmall, Disagree, SameName, DiskFault, BadNumber, BadName, Cut, Malformed, Spent, ReadFault, FileFault, FolderFault, WriteFault, NoMemory, Damaged, BadScore, BadArchive, TooDeep, TooLong, IndexFull, ArenasFull, Refused, NoBlock, Server}
+use Rattle.run_base.specs.Change.{Work}
+use Rattle.run_stores.specs.Fmtarenas.{AsksForNoArenas}
+use Rattle.run_stores.specs.Fmtbloom.{AsksForNoFilter}
+use Rattle.run_stores.specs.Fmtisect.{AsksForNoSection}
+use Rattle.run_stores.specs.Rehearse.{AsksForNoRehearsal, Rehearses}
+use Rattle.run_sessions.specs.Session.{DoesSession}
+use Rattle.run_sessions.specs.SessionConf.{DoesSessionConf}
+use Rattle.run_base.specs.Failure.{Outcome, HasFailed, HasLinkFailed, server_status, status_of, line_of, line, HasCauseIn}
+use Rattle.run_base.specs.Formatting.{RefusesWord}
+use Rattle.run_base.specs.Members.{LinkOf}
+use Rattle.run_base.specs.Places.{EndsIdle, in_memory}
 use Rattle.vt_commands.specs.Run.{Does, DoesAsked, DoesWords}
-use Rattle.vt_commands.proofs.BlockCauses.{read_never, server_never, write_never}
-use Rattle.vt_commands.proofs.Causes.{formats_never, printed_never}
-use Rattle.vt_commands.proofs.IndexCauses.{index_never}
-use Rattle.vt_commands.proofs.SessionCauses.{outcome_never, session_conf_never}
-use Rattle.vt_commands.proofs.ViewCauses.{vacfs_never}
-use Rattle.vt_commands.proofs.UpkeepCauses.{check_never, rebuild_never}
-use Rattle.vt_commands.proofs.VacServedCauses.{vac_at_never}
+use Rattle.run_sessions.proofs.BlockCauses.{read_never, write_never}
+use Rattle.run_base.proofs.StoredCauses.{server_never}
+use Rattle.run_stores.proofs.FormatCauses.{formats_never}
+use Rattle.run_base.proofs.Causes.{printed_never}
+use Rattle.run_stores.proofs.IndexCauses.{index_never}
+use Rattle.run_sessions.proofs.SessionCauses.{outcome_never, session_conf_never}
+use Rattle.run_archives.proofs.ViewCauses.{vacfs_never}
+use Rattle.run_stores.proofs.UpkeepCauses.{check_never, rebuild_never}
+use Rattle.run_archives.proofs.VacServedCauses.{vac_at_never}
 
 -- ---- by what the words ask for
 

@@ -3,12 +3,12 @@ use Rattle.std.proofs.Common.{◌≡◌, List, [], ℕ, Ok, sym, subst}
 use Rattle.vt_disk.specs.Members.{DiskOf}
 use Rattle.vt_words.specs.declared.asked.Asked.TheVariants.{Do}
 use Rattle.vt_words.specs.declared.command.Command.{Command}
-use Rattle.vt_commands.specs.Change.{Work, sink_change}
-use Rattle.vt_commands.specs.Failure.{Outcome}
-use Rattle.vt_commands.specs.Members.{LinkOf, SinkOf}
+use Rattle.run_base.specs.Change.{Work, sink_change}
+use Rattle.run_base.specs.Failure.{Outcome}
+use Rattle.run_base.specs.Members.{LinkOf, SinkOf}
 use Rattle.vt_commands.specs.Run.{Does, SaysAndDoes, preface_of}
-use Rattle.vt_commands.specs.Said.{Said}
-use Rattle.vt_commands.proofs.SaidBefore.{unsaid}
+use Rattle.run_base.specs.Said.{Said}
+use Rattle.run_base.proofs.SaidBefore.{unsaid}
 
 module _ {R K F I P D N L : Type 0} (disk : DiskOf D) (link : LinkOf L)
     (score : List ℕ → List ℕ) (sink : SinkOf F) where

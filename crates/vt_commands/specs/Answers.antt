@@ -5,10 +5,10 @@ use Rattle.vt_base.specs.Protocol.{RMessage, r_read, r_write, r_error, text_of}
 use Rattle.vt_base.specs.declared.why.Why.{Why}
 use Rattle.vt_single.specs.declared.stored.StoredBad.{StoredBad}
 use Rattle.vt_single.specs.declared.stored.StoredBad.TheVariants as stored
-use Rattle.vt_commands.specs.declared.failure.Failure.TheVariants.{NoMemory}
-use Rattle.vt_commands.specs.Blocks.{refusal_for}
-use Rattle.vt_commands.specs.Change.{Change}
-use Rattle.vt_commands.specs.Failure.{Outcome}
+use Rattle.run_base.specs.declared.failure.Failure.TheVariants.{NoMemory}
+use Rattle.run_base.specs.Blocks.{refusal_for}
+use Rattle.run_base.specs.Change.{Change}
+use Rattle.run_base.specs.Failure.{Outcome}
 
 -- where the store was opened, this holds of what it answered, and else that
 abbrev pub WhereOpened : {T : Type 0} → (Holds : Result T Why → Type 0) → (unopened : Type 0)

@@ -7,25 +7,25 @@ use Rattle.vt_words.specs.declared.asked.Asked.TheVariants.{Do, Help, Version, F
 use Rattle.vt_words.specs.declared.command.Command.{Command}
 use Rattle.vt_words.specs.declared.command.Command.TheVariants.{Session, FormatArenas, FormatSection, FormatFilter, FormatIndex, RebuildIndex, CheckArenas, Read, Write, Rehearse, Vac, View}
 use Rattle.vt_words.specs.Words.{Asks}
-use Rattle.vt_commands.specs.Change.{AreUnused, Change, FoldersChange, Work, Attempts}
-use Rattle.vt_commands.specs.Failure.{Outcome, status_of, line_of, HasCauseIn}
-use Rattle.vt_commands.specs.Formatting.{Prints}
-use Rattle.vt_commands.specs.Members.{LinkOf}
-use Rattle.vt_commands.specs.Places.{EndsIdle}
-use Rattle.vt_commands.specs.Said.{Said}
-use Rattle.vt_commands.specs.declared.failure.Failure.TheVariants.{BadWords, NoMemory}
-use Rattle.vt_commands.specs.Commands.Buildindex.{DoesBuildindex}
-use Rattle.vt_commands.specs.Commands.Checkarenas.{DoesCheckarenas}
-use Rattle.vt_commands.specs.Commands.Fmtarenas.{DoesFmtarenas}
-use Rattle.vt_commands.specs.Commands.Fmtbloom.{DoesFmtbloom}
-use Rattle.vt_commands.specs.Commands.Fmtindex.{DoesFmtindex}
-use Rattle.vt_commands.specs.Commands.Fmtisect.{DoesFmtisect}
-use Rattle.vt_commands.specs.Commands.Read.{DoesRead}
-use Rattle.vt_commands.specs.Commands.Rehearse.{DoesRehearse}
-use Rattle.vt_commands.specs.Commands.SessionAt.{DoesSessionAt}
-use Rattle.vt_commands.specs.Commands.VacAt.{DoesVacAt}
-use Rattle.vt_commands.specs.Commands.Vacfs.{DoesVacfs}
-use Rattle.vt_commands.specs.Commands.Write.{DoesWrite}
+use Rattle.run_base.specs.Change.{AreUnused, Change, FoldersChange, Work, Attempts}
+use Rattle.run_base.specs.Failure.{Outcome, status_of, line_of, HasCauseIn}
+use Rattle.run_base.specs.Formatting.{Prints}
+use Rattle.run_base.specs.Members.{LinkOf}
+use Rattle.run_base.specs.Places.{EndsIdle}
+use Rattle.run_base.specs.Said.{Said}
+use Rattle.run_base.specs.declared.failure.Failure.TheVariants.{BadWords, NoMemory}
+use Rattle.run_stores.specs.Buildindex.{DoesBuildindex}
+use Rattle.run_stores.specs.Checkarenas.{DoesCheckarenas}
+use Rattle.run_stores.specs.Fmtarenas.{DoesFmtarenas}
+use Rattle.run_stores.specs.Fmtbloom.{DoesFmtbloom}
+use Rattle.run_stores.specs.Fmtindex.{DoesFmtindex}
+use Rattle.run_stores.specs.Fmtisect.{DoesFmtisect}
+use Rattle.run_sessions.specs.Read.{DoesRead}
+use Rattle.run_stores.specs.Rehearse.{DoesRehearse}
+use Rattle.run_sessions.specs.SessionAt.{DoesSessionAt}
+use Rattle.run_archives.specs.VacAt.{DoesVacAt}
+use Rattle.run_archives.specs.Vacfs.{DoesVacfs}
+use Rattle.run_sessions.specs.Write.{DoesWrite}
 
 abbrev pub Does : {R K I P D N L : Type 0} → DiskOf D → LinkOf L → (score : List ℕ → List ℕ)
     → Command → Outcome → Work R K I P D N L → Type 0

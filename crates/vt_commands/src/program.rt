@@ -2,27 +2,15 @@
 
 ghost use Rattle.sha1.specs.Sha1.{sha1};
 ghost use Rattle.std.specs.Prelude.{◌≡◌, ◌⊎◌, ℕ, List, map, OnErr, OnOk};
-ghost use Rattle.vt_commands.specs.Change.{Attempts, folders_change, sink_change, work_of};
-ghost use Rattle.vt_commands.specs.Failure.{HasCauseIn, status_of, line_of};
+ghost use Rattle.run_base.specs.Change.{Attempts, folders_change, sink_change, work_of};
+ghost use Rattle.run_base.specs.Failure.{HasCauseIn, status_of, line_of};
 ghost use Rattle.vt_commands.specs.Run.{Did, DoesWords, IsArchive, OnlyForArchives, SaysAndDoes};
-ghost use Rattle.vt_commands.specs.Said.{Said};
+ghost use Rattle.run_base.specs.Said.{Said};
 
-use crate::commands::buildindex::buildindex;
-use crate::commands::checkarenas::checkarenas;
-use crate::commands::fmtarenas::fmtarenas;
-use crate::commands::fmtbloom::fmtbloom;
-use crate::commands::fmtindex::fmtindex;
-use crate::commands::fmtisect::fmtisect;
-use crate::commands::read::read;
-use crate::commands::rehearse::rehearse;
-use crate::commands::session_at::session_at;
-use crate::commands::vac_at::vac_at;
-use crate::commands::vacfs::vacfs;
-use crate::commands::write::write;
-use crate::complaint::complain_of;
-use crate::failure::{Failure, status};
-use crate::host::Host;
-use crate::printing::print;
+use run_archives::{vac_at, vacfs};
+use run_base::{Failure, Host, complain_of, print, status};
+use run_sessions::{read, session_at, write};
+use run_stores::{buildindex, checkarenas, fmtarenas, fmtbloom, fmtindex, fmtisect, rehearse};
 use std::alloc::Global;
 use std::convert::AsStr;
 use std::thread::Threads;

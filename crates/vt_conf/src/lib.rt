@@ -30,6 +30,3 @@ pub const MAX_CONF: usize = 65_536;
 
 /// The most files of arenas, and the most files of index sections.
 pub const MAX_FILES: usize = 64;
-
-#[cfg(test)]
-mod tests;

@@ -1,6 +1,6 @@
 -- A store that takes in a block.
 use Rattle.std.proofs.Common.{◌≡◌, ◌≢◌, ◌⊎◌, ⊎_elim, inl, inr, ℕ, zero, suc, ◌+◌, ◌<◌, ◌≤◌, List, [], ◌∷◌, ◌++◌, length, map, take, Option, Some, refl, sym, ◌∙◌, ap, subst, arith, length-append}
-use Rattle.std.specs.Prelude.{◌↔◌, slice_get, slice_set, slice_index, sum}
+use Rattle.std.specs.Prelude.{slice_get, slice_set, slice_index, sum}
 use Rattle.vt_base.specs.Bytes.{AreBytes}
 use Rattle.std.specs.List.{AllPairs, Contains}
 use Rattle.std.specs.Option.{option_to_list}
@@ -23,28 +23,20 @@ use Rattle.vt_shard.specs.Shard.{ShardState, HasScore}
 use Rattle.vt_shard.specs.Sound.{IsSound as IsSoundShard, IsSoundFrom}
 use Rattle.vt_core.specs.Core.{CoreState, setup_of, machine_of, devices_of, stops_of}
 use Rattle.vt_core.specs.Files.{PerDevice, all_of}
-use Rattle.vt_core.specs.Asking.{AddsPacked}
-use Rattle.vt_core.specs.Finding.{AreSound, Parts, parts_of}
+use Rattle.vt_lookup.specs.Adding.{AddsPacked}
+use Rattle.vt_lookup.specs.Finding.{AreSound, Parts, parts_of}
 use Rattle.vt_core.specs.Sound.{IsSound, IsSoundFilter}
-use Rattle.vt_core.specs.Stands.{IsLive}
+use Rattle.vt_recover.specs.Sections.{IsLive}
 use Rattle.vt_core.specs.Steps.{GoesOn}
 use Rattle.vt_core.specs.Whole.{IsWhole, IsShardOf}
-use Rattle.vt_core.proofs.Calls.{get_set, get_other, length-set, map_set, with_ends, within_get}
-use Rattle.vt_core.proofs.Lists.{index_map}
-use Rattle.vt_core.proofs.LogWork.{one_or_other}
+use Rattle.vt_recover.proofs.Places.{get_set, get_other, length-set, map_set, within_get, one_or_other}
+use Rattle.vt_core.proofs.Calls.{with_ends}
+use Rattle.vt_recover.proofs.Lists.{index_map}
+use Rattle.vt_recover.proofs.Below.{HaveRanges, MarkedStay, AreMarked}
 
 -- laws of the layers below
-abbrev pub HaveRanges : Type 0
-HaveRanges = (sections : List ℕ) (i bucket : ℕ) → i < length sections → (section_of_bucket sections bucket ≡ i) ↔ LiesIn sections i bucket
-
 abbrev pub BucketsInRange : Type 0
 BucketsInRange = ((n : ℕ) (s : List ℕ) → AreBytes s → 0 < n → bucket_of n s < n) × ((sections : List ℕ) (b : ℕ) → b < sum sections → section_of_bucket sections b < length sections)
-
-abbrev pub MarkedStay : Type 0
-MarkedStay = (old new : Filter) (score other : List ℕ) → Marks old score new → HasBitsOf old other → HasBitsOf new other
-
-abbrev pub AreMarked : Type 0
-AreMarked = (old new : Filter) (score : List ℕ) → Marks old score new → HasBitsOf new score
 
 abbrev pub OthersAdded : {D : Type 0} → DiskOf D → Type 0
 OthersAdded {D} disk = (score : List ℕ → List ℕ) (c : Setup) (t : ShardState D) (h : History) (durable from : ℕ) (block : Accepted) → IsSoundFrom score c disk t h durable from

@@ -1,5 +1,5 @@
 -- Answering a sync that waits.
-use Rattle.std.proofs.Common.{◌≡◌, ℕ, zero, suc, ◌<◌, ◌≤◌, List, [], ◌∷◌, length, map, get_or, Option, Some, None, refl, sym, ◌∙◌, ap, subst, arith}
+use Rattle.std.proofs.Common.{◌≡◌, ℕ, zero, suc, ◌≤◌, List, [], ◌∷◌, length, map, Option, Some, None, refl, sym, ◌∙◌, ap, subst, arith}
 use Rattle.std.specs.Prelude.{slice_get, slice_set, max}
 use Rattle.vt_base.specs.declared.answer.Said.{Said}
 use Rattle.vt_base.specs.declared.answer.Said.TheVariants.{Score, Block, Synced, Refused}
@@ -17,7 +17,7 @@ use Rattle.vt_core.specs.Files.{PerDevice, AreWithinCall, all_of}
 use Rattle.vt_core.specs.Sound.{IsSound}
 use Rattle.vt_core.specs.Steps.{Steps, LeavesPrefix, GoesOn}
 use Rattle.vt_core.specs.Whole.{IsWhole}
-use Rattle.vt_core.proofs.Calls.{length-set}
+use Rattle.vt_recover.proofs.Places.{length-set}
 use Rattle.vt_core.proofs.Recovered.{GivesPrefix, images_of}
 
 -- Only who waits, and how much is synced, may change: nobody waits who didn't.
@@ -204,12 +204,6 @@ sync_steps {D} score disk k new session out gives w it =
       stops = parts_stops score disk k new kept out;
       goes_on = parts_on score disk k new kept w;
     }
-
--- what stands at a place is there
-pub there_is : {X : Type 0} (xs : List X) (i : ℕ) (d x : X) → i < length xs → get_or xs i d ≡ x → slice_get xs i ≡ Some x
-there_is [] i d x below is = absurd (omega (arith, below))
-there_is (w ∷ xs) zero d x below is = ap Some is
-there_is (w ∷ xs) (suc i) d x below is = there_is xs i d x (omega (arith, below)) is
 
 -- a session that waits no more leaves a store whole
 pub unset_whole : {D : Type 0} (score : List ℕ → List ℕ) (disk : DiskOf D) (k : CoreState D) (session synced : ℕ) → k.synced ≤ synced → synced ≤ k.log.durable → IsWhole disk k

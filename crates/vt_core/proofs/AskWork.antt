@@ -36,14 +36,14 @@ use Rattle.vt_core.specs.Causes.{CountsOut, CountsSaid, CountsWhy, IsUndamaged, 
 use Rattle.vt_core.specs.Core.{CoreState, setup_of, machine_of, devices_of, each_of, history_len}
 use Rattle.vt_core.specs.Events.{IsAsked, FailsIn, GivesAnswer, operation_in, reply_of}
 use Rattle.vt_core.specs.Files.{all_of}
-use Rattle.vt_core.specs.Finding.{Parts, AreSound, CountsFailure, IsRight, LooksFor, MayEndLook, MayKeepFrom, NoneRose, Sought, parts_of}
-use Rattle.vt_core.specs.Seeking.{StaySound}
+use Rattle.vt_lookup.specs.Finding.{Parts, AreSound, CountsFailure, IsRight, LooksFor, MayEndLook, MayKeepFrom, NoneRose, Sought, parts_of}
+use Rattle.vt_lookup.specs.Seeking.{StaySound}
 use Rattle.vt_core.specs.Machine.{Machine, WaitsForNone, WaitsAt}
 use Rattle.vt_core.specs.Serving.{FindsBlock}
 use Rattle.vt_core.specs.Sound.{IsSound}
 use Rattle.vt_core.specs.Steps.{Steps}
 use Rattle.vt_core.specs.Whole.{IsWhole}
-use Rattle.vt_core.proofs.Calls.{length-set}
+use Rattle.vt_recover.proofs.Places.{length-set}
 use Rattle.vt_core.proofs.Kept.{same_store}
 use Rattle.vt_core.proofs.ReadWork.{after_reads, no_more, none_rose, reads_counts, reads_crash, reads_go_on, reads_machine, reads_only, reads_sound, reads_stops, reads_whole, parts_are}
 use Rattle.vt_core.proofs.Recovered.{GivesPrefix, images_of}

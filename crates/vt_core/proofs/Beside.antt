@@ -25,11 +25,13 @@ use Rattle.vt_model.specs.Places.{Setup, first_bucket}
 use Rattle.vt_shard.specs.Shard.{ShardState}
 use Rattle.vt_shard.specs.Sound.{IsSoundFrom}
 use Rattle.vt_core.specs.declared.TheConstants.{MOST_BUCKETS}
-use Rattle.vt_core.specs.Opening.{AgreeWith, CanBeOpened, IsOpened, IsShardMade, OpensFilter, TestsParts, buckets_in_each, wrong_at}
+use Rattle.vt_core.specs.Opening.{AgreeWith, TestsParts, buckets_in_each, wrong_at}
+use Rattle.vt_recover.specs.Opening.{CanBeOpened, IsOpened, IsShardMade, OpensFilter}
 use Rattle.vt_core.specs.Refusals.{wrong_head}
-use Rattle.vt_core.specs.Stands.{IsLive, SectionStandsFor, FilterStandsFor, buckets_of}
-use Rattle.vt_core.proofs.Lists.{index_map, same_lists, at_map}
-use Rattle.vt_core.proofs.Zips.{zip_beside, zip_length}
+use Rattle.vt_recover.specs.Sections.{IsLive, SectionStandsFor, buckets_of}
+use Rattle.vt_core.specs.Stands.{FilterStandsFor}
+use Rattle.vt_recover.proofs.Lists.{index_map, same_lists, at_map}
+use Rattle.vt_recover.proofs.Zips.{zip_beside, zip_length}
 use Rattle.vt_log.proofs.Lists.{at_slice, slice_get_other}
 
 -- ---- lists
@@ -45,9 +47,6 @@ all_from P xs each = All-from_recursion P xs (by_recursion P xs each)
 
 pub some_room : (size : ℕ) → 0 < buckets_in size → LEAST_LEN ≤ size
 some_room size some = omega (arith, some)
-
-pub room_some : (size : ℕ) → LEAST_LEN ≤ size → 0 < buckets_in size
-room_some size room = omega (arith, room)
 
 -- what is known of a section that was opened on a device which agrees with a history
 pub record IsOfStore {D : Type 0} (score : List ℕ → List ℕ) (disk : DiskOf D) (c : Setup) (g : History) (i : ℕ) (s : SectionState D) : Type 0 where

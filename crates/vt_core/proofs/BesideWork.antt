@@ -14,10 +14,10 @@ use Rattle.vt_log.specs.Answers.{HoldTheSame}
 use Rattle.vt_model.specs.Places.{first_bucket}
 use Rattle.vt_core.specs.Files.{all_of}
 use Rattle.vt_core.specs.Opening.{AreHeld, RefusesBeside, TestsParts, buckets_in_each, with_log}
-use Rattle.vt_core.specs.Refusals.{CountsRefusal, FilterIsRefused, SectionIsRefused, wrong_head}
+use Rattle.vt_recover.specs.Refusals.{CountsRefusal, FilterIsRefused, SectionIsRefused}
+use Rattle.vt_core.specs.Refusals.{wrong_head}
 use Rattle.vt_core.proofs.Beside.{chosen}
-use Rattle.vt_core.proofs.Held.{hold_still}
-use Rattle.vt_core.proofs.Refused.{counts_less, counts_more}
+use Rattle.vt_recover.proofs.Held.{hold_still, counts_less, counts_more}
 
 -- a test tells no fault
 abbrev TellsNone : Option MountBad → Type 0

@@ -17,13 +17,14 @@ use Rattle.vt_log.proofs.Lists.{at_slice, slice_get_other}
 use Rattle.vt_model.specs.Places.{first_bucket}
 use Rattle.vt_shard.specs.Shard.{ShardState}
 use Rattle.vt_core.specs.Core.{CoreState, setup_of}
-use Rattle.vt_core.specs.Opening.{IsOpened, IsFilterOpened, IsShardMade, OpensFilter, TestsParts, buckets_in_each}
-use Rattle.vt_core.specs.Recalling.{AreReadBack, IsUnused, KeepsSection, ReadsBack, opened}
-use Rattle.vt_core.specs.Stands.{IsLive}
+use Rattle.vt_recover.specs.Opening.{IsOpened, IsFilterOpened, IsShardMade, OpensFilter}
+use Rattle.vt_core.specs.Opening.{TestsParts, buckets_in_each}
+use Rattle.vt_recover.specs.Recalling.{AreReadBack, IsUnused, KeepsSection, ReadsBack, opened}
+use Rattle.vt_recover.specs.Sections.{IsLive}
 use Rattle.vt_core.specs.Whole.{IsFilterOf, IsShardOf, IsWhole}
 use Rattle.vt_core.proofs.Beside.{head_right}
-use Rattle.vt_core.proofs.Lists.{at_map, index_map, same_lists, All-replicate}
-use Rattle.vt_core.proofs.Zips.{zip_beside, zip_length}
+use Rattle.vt_recover.proofs.Lists.{at_map, index_map, same_lists, All-replicate}
+use Rattle.vt_recover.proofs.Zips.{zip_beside, zip_length}
 
 -- no call was made of a shard that was just made
 pub unused_made : {D : Type 0} (disk : DiskOf D) (lumps clean : ℕ) (device : D) (section : SectionState D) (s : ShardState D)

@@ -20,8 +20,9 @@ use Rattle.vt_core.specs.Core.{CoreState, setup_of, devices_of}
 use Rattle.vt_core.specs.Sound.{IsSound, IsSoundFilter}
 use Rattle.vt_part.specs.Layout.{layout_of}
 use Rattle.vt_part.specs.declared.layout.ArenaRegion.{ArenaRegion}
-use Rattle.vt_core.specs.Stands.{IsLive, ArePartitions, SectionStandsFor, FilterStandsFor, StandsFor, StandForPrefix, scores_of, buckets_of}
-use Rattle.vt_core.proofs.Lists.{longer_take, at_map, index_map, only_one}
+use Rattle.vt_recover.specs.Sections.{IsLive, SectionStandsFor, buckets_of}
+use Rattle.vt_core.specs.Stands.{ArePartitions, FilterStandsFor, StandsFor, StandForPrefix, scores_of}
+use Rattle.vt_recover.proofs.Lists.{longer_take, at_map, index_map, only_one}
 
 -- ---- what the parts say of their devices
 

@@ -5,7 +5,7 @@ use Rattle.std.specs.Option.{option_map, option_to_list}
 use Rattle.std.proofs.lemmas.List.{length-map, length-take}
 use Rattle.std.proofs.lemmas.Option.{same_Some}
 use Rattle.std.proofs.lemmas.Bool.{cases_lt}
-use Rattle.vt_twin.specs.Twin.{calls_made}
+use Rattle.vt_twin.specs.Twin.{calls_made, is_fault}
 use Rattle.vt_base.specs.declared.answer.Said.{Said}
 use Rattle.vt_base.specs.declared.answer.Said.TheVariants.{Score, Block, Synced, Refused}
 use Rattle.vt_base.specs.declared.why.Why.{Why}
@@ -15,7 +15,6 @@ use Rattle.vt_disk.specs.Calls.{MadeCalls}
 use Rattle.vt_disk.specs.Disk.{WithinCall}
 use Rattle.vt_disk.specs.Members.{DiskOf}
 use Rattle.vt_model.specs.History.{History, Accepted}
-use Rattle.vt_twin.specs.Twin.{is_fault}
 use Rattle.vt_twin.specs.declared.step.Step.{Step}
 use Rattle.vt_twin.specs.declared.step.Step.TheVariants.{More, Done}
 use Rattle.vt_twin.specs.declared.step.TwinErr.{TwinErr}
@@ -41,11 +40,12 @@ use Rattle.vt_core.specs.Stands.{FilterStandsFor, scores_of}
 use Rattle.vt_core.specs.Steps.{Steps, LeavesPrefix, GoesOn}
 use Rattle.vt_core.specs.Whole.{IsWhole}
 use Rattle.vt_core.specs.Work.{IsBegun, Saves, SavesOne, SavesIn, out_of_save}
-use Rattle.vt_core.proofs.Calls.{calls_set, calls_behind, map_all, risen_behind, joined}
+use Rattle.vt_core.proofs.Calls.{calls_set, calls_behind, map_all, joined}
+use Rattle.vt_recover.proofs.Counts.{risen_behind, risen_set}
 use Rattle.vt_core.proofs.Combined.{within_same, covers_longer}
-use Rattle.vt_core.proofs.Lists.{at_map, only_one}
+use Rattle.vt_recover.proofs.Lists.{at_map, only_one}
 use Rattle.vt_core.proofs.Recovered.{GivesPrefix}
-use Rattle.vt_core.proofs.ShardCall.{none_of, risen_set}
+use Rattle.vt_core.proofs.ShardCall.{none_of}
 
 -- ---- one call of a save
 

@@ -33,13 +33,13 @@ use Rattle.vt_part.specs.declared.layout.ArenaRegion.{ArenaRegion}
 use Rattle.vt_part.specs.declared.part.Part.{Part}
 use Rattle.vt_shard.specs.declared.mounting.Sizes.{Sizes}
 use Rattle.vt_told.specs.Told.{of_log}
-use Rattle.vt_core.specs.declared.devices.Devices.{Devices}
+use Rattle.vt_recover.specs.declared.devices.Devices.{Devices}
 use Rattle.vt_core.specs.Files.{PerDevice, all_of}
 use Rattle.vt_core.specs.Mounting.{IsLogRead, devices_in, tables_in}
 use Rattle.vt_core.specs.Opening.{AreHeld, IsLogFound, IsMountOf, with_log}
-use Rattle.vt_core.specs.Refusals.{CountsRefusal, PassesOrRefuses}
-use Rattle.vt_core.proofs.Held.{hold_still}
-use Rattle.vt_core.proofs.Refused.{counts_more}
+use Rattle.vt_recover.specs.Refusals.{CountsRefusal}
+use Rattle.vt_core.specs.Refusals.{PassesOrRefuses}
+use Rattle.vt_recover.proofs.Held.{hold_still, counts_more}
 use Rattle.vt_core.proofs.Returned.{held_mount}
 use Rattle.std.proofs.lemmas.List.{map-append, length-map}
 

@@ -31,12 +31,15 @@ use Rattle.vt_core.specs.Events.{IsWork}
 use Rattle.vt_core.specs.Files.{Files, all_of}
 use Rattle.vt_core.specs.Machine.{Machine}
 use Rattle.vt_core.specs.Sound.{IsSound}
-use Rattle.vt_core.specs.Stands.{IsLive, StandsFor}
+use Rattle.vt_recover.specs.Sections.{IsLive}
+use Rattle.vt_core.specs.Stands.{StandsFor, ArePartitions}
 use Rattle.vt_core.specs.Steps.{Steps, StepsSoundly, LeavesPrefix}
 use Rattle.vt_core.specs.Whole.{IsWhole}
 use Rattle.vt_core.specs.Work.{out_of_progress}
 use Rattle.std.proofs.lemmas.Option.{same_Some}
-use Rattle.vt_core.proofs.Calls.{calls_set, calls_front, length-set, get_set, get_other, map_set, map_all, risen_front}
+use Rattle.vt_core.proofs.Calls.{calls_set, calls_front, map_all}
+use Rattle.vt_recover.proofs.Places.{length-set, get_set, get_other, map_set, one_or_other}
+use Rattle.vt_recover.proofs.Counts.{risen_front}
 use Rattle.vt_part.specs.Layout.{layout_of}
 use Rattle.vt_part.specs.Table.{Table, IsPartition}
 use Rattle.vt_part.specs.Laws.{IsArena, LayoutsHaveArenas, ArenasAreInside}
@@ -44,7 +47,6 @@ use Rattle.vt_disk.specs.declared.TheConstants.{BLOCK_LEN}
 use Rattle.vt_disk.specs.Disk.{ChangesAt}
 use Rattle.vt_disk.specs.Region.{Inside}
 use Rattle.vt_disk.proofs.Calls.{changes_wider}
-use Rattle.vt_core.specs.Stands.{ArePartitions}
 use Rattle.vt_core.proofs.Combined.{within_same, covers_longer, of_tables}
 
 -- the laws that are called
@@ -80,12 +82,6 @@ tables_within disk old new files many same tables was is within = record {
 zero_or_more : (n : ℕ) → (n ≡ 0) ⊎ (0 < n)
 zero_or_more zero = inl refl
 zero_or_more (suc n) = inr (omega arith)
-
-pub one_or_other : (i j : ℕ) → (i ≡ j) ⊎ (i ≢ j)
-one_or_other zero zero = inl refl
-one_or_other zero (suc j) = inr (λ e. cc)
-one_or_other (suc i) zero = inr (λ e. cc)
-one_or_other (suc i) (suc j) = ⊎_elim (λ (e : i ≡ j). inl (ap (λ (n : ℕ). suc n) e)) (λ (other : i ≢ j). inr (λ e. let f : i ≡ j = omega (arith, e) in other f)) (one_or_other i j)
 
 none_or_some : {X : Type 0} (o : Option X) → (o ≡ None) ⊎ ((x : X) × (o ≡ Some x))
 none_or_some None = inl refl

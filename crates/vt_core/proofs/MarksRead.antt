@@ -21,7 +21,7 @@ use Rattle.vt_core.specs.Core.{CoreState, devices_of}
 use Rattle.vt_core.specs.Files.{PerDevice}
 use Rattle.vt_core.specs.Mounting.{IsHeadRead, IsMarkRead}
 use Rattle.vt_core.specs.Sound.{IsSound}
-use Rattle.vt_core.proofs.Lists.{at_map}
+use Rattle.vt_recover.proofs.Lists.{at_map}
 
 -- what the laws say that are called
 abbrev pub HeadsLeft : {D : Type 0} → DiskOf D → Type 0

@@ -28,16 +28,19 @@ use Rattle.vt_shard.specs.declared.mounting.Sizes.{Sizes}
 use Rattle.vt_core.specs.declared.TheConstants.{MOST_BUCKETS}
 use Rattle.vt_core.specs.Core.{CoreState, setup_of, devices_of, stops_of}
 use Rattle.vt_core.specs.Files.{PerDevice, all_of}
-use Rattle.vt_core.specs.Mounting.{HasRoomOf, IsFresh, IsHeadRead, IsLogOf, IsLogRead, IsMarkRead, IsReadAs, IsSetupOf, KeepsLimits, Mounts, Recalls, AreCovered, ReadsEntriesOnce}
-use Rattle.vt_core.specs.Opening.{IsFilterOpened, IsLogFound, IsOpened, IsShardMade, OpensFilter, TestsParts, with_log}
-use Rattle.vt_core.specs.Recalling.{ReadsBack, ReadsLogBack, opened, Recalls as RecallsFrom}
+use Rattle.vt_core.specs.Mounting.{HasRoomOf, IsFresh, IsHeadRead, IsLogOf, IsLogRead, IsMarkRead, IsReadAs, IsSetupOf, KeepsLimits, Mounts, Recalls, ReadsEntriesOnce}
+use Rattle.vt_recover.specs.Marks.{AreCovered}
+use Rattle.vt_recover.specs.Opening.{IsFilterOpened, IsOpened, IsShardMade, OpensFilter}
+use Rattle.vt_core.specs.Opening.{IsLogFound, TestsParts, with_log}
+use Rattle.vt_recover.specs.Recalling.{ReadsBack, ReadsLogBack, opened, Recalls as RecallsFrom}
 use Rattle.vt_core.specs.Sound.{IsSound, IsSoundFilter}
 use Rattle.vt_core.specs.Stands.{FilterStandsFor, scores_of}
 use Rattle.vt_core.specs.Whole.{IsWhole}
 use Rattle.vt_core.proofs.Beside.{all_from, by_recursion, of_store, sound_shard}
 use Rattle.vt_core.proofs.Chains.{chain, chain_head, chain_buckets, filter_opened, made_faults, many_shards, room_buckets, same_buckets, shard_sizes, whole, IsChain}
-use Rattle.vt_core.proofs.Lists.{at_map, only_one}
-use Rattle.vt_core.proofs.Standing.{held_bytes, held_many}
+use Rattle.vt_recover.proofs.Lists.{at_map, only_one}
+use Rattle.vt_core.proofs.Standing.{held_bytes}
+use Rattle.vt_recover.proofs.Held.{held_many}
 use Rattle.vt_log.specs.Faults.{IsMountedBy}
 use Rattle.vt_log.proofs.Lists.{at_slice, slice_get_other}
 

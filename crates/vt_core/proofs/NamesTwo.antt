@@ -21,7 +21,7 @@ use Rattle.vt_told.specs.Told.{NamesTwo, of_filter, of_log, of_section}
 use Rattle.vt_told.proofs.LogRefused.{if_some, not_equal}
 use Rattle.vt_core.specs.Files.{PerDevice}
 use Rattle.vt_core.specs.Refusals.{IsFirstPast, IsRefused, section_part, wrong_head}
-use Rattle.vt_core.specs.Stands.{buckets_of}
+use Rattle.vt_recover.specs.Sections.{buckets_of}
 use Rattle.vt_core.proofs.LogMount.{count_same}
 
 -- what the law says that is called

@@ -22,27 +22,29 @@ use Rattle.vt_wire.specs.declared.message.Request.TheVariants as requests
 use Rattle.vt_core.specs.declared.event.Event.TheVariants.{Ask}
 use Rattle.vt_core.specs.declared.event.Out.{Out}
 use Rattle.vt_core.specs.declared.event.Out.TheVariants.{NotYet}
-use Rattle.vt_core.specs.declared.writing.Verdict.{Verdict}
-use Rattle.vt_core.specs.declared.writing.Verdict.TheVariants.{New}
-use Rattle.vt_core.specs.Asking.{AddsBlock, AddsPacked, AnswersRequest, EndsWrite, HasNoRoom, MayBeTold, Writes, says, shard_of, stop_for, with_parts}
+use Rattle.vt_lookup.specs.declared.writing.Verdict.{Verdict}
+use Rattle.vt_lookup.specs.declared.writing.Verdict.TheVariants.{New}
+use Rattle.vt_core.specs.Asking.{AddsBlock, AnswersRequest, EndsWrite, HasNoRoom, MayBeTold, Writes, says, shard_of, stop_for, with_parts}
+use Rattle.vt_lookup.specs.Adding.{AddsPacked}
 use Rattle.vt_core.specs.Causes.{CountsOut, IsUndamaged, OnlyReadFrom}
 use Rattle.vt_core.specs.Core.{CoreState, setup_of, machine_of, devices_of, each_of, stops_of}
 use Rattle.vt_core.specs.Events.{IsAsked}
-use Rattle.vt_core.specs.Finding.{Parts, parts_of}
+use Rattle.vt_lookup.specs.Finding.{Parts, parts_of}
 use Rattle.vt_core.specs.Files.{PerDevice, AreWithinCall, all_of}
 use Rattle.vt_core.specs.Machine.{Machine, WaitsForNone}
 use Rattle.vt_core.specs.Serving.{AddsIfRoom, AddsStored, TestsBlock}
 use Rattle.vt_core.specs.Sound.{IsSound}
 use Rattle.vt_core.specs.Steps.{GoesOn, Steps}
 use Rattle.vt_core.specs.Whole.{IsWhole}
-use Rattle.vt_core.proofs.AddWork.{AreMarked, MarkedStay, adding_devices, adding_goes_on, adding_machine, adding_stops, with_added}
+use Rattle.vt_recover.proofs.Below.{AreMarked, MarkedStay}
+use Rattle.vt_core.proofs.AddWork.{adding_devices, adding_goes_on, adding_machine, adding_stops, with_added}
 use Rattle.vt_core.proofs.AskWork.{fails_in, log_reads, mid, mid_is, mid_none, mid_sound, said_is, waits_or_not}
-use Rattle.vt_core.proofs.Calls.{get_set, length-set}
-use Rattle.vt_core.proofs.Fetching.{is_there}
+use Rattle.vt_recover.proofs.Places.{get_set, length-set}
+use Rattle.vt_lookup.proofs.Fetching.{is_there}
 use Rattle.vt_core.proofs.Kept.{keeps_then}
 use Rattle.vt_core.proofs.ReadWork.{reads_crash, reads_go_on, reads_machine, reads_only, reads_stops, reads_whole}
 use Rattle.vt_core.proofs.Recovered.{GivesPrefix}
-use Rattle.vt_core.proofs.TestWork.{still_has}
+use Rattle.vt_lookup.proofs.TestWork.{still_has}
 
 -- laws of the model: what adds a block is a write of it, and is answered by its score
 abbrev pub AddsWritten : Type 0

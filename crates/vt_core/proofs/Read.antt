@@ -17,8 +17,9 @@ use Rattle.vt_core.specs.Core.{CoreState, setup_of, devices_of}
 use Rattle.vt_core.specs.Files.{PerDevice}
 use Rattle.vt_core.specs.Mounting.{EachStands, AllStandFor, IsLogOf, IsReadAs, IsSetupOf}
 use Rattle.vt_core.specs.Sound.{IsSound}
-use Rattle.vt_core.specs.Stands.{SectionStandsFor, FilterStandsFor, StandsFor}
-use Rattle.vt_core.proofs.Lists.{at_map, same_lists}
+use Rattle.vt_recover.specs.Sections.{SectionStandsFor}
+use Rattle.vt_core.specs.Stands.{FilterStandsFor, StandsFor}
+use Rattle.vt_recover.proofs.Lists.{at_map, same_lists}
 use Rattle.vt_core.proofs.Recovered.{GivesPrefix}
 use Rattle.vt_core.proofs.Standing.{images_read}
 

@@ -27,16 +27,17 @@ use Rattle.vt_core.specs.declared.event.Out.{Out}
 use Rattle.vt_core.specs.Causes.{CountsWhy, KeepsStops, OnlyReadFrom}
 use Rattle.vt_core.specs.Core.{CoreState, setup_of, machine_of, devices_of, each_of, stops_of}
 use Rattle.vt_core.specs.Files.{PerDevice, all_of}
-use Rattle.vt_core.specs.Finding.{parts_of, AreSound, CountsFailure, NoneRose, ReadsShard}
+use Rattle.vt_lookup.specs.Finding.{parts_of, AreSound, CountsFailure, NoneRose, ReadsShard}
 use Rattle.vt_core.specs.Sound.{IsSound}
 use Rattle.vt_core.specs.Steps.{LeavesPrefix, GoesOn}
 use Rattle.vt_core.specs.Whole.{IsWhole}
-use Rattle.vt_core.proofs.Calls.{get_set, get_other, length-set, map_set, map_then, map_all, joined, with_ends, risen_front}
+use Rattle.vt_recover.proofs.Places.{get_set, get_other, length-set, map_set, map_then, one_or_other, map_over_set}
+use Rattle.vt_core.proofs.Calls.{map_all, joined, with_ends}
+use Rattle.vt_recover.proofs.Counts.{risen_front}
 use Rattle.vt_core.proofs.Combined.{within_same}
-use Rattle.vt_core.proofs.Lists.{at_map}
-use Rattle.vt_core.proofs.LogWork.{one_or_other}
+use Rattle.vt_recover.proofs.Lists.{at_map}
 use Rattle.vt_core.proofs.Recovered.{GivesPrefix}
-use Rattle.vt_core.proofs.ShardCall.{map_over_set, counts_rose as shard_counts_rose}
+use Rattle.vt_core.proofs.ShardCall.{counts_rose as shard_counts_rose}
 use Rattle.vt_core.proofs.ShardWork.{Keeps, only_mark, each_shard, same_setup, shard_whole}
 
 -- ---- devices that hold what they held

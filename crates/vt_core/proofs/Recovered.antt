@@ -21,7 +21,7 @@ use Rattle.vt_core.specs.Mounting.{AllStandFor, IsLogOf, IsSetupOf}
 use Rattle.vt_core.specs.Sound.{IsSound}
 use Rattle.vt_core.specs.Stands.{ArePartitions, StandsFor, StandForPrefix}
 use Rattle.vt_core.proofs.Combined.{within_same}
-use Rattle.vt_core.proofs.Lists.{at_map, same_lists, All-replicate}
+use Rattle.vt_recover.proofs.Lists.{at_map, same_lists, All-replicate}
 
 -- what a crash between two events leaves
 abbrev pub GivesPrefix : {D : Type 0} → DiskOf D → Type 0

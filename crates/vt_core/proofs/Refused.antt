@@ -1,5 +1,5 @@
 -- Why a store isn't found, and what is handed back.
-use Rattle.std.proofs.Common.{◌≡◌, ⊎_elim, inl, inr, ◌+◌, ◌<◌, ◌≤◌, ℕ, List, ◌++◌, length, map, Option, Some, None, Ok, Err, refl, sym, ◌∙◌, ap, subst, arith}
+use Rattle.std.proofs.Common.{◌≡◌, ⊎_elim, inl, inr, ◌+◌, ◌<◌, ◌≤◌, ℕ, List, length, map, Option, Some, None, Ok, Err, refl, sym, ◌∙◌, ap, subst, arith}
 use Rattle.std.specs.Prelude.{slice_get, sum, sum_by, ⊤, slice_index}
 use Rattle.std.specs.List.{All, AllZip}
 use Rattle.std.specs.Option.{option_to_list}
@@ -18,18 +18,18 @@ use Rattle.vt_log.specs.Log.{LogState}
 use Rattle.vt_log.proofs.Lists.{slice_get_other}
 use Rattle.vt_model.specs.Places.{Setup, bucket_count, first_bucket}
 use Rattle.vt_part.specs.Table.{Table}
-use Rattle.vt_core.specs.declared.devices.Devices.{Devices}
+use Rattle.vt_recover.specs.declared.devices.Devices.{Devices}
 use Rattle.vt_core.specs.Files.{PerDevice, all_of}
 use Rattle.vt_core.specs.Mounting.{IsHeadRead, IsSetupOf, devices_in, tables_in, IsMarkRead}
-use Rattle.vt_core.specs.Opening.{IsLogFound, IsOpened, OpensFilter, RefusesBeside, TestsParts, buckets_in_each, with_log, IsMarkOf, wrong_at}
-use Rattle.vt_core.specs.Refusals.{CountsRefusal, IsEarly, IsRefused, Refuses, FilterIsRefused, HasMark, IsFirstPast, PassesTests, SectionIsRefused, first_wrong, section_part, wrong_head}
-use Rattle.vt_core.specs.Stands.{buckets_of}
+use Rattle.vt_core.specs.Opening.{IsLogFound, RefusesBeside, TestsParts, buckets_in_each, with_log, IsMarkOf, wrong_at}
+use Rattle.vt_recover.specs.Opening.{IsOpened, OpensFilter}
+use Rattle.vt_recover.specs.Refusals.{CountsRefusal, FilterIsRefused, SectionIsRefused}
+use Rattle.vt_core.specs.Refusals.{IsEarly, IsRefused, Refuses, HasMark, IsFirstPast, PassesTests, first_wrong, section_part, wrong_head}
+use Rattle.vt_recover.specs.Sections.{buckets_of}
 use Rattle.vt_core.proofs.Beside.{all_from}
 use Rattle.vt_core.proofs.Fields.{clumps_are}
-use Rattle.vt_core.proofs.Held.{counts_in}
-use Rattle.vt_core.proofs.Lists.{at_map, same_lists, index_map, only_one}
-use Rattle.vt_core.proofs.Zips.{zip_beside, zip_length, zip_other}
-use Rattle.vt_core.proofs.Calls.{risen_behind, risen_front}
+use Rattle.vt_recover.proofs.Lists.{at_map, same_lists, index_map, only_one}
+use Rattle.vt_recover.proofs.Zips.{zip_beside, zip_length, zip_other}
 use Rattle.vt_isect.specs.Layout.{buckets_in}
 
 -- ---- what is handed back
@@ -52,13 +52,6 @@ refuses_back score disk tables pd new bad back is are cause counts early section
   filter = ap (λ (p : PerDevice _). length p.filter) is ∙ filter;
   sizes = ap (λ (p : PerDevice _). map disk.size (all_of p)) is ∙ sizes;
 }
-
--- counts of some of the devices
-pub counts_less : (bad : MountBad) (less old new : List ℕ) → CountsRefusal bad old new → CountsRefusal bad (less ++ old) (less ++ new)
-counts_less bad less old new it = counts_in bad old new (less ++ new) (less ++ old) (risen_behind less old new) (λ e. ap (λ (l : List ℕ). less ++ l) e) it
-
-pub counts_more : (bad : MountBad) (more old new : List ℕ) → CountsRefusal bad old new → CountsRefusal bad (old ++ more) (new ++ more)
-counts_more bad more old new it = counts_in bad old new (new ++ more) (old ++ more) (risen_front old new more) (λ e. ap (λ (l : List ℕ). l ++ more) e) it
 
 -- ---- nothing was read back yet
 

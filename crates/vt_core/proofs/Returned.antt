@@ -31,25 +31,28 @@ use Rattle.vt_part.specs.Table.{Table}
 use Rattle.vt_part.specs.declared.layout.ArenaRegion.{ArenaRegion}
 use Rattle.vt_shard.specs.Shard.{ShardState}
 use Rattle.vt_shard.specs.Sound.{IsSoundFrom, LeavesLive}
-use Rattle.vt_core.specs.declared.devices.Devices.{Devices}
+use Rattle.vt_recover.specs.declared.devices.Devices.{Devices}
 use Rattle.vt_core.specs.Core.{CoreState, devices_of}
 use Rattle.vt_core.specs.Files.{PerDevice, all_of}
-use Rattle.vt_core.specs.Mounting.{IsLogOf, IsReadAs, IsSetupOf, KeepsLimits, LacksMany, LeavesStanding, Mounts, devices_in, tables_in}
+use Rattle.vt_core.specs.Mounting.{IsLogOf, IsReadAs, IsSetupOf, KeepsLimits, LeavesStanding, Mounts, devices_in, tables_in}
+use Rattle.vt_recover.specs.Marks.{LacksMany}
 use Rattle.vt_shard.specs.declared.mounting.Sizes.{Sizes}
-use Rattle.vt_core.specs.Opening.{AgreeWith, AreHeld, IsLogFound, IsMountOf, IsOpened, IsShardMade, OpensFilter, RefusesBeside, TestsParts, with_log}
-use Rattle.vt_core.specs.Recalling.{EndsEarly, IsCrowdedIn, IsDamagedAt, IsDamagedIn, ReadsBack, ReadsLogBack, KeepsBytes, Recalls as RecallsFrom, opened}
-use Rattle.vt_core.specs.Refusals.{CountsRefusal, IsDamageAt, IsDamagedEntry, IsEarly, IsRefused, BucketIsCrowded, PassesTests}
-use Rattle.vt_core.specs.Stands.{IsLive, SectionStandsFor}
+use Rattle.vt_core.specs.Opening.{AgreeWith, AreHeld, IsLogFound, IsMountOf, RefusesBeside, TestsParts, with_log}
+use Rattle.vt_recover.specs.Opening.{IsOpened, IsShardMade, OpensFilter}
+use Rattle.vt_recover.specs.Recalling.{EndsEarly, IsCrowdedIn, IsDamagedAt, IsDamagedIn, ReadsBack, ReadsLogBack, KeepsBytes, Recalls as RecallsFrom, opened}
+use Rattle.vt_recover.specs.Refusals.{CountsRefusal}
+use Rattle.vt_core.specs.Refusals.{IsDamageAt, IsDamagedEntry, IsEarly, IsRefused, BucketIsCrowded, PassesTests}
+use Rattle.vt_recover.specs.Sections.{IsLive, SectionStandsFor}
 use Rattle.vt_core.proofs.Beside.{IsOfStore, of_store, sound_shard}
 use Rattle.vt_core.proofs.Chains.{IsChain, chain, chain_head, chain_buckets, made_faults, many_shards, shard_sizes}
 use Rattle.vt_core.proofs.Combined.{FilesAgree, section_stands}
 use Rattle.vt_core.proofs.Fields.{clumps_at, short_regions, used_at}
-use Rattle.vt_core.proofs.Held.{IsHeld, held_reads, hold_still, hold_zip}
-use Rattle.vt_core.proofs.Lists.{at_map}
+use Rattle.vt_recover.proofs.Held.{IsHeld, held_reads, hold_still, hold_zip, counts_less, counts_more, held_many}
+use Rattle.vt_recover.proofs.Lists.{at_map}
 use Rattle.vt_core.proofs.Mounted.{LegalPrefix, ReadsPrefix, all_map, filter_same}
-use Rattle.vt_core.proofs.Refused.{beside_cause, counts_less, counts_more, passes, refuses_back}
-use Rattle.vt_core.proofs.Standing.{held_bytes, held_many, leaves_held, leaves_read}
-use Rattle.vt_core.proofs.Zips.{zip_beside, zip_implies, zip_map, zip_same}
+use Rattle.vt_core.proofs.Refused.{beside_cause, passes, refuses_back}
+use Rattle.vt_core.proofs.Standing.{held_bytes, leaves_held, leaves_read}
+use Rattle.vt_recover.proofs.Zips.{zip_beside, zip_implies, zip_map, zip_same}
 
 pub list_map : {X Y : Type 0} (f : X → Y) (o : Option X) → option_to_list (option_map f o) ≡ map f (option_to_list o)
 list_map f None = refl

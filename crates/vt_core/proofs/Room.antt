@@ -1,11 +1,10 @@
 -- The memory for handing the devices of shards back.
-use Rattle.std.proofs.Common.{◌≡◌, ℕ, zero, suc, List, [], ◌∷◌, ◌++◌, length, map, reverse, Some, Vec, sym, ◌∙◌, ap, subst, append_assoc}
-use Rattle.std.proofs.lemmas.List.{map-append, reverse-append}
+use Rattle.std.proofs.Common.{◌≡◌, ℕ, zero, suc, List, [], ◌∷◌, length, Some, Vec, sym, ◌∙◌, ap, subst}
 use Rattle.std.proofs.lemmas.Option.{same_Some}
 use Rattle.std.specs.Prelude.{slice_get, slice_set}
 use Rattle.vt_core.specs.Files.{PerDevice}
-use Rattle.vt_core.specs.View.{HasRoom}
-use Rattle.vt_core.proofs.Calls.{length-set}
+use Rattle.vt_recover.specs.Opening.{HasRoom}
+use Rattle.vt_recover.proofs.Places.{length-set}
 
 -- it is enough for the shards with one that has changed
 pub room_stays : {X D Z : Type 0} (xs : List X) (i : ℕ) (x : X) (room : Vec D Z) → HasRoom (length xs) room → HasRoom (length (slice_set xs i x)) room
@@ -16,22 +15,6 @@ pub set_same : {X : Type 0} (xs : List X) (i : ℕ) (x : X) → slice_get xs i �
 set_same [] i x at = absurd (cc)
 set_same (y ∷ xs) zero x at = ap (λ z. z ∷ xs) (sym (same_Some y x at))
 set_same (y ∷ xs) (suc i) x at = ap (λ zs. y ∷ zs) (set_same xs i x at)
-
--- the last of some is closed: its device goes behind those that are there, before the others' from the last on
-pub unpacks_last : {X D : Type 0} (device : X → D) (xs rest : List X) (x : X) (devices : List D) → xs ≡ rest ++ x ∷ []
-    → (devices ++ device x ∷ []) ++ reverse (map device rest) ≡ devices ++ reverse (map device xs)
-unpacks_last device xs rest x devices is =
-    append_assoc devices (device x ∷ []) (reverse (map device rest))
-    ∙ ap (λ ds. devices ++ ds) (sym (ap (λ ys. reverse (map device ys)) is
-    ∙ ap reverse (map-append device rest (x ∷ [])) ∙ reverse-append (map device rest) (device x ∷ [])))
-
--- the last of some is closed: its device goes before those behind it
-pub closes_last : {X D : Type 0} (device : X → D) (xs rest : List X) (x : X) (waiting : List D) → xs ≡ rest ++ x ∷ []
-    → map device rest ++ reverse (waiting ++ device x ∷ []) ≡ map device xs ++ reverse waiting
-closes_last device xs rest x waiting is =
-    ap (λ ds. map device rest ++ ds) (reverse-append waiting (device x ∷ []))
-    ∙ sym (append_assoc (map device rest) (device x ∷ []) (reverse waiting))
-    ∙ ap (λ ds. ds ++ reverse waiting) (sym (map-append device rest (x ∷ [])) ∙ ap (map device) (sym is))
 
 pub same_devices : {D : Type 0} (old new : PerDevice D) → old.partitions ≡ new.partitions → old.sections ≡ new.sections → old.filter ≡ new.filter → old ≡ new
 same_devices {D} old new p s f =

@@ -1,13 +1,9 @@
 -- A shard's device call, among those of the store.
 use Rattle.std.proofs.Common.{◌≡◌, ◌≢◌, ◌⊎◌, ⊎_elim, inl, inr, ℕ, zero, suc, ◌<◌, ◌≤◌, List, [], ◌∷◌, ◌++◌, length, map, take, Option, Some, None, refl, sym, ◌∙◌, ap, subst, arith}
-use Rattle.std.specs.Prelude.{slice_get, slice_set, slice_index, IsTrue, IsSome, IfErr, Result, Ok, Err}
-use Rattle.std.specs.List.{Contains}
+use Rattle.std.specs.Prelude.{slice_get, slice_set, IsTrue, IsSome, IfErr, Result, Ok, Err}
 use Rattle.std.specs.Option.{option_to_list}
 use Rattle.std.proofs.lemmas.List.{length-map}
-use Rattle.std.proofs.lemmas.List.Elements.{Contains-append_right}
-use Rattle.std.proofs.lemmas.List.Sorted.{Contains-permutation, IsPermutation-sym}
 use Rattle.std.proofs.lemmas.Option.{same_Some}
-use Rattle.vt_base.specs.declared.place.Info.{Info}
 use Rattle.vt_base.specs.Faults.{HasRisen, CountsFault}
 use Rattle.vt_disk.specs.Calls.{MadeCalls}
 use Rattle.vt_disk.specs.Disk.{WithinCall}
@@ -36,51 +32,26 @@ use Rattle.vt_core.specs.Core.{CoreState, setup_of, machine_of, devices_of, each
 use Rattle.vt_core.specs.Events.{IsWork}
 use Rattle.vt_core.specs.Files.{Files, PerDevice, all_of}
 use Rattle.vt_core.specs.Sound.{IsSound}
-use Rattle.vt_core.specs.Stands.{SectionStandsFor}
+use Rattle.vt_recover.specs.Sections.{SectionStandsFor}
 use Rattle.vt_core.specs.Machine.{Machine}
 use Rattle.vt_core.specs.Steps.{Steps, LeavesPrefix}
 use Rattle.vt_core.specs.Whole.{IsWhole, IsShardOf}
 use Rattle.vt_core.specs.Work.{out_of_writeback}
-use Rattle.vt_core.proofs.Calls.{get_set, get_other, length-set, within_get, map_set, map_then, map_all, joined, with_ends, calls_set, calls_front, calls_behind, risen_front, risen_behind}
+use Rattle.vt_recover.proofs.Places.{get_set, get_other, length-set, within_get, map_set, map_then, one_or_other, map_over_set}
+use Rattle.vt_core.proofs.Calls.{map_all, joined, with_ends, calls_set, calls_front, calls_behind}
+use Rattle.vt_recover.proofs.Counts.{risen_front, risen_behind, risen_set}
 use Rattle.vt_core.proofs.Combined.{within_same, section_stands}
-use Rattle.vt_core.proofs.Lists.{at_map, index_map}
-use Rattle.vt_core.proofs.LogWork.{one_or_other}
+use Rattle.vt_recover.proofs.Lists.{at_map, index_map}
 use Rattle.vt_core.proofs.Recovered.{GivesPrefix}
 use Rattle.vt_core.proofs.ShardWork.{Keeps, in_memory, quiet_steps, shard_sound, shard_quiet, shard_goes_on}
+use Rattle.vt_recover.proofs.WritingBack.{fewer}
 
 -- ---- a place of a list
-
-pub map_over_set : {X Y : Type 0} (f : X → Y) (xs : List X) (i : ℕ) (x : X) → map f (slice_set xs i x) ≡ slice_set (map f xs) i (f x)
-map_over_set f [] i x = refl
-map_over_set f (y ∷ xs) zero x = refl
-map_over_set f (y ∷ xs) (suc i) x = ap (λ zs. f y ∷ zs) (map_over_set f xs i x)
 
 pub set_is : {X : Type 0} (xs : List X) (i : ℕ) (x y : X) → slice_get (slice_set xs i x) i ≡ Some y → x ≡ y
 set_is [] i x y at = absurd (cc)
 set_is (z ∷ xs) zero x y at = same_Some x y at
 set_is (z ∷ xs) (suc i) x y at = set_is xs i x y at
-
-index_other : (xs : List ℕ) (i j x : ℕ) → j ≢ i → slice_index (slice_set xs i x) j ≡ slice_index xs j
-index_other [] i j x other = refl
-index_other (y ∷ xs) zero zero x other = absurd (other refl)
-index_other (y ∷ xs) zero (suc j) x other = refl
-index_other (y ∷ xs) (suc i) zero x other = refl
-index_other (y ∷ xs) (suc i) (suc j) x other = index_other xs i j x (λ e. other (ap (λ (n : ℕ). suc n) e))
-
-index_set : (xs : List ℕ) (i x : ℕ) → i < length xs → slice_index (slice_set xs i x) i ≡ x
-index_set [] i x below = absurd (omega (arith, below))
-index_set (y ∷ xs) zero x below = refl
-index_set (y ∷ xs) (suc i) x below = index_set xs i x (omega (arith, below))
-
--- one count rises
-pub risen_set : (xs : List ℕ) (i x : ℕ) → i < length xs → HasRisen (slice_index xs i) x → OneHasRisen xs (slice_set xs i x)
-risen_set xs i x below rose = record {
-  many = length-set xs i x;
-  which = i;
-  within = below;
-  rose = subst (λ (n : ℕ). HasRisen (slice_index xs i) n) (sym (index_set xs i x below)) rose;
-  others = λ j other. index_other xs i j x other;
-}
 
 -- a stop stays where another part stops
 pub stays_set : (xs : List (Option ℕ)) (i j call : ℕ) (x : Option ℕ) → slice_get xs i ≡ Some None → slice_get xs j ≡ Some (Some call) → slice_get (slice_set xs i x) j ≡ Some (Some call)
@@ -301,15 +272,6 @@ marks_within (Err Fault) old new m it head next = ⊎_elim
     it
 marks_within (Err (Damaged bucket want found)) old new m it head next = (omega (arith, ap (λ (h : Head). h.mark) it.1.head_is, head), omega (arith, ap (λ (h : Head). h.mark) it.1.next_is, head))
 marks_within {D} (Err (Stopped n)) old new m it head next = (omega (arith, ap (λ (t : SectionState D). t.head.mark) it.1, head), omega (arith, ap (λ (t : SectionState D). t.next.mark) it.1, next))
-
--- no entry becomes dirty
-pub fewer : {D : Type 0} {r : Result Step ShardErr} {before after : ShardState D} (writeback : Option ℕ) → before.writeback ≡ writeback → IsSome writeback → TakesStep r before after
-    → (info : Info) → Contains after.index.dirty info → Contains before.index.dirty info
-fewer None is some takes info has = absurd (cc)
-fewer {before = before} {after = after} (Some below) is some takes info has =
-    let it = takes.settles below is in
-    Contains-permutation (it.settled ++ after.index.dirty) before.index.dirty info (IsPermutation-sym before.index.dirty (it.settled ++ after.index.dirty) it.dirty)
-    (Contains-append_right it.settled after.index.dirty info has)
 
 no_some : (o : Option ℕ) → o ≡ None → IsSome o → ⊥
 no_some None is some = absurd (cc)

@@ -1,6 +1,6 @@
 -- A store of which one shard changes.
 use Rattle.std.proofs.Common.{◌≡◌, ◌≢◌, ◌⊎◌, ⊎_elim, inl, inr, ℕ, ◌<◌, ◌≤◌, List, [], ◌∷◌, length, map, Option, Some, None, refl, sym, ◌∙◌, ap, subst, arith}
-use Rattle.std.specs.Prelude.{slice_get, slice_set, IsTrue, IsSome, max, Bool, true, false, is_some, if◌then◌else◌, ◌↔◌, zero, suc}
+use Rattle.std.specs.Prelude.{slice_get, slice_set, IsTrue, max, Bool, true, false, is_some, if◌then◌else◌, ◌↔◌, zero, suc}
 use Rattle.std.specs.List.{Contains}
 use Rattle.std.specs.Option.{option_to_list}
 use Rattle.std.proofs.lemmas.Option.{same_Some}
@@ -10,8 +10,7 @@ use Rattle.vt_model.specs.History.{History}
 use Rattle.vt_model.specs.Legal.{IsLegal}
 use Rattle.vt_model.specs.Places.{Setup}
 use Rattle.vt_isect.specs.Layout.{buckets_in}
-use Rattle.vt_isect.specs.Section.{IsAtRest}
-use Rattle.vt_isect.specs.Section.{SectionState}
+use Rattle.vt_isect.specs.Section.{IsAtRest, SectionState}
 use Rattle.vt_isect.specs.declared.head.Head.{Head}
 use Rattle.vt_shard.specs.Shard.{ShardState, KeepsPlace, OnlyMark}
 use Rattle.vt_shard.specs.Sound.{IsSound as IsSoundShard, KeepsSound}
@@ -26,12 +25,12 @@ use Rattle.vt_core.specs.Events.{MakesStep, IsWork}
 use Rattle.vt_core.specs.Files.{PerDevice, AreWithinCall, all_of}
 use Rattle.vt_core.specs.Machine.{Machine}
 use Rattle.vt_core.specs.Sound.{IsSound}
-use Rattle.vt_core.specs.Stands.{IsLive}
+use Rattle.vt_recover.specs.Sections.{IsLive}
 use Rattle.vt_core.specs.Steps.{Steps, GoesOn, Does}
 use Rattle.vt_core.specs.Whole.{IsWhole, IsShardOf}
 use Rattle.vt_core.specs.Work.{IsMovedWhere, DropsLump, DropsEntry, BeginsWriteback}
-use Rattle.vt_core.proofs.Calls.{get_set, get_other, length-set, map_set, map_then, map_all, joined, with_ends}
-use Rattle.vt_core.proofs.LogWork.{one_or_other}
+use Rattle.vt_recover.proofs.Places.{get_set, get_other, length-set, map_set, map_then, one_or_other}
+use Rattle.vt_core.proofs.Calls.{map_all, joined, with_ends}
 use Rattle.vt_core.proofs.Recovered.{GivesPrefix, images_of}
 
 -- what a shard keeps of its place, its numbers and its dirty entries
@@ -336,11 +335,6 @@ file_steps {D} score disk k i before at gives w out after it sound =
     quiet_steps score disk k i before after at rests.keeps rests.device rests.stop gives w sound (FileBegin i) out
     (λ old new same. is_work out moved old new same) (λ old new same. same) (λ old new same. counts_none out moved old new same) (no_damage out moved)
     (record { before = before; after = after; at = at; changes = it; same = refl })
-
--- a writeback is under way where calls of it are owed
-pub under_way : (writeback : Option ℕ) (owed : ℕ) → ((owed ≡ 0) ↔ (writeback ≡ None)) → 0 < owed → IsSome writeback
-under_way None owed none some = let e : owed ≡ 0 = none.1 refl in absurd (omega (arith, e, some))
-under_way (Some below) owed none some = refl
 
 -- whether one began
 pub begun_writeback : {D : Type 0} (durable : ℕ) (before after : ShardState D) (begun : Bool) → before.writeback ≡ None

@@ -16,15 +16,15 @@ use Rattle.vt_log.specs.Logs.{IsLog}
 use Rattle.vt_log.specs.Sound.{AreImages as AreImagesOf}
 use Rattle.vt_log.proofs.Lists.{slice_get_other}
 use Rattle.vt_core.specs.Files.{PerDevice, Files, AreImages}
-use Rattle.vt_core.specs.Mounting.{AllStandFor, EachStands, IsLogOf, IsSetupOf, LacksMany, LeavesStanding}
+use Rattle.vt_core.specs.Mounting.{AllStandFor, EachStands, IsLogOf, IsSetupOf, LeavesStanding}
+use Rattle.vt_recover.specs.Marks.{LacksMany}
 use Rattle.vt_core.specs.Opening.{AreHeld}
-use Rattle.vt_core.specs.Stands.{FilterStandsFor, SectionStandsFor, StandsFor}
-use Rattle.vt_core.proofs.Lists.{at_map, same_lists}
+use Rattle.vt_core.specs.Stands.{FilterStandsFor, StandsFor}
+use Rattle.vt_recover.specs.Sections.{SectionStandsFor}
+use Rattle.vt_recover.proofs.Lists.{at_map, same_lists}
+use Rattle.vt_recover.proofs.Held.{held_twice, held_many}
 
 -- ---- devices that hold what they held
-
-pub held_many : {D : Type 0} (disk : DiskOf D) (old new : List D) → HoldTheSame disk old new → length new ≡ length old
-held_many disk old new it = sym (length-map new disk.size) ∙ ap length it.sizes_are ∙ length-map old disk.size
 
 -- what a crash may leave of them now it might have left before
 pub images_among : {D : Type 0} (disk : DiskOf D) (old new : List D) (files : List (List ℕ)) → HoldTheSame disk old new → AreImagesOf disk new files → AreImagesOf disk old files
@@ -47,15 +47,6 @@ pub held_bytes : {D : Type 0} (disk : DiskOf D) (old new : List D) (i : ℕ) (be
 held_bytes disk old new i before after held here there =
     same_Some (disk.bytes after) (disk.bytes before)
     (sym (at_map disk.bytes new i after there) ∙ ap (λ (l : List (List ℕ)). slice_get l i) held.bytes_are ∙ at_map disk.bytes old i before here)
-
-pub held_twice : {D : Type 0} (disk : DiskOf D) (a b c : List D) → HoldTheSame disk a b → HoldTheSame disk b c → HoldTheSame disk a c
-held_twice disk a b c ab bc = record {
-  bytes_are = bc.bytes_are ∙ ab.bytes_are;
-  sizes_are = bc.sizes_are ∙ ab.sizes_are;
-  images_are = λ i before after here there.
-      let d = slice_get_other b c i after (held_many disk b c bc) there in
-      λ file it. ab.images_are i before d.0 here d.1 file (bc.images_are i d.0 after d.1 there file it);
-}
 
 -- nothing is written
 pub leaves_held : {D : Type 0} (score : List ℕ → List ℕ) (disk : DiskOf D) (tables : List Table) (old new : PerDevice D) → AreHeld disk old new → LeavesStanding score disk tables old new

@@ -21,13 +21,13 @@ use Rattle.vt_session.specs.Turns.{stopped as part_stopped, log as log_part}
 use Rattle.vt_shard.specs.Shard.{ShardState}
 use Rattle.vt_wire.specs.declared.message.Request.TheVariants as requests
 use Rattle.vt_core.specs.declared.event.Event.TheVariants.{Ask}
-use Rattle.vt_core.specs.declared.writing.Verdict.{Verdict}
-use Rattle.vt_core.specs.declared.writing.Verdict.TheVariants.{Held, New}
+use Rattle.vt_lookup.specs.declared.writing.Verdict.{Verdict}
+use Rattle.vt_lookup.specs.declared.writing.Verdict.TheVariants.{Held, New}
 use Rattle.vt_core.specs.Asking.{AnswersRequest, EndsWrite, MayBeTold, Performs, Writes, says, shard_of, stop_for, with_parts}
 use Rattle.vt_core.specs.Causes.{CountsSaid, CountsWhy, IsUndamagedSaid, IsUndamagedWhy}
 use Rattle.vt_core.specs.Core.{CoreState, setup_of, machine_of, each_of}
 use Rattle.vt_core.specs.Events.{FailsIn, GivesAnswer}
-use Rattle.vt_core.specs.Finding.{CountsFailure, IsRefusal, JudgesWrite, MayEndLook, NoneRose}
+use Rattle.vt_lookup.specs.Finding.{CountsFailure, IsRefusal, JudgesWrite, MayEndLook, NoneRose}
 use Rattle.vt_core.specs.Machine.{WaitsForNone}
 use Rattle.vt_core.specs.Serving.{TestsBlock}
 use Rattle.vt_core.specs.Steps.{Steps}
@@ -35,7 +35,7 @@ use Rattle.vt_core.specs.Whole.{IsWhole}
 use Rattle.vt_core.proofs.AskWork.{early_steps, fails_in, log_reads, may_be_told, mid, mid_counts, mid_ends, mid_is, mid_none, mid_sound, said_is, still_steps, stopped_steps, undamaged_why, waits_or_not}
 use Rattle.vt_core.proofs.ReadWork.{reads_crash, reads_go_on, reads_machine, reads_only, reads_stops}
 use Rattle.vt_core.proofs.Recovered.{GivesPrefix}
-use Rattle.vt_core.proofs.Testing.{by_score, collision}
+use Rattle.vt_lookup.proofs.Testing.{by_score, collision}
 use Rattle.vt_log.proofs.Places.{slice_get_there}
 
 pub some_bytes : (bytes : List ℕ) → (length bytes == 0) ≡ false → 0 < length bytes

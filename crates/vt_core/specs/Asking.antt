@@ -1,13 +1,11 @@
 -- What a session's events answer and leave, whatever the devices hold.
-use Rattle.std.specs.Prelude.{◌≡◌, ◌⊎◌, ◌↔◌, ⊤, ℕ, ◌<◌, ◌≤◌, ◌∷◌, [], ◌++◌, max, IsTrue, Bool, if◌then◌else◌, nat_lt, MatchBool, Option, Some, None, Result, Ok, Err, List, length, slice_get, slice_set}
+use Rattle.std.specs.Prelude.{◌≡◌, ◌⊎◌, ◌↔◌, ⊤, ℕ, ◌<◌, ◌≤◌, [], max, IsTrue, Bool, if◌then◌else◌, nat_lt, MatchBool, Option, Some, None, Result, Ok, Err, List, length, slice_get, slice_set}
 use Rattle.std.specs.Option.{option_and_then, option_or}
 use Rattle.std.specs.Str.{bytes_eq}
 use Rattle.vt_base.specs.Damage.{Differ}
 use Rattle.vt_base.specs.declared.answer.Said.{Said}
 use Rattle.vt_base.specs.declared.answer.Said.TheVariants.{Score, Block, Synced, Refused}
 use Rattle.vt_base.specs.declared.key.Key.{Key}
-use Rattle.vt_base.specs.declared.place.Info.{Info}
-use Rattle.vt_base.specs.declared.place.Place.{Place}
 use Rattle.vt_base.specs.declared.why.Why.{Why}
 use Rattle.vt_base.specs.declared.why.Why.TheVariants.{TooSmall, Absent, DiskFault, Stopped, Damaged, NoMemory, Collision}
 use Rattle.vt_base.specs.Protocol.{Operation, ping, read, write, sync}
@@ -17,19 +15,19 @@ use Rattle.vt_disk.specs.Members.{DiskOf}
 use Rattle.vt_model.specs.Answer.{answer}
 use Rattle.vt_model.specs.Places.{section_of_score}
 use Rattle.vt_log.specs.declared.TheConstants.{QUEUE_MAX}
-use Rattle.vt_log.specs.Answers.{TakesIn}
-use Rattle.vt_log.specs.Log.{queued, front}
+use Rattle.vt_log.specs.Log.{queued}
 use Rattle.vt_bloom.specs.Bits.{HasBitsOf, Marks}
 use Rattle.vt_shard.specs.declared.TheConstants.{ROOM}
 use Rattle.vt_session.specs.Answered.{ReachesParts, MayFindDamage, TakesMemory}
-use Rattle.vt_core.specs.declared.writing.Verdict.{Verdict}
-use Rattle.vt_core.specs.declared.writing.Verdict.TheVariants.{Held, New}
+use Rattle.vt_lookup.specs.declared.writing.Verdict.{Verdict}
+use Rattle.vt_lookup.specs.declared.writing.Verdict.TheVariants.{Held, New}
 use Rattle.vt_core.specs.declared.event.Out.{Out}
 use Rattle.vt_core.specs.declared.event.Out.TheVariants.{Said as SaidOut, Waits, NotYet, Nothing, Moved, Failed}
 use Rattle.vt_core.specs.Core.{CoreState, history_len, setup_of}
 use Rattle.vt_core.specs.Events.{reply_of}
 use Rattle.vt_core.specs.Machine.{WaitsForNone, WaitsAt}
-use Rattle.vt_core.specs.Finding.{Parts, Sought, SeeksBlock, TestsWrite}
+use Rattle.vt_lookup.specs.Finding.{Parts, Sought, SeeksBlock, TestsWrite}
+use Rattle.vt_lookup.specs.Adding.{AddsPacked}
 
 -- ---- sessions
 
@@ -113,24 +111,6 @@ pub record Reads {D : Type 0} (score : List ℕ → List ℕ) (disk : DiskOf D) 
 -- there is no room to add a block: the queue is full, or the shard has no spare
 abbrev pub HasNoRoom : {D : Type 0} → Parts D → Type 0
 HasNoRoom p = (queued p.log ≡ QUEUE_MAX) ⊎ (length p.shard.index.dirty ≡ ROOM)
-
--- This clump is added to the log's queue, and its entry to the shard, as a dirty one under the next
--- number.
-pub record AddsPacked {D : Type 0} (packed : Packed) (old new : Parts D) : Type 0 where
-  pub place : Place
-  pub info : Info
-  pub log : TakesIn packed place old.log new.log
-  pub info_is : info ≡ record {
-    key = record { score = packed.score; kind = packed.kind };
-    size = packed.len;
-    place = place;
-    number = front old.log;
-  }
-  pub shard : new.shard ≡ record old.shard {
-    index = record old.shard.index {
-      dirty = old.shard.index.dirty ++ info ∷ [];
-    };
-  }
 
 -- the block of this key is added, with this time
 pub record AddsBlock {D : Type 0} (score : List ℕ → List ℕ) (key : Key) (bytes : List ℕ) (now : ℕ)

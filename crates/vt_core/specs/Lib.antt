@@ -8,8 +8,6 @@ pub mod Events
 pub mod Causes
 pub mod Work
 pub mod Saving
-pub mod Finding
-pub mod Seeking
 pub mod Asking
 pub mod Serving
 pub mod Steps
@@ -18,5 +16,3 @@ pub mod Refusals
 pub mod Crashing
 pub mod View
 pub mod Opening
-pub mod Recalling
-pub mod TakingBack

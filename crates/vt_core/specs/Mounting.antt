@@ -1,38 +1,37 @@
 -- How a store is found.
-use Rattle.std.specs.Prelude.{◌≡◌, ◌≢◌, ◌⊎◌, ℕ, ◌<◌, ◌≤◌, IsTrue, None, Some, List, [], length, map, replicate, take, slice_get, Result, Ok, Err, ◌+◌, ◌*◌, ◌-◌, MatchOption, Option, sum_by}
-use Rattle.std.specs.List.{All, AllPairs, Contains}
+use Rattle.std.specs.Prelude.{◌≡◌, ◌⊎◌, ℕ, ◌<◌, ◌≤◌, IsTrue, None, Some, List, [], length, map, replicate, take, slice_get, Result, Ok, Err, ◌+◌, ◌*◌, ◌-◌, sum_by}
+use Rattle.std.specs.List.{All}
 use Rattle.std.specs.Option.{option_to_list}
 use Rattle.lru.specs.LruCache.{lru_cache}
-use Rattle.vt_base.specs.declared.place.Entry.{Entry}
 use Rattle.vt_base.specs.declared.mount.MountBad.{MountBad}
 use Rattle.vt_disk.specs.Members.{DiskOf}
-use Rattle.vt_model.specs.History.{History, Accepted}
+use Rattle.vt_model.specs.History.{History}
 use Rattle.vt_model.specs.Legal.{IsLegal}
-use Rattle.vt_model.specs.Places.{Setup, current_arena, bucket_count, bucket_of, section_of_score}
+use Rattle.vt_model.specs.Places.{Setup, current_arena, bucket_count}
 use Rattle.vt_twin.specs.Frames.{current_frame}
 use Rattle.vt_part.specs.Layout.{layout_of, AreDistinct}
 use Rattle.vt_part.specs.Parts.{tables_of}
 use Rattle.vt_part.specs.Table.{Table}
 use Rattle.vt_isect.specs.declared.TheConstants.{FRAME_LEN}
 use Rattle.vt_isect.specs.declared.head.Head.{Head}
-use Rattle.vt_isect.specs.Agreement.{HasBlock}
 use Rattle.vt_isect.specs.Head.{IsHeadFrame}
-use Rattle.vt_isect.specs.Layout.{IsSection, head_place, buckets_in}
+use Rattle.vt_isect.specs.Layout.{head_place, buckets_in}
 use Rattle.vt_bloom.specs.Bloom.{BloomState}
 use Rattle.vt_bloom.specs.Frame.{Saved, HasSaved}
 use Rattle.vt_log.specs.Answers.{HoldTheSame}
 use Rattle.vt_log.specs.Faults.{AreFields, IsMountedBy}
 use Rattle.vt_log.specs.Log.{IsMounted, LogState, disks_of}
 use Rattle.vt_log.specs.Logs.{IsLog, arena_count}
-use Rattle.vt_shard.specs.declared.TheConstants.{ROOM}
 use Rattle.vt_shard.specs.Shard.{ShardState}
 use Rattle.vt_shard.specs.declared.mounting.Sizes.{Sizes}
 use Rattle.vt_core.specs.declared.TheConstants.{MOST_ARENAS, MOST_BUCKETS}
-use Rattle.vt_core.specs.declared.devices.Devices.{Devices}
+use Rattle.vt_recover.specs.declared.devices.Devices.{Devices}
 use Rattle.vt_core.specs.Core.{CoreState, setup_of, devices_of, stops_of}
 use Rattle.vt_core.specs.Files.{PerDevice, Files, AreImages, all_of}
 use Rattle.vt_core.specs.Sound.{IsSound}
-use Rattle.vt_core.specs.Stands.{ArePartitions, StandsFor, StandForPrefix, SectionStandsFor, FilterStandsFor, buckets_of}
+use Rattle.vt_core.specs.Stands.{ArePartitions, StandsFor, StandForPrefix, FilterStandsFor}
+use Rattle.vt_recover.specs.Sections.{SectionStandsFor}
+use Rattle.vt_recover.specs.Marks.{AreCovered, LacksMany}
 
 -- ---- devices
 
@@ -165,13 +164,6 @@ pub record IsFresh {D : Type 0} (disk : DiskOf D) (tables : List Table) (devices
   pub waiting : k.waiting ≡ replicate sessions None
   pub rooms : All (HasRoomOf room) k.shards
 
--- All marks, the filter's too, cover the first n blocks. Without a filter's device none do.
-pub record AreCovered {D : Type 0} (shards : List (ShardState D)) (bloom : Option (BloomState D))
-    (n : ℕ) : Type 0 where
-  pub shards_are : (i : ℕ) (s : ShardState D) → slice_get shards i ≡ Some s
-      → n ≤ s.section.head.mark
-  pub filter_is : MatchOption bloom (n ≡ 0) (λ b. n ≤ b.mark)
-
 -- Of the arenas' devices a sync of each is made, two reads of each arena's head, and one of each
 -- directory entry, but for those of the blocks that all marks cover.
 abbrev pub ReadsEntriesOnce : {D : Type 0} → DiskOf D → (tables : List Table) → PerDevice D
@@ -191,25 +183,6 @@ pub record Mounts {D : Type 0} (score : List ℕ → List ℕ) (disk : DiskOf D)
   pub faults_are : map disk.faults (all_of (devices_of k)) ≡ map disk.faults (all_of devices)
 
 -- ---- what mounting leaves
-
--- block i of the history belongs to this section, whose file lacks its entry
-pub record LacksEntry (score : List ℕ → List ℕ) (c : Setup) (g : History) (section : ℕ)
-    (file : List ℕ) (i : ℕ) : Type 0 where
-  pub block : Accepted
-  pub at : slice_get g i ≡ Some block
-  pub belongs : section_of_score c (score block.block.bytes) ≡ section
-  pub lacks : (name : List ℕ) (head : Head) (entries : ℕ → List Entry)
-      → IsSection name head (buckets_of c section) entries file
-      → ¬ HasBlock score c g
-      (Contains (entries (bucket_of (bucket_count c) (score block.block.bytes)))) i
-
--- more blocks lack their entries than a shard has room for
-pub record LacksMany (score : List ℕ → List ℕ) (c : Setup) (g : History) (section : ℕ)
-    (file : List ℕ) : Type 0 where
-  pub numbers : List ℕ
-  pub apart : AllPairs (λ i j. i ≢ j) numbers
-  pub many : ROOM < length numbers
-  pub each : All (LacksEntry score c g section file) numbers
 
 -- Whatever call failed, each combination of images stands for a prefix afterwards, with as many
 -- blocks at least, and for the same first blocks where all did. The arenas and the filter keep what

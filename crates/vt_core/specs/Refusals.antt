@@ -14,34 +14,28 @@ use Rattle.vt_disk.specs.Members.{DiskOf}
 use Rattle.vt_model.specs.History.{History}
 use Rattle.vt_model.specs.Places.{Setup, bucket_count, crowd, first_bucket}
 use Rattle.vt_model.specs.declared.TheConstants.{BUCKET_ROOM}
-use Rattle.vt_twin.specs.Frames.{current_frame}
 use Rattle.vt_part.specs.Layout.{layout_of}
 use Rattle.vt_part.specs.Table.{Table}
 use Rattle.vt_part.specs.declared.layout.ArenaRegion.{ArenaRegion}
 use Rattle.vt_arena.specs.declared.bad.BackBad.TheVariants as back_bad
 use Rattle.vt_arena.specs.declared.directory.At.{At}
 use Rattle.vt_arena.specs.Directory.{last_entry, first_bad as first_bad_entry}
-use Rattle.vt_isect.specs.declared.TheConstants.{FRAME_LEN}
-use Rattle.vt_isect.specs.declared.bad.SectBad.{SectBad}
 use Rattle.vt_isect.specs.declared.bad.ShardErr.TheVariants as shard_err
 use Rattle.vt_isect.specs.declared.head.Head.{Head}
-use Rattle.vt_isect.specs.Faults.{RefusesMount as RefusesSection, NamesItsCause as NamesSectionCause}
-use Rattle.vt_isect.specs.Layout.{head_place}
 use Rattle.vt_isect.specs.Merging.{IsDamage}
-use Rattle.vt_bloom.specs.declared.bad.BloomBad.{BloomBad}
-use Rattle.vt_bloom.specs.Faults.{RefusesMount as RefusesBloom, NamesItsCause as NamesBloomCause}
 use Rattle.vt_arena.specs.Heads.{clumps_in, used_in}
 use Rattle.vt_log.specs.Answers.{HoldTheSame}
-use Rattle.vt_log.specs.Faults.{AreFields, RefusesMount as RefusesLog, OneHasRisen, first_bad}
+use Rattle.vt_log.specs.Faults.{AreFields, RefusesMount as RefusesLog, first_bad}
 use Rattle.vt_log.specs.Logs.{IsLog, arena_count}
 use Rattle.vt_log.specs.declared.bad.LogBad.{LogBad}
-use Rattle.vt_told.specs.Told.{of_filter, of_log, of_section}
+use Rattle.vt_told.specs.Told.{of_log}
 use Rattle.vt_core.specs.declared.TheConstants.{MOST_ARENAS, MOST_BUCKETS}
-use Rattle.vt_core.specs.declared.devices.Devices.{Devices}
+use Rattle.vt_recover.specs.declared.devices.Devices.{Devices}
 use Rattle.vt_core.specs.declared.mounting.Tally.{Tally}
 use Rattle.vt_core.specs.Files.{PerDevice, all_of}
 use Rattle.vt_core.specs.Mounting.{IsSetupOf, IsHeadRead, IsMarkRead, KeepsLimits, devices_in, tables_in}
-use Rattle.vt_core.specs.Stands.{SectionStandsFor, buckets_of}
+use Rattle.vt_recover.specs.Sections.{SectionStandsFor, buckets_of}
+use Rattle.vt_recover.specs.Refusals.{SectionIsRefused, FilterIsRefused, CountsRefusal}
 
 -- ---- the tests, in order
 
@@ -61,28 +55,6 @@ pub record LogIsRefused {D : Type 0} (disk : DiskOf D) (tables : List Table)
   pub read : IsTrue disk.tells
       → AreFields (layout_of tables) (map disk.bytes devices.partitions) fields
   pub refuses : RefusesLog (map (λ t. t.name) tables) (layout_of tables) fields why
-
--- the device of a section, of which the first is this part of the store
-pub record SectionIsRefused {D : Type 0} (disk : DiskOf D) (part : ℕ) (devices : List D)
-    (bad : MountBad) : Type 0 where
-  pub i : ℕ
-  pub device : D
-  pub at : slice_get devices i ≡ Some device
-  pub why : SectBad
-  pub bad_is : bad ≡ of_section (part + i) why
-  pub names : NamesSectionCause (disk.size device) why
-  pub refuses : IsTrue disk.tells → RefusesSection (disk.size device)
-      (current_frame head_place FRAME_LEN (disk.bytes device)) why
-
--- that of the filter, which is this part
-pub record FilterIsRefused {D : Type 0} (disk : DiskOf D) (part : ℕ) (devices : List D)
-    (bad : MountBad) : Type 0 where
-  pub device : D
-  pub at : slice_get devices 0 ≡ Some device
-  pub why : BloomBad
-  pub bad_is : bad ≡ of_filter part why
-  pub names : NamesBloomCause (disk.size device) why
-  pub refuses : IsTrue disk.tells → RefusesBloom (disk.bytes device) (disk.size device) why
 
 -- the first of these counts with which their sum passes a limit
 pub record IsFirstPast (limit : ℕ) (counts : List ℕ) (i : ℕ) : Type 0 where
@@ -239,11 +211,6 @@ IsRefused score disk tables devices c bad =
     ⊎ MarkIsWrong disk tables devices bad
     ⊎ (PassesTests disk tables devices c
     × (BucketIsCrowded score disk tables devices c bad ⊎ IsFoundDamaged disk tables devices bad))
-
--- of all counts of faults one rose where a fault is told, and else none
-abbrev pub CountsRefusal : MountBad → (old new : List ℕ) → Type 0
-CountsRefusal Fault old new = OneHasRisen old new
-CountsRefusal bad old new = new ≡ old
 
 -- the refusal of a test that comes before the log is read back
 abbrev pub IsEarly : MountBad → Type 0

@@ -9,11 +9,11 @@ use Rattle.vt_disk.specs.Members.{DiskOf}
 use Rattle.vt_model.specs.History.{History, IsBlock, held}
 use Rattle.vt_core.specs.declared.event.Out.{Out}
 use Rattle.vt_core.specs.declared.event.Out.TheVariants.{NotYet}
-use Rattle.vt_core.specs.declared.writing.Verdict.{Verdict}
+use Rattle.vt_lookup.specs.declared.writing.Verdict.{Verdict}
 use Rattle.vt_core.specs.Asking.{AddsBlock, HasNoRoom, LooksIn, says, shard_of, with_parts}
 use Rattle.vt_core.specs.Core.{CoreState, setup_of}
-use Rattle.vt_core.specs.Finding.{Parts, JudgesWrite, LooksFor, MayKeepFrom, SeeksBlock, Sought, TestsWrite}
-use Rattle.vt_core.specs.Seeking.{StaySound}
+use Rattle.vt_lookup.specs.Finding.{Parts, JudgesWrite, LooksFor, MayKeepFrom, SeeksBlock, Sought, TestsWrite}
+use Rattle.vt_lookup.specs.Seeking.{StaySound}
 use Rattle.vt_core.specs.Sound.{IsSound}
 
 -- the block of a key, which isn't the zero score's, was looked for

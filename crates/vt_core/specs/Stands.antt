@@ -1,35 +1,14 @@
 -- Which history the devices of a store stand for, taken together: the log in the arenas, and the
 -- index and the Bloom filter, which never say more than the log has (Quinlan and Dorward 2002).
-use Rattle.std.specs.Prelude.{◌≡◌, ℕ, ◌≤◌, Some, List, length, take, map, slice_get, slice_index}
+use Rattle.std.specs.Prelude.{◌≡◌, ℕ, ◌≤◌, Some, List, length, take, map, slice_get}
 use Rattle.vt_model.specs.History.{History}
-use Rattle.vt_model.specs.Places.{Setup, bucket_count, first_bucket}
+use Rattle.vt_model.specs.Places.{Setup}
 use Rattle.vt_part.specs.Layout.{layout_of}
 use Rattle.vt_part.specs.Table.{Table, IsPartition}
 use Rattle.vt_log.specs.Logs.{StandsFor as LogStandsFor}
-use Rattle.vt_isect.specs.declared.head.Head.{Head}
 use Rattle.vt_bloom.specs.Frame.{Saved, HasSaved, Covers}
-use Rattle.vt_shard.specs.Sound.{IsLiveSection}
 use Rattle.vt_core.specs.Files.{Files}
-
--- how many buckets section i has
-abbrev pub buckets_of : Setup → (i : ℕ) → ℕ
-buckets_of c i = slice_index c.sections i
-
--- the head says that section i is in use, and has its place among the sections
-pub record IsLive (c : Setup) (i : ℕ) (head : Head) : Type 0 where
-  pub state : head.state ≡ 1
-  pub first : head.first ≡ first_bucket c.sections i
-  pub count : head.count ≡ buckets_of c i
-  pub total : head.total ≡ bucket_count c
-
--- The file is section i of a store, and agrees with this history: each entry is that of one of its
--- blocks, and each block below the mark that belongs to the section has its entry.
-pub record SectionStandsFor (score : List ℕ → List ℕ) (c : Setup) (g : History) (i : ℕ)
-    (file : List ℕ) : Type 0 where
-  pub name : List ℕ
-  pub place : Head
-  pub live : IsLive c i place
-  pub section : IsLiveSection score c g name (buckets_of c i) place file
+use Rattle.vt_recover.specs.Sections.{SectionStandsFor}
 
 -- the scores of a history's blocks
 abbrev pub scores_of : (List ℕ → List ℕ) → History → List (List ℕ)

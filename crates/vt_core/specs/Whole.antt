@@ -10,7 +10,7 @@ use Rattle.vt_isect.specs.Section.{IsAtRest}
 use Rattle.vt_shard.specs.Shard.{ShardState}
 use Rattle.vt_twin.specs.Twin.{calls_made}
 use Rattle.vt_core.specs.Core.{CoreState, setup_of, history_len}
-use Rattle.vt_core.specs.Stands.{IsLive}
+use Rattle.vt_recover.specs.Sections.{IsLive}
 
 -- A shard is that of section i, which is at rest while no writeback is under way. What it wrote
 -- back, and each of its marks, are of the first so many blocks. Its dirty entries are of blocks that

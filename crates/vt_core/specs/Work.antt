@@ -1,9 +1,8 @@
 -- What the store's own work does, whatever its devices hold: the device calls of the log, of a shard
 -- and of the saved filter, and what is dropped from memory.
 use Rattle.std.specs.Prelude.{◌≡◌, ◌≢◌, ◌⊎◌, ◌↔◌, ℕ, ◌-◌, ◌<◌, ◌≤◌, IfOk, IsSome, max, Option, Some, None, Result, Ok, Err, length, take, slice_get, slice_set}
-use Rattle.vt_base.specs.declared.why.Site.TheVariants.{Bucket}
 use Rattle.vt_base.specs.declared.why.Why.{Why}
-use Rattle.vt_base.specs.declared.why.Why.TheVariants.{DiskFault, Stopped, Damaged}
+use Rattle.vt_base.specs.declared.why.Why.TheVariants.{DiskFault, Stopped}
 use Rattle.vt_disk.specs.Members.{DiskOf}
 use Rattle.vt_twin.specs.declared.step.Step.{Step}
 use Rattle.vt_twin.specs.declared.step.Step.TheVariants.{Done}
@@ -16,7 +15,6 @@ use Rattle.vt_log.specs.declared.bad.Progress.TheVariants.{Idle, Step as LogStep
 use Rattle.vt_log.specs.declared.bad.LogErr.{LogErr}
 use Rattle.vt_log.specs.declared.bad.LogErr.TheVariants as log_err
 use Rattle.vt_isect.specs.declared.bad.ShardErr.{ShardErr}
-use Rattle.vt_isect.specs.declared.bad.ShardErr.TheVariants as shard_err
 use Rattle.vt_lumps.specs.Lumps.{without_last}
 use Rattle.vt_shard.specs.Shard.{ShardState}
 use Rattle.vt_shard.specs.Writeback.{Begins, HasWork, TakesStep, ReadsFrame, MakesCall}
@@ -25,6 +23,7 @@ use Rattle.vt_bloom.specs.Bloom.{BloomState, with_save, Advances as BloomAdvance
 use Rattle.vt_core.specs.declared.event.Out.{Out}
 use Rattle.vt_core.specs.declared.event.Out.TheVariants.{Moved, Nothing, Failed}
 use Rattle.vt_core.specs.Core.{CoreState}
+use Rattle.vt_lookup.specs.Finding.{why_of_shard}
 
 -- ---- the log
 
@@ -114,11 +113,6 @@ BeginsWriteback durable Moved before after =
 BeginsWriteback durable Nothing before after =
     (IsSome before.writeback ⊎ ¬ HasWork durable before) × (after ≡ before)
 BeginsWriteback durable out before after = ⊥
-
-abbrev pub why_of_shard : ShardErr → Why
-why_of_shard shard_err.Fault = DiskFault
-why_of_shard (shard_err.Damaged bucket want found) = Damaged (Bucket bucket) want found
-why_of_shard (shard_err.Stopped call) = Stopped call
 
 abbrev pub out_of_writeback : Result Step ShardErr → Out
 out_of_writeback (Ok step) = Moved

@@ -11,26 +11,25 @@ ghost use Rattle.vt_shard.specs.Shard.{HasScore, ShardState};
 ghost use Rattle.vt_wire.specs.Views.{message_of};
 ghost use Rattle.vt_wire.specs.declared.message.Request.{Request};
 ghost use Rattle.vt_core.specs.declared.event.Event.{Event};
-ghost use Rattle.vt_core.specs.declared.writing.Verdict.TheVariants.{New};
+ghost use Rattle.vt_lookup.specs.declared.writing.Verdict.TheVariants.{New};
 ghost use Rattle.vt_core.specs.Asking.{lent, says, shard_of};
 ghost use Rattle.vt_core.specs.Core.{setup_of};
 ghost use Rattle.vt_core.specs.Events.{IsForStore};
-ghost use Rattle.vt_core.specs.Finding.{parts_of};
+ghost use Rattle.vt_lookup.specs.Finding.{parts_of};
 ghost use Rattle.vt_core.specs.Machine.{WaitsForNone};
 ghost use Rattle.vt_core.specs.Serving.{AddsIfRoom, FindsBlock, TestsBlock};
 ghost use Rattle.vt_core.specs.Sound.{IsSound};
 
 use crate::event::Out;
-use crate::finding::find_block;
 use crate::laws::crash_gives_a_prefix;
 use crate::store::Core;
-use crate::writing::{Verdict, add_block, test_write};
 use std::alloc::Global;
 use std::marker::Brand;
 use std::sync::ledger::{Blank, Ledger};
 use vt_base::{Answer, Bytes, Key, Kind, MAX_BLOCK, Said, Score, Scorer, Why};
 use vt_clump::pack;
 use vt_disk::Disk;
+use vt_lookup::{Verdict, add_block, find_block, test_write};
 use vt_wire::Request;
 
 impl<D: Disk, S: Scorer> Core<D, S> {

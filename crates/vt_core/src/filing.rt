@@ -7,12 +7,12 @@ ghost use Rattle.vt_core.specs.declared.event.Out.TheVariants.{Moved, Nothing};
 ghost use Rattle.vt_core.specs.Work.{out_of_writeback};
 
 use crate::event::Out;
-use crate::finding::why_of_shard;
 use crate::laws::crash_gives_a_prefix;
 use crate::store::Core;
 use vt_base::Scorer;
 use vt_disk::Disk;
 use vt_isect::ShardErr;
+use vt_lookup::why_of_shard;
 use vt_twin::Step;
 
 impl<D: Disk, S: Scorer> Core<D, S> {

@@ -6,32 +6,23 @@
 
 mod advancing;
 mod asking;
-mod devices;
 mod event;
 mod filing;
-mod finding;
 mod laws;
 mod mounting;
-mod opening;
 mod outs;
-mod recalling;
 mod store;
 mod waiting;
-mod writing;
 
-pub use devices::Devices;
 pub use event::{Event, Out};
-pub use finding::find_block;
 pub use laws::{
     crash_gives_a_prefix, devices_have_a_log, lives_are_lives_of_the_machine, marks_are_read,
     recovery_is_a_crash, refusals_name_two, runs_are_runs_of_the_machine, runs_keep_the_store,
     stores_can_be_mounted, what_is_read_is_a_prefix,
 };
 pub use mounting::{test_arenas, test_buckets, test_heads};
-pub use opening::{close_sections, open_sections};
 pub use outs::Outs;
 pub use store::Core;
-pub use writing::{Verdict, add_block, test_write};
 
 /// How many arenas all partitions may have.
 pub const MOST_ARENAS: u32 = 4_096;

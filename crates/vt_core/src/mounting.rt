@@ -12,12 +12,10 @@ ghost use Rattle.vt_log.specs.Logs.{arena_count};
 ghost use Rattle.vt_core.specs.Files.{all_of};
 ghost use Rattle.vt_core.specs.Mounting.{devices_in, devices_after, tables_in, IsLogOf, KeepsLimits, LeavesStanding, Mounts};
 ghost use Rattle.vt_core.specs.Opening.{AgreeWith, AreHeld, IsBeside, IsLogFound, IsMountOf, RefusesBeside, TestsHeads, TestsMarks, TestsParts, beside_after, buckets_in_each, with_log};
-ghost use Rattle.vt_core.specs.Refusals.{CountsRefusal, IsTally, PassesOrRefuses, Refuses, wrong_head};
+ghost use Rattle.vt_recover.specs.Refusals.{CountsRefusal};
+ghost use Rattle.vt_core.specs.Refusals.{IsTally, PassesOrRefuses, Refuses, wrong_head};
 
-use crate::devices::{Devices, close_shards, device_of};
 use crate::laws::what_is_read_is_a_prefix;
-use crate::opening::{close_sections, open_filter, open_memory, open_sections};
-use crate::recalling::{least_mark, read_back};
 use crate::store::Core;
 use crate::{MOST_ARENAS, MOST_BUCKETS};
 use std::alloc::Global;
@@ -27,6 +25,10 @@ use vt_disk::Disk;
 use vt_isect::{Head, Section};
 use vt_log::Log;
 use vt_part::Part;
+use vt_recover::{
+    Devices, close_sections, close_shards, device_of, least_mark, open_filter, open_memory,
+    open_sections, read_back,
+};
 use vt_shard::Sizes;
 use vt_told::of_log;
 

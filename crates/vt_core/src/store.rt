@@ -9,7 +9,6 @@ ghost use Rattle.vt_model.specs.History.{History};
 ghost use Rattle.vt_model.specs.Places.{section_of_score};
 ghost use Rattle.vt_shard.specs.declared.TheConstants.{ROOM};
 
-use crate::devices::{Devices, close_shards, device_of};
 use crate::event::{Event, Out};
 use crate::outs::Outs;
 use std::alloc::Global;
@@ -18,6 +17,7 @@ use vt_base::{NoMemory, Score, Scorer};
 use vt_bloom::{Bits, Bloom};
 use vt_disk::Disk;
 use vt_log::Log;
+use vt_recover::{Devices, close_shards, device_of};
 use vt_shard::Shard;
 
 /// A write-once store over its devices (Quinlan and Dorward 2002). It does one thing at a time, an
@@ -46,7 +46,8 @@ impl<D: Disk, S: Scorer> Model for Core<D, S> {
     ghost Value = { CoreState D };
 
     ghost use Rattle.std.specs.Prelude.{length};
-    ghost use Rattle.vt_core.specs.View.{HasRoom, state_of};
+    ghost use Rattle.vt_core.specs.View.{state_of};
+    ghost use Rattle.vt_recover.specs.Opening.{HasRoom};
     ghost use Rattle.vt_core.specs.Whole.{IsWhole};
 
     ghost view = { state_of };

@@ -2,12 +2,13 @@
 //! stopped.
 
 use crate::disks::{Fails, Mem};
-use crate::stores::{Act, DATA, Given, TestStore, again, do_all, does, fresh, see};
+use crate::stores::{Act, DATA, Given, TestStore, again, do_all, does, fresh, there};
 use std::alloc::Global;
 use std::test::Fail;
 use vt_base::{Sha1Scorer, Why};
 use vt_core::{Core, Event};
 use vt_memdisk::CrashMode;
+use vt_rows::Rows;
 use vt_wire::Request;
 
 /// Reads of a store that holds `abc` as data, and not as a directory.
@@ -57,18 +58,37 @@ const DROPS: [Act<'static>; 10] = [
     Act::Step(Event::EvictIndex(1), Given::Nothing),
 ];
 
+/// The length behind the next mount, and the reads.
+const LEFT: [Act<'static>; 1] = [Act::Count([2, 2, 2])];
+
+/// What is done before a crash, and behind it.
+const BEFORE: [(&str, &[Act<'static>]); 5] = [
+    ("a write", &WRITES),
+    ("a read of what is queued", &READS),
+    ("a sync", &SYNCS),
+    ("what is dropped", &DROPS),
+    ("a read of what is on the disks", &READS),
+];
+
+const BEHIND: [(&str, &[Act<'static>]); 2] = [
+    ("the length behind a crash", &LEFT),
+    ("a read behind a crash", &READS),
+];
+
 /// Requests of a session, their refusals, syncs, what is dropped, and the next mount.
-fn answers<T: TestStore>(alloc: Global) -> Result<(), &'static str> {
-    let mut store: T = fresh(alloc, 1, 0, Fails::Never)?;
-    for acts in [&WRITES[..], &READS, &SYNCS, &DROPS, &READS] {
-        do_all(alloc, &mut store, acts)?;
+fn answers<T: TestStore>(alloc: Global, rows: &mut Rows) {
+    let Some(mut store) = there(rows, 0, fresh::<T>(alloc, 1, 0, Fails::Never)) else {
+        return;
+    };
+    for (what, acts) in &BEFORE {
+        do_all(alloc, &mut store, what, acts, rows);
     }
-    let mut store = again(alloc, store, CrashMode::Synced)?;
-    see(
-        does(alloc, &mut store, &Act::Count([2, 2, 2])),
-        "another length",
-    )?;
-    do_all(alloc, &mut store, &READS)
+    let Some(mut store) = there(rows, 0, again(alloc, store, CrashMode::Synced)) else {
+        return;
+    };
+    for (what, acts) in &BEHIND {
+        do_all(alloc, &mut store, what, acts, rows);
+    }
 }
 
 // ---- a full queue
@@ -90,13 +110,19 @@ const FULL: [Act<'static>; 5] = [
 ];
 
 /// Of 65 writes without a sync the last one meets a full queue, which is committed.
-fn fills_queue<T: TestStore>(alloc: Global) -> Result<(), &'static str> {
-    let mut store: T = fresh(alloc, 1, 0, Fails::Never)?;
+fn fills_queue<T: TestStore>(alloc: Global, rows: &mut Rows) {
+    let Some(mut store) = there(rows, 0, fresh::<T>(alloc, 1, 0, Fails::Never)) else {
+        return;
+    };
     for number in 0..64u8 {
-        let write = Act::Write(DATA, &[number], Ok(()));
-        see(does(alloc, &mut store, &write), "another reply to a write")?;
+        let write = does(alloc, &mut store, &Act::Write(DATA, &[number], Ok(())));
+        rows.nth(
+            usize::from(number),
+            "a write before the queue is full",
+            write,
+        );
     }
-    do_all(alloc, &mut store, &FULL)
+    do_all(alloc, &mut store, "an act at a full queue", &FULL, rows);
 }
 
 // ---- a stopped log
@@ -120,15 +146,28 @@ const STOPPED: [Act<'static>; 9] = [
 ];
 
 /// The first sync of the partition behind mounting fails.
-fn stops<T: TestStore>(alloc: Global) -> Result<(), &'static str> {
-    let mut store: T = fresh(alloc, 1, 0, Fails::At(MOUNTING + 2))?;
-    do_all(alloc, &mut store, &STOPPED)
+fn stops<T: TestStore>(alloc: Global, rows: &mut Rows) {
+    if let Some(mut store) = there(rows, 0, fresh::<T>(alloc, 1, 0, Fails::At(MOUNTING + 2))) {
+        do_all(
+            alloc,
+            &mut store,
+            "an act at a log that stops",
+            &STOPPED,
+            rows,
+        );
+    }
+}
+
+fn see<T: TestStore>(alloc: Global, rows: &mut Rows) {
+    answers::<T>(alloc, rows);
+    fills_queue::<T>(alloc, rows);
+    stops::<T>(alloc, rows);
 }
 
 #[test]
 fn requests_are_answered(rt: HostRuntime) -> Result<(), Fail> {
-    answers::<Core<Mem, Sha1Scorer>>(rt.alloc())?;
-    fills_queue::<Core<Mem, Sha1Scorer>>(rt.alloc())?;
-    stops::<Core<Mem, Sha1Scorer>>(rt.alloc())?;
+    let mut rows = Rows::new();
+    see::<Core<Mem, Sha1Scorer>>(rt.alloc(), &mut rows);
+    rows.all()?;
     Ok(())
 }

@@ -2,13 +2,14 @@
 
 use crate::disks::{Disks, Fails, Mem, TestDisk, crashed, small};
 use crate::stores::{
-    Act, DATA, Given, TestStore, again, ask, do_all, does, fresh, is, opened, see, settle,
+    Act, DATA, Given, TestStore, again, ask, do_all, does, fresh, is, opened, settle, there,
 };
 use std::alloc::Global;
 use std::test::Fail;
 use vt_base::{MountBad, Sha1Scorer, Why};
 use vt_core::{Core, Event};
 use vt_memdisk::CrashMode;
+use vt_rows::{Rows, Wrong};
 use vt_wire::Request;
 
 // ---- a script
@@ -101,43 +102,58 @@ fn play<T: TestStore>(alloc: Global, store: &mut T) -> bool {
 
 // ---- what is found
 
-/// The first so many blocks are there, and the others aren't.
-fn see_blocks<T: TestStore>(alloc: Global, store: &mut T, count: u64) -> Result<(), &'static str> {
+/// Whether the first so many blocks are there, and the others aren't.
+fn has_just<T: TestStore>(alloc: Global, store: &mut T, count: u64) -> bool {
+    let mut right = true;
     for (i, block) in BLOCKS.iter().enumerate() {
         let wanted = if (i as u64) < count {
             Ok(*block)
         } else {
             Err(Why::Absent)
         };
-        let read = Act::Read(DATA, block, 100, wanted);
-        see(does(alloc, store, &read), "another block")?;
+        right &= does(alloc, store, &Act::Read(DATA, block, 100, wanted));
     }
-    Ok(())
+    right
+}
+
+/// Whether all of them are accepted.
+fn accepts_all<T: TestStore>(alloc: Global, store: &mut T) -> bool {
+    let mut right = true;
+    for block in BLOCKS {
+        right &= does(alloc, store, &Act::Write(DATA, block, Ok(())));
+    }
+    right
 }
 
 /// All of them are accepted, and found behind the next mount.
-fn goes_on<T: TestStore>(alloc: Global, mut store: T) -> Result<(), &'static str> {
-    for block in BLOCKS {
-        let write = Act::Write(DATA, block, Ok(()));
-        see(does(alloc, &mut store, &write), "not accepted")?;
+fn goes_on<T: TestStore>(alloc: Global, mut store: T, rows: &mut Rows, row: usize) {
+    let accepted = accepts_all(alloc, &mut store);
+    rows.nth(row, "all blocks are accepted behind a crash", accepted);
+    let settled = settle(alloc, &mut store);
+    rows.nth(row, "no call fails behind a crash", settled);
+    if let Some(mut store) = there(rows, row, again(alloc, store, CrashMode::Synced)) {
+        rows.nth(row, "the length in the end", store.counts() == [3, 3, 3]);
+        let found = has_just(alloc, &mut store, 3);
+        rows.nth(row, "all blocks are found in the end", found);
     }
-    see(settle(alloc, &mut store), "a call fails")?;
-    let mut store = again(alloc, store, CrashMode::Synced)?;
-    see(store.counts() == [3, 3, 3], "another length")?;
-    see_blocks(alloc, &mut store, 3)
 }
 
 /// After a crash the store has a prefix of what was accepted, with all that was durable, and goes
 /// on.
-fn recovers<T: TestStore>(alloc: Global, store: T, mode: CrashMode) -> Result<(), &'static str> {
+fn recovers<T: TestStore>(alloc: Global, store: T, mode: CrashMode, rows: &mut Rows, row: usize) {
     let [accepted, durable, synced] = store.counts();
-    see(synced <= durable, "synced before it is durable")?;
-    let mut store = again(alloc, store, mode)?;
-    let [left, ..] = store.counts();
-    see(durable <= left && left <= accepted, "no prefix")?;
-    see(store.counts() == [left, left, left], "not all is durable")?;
-    see_blocks(alloc, &mut store, left)?;
-    goes_on(alloc, store)
+    rows.nth(row, "what is synced is durable", synced <= durable);
+    let Some(mut store) = there(rows, row, again(alloc, store, mode)) else {
+        return;
+    };
+    let [left, is_durable, is_synced] = store.counts();
+    let prefix = durable <= left && left <= accepted;
+    rows.nth(row, "a prefix is left, with what was durable", prefix);
+    let all = is_durable == left && is_synced == left;
+    rows.nth(row, "all that is left is durable", all);
+    let found = has_just(alloc, &mut store, left);
+    rows.nth(row, "the blocks that are left are found", found);
+    goes_on(alloc, store, rows, row);
 }
 
 /// Mounting fails by a call of the disks. Behind a crash it succeeds.
@@ -145,10 +161,15 @@ fn mounts_again<T: TestStore>(
     alloc: Global,
     disks: Disks<T::Disk>,
     mode: CrashMode,
-) -> Result<(), &'static str> {
-    match crashed(alloc, disks, mode) {
-        Some(disks) => recovers::<T>(alloc, opened(alloc, disks)?, mode),
-        None => Err("no memory"),
+    rows: &mut Rows,
+    row: usize,
+) {
+    let store = match crashed(alloc, disks, mode) {
+        Some(disks) => opened::<T>(alloc, disks),
+        None => Err("memory for what a crash leaves"),
+    };
+    if let Some(store) = there(rows, row, store) {
+        recovers(alloc, store, mode, rows, row);
     }
 }
 
@@ -159,49 +180,57 @@ fn stops_at<T: TestStore>(
     device: usize,
     fails: Fails,
     mode: CrashMode,
-) -> Result<bool, &'static str> {
-    let Some(disks) = small(alloc, 1, device, fails) else {
-        return Err("no disks");
+    rows: &mut Rows,
+    row: usize,
+) -> bool {
+    let disks = small(alloc, 1, device, fails).ok_or("memory for the disks");
+    let Some(disks) = there(rows, row, disks) else {
+        return false;
     };
     match T::open(alloc, disks) {
-        None => Ok(true),
+        None => true,
         Some(Err((bad, disks))) => {
-            see(bad == MountBad::Fault, "another refusal")?;
-            mounts_again::<T>(alloc, disks, mode)?;
-            Ok(true)
+            rows.nth(row, "the refusal", bad == MountBad::Fault);
+            mounts_again::<T>(alloc, disks, mode, rows, row);
+            true
         }
         Some(Ok(mut store)) => {
             let failed = play(alloc, &mut store);
-            recovers(alloc, store, mode)?;
-            Ok(failed)
+            recovers(alloc, store, mode, rows, row);
+            failed
         }
     }
 }
 
 /// It is stopped at this call of this disk, which fails alone, or with all behind it. It gives
-/// whether the call came.
+/// whether the call came. A row that doesn't hold has the number of the disk, and that of the call
+/// in its last two digits.
 fn stops_in_each_mode<T: TestStore>(
     alloc: Global,
     device: usize,
-    call: u64,
-) -> Result<bool, &'static str> {
+    call: u8,
+    rows: &mut Rows,
+) -> bool {
+    let row = device.saturating_mul(100).saturating_add(usize::from(call));
+    let call = u64::from(call);
     let mut came = false;
     for mode in CrashMode::ALL {
-        came = stops_at::<T>(alloc, device, Fails::At(call), mode)?;
-        let also = stops_at::<T>(alloc, device, Fails::From(call), mode)?;
-        see(came == also, "a call comes once")?;
+        came = stops_at::<T>(alloc, device, Fails::At(call), mode, rows, row);
+        let also = stops_at::<T>(alloc, device, Fails::From(call), mode, rows, row);
+        rows.nth(row, "a call comes once", came == also);
     }
-    Ok(came)
+    came
 }
 
-/// It is stopped at each call of this disk. It gives how many there are.
-fn stops<T: TestStore>(alloc: Global, device: usize) -> Result<u64, &'static str> {
-    for call in 0..100 {
-        if !stops_in_each_mode::<T>(alloc, device, call)? {
-            return Ok(call);
+/// It is stopped at each call of this disk. It gives how many there are, or 100 where there are
+/// more.
+fn stops<T: TestStore>(alloc: Global, device: usize, rows: &mut Rows) -> u8 {
+    for call in 0..100u8 {
+        if !stops_in_each_mode::<T>(alloc, device, call, rows) {
+            return call;
         }
     }
-    Err("no end")
+    100
 }
 
 /// How many calls of the partition, of each section and of the filter come. Mounting makes four of
@@ -209,29 +238,32 @@ fn stops<T: TestStore>(alloc: Global, device: usize) -> Result<u64, &'static str
 /// its bucket, and five that write it back, since its selector was read; the first section gets one
 /// block, and the second one two of one bucket, of which one is written back, and whose frame is
 /// known for the other. Twice each mark is raised, by four calls.
-const CALLS: [u64; 4] = [
+const CALLS: [u8; 4] = [
     4 + 3 * 6,
     3 + 2 + 5 + 2 * 4,
     3 + 2 + 1 + 5 + 2 * 4,
     3 + 2 * 4,
 ];
 
-fn script<T: TestStore>(alloc: Global) -> Result<(), &'static str> {
-    let mut store: T = fresh(alloc, 1, 0, Fails::Never)?;
-    see(!play(alloc, &mut store), "a call fails")?;
-    see(store.counts() == [3, 3, 2], "another length")?;
-    for (device, calls) in CALLS.iter().enumerate() {
-        see(
-            stops::<T>(alloc, device)? == *calls,
-            "another count of calls",
-        )?;
+/// No call fails.
+fn plays<T: TestStore>(alloc: Global, rows: &mut Rows) {
+    if let Some(mut store) = there(rows, 0, fresh::<T>(alloc, 1, 0, Fails::Never)) {
+        let failed = play(alloc, &mut store);
+        rows.is("no call fails", !failed);
+        rows.is("the length behind the script", store.counts() == [3, 3, 2]);
     }
-    Ok(())
 }
 
-#[test]
-fn a_script_is_stopped_at_each_call(rt: HostRuntime) -> Result<(), Fail> {
-    Ok(script::<Core<Mem, Sha1Scorer>>(rt.alloc())?)
+fn script<T: TestStore>(alloc: Global, rows: &mut Rows) {
+    plays::<T>(alloc, rows);
+    for (device, calls) in CALLS.iter().enumerate() {
+        let found = stops::<T>(alloc, device, rows);
+        rows.nth(
+            device,
+            "how many calls of a disk there are",
+            found == *calls,
+        );
+    }
 }
 
 // ---- a torn selector
@@ -249,26 +281,83 @@ const WRITTEN: [Act<'static>; 7] = [
     Act::Step(Event::FileAdvance(1), Given::Moved),
 ];
 
+/// What a crash leaves of its disks, with this byte of a bucket's selector.
+fn torn<T: TestStore>(store: T, byte: u16) -> Option<Disks<T::Disk>> {
+    let mut disks = store.close()?;
+    let section = disks.sections.pop()?;
+    disks.sections.push(section.torn(byte)).ok()?;
+    Some(disks)
+}
+
+/// The store whose selector has this byte.
+fn torn_store<T: TestStore>(alloc: Global, store: T, byte: u16) -> Result<T, &'static str> {
+    match torn(store, byte) {
+        Some(disks) => opened(alloc, disks),
+        None => Err("the disks with a torn selector"),
+    }
+}
+
 /// A crash leaves this byte of a bucket's selector.
-fn is_torn<T: TestStore>(alloc: Global, byte: u16) -> Result<(), &'static str> {
-    let mut store: T = fresh(alloc, 1, 0, Fails::Never)?;
-    do_all(alloc, &mut store, &WRITTEN)?;
-    let mut disks = store.close().ok_or("no disks")?;
-    let section = disks.sections.pop().ok_or("no section")?;
-    disks
-        .sections
-        .push(section.torn(byte))
-        .ok()
-        .ok_or("memory")?;
-    let mut store: T = opened(alloc, disks)?;
-    see_blocks(alloc, &mut store, 1)
+fn is_torn<T: TestStore>(alloc: Global, byte: u16, rows: &mut Rows) {
+    let Some(mut store) = there(rows, 0, fresh::<T>(alloc, 1, 0, Fails::Never)) else {
+        return;
+    };
+    do_all(
+        alloc,
+        &mut store,
+        "the writeback that is stopped",
+        &WRITTEN,
+        rows,
+    );
+    let row = usize::from(byte);
+    if let Some(mut store) = there(rows, row, torn_store(alloc, store, byte)) {
+        let found = has_just(alloc, &mut store, 1);
+        rows.nth(
+            row,
+            "the block is found with this byte of a selector",
+            found,
+        );
+    }
+}
+
+fn tear<T: TestStore>(alloc: Global, rows: &mut Rows) {
+    for byte in [0, 1, 2, 3, 126, 127, 128, 129, 254, 255, 256, 257] {
+        is_torn::<T>(alloc, byte, rows);
+    }
+}
+
+// ---- the tests
+
+/// What a test sees.
+#[derive(Clone, Copy)]
+enum Case {
+    Script,
+    TornSelector,
+}
+
+fn see<T: TestStore>(alloc: Global, case: Case, rows: &mut Rows) {
+    match case {
+        Case::Script => script::<T>(alloc, rows),
+        Case::TornSelector => tear::<T>(alloc, rows),
+    }
+}
+
+/// The same, of stores on disks in memory.
+fn see_in_memory(alloc: Global, case: Case) -> Result<(), Wrong> {
+    let mut rows = Rows::new();
+    see::<Core<Mem, Sha1Scorer>>(alloc, case, &mut rows);
+    rows.all()
+}
+
+#[test]
+fn a_script_is_stopped_at_each_call(rt: HostRuntime) -> Result<(), Fail> {
+    see_in_memory(rt.alloc(), Case::Script)?;
+    Ok(())
 }
 
 /// Whatever byte is left of a selector, the block is found.
 #[test]
 fn a_torn_selector_is_old_or_new(rt: HostRuntime) -> Result<(), Fail> {
-    for byte in [0, 1, 2, 3, 126, 127, 128, 129, 254, 255, 256, 257] {
-        is_torn::<Core<Mem, Sha1Scorer>>(rt.alloc(), byte)?;
-    }
+    see_in_memory(rt.alloc(), Case::TornSelector)?;
     Ok(())
 }

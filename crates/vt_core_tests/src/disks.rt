@@ -5,10 +5,10 @@ ghost use Rattle.vt_part.specs.Parts.{disk_of, table_of};
 ghost use Rattle.vt_part.specs.Table.{end_of};
 
 use std::alloc::Global;
-use vt_core::Devices;
 use vt_disk::Disk;
 use vt_memdisk::{CrashMode, Listed, MemDisk, Plan};
 use vt_part::Part;
+use vt_recover::Devices;
 
 /// Which calls of a disk fail: its reads, writes and syncs, counted together from 0.
 #[derive(Clone, Copy)]
@@ -93,6 +93,30 @@ pub fn put<D: Disk>(disk: &mut D, at: u64, bytes: &[u8]) -> Option<()> {
     disk.write_at(at, bytes).ok()
 }
 
+/// Writes the head of an arena without blocks.
+fn put_arena<D: Disk>(disk: &mut D, start: u64, number: u32) -> Option<()> {
+    let mut head = *b"VARN\0\x01\0\0\0\0";
+    head[6..].copy_from_slice(&number.to_be_bytes());
+    put(disk, start, &head)
+}
+
+fn put_arenas<D: Disk>(disk: &mut D, arenas: u32, arena_len: u32) -> Option<()> {
+    let mut start = 8_192u64;
+    for number in 0..arenas {
+        put_arena(disk, start, number)?;
+        start = start.checked_add(u64::from(arena_len))?;
+    }
+    disk.sync().ok()
+}
+
+/// Writes the table of a partition, by three calls, and its arenas.
+fn put_partition<D: Disk>(disk: &mut D, arenas: u32, arena_len: u32) -> Option<()> {
+    put(disk, 0, b"VPRT\0\x01arenas0")?;
+    put(disk, 70, &u64::from(arena_len).to_be_bytes())?;
+    put(disk, 78, &arenas.to_be_bytes())?;
+    put_arenas(disk, arenas, arena_len)
+}
+
 /// A partition of so many arenas without blocks. These calls of it fail, counted from here on.
 pub fn partition<D: TestDisk>(
     alloc: Global,
@@ -103,18 +127,31 @@ pub fn partition<D: TestDisk>(
     let made = u64::from(arenas) + 4;
     let len = u64::from(arenas).checked_mul(u64::from(arena_len))?;
     let mut disk = D::failing(alloc, len.checked_add(8_192)?, made, fails)?;
-    put(&mut disk, 0, b"VPRT\0\x01arenas0")?;
-    put(&mut disk, 70, &u64::from(arena_len).to_be_bytes())?;
-    put(&mut disk, 78, &arenas.to_be_bytes())?;
-    let mut start = 8_192u64;
-    for number in 0..arenas {
-        let mut head = *b"VARN\0\x01\0\0\0\0";
-        head[6..].copy_from_slice(&number.to_be_bytes());
-        put(&mut disk, start, &head)?;
-        start = start.checked_add(u64::from(arena_len))?;
-    }
-    disk.sync().ok()?;
+    put_partition(&mut disk, arenas, arena_len)?;
     Some(disk)
+}
+
+/// Writes the frame of an empty bucket, where there is one of this number.
+fn put_bucket<D: Disk>(disk: &mut D, i: u32, number: Option<u32>) -> Option<()> {
+    let mut frame = *b"VBKT\0\0\0\0";
+    frame[4..].copy_from_slice(&number?.to_be_bytes());
+    put(disk, 24_576 + 16_896 * u64::from(i), &frame)
+}
+
+fn put_buckets<D: Disk>(disk: &mut D, first: u32, count: u32) -> Option<()> {
+    for i in 0..count {
+        put_bucket(disk, i, first.checked_add(i))?;
+    }
+    disk.sync().ok()
+}
+
+/// Writes the head of a section, by four calls, and its buckets.
+fn put_section<D: Disk>(disk: &mut D, first: u32, count: u32, total: u32) -> Option<()> {
+    put(disk, 0, b"VSEC\0\x01\x01isect")?;
+    put(disk, 71, &first.to_be_bytes())?;
+    put(disk, 75, &count.to_be_bytes())?;
+    put(disk, 79, &total.to_be_bytes())?;
+    put_buckets(disk, first, count)
 }
 
 /// A section in use, of so many empty buckets from this one on, of so many over all. These calls of
@@ -129,24 +166,19 @@ pub fn section<D: TestDisk>(
     let made = u64::from(count) + 5;
     let len = 24_576 + 16_896 * u64::from(count);
     let mut disk = D::failing(alloc, len, made, fails)?;
-    put(&mut disk, 0, b"VSEC\0\x01\x01isect")?;
-    put(&mut disk, 71, &first.to_be_bytes())?;
-    put(&mut disk, 75, &count.to_be_bytes())?;
-    put(&mut disk, 79, &total.to_be_bytes())?;
-    for i in 0..count {
-        let mut frame = *b"VBKT\0\0\0\0";
-        frame[4..].copy_from_slice(&first.checked_add(i)?.to_be_bytes());
-        put(&mut disk, 24_576 + 16_896 * u64::from(i), &frame)?;
-    }
-    disk.sync().ok()?;
+    put_section(&mut disk, first, count, total)?;
     Some(disk)
+}
+
+fn put_filter<D: Disk>(disk: &mut D) -> Option<()> {
+    put(disk, 0, b"VBLM\0\x01\x10\x04")?;
+    disk.sync().ok()
 }
 
 /// A filter without bits, of which a score has four.
 pub fn filter<D: TestDisk>(alloc: Global, fails: Fails) -> Option<D> {
     let mut disk = D::failing(alloc, FILTER_LEN, 2, fails)?;
-    put(&mut disk, 0, b"VBLM\0\x01\x10\x04")?;
-    disk.sync().ok()?;
+    put_filter(&mut disk)?;
     Some(disk)
 }
 

@@ -3,13 +3,14 @@
 ghost use Rattle.std.specs.Prelude.{◌<◌};
 
 use crate::disks::{Fails, Mem};
-use crate::stores::{Given, TestStore, again, ask, fresh, is, is_block, is_score, see, work};
+use crate::stores::{Given, TestStore, again, ask, fresh, is, is_block, is_score, there, work};
 use std::alloc::Global;
 use std::test::Fail;
 use vt_base::{Scorer, ShortScorer};
 use vt_core::{Core, Event, Out};
 use vt_memdisk::CrashMode;
 use vt_model::PlainStore;
+use vt_rows::Rows;
 use vt_wire::Request;
 
 /// Numbers that follow from the first one.
@@ -75,12 +76,21 @@ fn plain_of(alloc: Global, accepted: &[u32]) -> Option<PlainStore<ShortScorer>> 
     Some(plain)
 }
 
-fn new_pair<T: TestStore>(alloc: Global) -> Result<Pair<T>, &'static str> {
-    Ok(Pair {
-        store: fresh(alloc, 3, 0, Fails::Never)?,
-        accepted: Vec::new(alloc),
-        plain: plain_of(alloc, &[]).ok_or("no list")?,
-    })
+/// A store that accepted these blocks, and the list of them. None says that memory is wanting.
+fn paired<T: TestStore>(alloc: Global, store: T, accepted: Vec<u32>) -> Option<Pair<T>> {
+    match plain_of(alloc, &accepted) {
+        Some(plain) => Some(Pair {
+            store,
+            accepted,
+            plain,
+        }),
+        None => None,
+    }
+}
+
+fn new_pair<T: TestStore>(alloc: Global, rows: &mut Rows) -> Option<Pair<T>> {
+    let store = there(rows, 0, fresh(alloc, 3, 0, Fails::Never))?;
+    paired(alloc, store, Vec::new(alloc))
 }
 
 /// A block is written. Where the queue is full, the log commits first.
@@ -93,48 +103,52 @@ fn write_through<T: TestStore>(alloc: Global, store: &mut T, kind: u8, bytes: &[
     out
 }
 
-/// A block is written to both.
-fn write_word<T: TestStore>(
+/// Whether a write is answered as the list answers it.
+fn is_written<S: Scorer>(
     alloc: Global,
-    pair: &mut Pair<T>,
-    number: u32,
-) -> Result<(), &'static str> {
-    let it = word_of(number);
-    let bytes = it.bytes.get(..it.len).ok_or("no block")?;
-    let before = pair.store.counts()[0];
-    let out = write_through(alloc, &mut pair.store, it.kind, bytes);
-    if before < pair.store.counts()[0] {
-        pair.accepted.push(number).ok().ok_or("no memory")?;
+    plain: &mut PlainStore<S>,
+    it: &Word,
+    bytes: &[u8],
+    out: &Out,
+) -> bool {
+    match plain.write(alloc, it.kind, bytes) {
+        Ok(score) => is_score(out, &score, Ok(())),
+        Err(why) => is(out, Given::Refused(why)),
     }
-    let right = match pair.plain.write(alloc, it.kind, bytes) {
-        Ok(score) => is_score(&out, &score, Ok(())),
-        Err(why) => is(&out, Given::Refused(why)),
-    };
-    see(right, "another reply to a write")
 }
 
-/// A block is read of both.
-fn read_word<T: TestStore>(
-    alloc: Global,
-    pair: &mut Pair<T>,
-    number: u32,
-) -> Result<(), &'static str> {
+/// A block is written to both. It gives whether they answer alike.
+fn write_word<T: TestStore>(alloc: Global, pair: &mut Pair<T>, number: u32) -> bool {
+    let it = word_of(number);
+    let Some(bytes) = it.bytes.get(..it.len) else {
+        return false;
+    };
+    let before = pair.store.counts()[0];
+    let out = write_through(alloc, &mut pair.store, it.kind, bytes);
+    if before < pair.store.counts()[0] && pair.accepted.push(number).is_err() {
+        return false;
+    }
+    is_written(alloc, &mut pair.plain, &it, bytes, &out)
+}
+
+/// A block is read of both. It gives whether they answer alike.
+fn read_word<T: TestStore>(alloc: Global, pair: &mut Pair<T>, number: u32) -> bool {
     let it = word_of(number);
     let (score, kind, count) = (ShortScorer.score(&it.bytes), it.kind, 57_344);
     let read = ask(0, Request::Read { score, kind, count });
     let out = pair.store.event(alloc, read);
-    let right = is_block(&out, pair.plain.read(&score, kind, count));
-    see(right, "another reply to a read")
+    is_block(&out, pair.plain.read(&score, kind, count))
 }
 
 /// A sync, and what it waits for.
-fn sync<T: TestStore>(alloc: Global, store: &mut T) -> Result<(), &'static str> {
+fn sync<T: TestStore>(alloc: Global, store: &mut T, rows: &mut Rows, row: usize) {
     let out = store.event(alloc, ask(0, Request::Sync));
-    see(matches!(out, Out::Waits), "it doesn't wait")?;
-    see(work(alloc, store, Event::LogAdvance), "no commit")?;
+    rows.nth(row, "a sync waits", matches!(out, Out::Waits));
+    let done = work(alloc, store, Event::LogAdvance);
+    rows.nth(row, "the commit of a sync", done);
     let [len, ..] = store.counts();
     let out = store.event(alloc, Event::Answer(0));
-    see(is(&out, Given::Synced(len)), "another reply to a sync")
+    rows.nth(row, "the reply to a sync", is(&out, Given::Synced(len)));
 }
 
 /// A crash cuts what was accepted, but for what was synced.
@@ -142,23 +156,21 @@ fn crash<T: TestStore>(
     alloc: Global,
     pair: Pair<T>,
     mode: CrashMode,
-) -> Result<Pair<T>, &'static str> {
+    rows: &mut Rows,
+    row: usize,
+) -> Option<Pair<T>> {
     let Pair {
         store,
         mut accepted,
         plain: _,
     } = pair;
     let [_, _, synced] = store.counts();
-    let store = again(alloc, store, mode)?;
+    let store = there(rows, row, again(alloc, store, mode))?;
     let [left, ..] = store.counts();
-    see(synced <= left && left <= accepted.len() as u64, "no prefix")?;
+    let prefix = synced <= left && left <= accepted.len() as u64;
+    rows.nth(row, "a prefix is left, with what was synced", prefix);
     accepted.truncate(left as usize);
-    let plain = plain_of(alloc, &accepted).ok_or("no list")?;
-    Ok(Pair {
-        store,
-        accepted,
-        plain,
-    })
+    paired(alloc, store, accepted)
 }
 
 /// A piece of the store's own work.
@@ -178,35 +190,58 @@ fn round<T: TestStore>(
     alloc: Global,
     mut pair: Pair<T>,
     draws: &mut Draws,
-) -> Result<Pair<T>, &'static str> {
+    rows: &mut Rows,
+    row: usize,
+) -> Option<Pair<T>> {
     let number = draws.draw(2 * WORDS);
     match draws.draw(16) {
-        0..=4 => write_word(alloc, &mut pair, number)?,
-        5..=7 => read_word(alloc, &mut pair, number)?,
-        8 => sync(alloc, &mut pair.store)?,
-        9 => return crash(alloc, pair, CrashMode::ALL[draws.draw(4) as usize]),
+        0..=4 => {
+            let right = write_word(alloc, &mut pair, number);
+            rows.nth(row, "the reply to a write", right);
+        }
+        5..=7 => {
+            let right = read_word(alloc, &mut pair, number);
+            rows.nth(row, "the reply to a read", right);
+        }
+        8 => sync(alloc, &mut pair.store, rows, row),
+        9 => {
+            let mode = CrashMode::ALL[draws.draw(4) as usize];
+            return crash(alloc, pair, mode, rows, row);
+        }
         _ => {
             let out = pair.store.event(alloc, drawn_work(draws));
-            see(!is(&out, Given::Failed), "a fault")?;
+            rows.nth(row, "a piece of work", !is(&out, Given::Failed));
         }
     }
-    Ok(pair)
+    Some(pair)
 }
 
-fn rounds<T: TestStore>(alloc: Global) -> Result<(), &'static str> {
+/// So many rounds from a number on.
+fn played<T: TestStore>(alloc: Global, mut pair: Pair<T>, rows: &mut Rows) -> Option<Pair<T>> {
     let mut draws = Draws { x: 7 };
-    let mut pair: Pair<T> = new_pair(alloc)?;
-    for _ in 0..2_000u16 {
-        pair = round(alloc, pair, &mut draws)?;
+    for row in 0..2_000usize {
+        pair = round(alloc, pair, &mut draws, rows, row)?;
     }
+    Some(pair)
+}
+
+/// A row that doesn't hold has the number of its round, or in the end of the word that is read.
+fn rounds<T: TestStore>(alloc: Global, rows: &mut Rows) -> Option<()> {
+    let pair: Pair<T> = new_pair(alloc, rows)?;
+    let mut pair = played(alloc, pair, rows)?;
     for number in 0..2 * WORDS {
-        read_word(alloc, &mut pair, number)?;
+        let right = read_word(alloc, &mut pair, number);
+        rows.nth(number as usize, "the reply to a read in the end", right);
     }
-    Ok(())
+    Some(())
 }
 
 /// Each reply is that of the list, whose end a crash may cut.
 #[test]
 fn a_store_answers_as_a_list_does(rt: HostRuntime) -> Result<(), Fail> {
-    Ok(rounds::<Core<Mem, ShortScorer>>(rt.alloc())?)
+    let mut rows = Rows::new();
+    let all = rounds::<Core<Mem, ShortScorer>>(rt.alloc(), &mut rows);
+    rows.is("memory for all rounds", all.is_some());
+    rows.all()?;
+    Ok(())
 }

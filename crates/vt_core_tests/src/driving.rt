@@ -1,14 +1,19 @@
 //! Stores that are driven to the answers of a session, and to the end of their use.
 
+ghost use Rattle.std.specs.Prelude.{IsTrue};
+ghost use Rattle.vt_core.specs.Machine.{WaitsForNone};
+
 use crate::disks::{Disks, Fails, Mem, TestDisk, crashed, only, partition, section, small};
-use crate::stores::{DATA, TestScorer, TestStore, see};
+use crate::stores::{DATA, TestScorer, TestStore, there};
 use std::alloc::Global;
 use std::test::Fail;
 use vt_answer::Store;
 use vt_base::{Said, Scorer, Sha1Scorer, Why};
 use vt_core::{Core, Event, Out};
+use vt_disk::Disk;
 use vt_drive::{Driven, ask, end, sync};
 use vt_memdisk::CrashMode;
+use vt_rows::{Rows, Wrong};
 use vt_wire::Request;
 
 /// What is done to a store behind its session: its use is ended, or all is synced, by the call for
@@ -44,13 +49,11 @@ impl<D: TestDisk, S: TestScorer> DrivenStore for Driven<D, S> {
     type Disk = D;
 
     fn open(alloc: Global, disks: Disks<D>) -> Option<Self> {
-        let mut core: Core<D, S> = TestStore::open(alloc, disks)?.ok()?;
-        if core.sessions() == 0 {
-            return None;
-        }
-        match core.step(alloc, Event::Answer(0)) {
-            Out::Nothing => Some(Driven::new(core, alloc, 7)),
-            _ => None,
+        let mut core = mounted(alloc, disks)?;
+        if is_free(alloc, &mut core) {
+            Some(Driven::new(core, alloc, 7))
+        } else {
+            None
         }
     }
 
@@ -71,6 +74,21 @@ impl<D: TestDisk, S: TestScorer> DrivenStore for Driven<D, S> {
     }
 }
 
+/// The store of these disks, if there is one.
+fn mounted<D: TestDisk, S: TestScorer>(alloc: Global, disks: Disks<D>) -> Option<Core<D, S>> {
+    match TestStore::open(alloc, disks) {
+        Some(Ok(core)) => Some(core),
+        _ => None,
+    }
+}
+
+/// Whether its first session waits for nothing.
+fn is_free<D: Disk, S: Scorer>(alloc: Global, core: &mut Core<D, S>) -> bool
+    ensures { IsTrue result → WaitsForNone core.new.waiting 0 }
+{
+    core.sessions() > 0 && matches!(core.step(alloc, Event::Answer(0)), Out::Nothing)
+}
+
 /// What the answer to a sync comes to.
 fn synced(said: Said) -> Result<(), Why> {
     match said {
@@ -82,37 +100,48 @@ fn synced(said: Said) -> Result<(), Why> {
 
 /// The store of these disks.
 fn opened<T: DrivenStore>(alloc: Global, disks: Option<Disks<T::Disk>>) -> Result<T, &'static str> {
-    let Some(disks) = disks else {
-        return Err("no disks");
-    };
-    match T::open(alloc, disks) {
-        Some(store) => Ok(store),
-        None => Err("no store"),
+    match disks {
+        Some(disks) => T::open(alloc, disks).ok_or("the store is opened"),
+        None => Err("memory for the disks"),
     }
 }
 
-/// Writes so many blocks.
-fn writes<T: Store>(alloc: Global, store: &mut T, count: u32) -> Result<(), &'static str> {
-    for number in 0..count {
-        let bytes = number.to_be_bytes();
-        match store.write(alloc, DATA, &bytes) {
-            Ok(score) => see(score == Sha1Scorer.score(&bytes), "another score")?,
-            Err(_) => return Err("not written"),
-        }
+/// Whether the block with this number is written.
+fn is_written<T: Store>(alloc: Global, store: &mut T, number: u32) -> bool {
+    let bytes = number.to_be_bytes();
+    match store.write(alloc, DATA, &bytes) {
+        Ok(score) => score == Sha1Scorer.score(&bytes),
+        Err(_) => false,
     }
-    Ok(())
 }
 
-/// They are read.
-fn reads<T: Store>(alloc: Global, store: &mut T, count: u32) -> Result<(), &'static str> {
+/// Writes so many blocks. It gives whether all are.
+fn writes<T: Store>(alloc: Global, store: &mut T, count: u32) -> bool {
     for number in 0..count {
-        let bytes = number.to_be_bytes();
-        match store.read(alloc, &Sha1Scorer.score(&bytes), DATA, 4) {
-            Ok(found) => see(found.as_slice() == &bytes[..], "another block")?,
-            Err(_) => return Err("not read"),
+        if !is_written(alloc, store, number) {
+            return false;
         }
     }
-    Ok(())
+    true
+}
+
+/// Whether the block with this number is read.
+fn is_read<T: Store>(alloc: Global, store: &mut T, number: u32) -> bool {
+    let bytes = number.to_be_bytes();
+    match store.read(alloc, &Sha1Scorer.score(&bytes), DATA, 4) {
+        Ok(found) => found.as_slice() == &bytes[..],
+        Err(_) => false,
+    }
+}
+
+/// Whether so many blocks are read.
+fn reads<T: Store>(alloc: Global, store: &mut T, count: u32) -> bool {
+    for number in 0..count {
+        if !is_read(alloc, store, number) {
+            return false;
+        }
+    }
+    true
 }
 
 /// A crash leaves so many blocks on disks on which all is synced.
@@ -120,22 +149,38 @@ fn left<T: DrivenStore>(
     alloc: Global,
     disks: Disks<T::Disk>,
     count: u32,
-) -> Result<(), &'static str> {
-    let mut store: T = opened(alloc, crashed(alloc, disks, CrashMode::Synced))?;
-    reads(alloc, &mut store, count)
+    rows: &mut Rows,
+    row: usize,
+) {
+    let store = opened::<T>(alloc, crashed(alloc, disks, CrashMode::Synced));
+    if let Some(mut store) = there(rows, row, store) {
+        let found = reads(alloc, &mut store, count);
+        rows.nth(row, "all blocks are read behind a crash", found);
+    }
 }
 
-/// So many blocks are written, and read, and are there behind the end of the store's use.
-fn fills<T: DrivenStore>(
+/// What a store comes to whose session is over.
+fn ended<T: DrivenStore>(
     alloc: Global,
-    disks: Option<Disks<T::Disk>>,
+    store: T,
+    last: Last,
+) -> Result<Finished<T::Disk>, &'static str> {
+    store.finish(alloc, last).ok_or("the disks are handed back")
+}
+
+/// The use of a store of so many blocks is ended well, so many of which are synced then, and they are
+/// there behind a crash.
+fn ends<T: DrivenStore>(
+    alloc: Global,
+    store: T,
+    last: Last,
     count: u32,
-) -> Result<(), &'static str> {
-    let mut store: T = opened(alloc, disks)?;
-    writes(alloc, &mut store, count)?;
-    reads(alloc, &mut store, count)?;
-    let Some(finished) = store.finish(alloc, Last::End) else {
-        return Err("no disks of a store");
+    synced: u64,
+    rows: &mut Rows,
+) {
+    let row = count as usize;
+    let Some(finished) = there(rows, row, ended(alloc, store, last)) else {
+        return;
     };
     let Finished {
         done,
@@ -143,8 +188,27 @@ fn fills<T: DrivenStore>(
         disks,
     } = finished;
     let many = u64::from(count);
-    see(done.is_ok() && counts == [many, many, 0], "no good end")?;
-    left::<T>(alloc, disks, count)
+    rows.nth(row, "what the end of the store's use tells", done == Ok(()));
+    rows.nth(row, "the counts in the end", counts == [many, many, synced]);
+    left::<T>(alloc, disks, count, rows, row);
+}
+
+/// So many blocks are written, and read, and are there behind the end of the store's use.
+fn fills<T: DrivenStore>(
+    alloc: Global,
+    disks: Option<Disks<T::Disk>>,
+    count: u32,
+    rows: &mut Rows,
+) {
+    let row = count as usize;
+    let Some(mut store) = there(rows, row, opened::<T>(alloc, disks)) else {
+        return;
+    };
+    let written = writes(alloc, &mut store, count);
+    rows.nth(row, "so many blocks are written", written);
+    let found = reads(alloc, &mut store, count);
+    rows.nth(row, "so many blocks are read", found);
+    ends(alloc, store, Last::End, count, 0, rows);
 }
 
 /// Disks with one section of eight buckets, and no filter.
@@ -164,24 +228,53 @@ const MOUNTING: u64 = 4;
 
 /// The third call of a commit fails: the sync tells it, and later ones tell that the log has
 /// stopped there. What was queued is still read, and isn't durable.
-fn fails_sync<T: DrivenStore>(alloc: Global) -> Result<(), &'static str> {
-    let mut store: T = opened(alloc, small(alloc, 1, 0, Fails::At(MOUNTING + 2)))?;
-    writes(alloc, &mut store, 1)?;
-    see(store.sync() == Err(Why::DiskFault), "the sync that fails")?;
-    let stopped = Why::Stopped(2);
-    see(store.sync() == Err(stopped), "a later sync")?;
-    see(
-        store.write(alloc, DATA, b"abc") == Err(stopped),
-        "a later write",
-    )?;
-    reads(alloc, &mut store, 1)?;
-    let Some(finished) = store.finish(alloc, Last::End) else {
-        return Err("no disks of a store");
+fn fails_sync<T: DrivenStore>(alloc: Global, rows: &mut Rows) {
+    let store = opened::<T>(alloc, small(alloc, 1, 0, Fails::At(MOUNTING + 2)));
+    let Some(mut store) = there(rows, 0, store) else {
+        return;
     };
-    see(
-        finished.done == Err(stopped) && finished.counts == [1, 0, 0],
-        "the end",
-    )
+    see_stopped(alloc, &mut store, rows);
+    if let Some(finished) = there(rows, 0, ended(alloc, store, Last::End)) {
+        rows.is(
+            "what the end tells of a stopped log",
+            finished.done == Err(STOPPED),
+        );
+        rows.is("the counts of a stopped log", finished.counts == [1, 0, 0]);
+    }
+}
+
+/// The log has stopped at this call of a commit, counted from 0.
+const STOPPED: Why = Why::Stopped(2);
+
+fn see_stopped<T: Store>(alloc: Global, store: &mut T, rows: &mut Rows) {
+    let written = writes(alloc, store, 1);
+    rows.is("a block is written", written);
+    let sync = store.sync();
+    rows.is("the sync that fails", sync == Err(Why::DiskFault));
+    let sync = store.sync();
+    rows.is("a later sync", sync == Err(STOPPED));
+    let write = store.write(alloc, DATA, b"abc");
+    rows.is("a later write", write == Err(STOPPED));
+    let found = reads(alloc, store, 1);
+    rows.is("what was queued is read", found);
+}
+
+/// A store of which these calls of this disk fail, with two blocks. There is none where a call fails
+/// before all is written.
+fn with_two<T: DrivenStore>(
+    alloc: Global,
+    device: usize,
+    fails: Fails,
+    rows: &mut Rows,
+    row: usize,
+) -> Option<T> {
+    let disks = small(alloc, 1, device, fails).ok_or("memory for the disks");
+    let mut store = T::open(alloc, there(rows, row, disks)?)?;
+    if writes(alloc, &mut store, 2) {
+        Some(store)
+    } else {
+        None
+    }
 }
 
 /// Two blocks are written to a store of which these calls of this disk fail, and its use is ended:
@@ -191,97 +284,123 @@ fn fails_in_end<T: DrivenStore>(
     alloc: Global,
     device: usize,
     fails: Fails,
-) -> Result<Option<bool>, &'static str> {
-    let Some(disks) = small(alloc, 1, device, fails) else {
-        return Err("no disks");
-    };
-    let Some(mut store) = T::open(alloc, disks) else {
-        return Ok(None);
-    };
-    if writes(alloc, &mut store, 2).is_err() {
-        return Ok(None);
-    }
-    let Some(finished) = store.finish(alloc, Last::End) else {
-        return Err("no disks of a store");
-    };
+    rows: &mut Rows,
+    row: usize,
+) -> Option<bool> {
+    let store: T = with_two(alloc, device, fails, rows, row)?;
+    let finished = there(rows, row, ended(alloc, store, Last::End))?;
     let Finished {
         done,
         counts,
         disks,
     } = finished;
-    see(counts == [2, 2, 0], "the log isn't durable")?;
+    rows.nth(row, "the log is durable in the end", counts == [2, 2, 0]);
     if done.is_ok() {
-        return Ok(Some(false));
+        return Some(false);
     }
-    see(done == Err(Why::DiskFault), "another failure")?;
-    left::<T>(alloc, disks, 2)?;
-    Ok(Some(true))
+    rows.nth(row, "the failure is told", done == Err(Why::DiskFault));
+    left::<T>(alloc, disks, 2, rows, row);
+    Some(true)
 }
 
 /// Each call of a disk that an end makes fails once, alone or with all behind it. It gives how many
-/// they are.
+/// they are, or None where no call is the last. A row that doesn't hold has the call's number.
 fn fails_each<T: DrivenStore>(
     alloc: Global,
     device: usize,
     alone: bool,
-) -> Result<u32, &'static str> {
+    rows: &mut Rows,
+) -> Option<u32> {
     let mut failed = 0u32;
-    for call in 0..60u64 {
+    for call in 0..60u8 {
         let fails = if alone {
-            Fails::At(call)
+            Fails::At(u64::from(call))
         } else {
-            Fails::From(call)
+            Fails::From(u64::from(call))
         };
-        match fails_in_end::<T>(alloc, device, fails)? {
+        match fails_in_end::<T>(alloc, device, fails, rows, usize::from(call)) {
             Some(true) => failed = failed.saturating_add(1),
-            Some(false) => return Ok(failed),
+            Some(false) => return Some(failed),
             None => {}
         }
     }
-    Err("no end")
+    None
 }
 
 /// Each section has a block, whose writeback makes five calls for its bucket and four for the head;
 /// the filter is saved by four.
-fn fails_parts<T: DrivenStore>(alloc: Global, alone: bool) -> Result<(), &'static str> {
-    see(fails_each::<T>(alloc, 1, alone)? == 9, "the first section")?;
-    see(fails_each::<T>(alloc, 2, alone)? == 9, "the second section")?;
-    see(fails_each::<T>(alloc, 3, alone)? == 4, "the filter")
+const CALLS: [(&str, usize, u32); 3] = [
+    ("the calls of the first section", 1, 9),
+    ("the calls of the second section", 2, 9),
+    ("the calls of the filter", 3, 4),
+];
+
+fn fails_parts<T: DrivenStore>(alloc: Global, alone: bool, rows: &mut Rows) {
+    for (what, device, calls) in &CALLS {
+        let failed = fails_each::<T>(alloc, *device, alone, rows);
+        rows.is(what, failed == Some(*calls));
+    }
 }
 
 // ---- without a session
 
 /// All that was written is durable behind a sync, and not before.
-fn syncs<T: DrivenStore>(alloc: Global, last: Last) -> Result<(), &'static str> {
-    let mut store: T = opened(alloc, small(alloc, 1, 0, Fails::Never))?;
-    writes(alloc, &mut store, 2)?;
-    let Some(finished) = store.finish(alloc, last) else {
-        return Err("no disks of a store");
+fn syncs<T: DrivenStore>(alloc: Global, last: Last, rows: &mut Rows) {
+    let store = opened::<T>(alloc, small(alloc, 1, 0, Fails::Never));
+    let Some(mut store) = there(rows, 0, store) else {
+        return;
     };
-    let Finished {
-        done,
-        counts,
-        disks,
-    } = finished;
-    see(done.is_ok() && counts == [2, 2, 2], "no sync")?;
-    left::<T>(alloc, disks, 2)
+    let written = writes(alloc, &mut store, 2);
+    rows.is("two blocks are written", written);
+    ends(alloc, store, last, 2, 2, rows);
+}
+
+// ---- the tests
+
+/// What a test sees.
+#[derive(Clone, Copy)]
+enum Case {
+    Room,
+    Failures,
+}
+
+fn get_room<T: DrivenStore>(alloc: Global, rows: &mut Rows) {
+    fills::<T>(alloc, small(alloc, 1, 0, Fails::Never), 65, rows);
+    fills::<T>(alloc, large(alloc), 1_100, rows);
+}
+
+fn fail<T: DrivenStore>(alloc: Global, rows: &mut Rows) {
+    fails_sync::<T>(alloc, rows);
+    fails_parts::<T>(alloc, true, rows);
+    fails_parts::<T>(alloc, false, rows);
+    syncs::<T>(alloc, Last::Sync, rows);
+    syncs::<T>(alloc, Last::Ask, rows);
+}
+
+fn see<T: DrivenStore>(alloc: Global, case: Case, rows: &mut Rows) {
+    match case {
+        Case::Room => get_room::<T>(alloc, rows),
+        Case::Failures => fail::<T>(alloc, rows),
+    }
+}
+
+/// The same, of stores on disks in memory.
+fn see_in_memory(alloc: Global, case: Case) -> Result<(), Wrong> {
+    let mut rows = Rows::new();
+    see::<Driven<Mem, Sha1Scorer>>(alloc, case, &mut rows);
+    rows.all()
 }
 
 /// The 65th write finds the queue full, and the 1,025th finds no room for an entry in its shard.
 /// Both are answered as the others are.
 #[test]
 fn writes_get_room(rt: HostRuntime) -> Result<(), Fail> {
-    fills::<Driven<Mem, Sha1Scorer>>(rt.alloc(), small(rt.alloc(), 1, 0, Fails::Never), 65)?;
-    fills::<Driven<Mem, Sha1Scorer>>(rt.alloc(), large(rt.alloc()), 1_100)?;
+    see_in_memory(rt.alloc(), Case::Room)?;
     Ok(())
 }
 
 #[test]
 fn one_failure_keeps_no_part_from_its_end(rt: HostRuntime) -> Result<(), Fail> {
-    fails_sync::<Driven<Mem, Sha1Scorer>>(rt.alloc())?;
-    fails_parts::<Driven<Mem, Sha1Scorer>>(rt.alloc(), true)?;
-    fails_parts::<Driven<Mem, Sha1Scorer>>(rt.alloc(), false)?;
-    syncs::<Driven<Mem, Sha1Scorer>>(rt.alloc(), Last::Sync)?;
-    syncs::<Driven<Mem, Sha1Scorer>>(rt.alloc(), Last::Ask)?;
+    see_in_memory(rt.alloc(), Case::Failures)?;
     Ok(())
 }

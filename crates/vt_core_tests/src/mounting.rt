@@ -4,15 +4,14 @@
 use crate::disks::{
     ARENA_LEN, Disks, Fails, Mem, TestDisk, crashed, filter, nth, only, partition, put, section,
 };
-use crate::stores::{Act, DATA, TestStore, ask, does, file, opened, see, work};
+use crate::stores::{Act, DATA, TestStore, ask, does, file, opened, there, work};
 use std::alloc::Global;
 use std::test::Fail;
 use vt_base::{FieldValue, MountBad, MountField, Place, ShortScorer, Site};
 use vt_core::{Core, Event, Out};
 use vt_memdisk::CrashMode;
+use vt_rows::{Rows, Wrong};
 use vt_wire::Request;
-
-type TestCore = Core<Mem, ShortScorer>;
 
 /// The bytes of an arena with room for more blocks than a shard has for their entries.
 const LARGE: u32 = 131_072;
@@ -68,45 +67,72 @@ fn write_block<T: TestStore>(alloc: Global, store: &mut T, number: u32) -> bool 
     true
 }
 
-/// Writes so many blocks, and commits them.
-fn write_blocks<T: TestStore>(
-    alloc: Global,
-    store: &mut T,
-    count: u32,
-) -> Result<(), &'static str> {
+/// Writes so many blocks, and commits them. It gives whether all are.
+fn write_blocks<T: TestStore>(alloc: Global, store: &mut T, count: u32) -> bool {
     for number in 0..count {
-        see(write_block(alloc, store, number), "a block isn't written")?;
+        if !write_block(alloc, store, number) {
+            return false;
+        }
     }
-    see(work(alloc, store, Event::LogAdvance), "no commit")
+    work(alloc, store, Event::LogAdvance)
+}
+
+/// Whether the block with this number is found.
+fn has_block<T: TestStore>(alloc: Global, store: &mut T, number: u32) -> bool {
+    let (kind, bytes) = block(number);
+    does(alloc, store, &Act::Read(kind, &bytes, 4, Ok(&bytes)))
 }
 
 /// It has so many blocks, each of which is found and durable.
-fn see_blocks<T: TestStore>(alloc: Global, store: &mut T, count: u32) -> Result<(), &'static str> {
+fn see_blocks<T: TestStore>(alloc: Global, store: &mut T, count: u32, rows: &mut Rows, row: usize) {
     let len = u64::from(count);
-    see(store.counts() == [len, len, len], "another length")?;
+    rows.nth(
+        row,
+        "the length of a store",
+        store.counts() == [len, len, len],
+    );
+    let mut found = true;
     for number in 0..count {
-        let (kind, bytes) = block(number);
-        let read = Act::Read(kind, &bytes, 4, Ok(&bytes));
-        see(does(alloc, store, &read), "a block is lost")?;
+        found &= has_block(alloc, store, number);
     }
-    Ok(())
+    rows.nth(row, "each block is found", found);
 }
 
-/// The disks of a store with so many blocks, which are committed, and in the index and the filter,
-/// too, if they are settled.
-fn filled<T: TestStore>(
+/// The same, of the store of these disks, which is mounted. It gives the disks back.
+fn see_disks<T: TestStore>(
     alloc: Global,
     disks: Disks<T::Disk>,
     count: u32,
+    rows: &mut Rows,
+    row: usize,
+) -> Option<Disks<T::Disk>> {
+    let mut store: T = there(rows, row, opened(alloc, disks))?;
+    see_blocks(alloc, &mut store, count, rows, row);
+    there(rows, row, store.close().ok_or("disks of a store"))
+}
+
+/// Writes so many blocks, which are committed, and in the index and the filter, too, if they are
+/// settled.
+fn is_filled<T: TestStore>(alloc: Global, store: &mut T, count: u32, settled: bool) -> bool {
+    write_blocks(alloc, store, count)
+        && (!settled || file(alloc, store, 0) && work(alloc, store, Event::BloomAdvance))
+}
+
+/// The disks of a store with so many blocks.
+fn filled<T: TestStore>(
+    alloc: Global,
+    disks: Option<Disks<T::Disk>>,
+    count: u32,
     settled: bool,
 ) -> Result<Disks<T::Disk>, &'static str> {
-    let mut store: T = opened(alloc, disks)?;
-    write_blocks(alloc, &mut store, count)?;
-    if settled {
-        see(file(alloc, &mut store, 0), "no writeback")?;
-        see(work(alloc, &mut store, Event::BloomAdvance), "no save")?;
+    let mut store: T = match disks {
+        Some(disks) => opened(alloc, disks)?,
+        None => return Err("memory for the disks"),
+    };
+    if !is_filled(alloc, &mut store, count, settled) {
+        return Err("the blocks are written");
     }
-    store.close().ok_or("no disks of a store")
+    store.close().ok_or("disks of a store")
 }
 
 /// Why the store isn't mounted, and its disks.
@@ -116,8 +142,8 @@ fn refused<T: TestStore>(
 ) -> Result<(MountBad, Disks<T::Disk>), &'static str> {
     match T::open(alloc, disks) {
         Some(Err(refusal)) => Ok(refusal),
-        Some(Ok(_)) => Err("it is mounted"),
-        None => Err("no disks of a store"),
+        Some(Ok(_)) => Err("the store is refused"),
+        None => Err("disks of a store"),
     }
 }
 
@@ -125,40 +151,40 @@ fn refused<T: TestStore>(
 
 /// A store with three blocks is refused for this call of the arena's disk, and the next time it is
 /// found. It gives whether the call came while it was mounted.
-fn fails_once<T: TestStore>(alloc: Global, call: u64, settled: bool) -> Result<bool, &'static str> {
-    let disks = devices(alloc, ARENA_LEN, 1, Fails::At(call));
-    let Ok(disks) = filled::<T>(alloc, disks.ok_or("no disks")?, 3, settled) else {
-        return Ok(false);
+fn fails_once<T: TestStore>(alloc: Global, call: u8, settled: bool, rows: &mut Rows) -> bool {
+    let disks = devices(alloc, ARENA_LEN, 1, Fails::At(u64::from(call)));
+    let Ok(disks) = filled::<T>(alloc, disks, 3, settled) else {
+        return false;
     };
     let Ok((bad, disks)) = refused::<T>(alloc, disks) else {
-        return Ok(false);
+        return false;
     };
-    see(bad == MountBad::Fault, "another refusal")?;
-    let mut store: T = opened(alloc, disks)?;
-    see_blocks(alloc, &mut store, 3)?;
-    Ok(true)
+    let row = usize::from(call);
+    rows.nth(
+        row,
+        "the refusal where this call fails",
+        bad == MountBad::Fault,
+    );
+    see_disks::<T>(alloc, disks, 3, rows, row).is_some()
 }
 
-/// How many calls of the arena's disk mounting makes that may fail.
-fn calls_of_mounting<T: TestStore>(alloc: Global, settled: bool) -> Result<u32, &'static str> {
+/// How many calls of the arena's disk mounting makes that may fail. A row that doesn't hold has the
+/// call's number.
+fn calls_of_mounting<T: TestStore>(alloc: Global, settled: bool, rows: &mut Rows) -> u32 {
     let mut faults = 0u32;
-    for call in 0..32 {
-        if fails_once::<T>(alloc, call, settled)? {
+    for call in 0..32u8 {
+        if fails_once::<T>(alloc, call, settled, rows) {
             faults = faults.saturating_add(1);
         }
     }
-    Ok(faults)
+    faults
 }
 
-/// A sync and two reads of the arena's head, and the read of each directory entry, of which none is
-/// made below the least mark.
-#[test]
-fn a_directory_read_fails(rt: HostRuntime) -> Result<(), Fail> {
-    let entries = calls_of_mounting::<TestCore>(rt.alloc(), false)?;
-    see(entries == 6, "three entries are read")?;
-    let none = calls_of_mounting::<TestCore>(rt.alloc(), true)?;
-    see(none == 3, "no entry is read")?;
-    Ok(())
+fn read_directory<T: TestStore>(alloc: Global, rows: &mut Rows) {
+    let entries = calls_of_mounting::<T>(alloc, false, rows);
+    rows.is("the calls that read three entries", entries == 6);
+    let none = calls_of_mounting::<T>(alloc, true, rows);
+    rows.is("the calls that read no entry", none == 3);
 }
 
 // ---- damage
@@ -226,30 +252,37 @@ const DAMAGES: [Damage; 4] = [
 
 /// The disks of a store with three blocks, of which no entry is in the index.
 fn bare<T: TestStore>(alloc: Global) -> Result<Disks<T::Disk>, &'static str> {
-    let disks = devices(alloc, ARENA_LEN, 1, Fails::Never);
-    filled::<T>(alloc, disks.ok_or("no disks")?, 3, false)
+    filled::<T>(alloc, devices(alloc, ARENA_LEN, 1, Fails::Never), 3, false)
+}
+
+/// Writes the bytes of a damage.
+fn is_damaged<D: TestDisk>(disks: &mut Disks<D>, damage: &Damage) -> bool {
+    match nth(disks, damage.disk) {
+        Some(disk) => put(disk, damage.at, damage.bytes).is_some(),
+        None => false,
+    }
 }
 
 /// It is refused for the damage.
-fn see_damage<T: TestStore>(alloc: Global, damage: &Damage) -> Result<(), &'static str> {
-    let mut disks = bare::<T>(alloc)?;
-    let disk = nth(&mut disks, damage.disk).ok_or("no disk")?;
-    put(disk, damage.at, damage.bytes).ok_or("not written")?;
-    let (bad, _) = refused::<T>(alloc, disks)?;
-    let wanted = MountBad::Damaged {
-        site: damage.site,
-        want: damage.want,
-        found: damage.found,
+fn see_damage<T: TestStore>(alloc: Global, damage: &Damage, rows: &mut Rows, row: usize) {
+    let Some(mut disks) = there(rows, row, bare::<T>(alloc)) else {
+        return;
     };
-    see(bad == wanted, "another refusal")
+    rows.nth(row, "the damage is written", is_damaged(&mut disks, damage));
+    if let Some((bad, _)) = there(rows, row, refused::<T>(alloc, disks)) {
+        let wanted = MountBad::Damaged {
+            site: damage.site,
+            want: damage.want,
+            found: damage.found,
+        };
+        rows.nth(row, "the refusal of a damage", bad == wanted);
+    }
 }
 
-#[test]
-fn what_is_damaged_is_told(rt: HostRuntime) -> Result<(), Fail> {
-    for damage in &DAMAGES {
-        see_damage::<TestCore>(rt.alloc(), damage)?;
+fn tell_damages<T: TestStore>(alloc: Global, rows: &mut Rows) {
+    for (row, damage) in DAMAGES.iter().enumerate() {
+        see_damage::<T>(alloc, damage, rows, row);
     }
-    Ok(())
 }
 
 // ---- a second crash
@@ -259,61 +292,141 @@ const BLOCKS: u32 = 1_100;
 
 const BUCKETS: u32 = 5;
 
+/// What mounting is refused for where this call of a new section without entries fails, and what a
+/// crash leaves of the disks behind that.
+fn stopped<T: TestStore>(
+    alloc: Global,
+    mut disks: Disks<T::Disk>,
+    call: u8,
+) -> Result<(MountBad, Disks<T::Disk>), &'static str> {
+    let Some(sections) = empty_section(alloc, BUCKETS, Fails::At(u64::from(call))) else {
+        return Err("memory for a section");
+    };
+    disks.sections = sections;
+    let (bad, disks) = refused::<T>(alloc, disks)?;
+    let mode = CrashMode::ALL[usize::from(call % 4)];
+    match crashed(alloc, disks, mode) {
+        Some(disks) => Ok((bad, disks)),
+        None => Err("memory for what a crash leaves"),
+    }
+}
+
 /// A section without entries is put under the large log, of which this call fails. The store is
 /// mounted until that call, crashes, and is mounted again.
 fn mount_twice<T: TestStore>(
     alloc: Global,
-    mut disks: Disks<T::Disk>,
-    call: u64,
-) -> Result<Disks<T::Disk>, &'static str> {
-    disks.sections = empty_section(alloc, BUCKETS, Fails::At(call)).ok_or("no section")?;
-    let (bad, disks) = refused::<T>(alloc, disks)?;
-    see(bad == MountBad::Fault, "another refusal")?;
-    let mode = CrashMode::ALL[call as usize % 4];
-    let disks = crashed(alloc, disks, mode).ok_or("no disks")?;
-    let mut store: T = opened(alloc, disks)?;
-    see_blocks(alloc, &mut store, BLOCKS)?;
-    store.close().ok_or("no disks of a store")
+    disks: Disks<T::Disk>,
+    call: u8,
+    rows: &mut Rows,
+) -> Option<Disks<T::Disk>> {
+    let row = usize::from(call);
+    let (bad, disks) = there(rows, row, stopped::<T>(alloc, disks, call))?;
+    rows.nth(
+        row,
+        "the refusal where this call fails",
+        bad == MountBad::Fault,
+    );
+    see_disks::<T>(alloc, disks, BLOCKS, rows, row)
 }
 
 /// More entries are lacking than a shard has room for, so that mounting writes, by six calls for
 /// each bucket. It is stopped at calls of the section's disk, each fifth one of them while it
 /// writes, with a crash behind it.
-fn second_crashes<T: TestStore>(alloc: Global) -> Result<(), &'static str> {
+fn second_crashes<T: TestStore>(alloc: Global, rows: &mut Rows) {
     let disks = devices(alloc, LARGE, BUCKETS, Fails::Never);
-    let mut disks = filled::<T>(alloc, disks.ok_or("no disks")?, BLOCKS, false)?;
+    let mut disks = there(rows, 0, filled::<T>(alloc, disks, BLOCKS, false));
     for call in [4, 14, 19, 24, 29, 34, 39] {
-        disks = mount_twice::<T>(alloc, disks, call)?;
+        disks = match disks {
+            Some(disks) => mount_twice::<T>(alloc, disks, call, rows),
+            None => None,
+        };
     }
-    Ok(())
-}
-
-#[test]
-fn a_second_crash_loses_nothing(rt: HostRuntime) -> Result<(), Fail> {
-    Ok(second_crashes::<TestCore>(rt.alloc())?)
+    rows.is("the disks are handed back", disks.is_some());
 }
 
 // ---- a smaller index
 
-/// An index of one bucket is put under a log of 264 blocks, and one of two under it again.
-fn smaller_index<T: TestStore>(alloc: Global) -> Result<(), &'static str> {
-    let disks = devices(alloc, LARGE, 2, Fails::Never);
-    let mut old = filled::<T>(alloc, disks.ok_or("no disks")?, 264, false)?;
-    old.sections = empty_section(alloc, 1, Fails::Never).ok_or("no section")?;
+/// What mounting is refused for where an index of one bucket is put under a log of 264 blocks, and
+/// the disks, with one of two buckets without entries.
+fn with_small<T: TestStore>(alloc: Global) -> Result<(MountBad, Disks<T::Disk>), &'static str> {
+    let Some(one) = empty_section(alloc, 1, Fails::Never) else {
+        return Err("memory for a section");
+    };
+    let Some(two) = empty_section(alloc, 2, Fails::Never) else {
+        return Err("memory for a section");
+    };
+    let mut old = filled::<T>(alloc, devices(alloc, LARGE, 2, Fails::Never), 264, false)?;
+    old.sections = one;
     let (bad, mut old) = refused::<T>(alloc, old)?;
+    old.sections = two;
+    Ok((bad, old))
+}
+
+/// An index of one bucket is put under a log of 264 blocks, and one of two under it again.
+fn smaller_index<T: TestStore>(alloc: Global, rows: &mut Rows) {
+    let Some((bad, old)) = there(rows, 0, with_small::<T>(alloc)) else {
+        return;
+    };
     let wanted = MountBad::Disagree {
         part: 1,
         field: MountField::Crowd,
         found: 264,
         want: 263,
     };
-    see(bad == wanted, "another refusal")?;
-    old.sections = empty_section(alloc, 2, Fails::Never).ok_or("no section")?;
-    let mut store: T = opened(alloc, old)?;
-    see_blocks(alloc, &mut store, 264)
+    rows.is("the refusal of a smaller index", bad == wanted);
+    let back = see_disks::<T>(alloc, old, 264, rows, 0);
+    rows.is("the disks are handed back", back.is_some());
+}
+
+// ---- the tests
+
+/// What a test sees.
+#[derive(Clone, Copy)]
+enum Case {
+    DirectoryReads,
+    Damages,
+    SecondCrashes,
+    SmallerIndex,
+}
+
+fn see<T: TestStore>(alloc: Global, case: Case, rows: &mut Rows) {
+    match case {
+        Case::DirectoryReads => read_directory::<T>(alloc, rows),
+        Case::Damages => tell_damages::<T>(alloc, rows),
+        Case::SecondCrashes => second_crashes::<T>(alloc, rows),
+        Case::SmallerIndex => smaller_index::<T>(alloc, rows),
+    }
+}
+
+/// The same, of stores on disks in memory.
+fn see_in_memory(alloc: Global, case: Case) -> Result<(), Wrong> {
+    let mut rows = Rows::new();
+    see::<Core<Mem, ShortScorer>>(alloc, case, &mut rows);
+    rows.all()
+}
+
+/// A sync and two reads of the arena's head, and the read of each directory entry, of which none is
+/// made below the least mark.
+#[test]
+fn a_directory_read_fails(rt: HostRuntime) -> Result<(), Fail> {
+    see_in_memory(rt.alloc(), Case::DirectoryReads)?;
+    Ok(())
+}
+
+#[test]
+fn what_is_damaged_is_told(rt: HostRuntime) -> Result<(), Fail> {
+    see_in_memory(rt.alloc(), Case::Damages)?;
+    Ok(())
+}
+
+#[test]
+fn a_second_crash_loses_nothing(rt: HostRuntime) -> Result<(), Fail> {
+    see_in_memory(rt.alloc(), Case::SecondCrashes)?;
+    Ok(())
 }
 
 #[test]
 fn a_smaller_index_is_refused(rt: HostRuntime) -> Result<(), Fail> {
-    Ok(smaller_index::<TestCore>(rt.alloc())?)
+    see_in_memory(rt.alloc(), Case::SmallerIndex)?;
+    Ok(())
 }

@@ -2,11 +2,12 @@
 //! is left out: the disks would have 128 MiB and 17 GiB.
 
 use crate::disks::{Disks, Fails, Mem, TestDisk, nth, put, small};
-use crate::stores::{TestStore, see};
+use crate::stores::{TestStore, there};
 use std::alloc::Global;
 use std::test::Fail;
 use vt_base::{MountBad, MountField, ShortScorer};
 use vt_core::Core;
+use vt_rows::Rows;
 
 /// Bytes that are written over those of a disk at a place, and the field that the store is refused
 /// for then, with what is found there and what is wanted; none says that the part isn't formatted.
@@ -87,51 +88,88 @@ fn bad_of(part: u32, torn: Option<(MountField, u128, u128)>) -> MountBad {
     }
 }
 
-/// The store of these disks is refused for this, and they are handed back.
+/// What the store of these disks is refused for, and the disks, which are handed back.
 fn refused<T: TestStore>(
     alloc: Global,
     disks: Disks<T::Disk>,
-    wanted: MountBad,
-) -> Result<Disks<T::Disk>, &'static str> {
+) -> Result<(MountBad, Disks<T::Disk>), &'static str> {
     match T::open(alloc, disks) {
-        Some(Err((bad, disks))) => {
-            see(bad == wanted, "another refusal")?;
-            Ok(disks)
-        }
-        Some(Ok(_)) => Err("it is mounted"),
-        None => Err("no disks of a store"),
+        Some(Err(refusal)) => Ok(refusal),
+        Some(Ok(_)) => Err("the store is refused"),
+        None => Err("disks of a store"),
     }
 }
 
 /// Writes the bytes of a patch.
-fn spoil<D: TestDisk>(disks: &mut Disks<D>, patch: &Patch) -> Option<()> {
-    put(nth(disks, patch.0)?, patch.1, patch.2)
+fn is_spoilt<D: TestDisk>(disks: &mut Disks<D>, patch: &Patch) -> bool {
+    match nth(disks, patch.0) {
+        Some(disk) => put(disk, patch.1, patch.2).is_some(),
+        None => false,
+    }
+}
+
+/// Writes the bytes of a patch, and sees that the store is refused for it. It gives the disks back.
+fn spoil<T: TestStore>(
+    alloc: Global,
+    mut disks: Disks<T::Disk>,
+    patch: &Patch,
+    rows: &mut Rows,
+    row: usize,
+) -> Option<Disks<T::Disk>> {
+    rows.nth(row, "the patch is written", is_spoilt(&mut disks, patch));
+    let (bad, disks) = there(rows, row, refused::<T>(alloc, disks))?;
+    rows.nth(
+        row,
+        "the refusal of a patch",
+        bad == bad_of(patch.0, patch.3),
+    );
+    Some(disks)
 }
 
 /// More and more is wrong, and each time what is tested first is told.
-fn order<T: TestStore>(alloc: Global) -> Result<(), &'static str> {
-    let mut disks: Disks<T::Disk> = small(alloc, 2, 0, Fails::Never).ok_or("no disks")?;
-    for patch in PATCHES.iter().rev() {
-        spoil(&mut disks, patch).ok_or("not written")?;
-        disks = refused::<T>(alloc, disks, bad_of(patch.0, patch.3))?;
+fn order<T: TestStore>(alloc: Global, rows: &mut Rows) {
+    let mut disks = small::<T::Disk>(alloc, 2, 0, Fails::Never);
+    for (row, patch) in PATCHES.iter().enumerate().rev() {
+        disks = match disks {
+            Some(disks) => spoil::<T>(alloc, disks, patch, rows, row),
+            None => None,
+        };
     }
-    Ok(())
+    rows.is("the disks are handed back", disks.is_some());
+}
+
+/// The disks of a store, one of which ends too early.
+fn shortened<D: TestDisk>(alloc: Global, part: u32, len: u64) -> Option<Disks<D>> {
+    let short = D::failing(alloc, len, 0, Fails::Never)?;
+    let mut disks = small(alloc, 2, 0, Fails::Never)?;
+    *nth(&mut disks, part)? = short;
+    Some(disks)
 }
 
 /// A disk that ends too early, in the place of a section or of the filter's.
-fn short<T: TestStore>(alloc: Global, part: u32, len: u64, need: u64) -> Result<(), &'static str> {
-    let mut disks: Disks<T::Disk> = small(alloc, 2, 0, Fails::Never).ok_or("no disks")?;
-    let disk = T::Disk::failing(alloc, len, 0, Fails::Never).ok_or("no disk")?;
-    *nth(&mut disks, part).ok_or("no part")? = disk;
-    refused::<T>(alloc, disks, MountBad::TooSmall { part, len, need })?;
-    Ok(())
+fn short<T: TestStore>(alloc: Global, part: u32, len: u64, need: u64, rows: &mut Rows) {
+    let row = part as usize;
+    let disks = shortened::<T::Disk>(alloc, part, len).ok_or("memory for the disks");
+    let Some(disks) = there(rows, row, disks) else {
+        return;
+    };
+    if let Some((bad, _)) = there(rows, row, refused::<T>(alloc, disks)) {
+        let wanted = MountBad::TooSmall { part, len, need };
+        rows.nth(row, "the refusal of a short disk", bad == wanted);
+    }
+}
+
+fn see<T: TestStore>(alloc: Global, rows: &mut Rows) {
+    order::<T>(alloc, rows);
+    short::<T>(alloc, 2, 41_471, 41_472, rows);
+    short::<T>(alloc, 3, 40_959, 40_960, rows);
 }
 
 /// Each test fails once, and tells what was found and what was wanted.
 #[test]
 fn stores_are_refused(rt: HostRuntime) -> Result<(), Fail> {
-    order::<Core<Mem, ShortScorer>>(rt.alloc())?;
-    short::<Core<Mem, ShortScorer>>(rt.alloc(), 2, 41_471, 41_472)?;
-    short::<Core<Mem, ShortScorer>>(rt.alloc(), 3, 40_959, 40_960)?;
+    let mut rows = Rows::new();
+    see::<Core<Mem, ShortScorer>>(rt.alloc(), &mut rows);
+    rows.all()?;
     Ok(())
 }

@@ -1,22 +1,25 @@
 //! The steps of a read and of a write, on a log and a shard that are handed in.
 
-ghost use Rattle.std.specs.Prelude.{◌≡◌, ◌<◌, ◌≤◌, IsTrue, None, Ok, length};
+ghost use Rattle.std.specs.Prelude.{◌≡◌, ◌<◌, ◌≤◌, IfSome, IsTrue, None, Ok, length};
 ghost use Rattle.vt_icache.specs.Index.{dirty_info};
+ghost use Rattle.vt_isect.specs.Section.{IsAtRest};
 ghost use Rattle.vt_log.specs.Log.{has_next};
 ghost use Rattle.vt_shard.specs.Shard.{HasScore};
-ghost use Rattle.vt_core.specs.declared.writing.Verdict.TheVariants.{New};
+ghost use Rattle.vt_lookup.specs.declared.writing.Verdict.TheVariants.{New};
 
 use crate::disks::{ARENA_LEN, Fails, Mem, TestDisk, mounted_part, only, partition, section};
-use crate::stores::{SIZES, see};
+use crate::stores::{SIZES, there};
 use std::alloc::Global;
 use std::marker::Brand;
 use std::sync::ledger::{Blank, Ledger};
 use std::test::Fail;
 use vt_base::{Bytes, Key, Kind, MAX_BLOCK, Scorer, ShortScorer, Why};
 use vt_clump::pack;
-use vt_core::{Verdict, add_block, find_block, test_write};
 use vt_disk::Disk;
+use vt_isect::Section;
 use vt_log::Log;
+use vt_lookup::{Verdict, add_block, find_block, test_write};
+use vt_rows::Rows;
 use vt_shard::Shard;
 use vt_steps::Steps;
 
@@ -92,12 +95,14 @@ fn write_on<D: Disk, L: Ledger>(
     requires some { 0 < L.parts }
 {
     if block.is_empty() || block.len() > MAX_BLOCK || !shard.has_key(key) {
-        return Err("no block of this shard");
+        return Err("the block is one of this shard");
     }
     let mut steps = Steps::<L>::new(blank);
     let verdict = test_write(alloc, log, shard, true, key, block, &mut steps);
-    if let Ok(Verdict::New) = verdict {
-        add(alloc, log, shard, key, block)?;
+    if let Ok(Verdict::New) = verdict
+        && let Err(what) = add(alloc, log, shard, key, block)
+    {
+        return Err(what);
     }
     Ok(verdict)
 }
@@ -115,12 +120,12 @@ fn find_on<D: Disk, L: Ledger>(
     requires some { 0 < L.parts }
 {
     if !shard.has_key(key) {
-        return Err("another shard's key");
+        return Err("the key is one of this shard");
     }
     let mut steps = Steps::<L>::new(blank);
     match find_block(alloc, log, shard, may_have, key, &mut steps) {
         Ok(found) => Ok(found),
-        Err(_) => Err("not looked for"),
+        Err(_) => Err("the block is looked for"),
     }
 }
 
@@ -132,14 +137,21 @@ fn log<D: TestDisk>(alloc: Global) -> Option<Log<D, ShortScorer>> {
     }
 }
 
-fn shard<D: TestDisk>(alloc: Global) -> Option<Shard<D>> {
+/// The only section, of which no bucket is being written back.
+fn resting<D: TestDisk>(alloc: Global) -> Option<Section<D>>
+    ensures { IfSome result IsAtRest }
+{
     let Ok(section) = vt_isect::mount(alloc, section(alloc, 0, 1, 1, Fails::Never)?) else {
         return None;
     };
     if section.is_changing() {
         return None;
     }
-    match vt_shard::mount(alloc, section, SIZES) {
+    Some(section)
+}
+
+fn shard<D: TestDisk>(alloc: Global) -> Option<Shard<D>> {
+    match vt_shard::mount(alloc, resting(alloc)?, SIZES) {
         Ok(shard) => Some(shard),
         Err(_) => None,
     }
@@ -159,17 +171,17 @@ fn add<D: Disk>(
     requires absent { dirty_info key.now shard.old.index ≡ None }
 {
     if log.queue_full() || shard.spare() == 0 || shard.owed() > 0 || !shard.has_key(key) {
-        return Err("no room");
+        return Err("there is room for the block");
     }
     if log.front() == u64::MAX {
-        return Err("no number");
+        return Err("there is a number for the block");
     }
     match pack(alloc, key.kind, block, key.score, 0) {
         Ok(packed) => {
             add_block(log, shard, packed);
             Ok(())
         }
-        Err(_) => Err("no memory"),
+        Err(_) => Err("memory for the block"),
     }
 }
 
@@ -201,17 +213,20 @@ const ACTS: [Act<'static>; 11] = [
     Act::Write(Kind::DATA, &[1; 9_000], Err(Why::ArenasFull)),
 ];
 
-/// Sees that one act gives what it says.
-fn does<T: TestParts>(alloc: Global, parts: &mut T, act: &Act<'_>) -> Result<(), &'static str> {
+/// Whether one act gives what it says, or why it can't be done.
+fn does<T: TestParts>(alloc: Global, parts: &mut T, act: &Act<'_>) -> Result<bool, &'static str> {
     match act {
         Act::Write(kind, block, wanted) => {
-            let verdict = parts.write(alloc, &key(*kind, block), block)?;
-            see(verdict == *wanted, "another verdict")
+            match parts.write(alloc, &key(*kind, block), block) {
+                Ok(verdict) => Ok(verdict == *wanted),
+                Err(what) => Err(what),
+            }
         }
         Act::Find(kind, block, may_have, wanted) => {
-            match parts.find(alloc, *may_have, &key(*kind, block))? {
-                Some(found) => see(*wanted && found.as_slice() == *block, "another block"),
-                None => see(!*wanted, "no block"),
+            match parts.find(alloc, *may_have, &key(*kind, block)) {
+                Ok(Some(found)) => Ok(*wanted && found.as_slice() == *block),
+                Ok(None) => Ok(!*wanted),
+                Err(what) => Err(what),
             }
         }
     }
@@ -225,15 +240,26 @@ fn key(kind: Kind, block: &[u8]) -> Key {
     }
 }
 
-fn do_all<T: TestParts>(alloc: Global) -> Result<(), &'static str> {
-    let mut parts = T::made(alloc).ok_or("no parts")?;
-    for act in &ACTS {
-        does(alloc, &mut parts, act)?;
+fn see<T: TestParts>(alloc: Global, parts: &mut T, act: &Act<'_>, rows: &mut Rows, row: usize) {
+    match does(alloc, parts, act) {
+        Ok(right) => rows.nth(row, "what an act gives", right),
+        Err(what) => rows.nth(row, what, false),
     }
-    Ok(())
+}
+
+fn do_all<T: TestParts>(alloc: Global, rows: &mut Rows) {
+    let Some(mut parts) = there(rows, 0, T::made(alloc).ok_or("the parts")) else {
+        return;
+    };
+    for (row, act) in ACTS.iter().enumerate() {
+        see(alloc, &mut parts, act, rows, row);
+    }
 }
 
 #[test]
 fn a_block_is_tested_added_and_found(rt: HostRuntime) -> Result<(), Fail> {
-    Ok(do_all::<Parts<Mem>>(rt.alloc())?)
+    let mut rows = Rows::new();
+    do_all::<Parts<Mem>>(rt.alloc(), &mut rows);
+    rows.all()?;
+    Ok(())
 }

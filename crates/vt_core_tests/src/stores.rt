@@ -6,9 +6,11 @@ ghost use Rattle.vt_core.specs.Events.{IsFor};
 use crate::disks::{Disks, Fails, TestDisk, closed, crashed, mounted_part, only, small};
 use std::alloc::Global;
 use vt_base::{MountBad, Said, Score, Scorer, Sha1Scorer, ShortScorer, Why};
-use vt_core::{Core, Devices, Event, Out};
+use vt_core::{Core, Event, Out};
 use vt_disk::Disk;
 use vt_memdisk::CrashMode;
+use vt_recover::Devices;
+use vt_rows::Rows;
 use vt_shard::Sizes;
 use vt_wire::Request;
 
@@ -20,9 +22,15 @@ pub const SIZES: Sizes = Sizes {
 /// A block of data has this type.
 pub const DATA: u8 = 13;
 
-/// Goes on where this holds.
-pub fn see(holds: bool, otherwise: &'static str) -> Result<(), &'static str> {
-    if holds { Ok(()) } else { Err(otherwise) }
+/// What is there. Where it isn't, a row says so.
+pub fn there<T>(rows: &mut Rows, row: usize, found: Result<T, &'static str>) -> Option<T> {
+    match found {
+        Ok(it) => Some(it),
+        Err(what) => {
+            rows.nth(row, what, false);
+            None
+        }
+    }
 }
 
 /// A store that a test asks, stops, crashes and mounts again. What a test does is proved for any
@@ -138,8 +146,8 @@ fn is_for<D: Disk, S: Scorer>(core: &Core<D, S>, event: &Event<'_>) -> bool
 pub fn opened<T: TestStore>(alloc: Global, disks: Disks<T::Disk>) -> Result<T, &'static str> {
     match T::open(alloc, disks) {
         Some(Ok(store)) => Ok(store),
-        Some(Err(_)) => Err("it isn't mounted"),
-        None => Err("no disks of a store"),
+        Some(Err(_)) => Err("the store is mounted"),
+        None => Err("disks of a store"),
     }
 }
 
@@ -152,18 +160,18 @@ pub fn fresh<T: TestStore>(
 ) -> Result<T, &'static str> {
     match small(alloc, arenas, device, fails) {
         Some(disks) => opened(alloc, disks),
-        None => Err("no disks"),
+        None => Err("memory for the disks"),
     }
 }
 
 /// A store is stopped, crashes in a mode, and is mounted again.
 pub fn again<T: TestStore>(alloc: Global, store: T, mode: CrashMode) -> Result<T, &'static str> {
     let Some(disks) = store.close() else {
-        return Err("no disks of a store");
+        return Err("disks of a store");
     };
     match crashed(alloc, disks, mode) {
         Some(disks) => opened(alloc, disks),
-        None => Err("no memory"),
+        None => Err("memory for what a crash leaves"),
     }
 }
 
@@ -255,16 +263,17 @@ pub fn does<T: TestStore>(alloc: Global, store: &mut T, act: &Act<'_>) -> bool {
     }
 }
 
-/// Sees that each of them does.
+/// Notes for each of them whether it does.
 pub fn do_all<T: TestStore>(
     alloc: Global,
     store: &mut T,
+    what: &'static str,
     acts: &[Act<'_>],
-) -> Result<(), &'static str> {
-    for act in acts {
-        see(does(alloc, store, act), "an act gives something else")?;
+    rows: &mut Rows,
+) {
+    for (row, act) in acts.iter().enumerate() {
+        rows.nth(row, what, does(alloc, store, act));
     }
-    Ok(())
 }
 
 /// What a session is told.

@@ -7,6 +7,3 @@ mod place;
 
 pub use dialer::Dialer;
 pub use mem_dialer::MemDialer;
-
-#[cfg(test)]
-mod tests;

@@ -26,12 +26,12 @@ use Rattle.vt_shard.specs.Shard.{ShardState}
 use Rattle.vt_shard.specs.declared.TheConstants.{ROOM}
 use Rattle.vt_core.specs.declared.event.Out.{Out}
 use Rattle.vt_core.specs.declared.event.Out.TheVariants.{Waits, NotYet}
-use Rattle.vt_core.specs.declared.writing.Verdict.{Verdict}
-use Rattle.vt_core.specs.declared.writing.Verdict.TheVariants.{Held, New}
+use Rattle.vt_lookup.specs.declared.writing.Verdict.{Verdict}
+use Rattle.vt_lookup.specs.declared.writing.Verdict.TheVariants.{Held, New}
 use Rattle.vt_core.specs.Asking.{EndsWrite, Performs, Serves, Writes, lent, says, shard_of, stop_for, with_parts, with_waiting}
 use Rattle.vt_core.specs.Core.{CoreState, history_len, setup_of}
 use Rattle.vt_core.specs.Events.{reply_of}
-use Rattle.vt_core.specs.Finding.{Parts, Sought}
+use Rattle.vt_lookup.specs.Finding.{Parts, Sought}
 use Rattle.vt_drive.specs.Answers.{Suits}
 use Rattle.vt_drive.proofs.TestKeeps.{test_keeps}
 

@@ -18,7 +18,7 @@ use Rattle.vt_core.specs.declared.event.Out.{Out}
 use Rattle.vt_core.specs.declared.event.Out.TheVariants.{Said as SaidOut, Waits, NotYet, Moved, Nothing, Failed}
 use Rattle.vt_core.specs.Core.{CoreState, history_len}
 use Rattle.vt_core.specs.Work.{AdvancesLog, AdvancesWriteback, BeginsWriteback, ChangesShard}
-use Rattle.vt_core.proofs.Calls.{get_set, get_other}
+use Rattle.vt_recover.proofs.Places.{get_set, get_other}
 use Rattle.vt_drive.specs.Working.{HasFiled, HasNoWriteback, IsEnding, IsFiled, WentOn, left_with, work_left}
 use Rattle.vt_drive.proofs.Filing.{Advanced, no_work_from, advanced, advance_less, begin_less, begin_fewer, log_less, shard_less}
 use Rattle.vt_drive.proofs.Pieces.{log_moved, shard_idle}

@@ -23,7 +23,7 @@ use Rattle.vt_core.specs.Core.{CoreState, each_of, history_len, stops_of}
 use Rattle.vt_core.specs.Sound.{IsSound}
 use Rattle.vt_core.specs.Steps.{Runs, Steps}
 use Rattle.vt_core.specs.Work.{IsSaved}
-use Rattle.vt_core.proofs.Lists.{at_map}
+use Rattle.vt_recover.proofs.Lists.{at_map}
 use Rattle.vt_core.proofs.AskWork.{one_rose}
 use Rattle.vt_drive.specs.Ending.{Ends, EndsFor, EndsParts, FilesAll, HasFailed, TellsFirst, first_failure, first_of}
 use Rattle.vt_drive.specs.Working.{DoesWork, Fails, IsFiled, IsOwnWork, NeedsDurable, Works}

@@ -27,7 +27,7 @@ use Rattle.vt_shard.specs.Shard.{HasBelow, ShardState}
 use Rattle.vt_shard.specs.Writeback.{HasWork, TakesStep, without_list}
 use Rattle.vt_core.specs.declared.event.Out.TheVariants.{Moved}
 use Rattle.vt_core.specs.Work.{AdvancesWriteback, BeginsWriteback}
-use Rattle.vt_core.proofs.WritingBack.{goes_on}
+use Rattle.vt_recover.proofs.WritingBack.{goes_on}
 use Rattle.vt_core.proofs.ShardCall.{list_head, list_next}
 use Rattle.vt_drive.specs.Working.{has_work, left_in, left_with, most_left}
 use Rattle.vt_drive.proofs.Pieces.{shard_moved}

@@ -30,10 +30,10 @@ use Rattle.vt_core.specs.Events.{EndsWaiting, operation_in}
 use Rattle.vt_core.specs.Machine.{Machine, WaitsForNone, WaitsAt}
 use Rattle.vt_core.specs.Sound.{IsSound}
 use Rattle.vt_core.specs.Steps.{KeepsStore, Steps}
-use Rattle.vt_core.proofs.Calls.{get_set}
+use Rattle.vt_recover.proofs.Places.{get_set}
 use Rattle.vt_core.proofs.Kept.{keeps_then}
 use Rattle.vt_core.proofs.AskWork.{one_rose}
-use Rattle.vt_core.proofs.TakingAllBack.{set_same}
+use Rattle.vt_recover.proofs.TakingAllBack.{set_same}
 use Rattle.vt_core.proofs.NewWork.{set_set}
 use Rattle.vt_core.specs.Work.{AdvancesLog, out_of_progress}
 use Rattle.vt_drive.specs.Answers.{Suits}

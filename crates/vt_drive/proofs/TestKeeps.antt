@@ -12,8 +12,8 @@ use Rattle.vt_isect.specs.declared.bad.ShardErr.{ShardErr}
 use Rattle.vt_log.specs.Log.{LogState}
 use Rattle.vt_shard.specs.Looking.{Looks, looked}
 use Rattle.vt_shard.specs.Shard.{ShardState}
-use Rattle.vt_core.specs.declared.writing.Verdict.{Verdict}
-use Rattle.vt_core.specs.Finding.{Compares, Holds, MayKeep, Parts, ReadsFound, SeeksBlock, SeeksOther, Sought, TakesLump, ReadsClump, TestsOther, TestsRoom, TestsWrite, with_shard}
+use Rattle.vt_lookup.specs.declared.writing.Verdict.{Verdict}
+use Rattle.vt_lookup.specs.Finding.{Compares, Holds, MayKeep, Parts, ReadsFound, SeeksBlock, SeeksOther, Sought, TakesLump, ReadsClump, TestsOther, TestsRoom, TestsWrite, with_shard}
 
 -- the log is read from, and what is queued and dirty stays
 pub record KeepsRoom {D : Type 0} (old new : Parts D) : Type 0 where

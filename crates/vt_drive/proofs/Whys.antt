@@ -27,7 +27,8 @@ use Rattle.vt_twin.specs.declared.step.TwinErr.TheVariants as twin_err
 use Rattle.vt_core.specs.declared.event.Out.TheVariants.{Failed}
 use Rattle.vt_core.specs.Asking.{shard_of, stop_for}
 use Rattle.vt_core.specs.Core.{CoreState, setup_of, stops_of}
-use Rattle.vt_core.specs.Work.{AdvancesLog, AdvancesWriteback, ChangesShard, IsBegun, SavesFilter, SavesIn, out_of_progress, out_of_save, out_of_writeback, why_of_shard}
+use Rattle.vt_core.specs.Work.{AdvancesLog, AdvancesWriteback, ChangesShard, IsBegun, SavesFilter, SavesIn, out_of_progress, out_of_save, out_of_writeback}
+use Rattle.vt_lookup.specs.Finding.{why_of_shard}
 
 -- ---- why
 

@@ -118,6 +118,3 @@ pub fn u64_at(bytes: &[u8], at: usize) -> u64
 {
     BigEndian::read_u64(&bytes[at..])
 }
-
-#[cfg(test)]
-mod tests;

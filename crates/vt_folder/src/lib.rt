@@ -9,6 +9,3 @@ mod mem_folder;
 pub use folder::Folder;
 pub use item::{Facts, Item, ItemKind, Listing};
 pub use mem_folder::{MemContent, MemFolder, MemItem};
-
-#[cfg(test)]
-mod tests;

@@ -7,6 +7,3 @@ mod place;
 
 pub use folders::Folders;
 pub use mem_folders::MemFolders;
-
-#[cfg(test)]
-mod tests;

@@ -35,6 +35,3 @@ pub const MOST_POSITIONS: u64 = 32;
 pub const MAX_ARENAS: u64 = 4096;
 
 pub const MAX_BUCKETS: u64 = 1 << 20;
-
-#[cfg(test)]
-mod tests;

@@ -26,10 +26,10 @@ use Rattle.vt_part.specs.declared.part.Part.{Part}
 use Rattle.vt_part.specs.Layout.{AreDistinct, arena_of, arenas_of, layout_of}
 use Rattle.vt_part.specs.Parts.{disk_of, table_of, tables_of}
 use Rattle.vt_part.specs.Table.{Table, count_for, end_of, table_for}
-use Rattle.vt_core.specs.declared.devices.Devices.{Devices}
+use Rattle.vt_recover.specs.declared.devices.Devices.{Devices}
 use Rattle.vt_core.specs.Core.{CoreState, devices_of}
 use Rattle.vt_core.specs.Mounting.{IsLogOf, KeepsLimits, devices_in, tables_in}
-use Rattle.vt_core.specs.Refusals.{CountsRefusal}
+use Rattle.vt_recover.specs.Refusals.{CountsRefusal}
 use Rattle.vt_core.specs.Sound.{IsSound}
 use Rattle.vt_fresh.specs.Devices.{AreFormatted, setup_on}
 use Rattle.vt_fresh.specs.Formatted.{AreEmptyLogs, AreUnfilled, IsUnset}

@@ -20,7 +20,8 @@ use Rattle.vt_format.specs.Arenas.{IsEmptyLog}
 use Rattle.vt_format.specs.Usage.{head_in}
 use Rattle.vt_core.specs.Files.{PerDevice}
 use Rattle.vt_core.specs.Mounting.{AllStandFor, IsLogOf}
-use Rattle.vt_core.specs.Stands.{FilterStandsFor, SectionStandsFor, buckets_of}
+use Rattle.vt_core.specs.Stands.{FilterStandsFor}
+use Rattle.vt_recover.specs.Sections.{SectionStandsFor, buckets_of}
 use Rattle.vt_fresh.specs.Devices.{AreFormatted, setup_on}
 use Rattle.vt_fresh.specs.Formatted.{AreUnfilled, IsUnfilled, IsUnset}
 use Rattle.vt_fresh.proofs.EmptyLogs.{files_empty, one_log}

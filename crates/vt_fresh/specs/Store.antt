@@ -5,7 +5,7 @@ use Rattle.std.specs.Option.{option_to_list}
 use Rattle.vt_bloom.specs.Bits.{Filter}
 use Rattle.vt_bloom.specs.Frame.{HasSaved, empty_of}
 use Rattle.vt_bloom.specs.Size.{IsSize}
-use Rattle.vt_core.specs.declared.devices.Devices.{Devices}
+use Rattle.vt_recover.specs.declared.devices.Devices.{Devices}
 use Rattle.vt_core.specs.Core.{CoreState, setup_of, stops_of}
 use Rattle.vt_core.specs.Mounting.{HasRoomOf, IsLogOf, KeepsLimits, devices_in, tables_in}
 use Rattle.vt_core.specs.Sound.{IsSound}

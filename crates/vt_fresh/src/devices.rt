@@ -5,7 +5,7 @@ ghost use Rattle.vt_bloom.specs.Bits.{AreCounts};
 ghost use Rattle.vt_bloom.specs.Frame.{HasSaved, empty_of};
 ghost use Rattle.vt_bloom.specs.Size.{IsLargest, IsSize};
 ghost use Rattle.vt_disk.specs.declared.TheConstants.{BLOCK_LEN};
-ghost use Rattle.vt_core.specs.declared.devices.Devices.{Devices};
+ghost use Rattle.vt_recover.specs.declared.devices.Devices.{Devices};
 ghost use Rattle.vt_fresh.specs.Formatted.{AreUnfilled};
 ghost use Rattle.vt_fresh.specs.Partition.{IsFreshPart};
 ghost use Rattle.vt_fresh.specs.Shape.{IsShape};
@@ -20,11 +20,11 @@ use crate::sections::fresh_sections;
 use crate::shape::Shape;
 use std::alloc::Global;
 use vt_base::{MountBad, NoMemory, Text};
-use vt_core::Devices;
 use vt_disk::{BLOCK_LEN, Disk};
 use vt_format::{make_arenas, make_filter};
 use vt_memdisk::MemDisk;
 use vt_part::Part;
+use vt_recover::Devices;
 
 /// The devices of a store of this shape without blocks, on disks in memory, of which no call fails.
 pub fn fresh_devices(alloc: Global, shape: &Shape) -> Result<Devices<MemDisk>, NoMemory>

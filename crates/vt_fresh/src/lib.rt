@@ -11,6 +11,3 @@ mod store;
 pub use devices::fresh_devices;
 pub use shape::Shape;
 pub use store::fresh_store;
-
-#[cfg(test)]
-mod tests;

@@ -2,7 +2,7 @@
 
 ghost use Rattle.std.specs.Prelude.{◌≡◌, ◌⊎◌, ◌<◌, IfOk, IsTrue, List, map};
 ghost use Rattle.vt_base.specs.declared.mount.MountBad.{MountBad};
-ghost use Rattle.vt_core.specs.Refusals.{CountsRefusal};
+ghost use Rattle.vt_recover.specs.Refusals.{CountsRefusal};
 ghost use Rattle.vt_fresh.specs.Shape.{IsShape};
 ghost use Rattle.vt_fresh.specs.Store.{IsFreshStore};
 

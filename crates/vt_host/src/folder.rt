@@ -13,9 +13,6 @@ use vt_base::{Failed, NoMemory, Text};
 use vt_folder::{Folder, Item, ItemKind, Listing};
 use vt_out::OutErr;
 
-#[cfg(test)]
-mod tests;
-
 /// The file that was opened last.
 #[derive(Drop)]
 struct Opened<F> {

@@ -33,8 +33,3 @@ pub use paths::{FolderCalls, Look, PieceCalls};
 pub use sink::StdSink;
 pub use source::StdSource;
 pub use system::{ClockCalls, Connector, FileCalls, Opener, ReadCalls, WriteCalls};
-
-#[cfg(test)]
-mod fakes;
-#[cfg(test)]
-mod tests;

@@ -6,9 +6,6 @@ use std::alloc::Global;
 use vt_base::{NoMemory, Text};
 use vt_conf::parse_number;
 
-#[cfg(test)]
-mod tests;
-
 /// The name of a number.
 #[derive(Drop)]
 struct Owner {

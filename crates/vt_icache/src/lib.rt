@@ -7,6 +7,3 @@
 mod cache;
 
 pub use cache::{IndexCache, entry_of};
-
-#[cfg(test)]
-mod tests;

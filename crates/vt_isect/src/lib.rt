@@ -63,6 +63,3 @@ const _: () = prove!(FIELDS_LEN == 91);
 pub const GROUP_MAX: usize = 64;
 
 const _: () = prove!(GROUP_MAX == 64);
-
-#[cfg(test)]
-mod tests;

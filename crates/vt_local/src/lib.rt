@@ -5,6 +5,3 @@ pub mod laws;
 mod local;
 
 pub use local::Local;
-
-#[cfg(test)]
-mod tests;

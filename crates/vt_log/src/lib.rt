@@ -24,6 +24,3 @@ use vt_arena::STAGED_MAX;
 pub const QUEUE_MAX: usize = STAGED_MAX;
 
 const _: () = prove!(QUEUE_MAX == 64);
-
-#[cfg(test)]
-mod tests;

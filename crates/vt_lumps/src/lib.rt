@@ -5,6 +5,3 @@
 mod lumps;
 
 pub use lumps::Lumps;
-
-#[cfg(test)]
-mod tests;

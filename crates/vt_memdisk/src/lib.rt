@@ -14,6 +14,3 @@ pub use crash::CrashMode;
 pub use laws::{each_image_is_chosen, memory_as_a_disk, nothing_pending, unsynced_writes};
 pub use mem_disk::MemDisk;
 pub use plan::{Listed, Never, Plan};
-
-#[cfg(test)]
-mod tests;

@@ -9,6 +9,3 @@ mod mem_parts;
 pub use lending::MemPart;
 pub use making::{Failing, MakesDisks};
 pub use mem_parts::MemParts;
-
-#[cfg(test)]
-mod tests;

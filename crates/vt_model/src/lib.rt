@@ -23,6 +23,3 @@ pub const DIRECTORY_ENTRY_LEN: usize = 1 + 2 + 2 + 20;
 
 /// How many blocks a bucket of the index has room for.
 pub const BUCKET_ROOM: usize = 263;
-
-#[cfg(test)]
-mod tests;

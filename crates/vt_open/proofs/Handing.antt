@@ -6,7 +6,7 @@ use Rattle.std.proofs.lemmas.List.Elements.{All-nil}
 use Rattle.vt_base.specs.Faults.{HasRisen}
 use Rattle.vt_base.specs.declared.mount.MountBad.TheVariants as mount_bad
 use Rattle.vt_conf.specs.declared.conf.PartFile.{PartFile}
-use Rattle.vt_core.specs.Refusals.{CountsRefusal}
+use Rattle.vt_recover.specs.Refusals.{CountsRefusal}
 use Rattle.vt_disk.specs.Calls.{OnlyReads}
 use Rattle.vt_disk.specs.Members.{DiskOf}
 use Rattle.vt_part.specs.declared.bad.PartBad.{PartBad}

@@ -11,7 +11,7 @@ use Rattle.vt_disk.specs.Calls.{OnlyReads}
 use Rattle.vt_disk.specs.Members.{DiskOf}
 use Rattle.vt_log.specs.Answers.{HoldTheSame}
 use Rattle.vt_log.specs.Faults.{OneHasRisen}
-use Rattle.vt_core.specs.Refusals.{CountsRefusal}
+use Rattle.vt_recover.specs.Refusals.{CountsRefusal}
 use Rattle.vt_open.proofs.Lists.{zip_append, zip_at}
 
 -- one device holds what it held

@@ -18,11 +18,12 @@ use Rattle.vt_model.specs.Places.{Setup}
 use Rattle.vt_part.specs.Parts.{disk_of, table_of, tables_of}
 use Rattle.vt_part.specs.Table.{Table, IsPartition, end_of}
 use Rattle.vt_part.specs.declared.part.Part.{Part}
-use Rattle.vt_core.specs.declared.devices.Devices.{Devices}
+use Rattle.vt_recover.specs.declared.devices.Devices.{Devices}
 use Rattle.vt_core.specs.Core.{CoreState, devices_of}
 use Rattle.vt_core.specs.Files.{PerDevice, all_of}
 use Rattle.vt_core.specs.Mounting.{IsLogOf, KeepsLimits, LeavesStanding, Mounts, devices_in, tables_in}
-use Rattle.vt_core.specs.Refusals.{CountsRefusal, Refuses}
+use Rattle.vt_recover.specs.Refusals.{CountsRefusal}
+use Rattle.vt_core.specs.Refusals.{Refuses}
 use Rattle.vt_core.specs.Stands.{ArePartitions}
 use Rattle.vt_open.specs.Names.{AreUnder, HaveOneShape, files_of}
 use Rattle.vt_open.specs.Opening.{AreRead, FindsNoStore, Opens, sizes_of}

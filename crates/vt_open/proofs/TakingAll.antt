@@ -13,7 +13,7 @@ use Rattle.vt_log.specs.Answers.{HoldTheSame}
 use Rattle.vt_log.specs.Log.{disks_of}
 use Rattle.vt_part.specs.declared.part.Part.{Part}
 use Rattle.vt_part.specs.Parts.{disk_of, table_of}
-use Rattle.vt_core.specs.declared.devices.Devices.{Devices}
+use Rattle.vt_recover.specs.declared.devices.Devices.{Devices}
 use Rattle.vt_core.specs.Files.{all_of}
 use Rattle.vt_open.specs.declared.bad.OpenBad.{OpenBad}
 use Rattle.vt_open.specs.declared.bad.OpenBad.TheVariants.{Missing, Refused}

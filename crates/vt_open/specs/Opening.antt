@@ -8,7 +8,8 @@ use Rattle.vt_conf.specs.Room.{block_room, entry_room}
 use Rattle.vt_core.specs.Core.{CoreState, devices_of}
 use Rattle.vt_core.specs.Files.{PerDevice, all_of}
 use Rattle.vt_core.specs.Mounting.{IsLogOf, IsSetupOf, KeepsLimits, LeavesStanding, Mounts}
-use Rattle.vt_core.specs.Refusals.{CountsRefusal, IsEarly, IsRefused}
+use Rattle.vt_recover.specs.Refusals.{CountsRefusal}
+use Rattle.vt_core.specs.Refusals.{IsEarly, IsRefused}
 use Rattle.vt_core.specs.Stands.{ArePartitions}
 use Rattle.vt_disk.specs.Calls.{OnlyReads}
 use Rattle.vt_disk.specs.Members.{DiskOf}

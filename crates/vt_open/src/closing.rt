@@ -11,9 +11,10 @@ ghost use Rattle.vt_open.specs.Taking.{AreGiven};
 
 use vt_base::Scorer;
 use vt_conf::{Conf, PartFile};
-use vt_core::{Core, Devices};
+use vt_core::Core;
 use vt_part::Part;
 use vt_parts::Parts;
+use vt_recover::Devices;
 
 /// Hands back the partitions of an opened store, each under the name of its file. It makes no
 /// device call and takes no memory: what is queued or dirty isn't on the partitions.

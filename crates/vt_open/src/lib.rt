@@ -17,6 +17,3 @@ pub use laws::{
 };
 pub use opening::open_store;
 pub use taking::take_all;
-
-#[cfg(test)]
-mod tests;

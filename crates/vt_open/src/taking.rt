@@ -12,9 +12,9 @@ use crate::closing::{give_arenas, give_sections};
 use std::alloc::Global;
 use vt_base::{Failed, MountBad};
 use vt_conf::{Conf, PartFile};
-use vt_core::Devices;
 use vt_part::Part;
 use vt_parts::Parts;
+use vt_recover::Devices;
 use vt_told::of_part;
 
 /// Hands out the partitions of all files that a configuration names, in order, and reads the tables

@@ -24,6 +24,3 @@ pub use mem_source::MemSource;
 pub use progress::{Progress, Silent};
 pub use sink::Sink;
 pub use source::Source;
-
-#[cfg(test)]
-mod tests;

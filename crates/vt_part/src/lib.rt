@@ -26,6 +26,3 @@ use vt_disk::NAME_LEN;
 pub const TABLE_LEN: usize = 4 + 2 + NAME_LEN + 8 + 4;
 
 const _: () = prove!(TABLE_LEN == 82);
-
-#[cfg(test)]
-mod tests;

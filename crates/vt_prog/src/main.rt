@@ -3,15 +3,14 @@
 
 ghost use Rattle.std.specs.Prelude.{◌≡◌, drop};
 
-#[cfg(test)]
-mod tests;
-
+use run_base::{Failure, Outside};
 use std::alloc::Global;
 use std::env;
 use std::io::{ErrorKind, IsTerminal, Stderr};
 use std::process::ExitCode;
 use std::rt::Env;
-use vt_commands::{Failure, Outside, Streams, end, run};
+use vt_answer::Streams;
+use vt_commands::{end, run};
 use vt_host::{FileParts, StdClock, StdDialer, StdFiles, StdFolders, StdSink, StdSource};
 
 fn main(rt: HostRuntime) -> ExitCode {

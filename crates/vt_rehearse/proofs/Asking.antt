@@ -45,10 +45,10 @@ use Rattle.vt_wire.specs.declared.message.Request.{Request}
 use Rattle.vt_core.specs.declared.event.Event.TheVariants.{Answer as AskAnswer, LogAdvance}
 use Rattle.vt_core.specs.declared.event.Out.{Out}
 use Rattle.vt_core.specs.declared.event.Out.TheVariants.{Said as SaidOut, Waits, NotYet, Moved, Nothing, Failed}
-use Rattle.vt_core.specs.declared.writing.Verdict.{Verdict}
-use Rattle.vt_core.specs.declared.writing.Verdict.TheVariants.{Held, New}
+use Rattle.vt_lookup.specs.declared.writing.Verdict.{Verdict}
+use Rattle.vt_lookup.specs.declared.writing.Verdict.TheVariants.{Held, New}
 use Rattle.vt_core.specs.Asking.{AnswersSync, EndsSync, EndsWrite, HasNoRoom, Serves, Writes, says, shard_of, stop_for}
-use Rattle.vt_core.specs.Finding.{Parts}
+use Rattle.vt_lookup.specs.Finding.{Parts}
 use Rattle.vt_drive.proofs.TestKeeps.{KeepsRoom, test_keeps}
 use Rattle.vt_base.specs.declared.key.Key.{Key}
 use Rattle.std.specs.Str.{bytes_eq}
@@ -57,7 +57,7 @@ use Rattle.vt_core.specs.Events.{EndsWaiting, FailsIn, GivesAnswer, IsAsked, IsA
 use Rattle.vt_core.specs.Machine.{Machine}
 use Rattle.vt_core.specs.Steps.{Steps}
 use Rattle.vt_core.specs.Work.{out_of_progress}
-use Rattle.vt_core.proofs.Calls.{get_set}
+use Rattle.vt_recover.proofs.Places.{get_set}
 use Rattle.vt_rehearse.specs.Rehearsal.{AsksFor, IsWritten, asked_by, listed_after}
 use Rattle.vt_rehearse.specs.Stage.{HasWords, IsFilled, IsMemory, IsSteady, none_waits}
 use Rattle.vt_rehearse.specs.Words.{AreApart, block_of, word_of}

@@ -14,7 +14,7 @@ use Rattle.vt_part.specs.declared.layout.ArenaRegion.{ArenaRegion}
 use Rattle.vt_part.specs.Parts.{disk_of, table_of, tables_of}
 use Rattle.vt_part.specs.Table.{IsPartition, Table, end_of}
 use Rattle.vt_part.specs.declared.part.Part.{Part}
-use Rattle.vt_core.specs.declared.devices.Devices.{Devices}
+use Rattle.vt_recover.specs.declared.devices.Devices.{Devices}
 use Rattle.vt_core.specs.Core.{CoreState, devices_of, machine_of, setup_of}
 use Rattle.vt_core.specs.Crashing.{MayTurnInto, Recovers}
 use Rattle.vt_core.specs.Files.{AreImages, Files, PerDevice}
@@ -22,7 +22,7 @@ use Rattle.vt_core.specs.Machine.{Crashes}
 use Rattle.vt_core.specs.Mounting.{IsLogOf, KeepsLimits, Mounts, devices_in, tables_in}
 use Rattle.vt_core.specs.Sound.{IsSound}
 use Rattle.vt_core.specs.Stands.{StandForPrefix}
-use Rattle.vt_core.proofs.Lists.{at_map}
+use Rattle.vt_recover.proofs.Lists.{at_map}
 use Rattle.vt_rehearse.specs.declared.TheConstants.{SESSIONS}
 use Rattle.vt_rehearse.specs.Crashed.{CanBeMounted, IsLeft, IsLeftMounted, KeepsSealed, Restarts}
 use Rattle.vt_rehearse.specs.Shape.{the_sizes}

@@ -8,7 +8,7 @@ use Rattle.vt_log.specs.Logs.{arena_count}
 use Rattle.vt_model.specs.Places.{Setup}
 use Rattle.vt_part.specs.Parts.{table_of}
 use Rattle.vt_part.specs.Table.{Table}
-use Rattle.vt_core.specs.declared.devices.Devices.{Devices}
+use Rattle.vt_recover.specs.declared.devices.Devices.{Devices}
 use Rattle.vt_core.specs.Core.{setup_of}
 use Rattle.vt_core.specs.Mounting.{KeepsLimits, Mounts, devices_in, tables_in}
 use Rattle.vt_rehearse.specs.declared.TheConstants.{SESSIONS}

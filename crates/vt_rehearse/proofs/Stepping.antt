@@ -7,7 +7,7 @@ use Rattle.vt_base.specs.Faults.{HasRisen}
 use Rattle.vt_base.specs.declared.mount.MountBad.{MountBad}
 use Rattle.vt_base.specs.declared.mount.MountBad.TheVariants as mount_bad
 use Rattle.vt_log.specs.Faults.{OneHasRisen}
-use Rattle.vt_core.specs.Refusals.{CountsRefusal}
+use Rattle.vt_recover.specs.Refusals.{CountsRefusal}
 use Rattle.std.proofs.lemmas.List.{length-map}
 use Rattle.std.proofs.lemmas.Option.{same_Some}
 use Rattle.vt_base.specs.declared.answer.Answer.{Answer}
@@ -36,8 +36,8 @@ use Rattle.vt_core.specs.Files.{all_of}
 use Rattle.vt_core.specs.Machine.{Machine}
 use Rattle.vt_core.specs.Mounting.{KeepsLimits}
 use Rattle.vt_core.specs.Steps.{Steps}
-use Rattle.vt_core.proofs.Calls.{within_get}
-use Rattle.vt_core.proofs.Lists.{at_map}
+use Rattle.vt_recover.proofs.Places.{within_get}
+use Rattle.vt_recover.proofs.Lists.{at_map}
 use Rattle.vt_rehearse.specs.Rehearsal.{asked_by}
 use Rattle.vt_rehearse.specs.Stage.{IsMemory, IsNoRequest, IsSteady}
 

@@ -3,7 +3,7 @@ use Rattle.std.specs.Prelude.{◌≡◌, ℕ, ◌+◌, Bool, true, false, List, 
 use Rattle.sha1.specs.Sha1.{sha1}
 use Rattle.vt_core.specs.Core.{history_len}
 use Rattle.vt_core.specs.Mounting.{Mounts, devices_in, tables_in}
-use Rattle.vt_core.specs.declared.devices.Devices.{Devices}
+use Rattle.vt_recover.specs.declared.devices.Devices.{Devices}
 use Rattle.vt_disk.specs.Members.{DiskOf}
 use Rattle.vt_fresh.specs.Store.{AreFresh}
 use Rattle.vt_memdisk.specs.declared.crash.CrashMode.{CrashMode}

@@ -17,10 +17,11 @@ use crate::opening::open;
 use crate::stage::Stage;
 use std::alloc::Global;
 use vt_base::{NoMemory, Scorer};
-use vt_core::{Core, Devices, crash_gives_a_prefix, recovery_is_a_crash, stores_can_be_mounted};
+use vt_core::{Core, crash_gives_a_prefix, recovery_is_a_crash, stores_can_be_mounted};
 use vt_disk::Disk;
 use vt_memdisk::{CrashMode, MemDisk, Plan};
 use vt_part::Part;
+use vt_recover::Devices;
 
 /// A disk of which a crash can be tried.
 pub(crate) trait Crashable: Disk + Drop {

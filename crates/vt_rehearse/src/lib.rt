@@ -25,6 +25,3 @@ pub const SESSIONS: u32 = 3;
 
 /// How many shards it has.
 pub const SHARDS: u32 = 2;
-
-#[cfg(test)]
-mod tests;

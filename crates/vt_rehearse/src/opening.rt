@@ -14,9 +14,10 @@ ghost use Rattle.vt_rehearse.specs.declared.TheConstants.{SESSIONS};
 use crate::SESSIONS;
 use std::alloc::Global;
 use vt_base::{MountBad, NoMemory, Scorer};
-use vt_core::{Core, Devices};
+use vt_core::Core;
 use vt_disk::Disk;
 use vt_fresh::Shape;
+use vt_recover::Devices;
 use vt_shard::Sizes;
 
 /// Three arenas, two sections of one bucket, and a filter.

@@ -24,9 +24,10 @@ use crate::working::{sync, work};
 use crate::writing::write;
 use std::alloc::Global;
 use vt_base::{NoMemory, Scorer, Sha1Scorer};
-use vt_core::{Devices, Event};
+use vt_core::Event;
 use vt_fresh::fresh_devices;
 use vt_out::Progress;
+use vt_recover::Devices;
 
 /// No two words have one score by SHA-1, and none has the zero score.
 fn words_are_apart()

@@ -8,6 +8,3 @@ mod talk;
 pub use laws::{answered_blocks_are_exchanged, refusals_have_causes};
 pub use remote::{RemoteBad, read_remote, write_remote};
 pub use talk::{meet, part};
-
-#[cfg(test)]
-mod tests;

@@ -37,6 +37,3 @@ pub enum Ended {
     /// For want of memory, before anything was written.
     NoMemory,
 }
-
-#[cfg(test)]
-mod tests;

@@ -21,6 +21,3 @@ pub use shard::Shard;
 
 /// How many dirty entries a shard has room for.
 pub const ROOM: u32 = 1024;
-
-#[cfg(test)]
-mod tests;

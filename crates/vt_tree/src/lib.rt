@@ -20,8 +20,3 @@ pub use plain::{Trouble, byte_at, content};
 pub use reading::read_range;
 pub use root::{ROOT_LEN, Root, RootField};
 pub use writing::write_stream;
-
-#[cfg(test)]
-mod stream_tests;
-#[cfg(test)]
-mod tests;

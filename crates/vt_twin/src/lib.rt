@@ -13,6 +13,3 @@ pub use laws::{crash_gives_old_or_new, soundness_is_kept};
 pub use mounting::{format, mount};
 pub use step::{Step, TwinErr};
 pub use twin::Twin;
-
-#[cfg(test)]
-mod tests;

@@ -7,18 +7,19 @@ use Rattle.vt_base.specs.declared.mount.MountBad.{MountBad}
 use Rattle.vt_base.specs.declared.mount.MountBad.TheVariants.{Disagree, NoMemory}
 use Rattle.vt_base.specs.declared.mount.MountField.{MountField}
 use Rattle.vt_base.specs.declared.mount.MountField.TheVariants.{Arenas, Buckets}
-use Rattle.vt_core.specs.declared.devices.Devices.{Devices}
+use Rattle.vt_recover.specs.declared.devices.Devices.{Devices}
 use Rattle.vt_core.specs.declared.TheConstants.{MOST_ARENAS, MOST_BUCKETS}
 use Rattle.vt_core.specs.Files.{PerDevice, all_of}
 use Rattle.vt_core.specs.Mounting.{devices_in, tables_in}
-use Rattle.vt_core.specs.Opening.{AreHeld, IsLogFound, IsOpened, TestsHeads, buckets_in_each, with_log}
-use Rattle.vt_core.specs.Refusals.{CountsRefusal, PassesOrRefuses, SectionIsRefused}
+use Rattle.vt_core.specs.Opening.{AreHeld, IsLogFound, TestsHeads, buckets_in_each, with_log}
+use Rattle.vt_recover.specs.Opening.{IsOpened}
+use Rattle.vt_recover.specs.Refusals.{CountsRefusal, SectionIsRefused}
+use Rattle.vt_core.specs.Refusals.{PassesOrRefuses}
 use Rattle.vt_core.proofs.BesideWork.{tests_counts}
 use Rattle.vt_core.proofs.Calls.{map_all}
-use Rattle.vt_core.proofs.Held.{hold_still, hold_zip}
+use Rattle.vt_recover.proofs.Held.{hold_still, hold_zip, counts_less, counts_more}
 use Rattle.vt_core.proofs.LogMount.{log_mount}
-use Rattle.vt_core.proofs.OpenWork.{opened_faults, opened_held}
-use Rattle.vt_core.proofs.Refused.{counts_less, counts_more}
+use Rattle.vt_recover.proofs.OpenWork.{opened_faults, opened_held}
 use Rattle.vt_disk.specs.Members.{DiskOf}
 use Rattle.vt_isect.specs.Section.{SectionState}
 use Rattle.vt_log.specs.Answers.{HoldTheSame}

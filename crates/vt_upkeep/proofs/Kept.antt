@@ -8,14 +8,16 @@ use Rattle.vt_arena.specs.declared.head.Found.{Found}
 use Rattle.vt_check.specs.declared.checking.CheckErr.{CheckErr}
 use Rattle.vt_check.specs.declared.checking.Report.{Report}
 use Rattle.vt_check.specs.Checking.{AreReports, AreTold, HasItsHeads, is_fault as is_check_fault}
-use Rattle.vt_core.specs.declared.devices.Devices.{Devices}
+use Rattle.vt_recover.specs.declared.devices.Devices.{Devices}
 use Rattle.vt_core.specs.Files.{PerDevice, all_of}
 use Rattle.vt_core.specs.Mounting.{devices_in, tables_in}
-use Rattle.vt_core.specs.Opening.{AreHeld, IsLogFound, IsOpened, with_log}
-use Rattle.vt_core.proofs.Calls.{map_all, risen_behind, risen_front}
-use Rattle.vt_core.proofs.Held.{hold_still}
+use Rattle.vt_core.specs.Opening.{AreHeld, IsLogFound, with_log}
+use Rattle.vt_recover.specs.Opening.{IsOpened}
+use Rattle.vt_core.proofs.Calls.{map_all}
+use Rattle.vt_recover.proofs.Counts.{risen_behind, risen_front}
+use Rattle.vt_recover.proofs.Held.{hold_still}
 use Rattle.vt_core.proofs.Beside.{all_from}
-use Rattle.vt_core.proofs.Zips.{zip_beside, zip_length}
+use Rattle.vt_recover.proofs.Zips.{zip_beside, zip_length}
 use Rattle.vt_disk.specs.Calls.{IsSynced}
 use Rattle.vt_disk.specs.Members.{DiskOf}
 use Rattle.vt_isect.specs.Section.{SectionState}

@@ -5,13 +5,15 @@ use Rattle.std.proofs.lemmas.List.{length-map}
 use Rattle.std.proofs.lemmas.List.Sums.{sum_by-take-le}
 use Rattle.vt_base.specs.declared.mount.MountBad.{MountBad}
 use Rattle.vt_base.specs.declared.mount.MountField.{MountField}
-use Rattle.vt_core.specs.declared.devices.Devices.{Devices}
+use Rattle.vt_recover.specs.declared.devices.Devices.{Devices}
 use Rattle.vt_core.specs.Files.{PerDevice}
 use Rattle.vt_core.specs.Mounting.{devices_in, tables_in}
-use Rattle.vt_core.specs.Opening.{IsOpened, TestsHeads, buckets_in_each}
-use Rattle.vt_core.specs.Refusals.{IsRefused, PassesOrRefuses, SectionIsRefused, wrong_head}
-use Rattle.vt_core.proofs.Lists.{index_map}
-use Rattle.vt_core.proofs.Zips.{zip_beside}
+use Rattle.vt_recover.specs.Opening.{IsOpened}
+use Rattle.vt_core.specs.Opening.{TestsHeads, buckets_in_each}
+use Rattle.vt_core.specs.Refusals.{IsRefused, PassesOrRefuses, wrong_head}
+use Rattle.vt_recover.specs.Refusals.{SectionIsRefused}
+use Rattle.vt_recover.proofs.Lists.{index_map}
+use Rattle.vt_recover.proofs.Zips.{zip_beside}
 use Rattle.vt_disk.specs.Members.{DiskOf}
 use Rattle.vt_isect.specs.Section.{SectionState}
 use Rattle.vt_log.specs.Log.{LogState}

@@ -7,7 +7,7 @@ use Rattle.vt_base.specs.declared.mount.MountBad.{MountBad}
 use Rattle.vt_check.specs.declared.checking.CheckErr.{CheckErr}
 use Rattle.vt_check.specs.declared.checking.Report.{Report}
 use Rattle.vt_conf.specs.declared.conf.Conf.{Conf}
-use Rattle.vt_core.specs.declared.devices.Devices.{Devices}
+use Rattle.vt_recover.specs.declared.devices.Devices.{Devices}
 use Rattle.vt_core.specs.Files.{all_of}
 use Rattle.vt_core.specs.Mounting.{devices_in}
 use Rattle.vt_core.specs.Opening.{AreHeld}

@@ -10,15 +10,16 @@ use Rattle.std.proofs.lemmas.Option.{same_Some}
 use Rattle.vt_arena.specs.declared.head.Found.{Found}
 use Rattle.vt_base.specs.Bytes.{AreBytes}
 use Rattle.vt_conf.specs.declared.conf.Conf.{Conf}
-use Rattle.vt_core.specs.declared.devices.Devices.{Devices}
+use Rattle.vt_recover.specs.declared.devices.Devices.{Devices}
 use Rattle.vt_core.specs.declared.TheConstants.{MOST_ARENAS, MOST_BUCKETS}
 use Rattle.vt_core.specs.Files.{AreImages, Files, PerDevice}
 use Rattle.vt_core.specs.Mounting.{EachStands, IsLogOf, IsSetupOf, KeepsLimits, devices_in, tables_in}
-use Rattle.vt_core.specs.Opening.{IsOpened}
-use Rattle.vt_core.specs.Stands.{ArePartitions, FilterStandsFor, SectionStandsFor, StandsFor, buckets_of}
+use Rattle.vt_recover.specs.Opening.{IsOpened}
+use Rattle.vt_core.specs.Stands.{ArePartitions, FilterStandsFor, StandsFor}
+use Rattle.vt_recover.specs.Sections.{SectionStandsFor, buckets_of}
 use Rattle.vt_core.proofs.Beside.{all_from}
-use Rattle.vt_core.proofs.Lists.{at_map, index_map, same_lists}
-use Rattle.vt_core.proofs.Zips.{zip_beside, zip_length}
+use Rattle.vt_recover.proofs.Lists.{at_map, index_map, same_lists}
+use Rattle.vt_recover.proofs.Zips.{zip_beside, zip_length}
 use Rattle.vt_disk.specs.Calls.{IsSynced}
 use Rattle.vt_disk.specs.Members.{DiskOf}
 use Rattle.vt_isect.specs.Agreement.{AgreesWith}

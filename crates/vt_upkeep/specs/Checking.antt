@@ -3,7 +3,7 @@ use Rattle.std.specs.Prelude.{◌≡◌, ℕ, ◌+◌, ◌*◌, ◌≤◌, Bool,
 use Rattle.vt_check.specs.declared.checking.CheckErr.{CheckErr}
 use Rattle.vt_check.specs.declared.checking.Report.{Report}
 use Rattle.vt_check.specs.Checking.{AreReports, AreTold, is_fault}
-use Rattle.vt_core.specs.declared.devices.Devices.{Devices}
+use Rattle.vt_recover.specs.declared.devices.Devices.{Devices}
 use Rattle.vt_core.specs.Mounting.{devices_in, tables_in}
 use Rattle.vt_core.specs.Opening.{AreHeld}
 use Rattle.vt_disk.specs.Members.{DiskOf}

@@ -2,11 +2,11 @@
 use Rattle.std.specs.Prelude.{◌≡◌, ℕ, Bool, true, false, List, Ok, Err, Result, length, map}
 use Rattle.std.specs.List.{All}
 use Rattle.vt_base.specs.declared.mount.MountBad.{MountBad}
-use Rattle.vt_core.specs.declared.devices.Devices.{Devices}
+use Rattle.vt_recover.specs.declared.devices.Devices.{Devices}
 use Rattle.vt_core.specs.Files.{all_of}
 use Rattle.vt_core.specs.Mounting.{devices_in, tables_in}
 use Rattle.vt_core.specs.Opening.{AreHeld}
-use Rattle.vt_core.specs.Refusals.{CountsRefusal}
+use Rattle.vt_recover.specs.Refusals.{CountsRefusal}
 use Rattle.vt_disk.specs.Calls.{IsSynced}
 use Rattle.vt_disk.specs.Members.{DiskOf}
 use Rattle.vt_log.specs.Answers.{HoldTheSame}

@@ -5,11 +5,12 @@ use Rattle.vt_base.specs.declared.mount.MountBad.{MountBad}
 use Rattle.vt_base.specs.declared.mount.MountBad.TheVariants.{NoMemory}
 use Rattle.vt_base.specs.declared.mount.MountField.TheVariants.{Arenas, Buckets}
 use Rattle.vt_core.specs.declared.TheConstants.{MOST_ARENAS, MOST_BUCKETS}
-use Rattle.vt_core.specs.declared.devices.Devices.{Devices}
+use Rattle.vt_recover.specs.declared.devices.Devices.{Devices}
 use Rattle.vt_core.specs.Mounting.{devices_in, tables_in}
-use Rattle.vt_core.specs.Opening.{IsLogFound, IsOpened, TestsHeads, buckets_in_each}
-use Rattle.vt_core.specs.View.{HasRoom}
-use Rattle.vt_core.specs.Refusals.{LogIsRefused, PassesOrRefuses, SectionIsRefused}
+use Rattle.vt_core.specs.Opening.{IsLogFound, TestsHeads, buckets_in_each}
+use Rattle.vt_recover.specs.Opening.{IsOpened, HasRoom}
+use Rattle.vt_core.specs.Refusals.{LogIsRefused, PassesOrRefuses}
+use Rattle.vt_recover.specs.Refusals.{SectionIsRefused}
 use Rattle.vt_disk.specs.Members.{DiskOf}
 use Rattle.vt_isect.specs.Section.{SectionState}
 use Rattle.vt_log.specs.Log.{LogState, disks_of}

@@ -1,6 +1,6 @@
 -- What rebuilding the index of a store does to its devices (venti(8), buildindex).
 use Rattle.std.specs.Prelude.{◌≡◌, ℕ, List, Ok, Err, Result, sum}
-use Rattle.vt_core.specs.declared.devices.Devices.{Devices}
+use Rattle.vt_recover.specs.declared.devices.Devices.{Devices}
 use Rattle.vt_disk.specs.Members.{DiskOf}
 use Rattle.vt_isect.specs.Section.{SectionState}
 use Rattle.vt_log.specs.Log.{LogState}

@@ -2,7 +2,7 @@
 use Rattle.std.specs.Prelude.{◌≡◌, ◌⊎◌, ⊤, ℕ, Ok, Err, List, Result, length}
 use Rattle.vt_base.specs.declared.mount.MountBad.{MountBad}
 use Rattle.vt_conf.specs.declared.conf.Conf.{Conf}
-use Rattle.vt_core.specs.declared.devices.Devices.{Devices}
+use Rattle.vt_recover.specs.declared.devices.Devices.{Devices}
 use Rattle.vt_core.specs.Files.{all_of}
 use Rattle.vt_core.specs.Mounting.{devices_in}
 use Rattle.vt_disk.specs.Members.{DiskOf}

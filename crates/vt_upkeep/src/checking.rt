@@ -16,11 +16,11 @@ use std::thread::Threads;
 use vt_base::Scorer;
 use vt_check::{CheckErr, Report, check};
 use vt_conf::Conf;
-use vt_core::Devices;
 use vt_disk::Disk;
 use vt_open::{OpenBad, give_all, refused_stores_stand, take_all};
 use vt_out::Progress;
 use vt_parts::Parts;
+use vt_recover::Devices;
 
 /// Checks the arenas of the store that a configuration names, and reports of each of them
 /// (venti(8), checkarenas). Of the index only the heads of its sections are read, and the Bloom

@@ -4,7 +4,7 @@ ghost use Rattle.std.specs.Prelude.{◌≡◌, ◌<◌, ℕ, Bool, IsTrue, List,
 ghost use Rattle.std.specs.List.{All};
 ghost use Rattle.vt_base.specs.declared.mount.MountBad.{MountBad};
 ghost use Rattle.vt_conf.specs.declared.conf.Conf.{Conf};
-ghost use Rattle.vt_core.specs.declared.devices.Devices.{Devices};
+ghost use Rattle.vt_recover.specs.declared.devices.Devices.{Devices};
 ghost use Rattle.vt_core.specs.Files.{PerDevice};
 ghost use Rattle.vt_core.specs.Mounting.{IsLogOf, IsSetupOf, KeepsLimits};
 ghost use Rattle.vt_core.specs.Stands.{ArePartitions, FilterStandsFor};

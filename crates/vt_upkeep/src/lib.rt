@@ -12,6 +12,3 @@ pub use bad::UpkeepBad;
 pub use checking::check_store;
 pub use laws::{rebuilt_stores_can_be_opened, refusals_name_two};
 pub use rebuilding::rebuild_store;
-
-#[cfg(test)]
-mod tests;

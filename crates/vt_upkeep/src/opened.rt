@@ -3,17 +3,18 @@
 ghost use Rattle.std.specs.Prelude.{◌≡◌, ◌+◌, ◌^◌, ◌<◌, ◌≤◌, All, IfErr, IfOk, length};
 ghost use Rattle.vt_core.specs.Mounting.{devices_in, tables_in};
 ghost use Rattle.vt_core.specs.Opening.{with_log};
-ghost use Rattle.vt_core.specs.View.{HasRoom};
+ghost use Rattle.vt_recover.specs.Opening.{HasRoom};
 ghost use Rattle.vt_part.specs.Parts.{disk_of, table_of};
 ghost use Rattle.vt_part.specs.Table.{end_of};
 ghost use Rattle.vt_rebuild.specs.Building.{disks_under};
 
 use std::alloc::Global;
 use vt_base::{MountBad, Scorer};
-use vt_core::{Devices, close_sections, open_sections, test_arenas, test_buckets, test_heads};
+use vt_core::{test_arenas, test_buckets, test_heads};
 use vt_disk::Disk;
 use vt_isect::Section;
 use vt_log::Log;
+use vt_recover::{Devices, close_sections, open_sections};
 use vt_told::of_log;
 
 /// The log of a store, and its sections, whatever their heads say and their buckets hold. Its Bloom

@@ -14,12 +14,12 @@ use crate::opened::Opened;
 use std::alloc::Global;
 use vt_base::Scorer;
 use vt_conf::Conf;
-use vt_core::Devices;
 use vt_disk::Disk;
 use vt_open::{OpenBad, give_all, refused_stores_stand, take_all};
 use vt_out::Progress;
 use vt_parts::Parts;
 use vt_rebuild::{RebuildBad, rebuild};
+use vt_recover::Devices;
 
 /// Rebuilds the index of the store that a configuration names from its log, in its sections,
 /// whatever they hold, and gives the count of its blocks (venti(8), buildindex). The partition of

@@ -20,6 +20,3 @@ pub use message::{MAX_STRING, Reply, Request, WireBad};
 pub use replies::decode_reply;
 pub use requests::encode_request;
 pub use rule::{Rule, rule_text};
-
-#[cfg(test)]
-mod tests;

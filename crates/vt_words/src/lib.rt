@@ -8,6 +8,3 @@ mod venti;
 
 pub use asked::{Asked, ask};
 pub use command::Command;
-
-#[cfg(test)]
-mod tests;

@@ -7,11 +7,11 @@ use Rattle.vt_conf.specs.Configuration.{Configures}
 use Rattle.vt_model.specs.Answer.{answer}
 use Rattle.vt_single.specs.Single.{ReadsBlock, WritesBlock}
 use Rattle.vt_words.specs.declared.command.Command.TheVariants.{Read, Write}
-use Rattle.vt_commands.specs.declared.failure.Failure.{Failure}
+use Rattle.run_base.specs.declared.failure.Failure.{Failure}
 use Rattle.vt_commands.specs.Answers.{TellsReplyOrMemory}
-use Rattle.vt_commands.specs.Commands.Read.{PrintsBlock}
-use Rattle.vt_commands.specs.Commands.Write.{WritesInput, score_line}
-use Rattle.vt_commands.specs.Failure.{HasCauseIn, Outcome}
+use Rattle.run_sessions.specs.Read.{PrintsBlock}
+use Rattle.run_sessions.specs.Write.{WritesInput, score_line}
+use Rattle.run_base.specs.Failure.{HasCauseIn, Outcome}
 use Rattle.vt_commands.proofs.Answered.{first_tells, in_file, none_taken, printed_well, stored_well}
 use Rattle.vt_commands.proofs.CompleteConf.{none_read, under_same}
 use Rattle.vt_commands.proofs.DidTells.{done}

@@ -4,9 +4,9 @@ use Rattle.vt_words.proofs.Asking.{session_taken, session_spoken}
 use Rattle.vt_words.specs.declared.command.Command.TheVariants.{Session}
 use Rattle.vt_words.specs.declared.asked.Asked.TheVariants.{Do}
 use Rattle.vt_words.specs.Words.{Asks}
-use Rattle.vt_commands.specs.Change.{Attempts}
-use Rattle.vt_commands.specs.Failure.{status_of}
-use Rattle.vt_commands.specs.Places.{in_memory}
+use Rattle.run_base.specs.Change.{Attempts}
+use Rattle.run_base.specs.Failure.{status_of}
+use Rattle.run_base.specs.Places.{in_memory}
 use Rattle.vt_commands.proofs.Complete.{both_tell, memory_well}
 use Rattle.vt_commands.proofs.DidTells.{refused, done, never_bad, line_of_one, disk_risen, read_risen, write_risen, well_status, session_well}
 use Rattle.vt_commands.proofs.laws.did_tells.Goals as goal

@@ -3,13 +3,13 @@ use Rattle.std.proofs.Common.{◌≡◌, ⊎_elim, inr, Err, sym, ◌∙◌, ap,
 use Rattle.std.specs.Prelude.{◌&&◌}
 use Rattle.vt_conf.specs.Configuration.{Configures}
 use Rattle.vt_words.specs.declared.command.Command.TheVariants.{Session}
-use Rattle.vt_commands.specs.Failure.{HasCauseIn, Outcome}
-use Rattle.vt_commands.specs.Commands.SessionConf.{DoesSessionConf}
-use Rattle.vt_commands.specs.declared.failure.Failure.{Failure}
+use Rattle.run_base.specs.Failure.{HasCauseIn, Outcome}
+use Rattle.run_sessions.specs.SessionConf.{DoesSessionConf}
+use Rattle.run_base.specs.declared.failure.Failure.{Failure}
 use Rattle.vt_commands.proofs.Complete.{IsWell, served_well}
 use Rattle.vt_commands.proofs.CompleteConf.{none_opened_well, none_read, under_same}
 use Rattle.vt_commands.proofs.DidTells.{conf_well, done, well_status}
-use Rattle.vt_commands.proofs.SessionCauses.{served_rises}
+use Rattle.run_sessions.proofs.SessionCauses.{served_rises}
 use Rattle.vt_commands.proofs.laws.sessions_are_answered.Goals as goal
 
 pub returns : goal.returns

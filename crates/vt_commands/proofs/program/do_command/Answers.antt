@@ -1,6 +1,6 @@
 -- what was done, and what an archive leaves out is said
 use Rattle.std.proofs.Common.{refl, subst, sym}
-use Rattle.vt_commands.specs.Change.{sink_change, work_of}
+use Rattle.run_base.specs.Change.{sink_change, work_of}
 use Rattle.vt_commands.specs.Run.{SaysAndDoes}
 use Rattle.vt_commands.proofs.Silent.{silently}
 use Rattle.vt_commands.proofs.program.do_command.Goals as goal

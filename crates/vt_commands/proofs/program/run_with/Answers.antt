@@ -1,9 +1,9 @@
 -- what was done, and then what goes to the fault sink
 use Rattle.std.proofs.Common.{subst}
 use Rattle.std.specs.Prelude.{OnErr, OnOk, ◌≡◌}
-use Rattle.vt_commands.specs.Change.{sink_change, Attempts}
-use Rattle.vt_commands.specs.Failure.{line_of}
-use Rattle.vt_commands.proofs.SaidBefore.{said_before}
+use Rattle.run_base.specs.Change.{sink_change, Attempts}
+use Rattle.run_base.specs.Failure.{line_of}
+use Rattle.run_base.proofs.SaidBefore.{said_before}
 use Rattle.vt_commands.proofs.program.run_with.Goals as goal
 
 pub returns : goal.returns

@@ -6,19 +6,20 @@ use Rattle.vt_isect.specs.Section.{IsAtRest, SectionState}
 use Rattle.vt_log.specs.Log.{LogState}
 use Rattle.vt_shard.specs.Shard.{ShardState}
 use Rattle.vt_core.specs.Core.{CoreState}
-use Rattle.vt_core.specs.Opening.{IsOpened, IsMountOf, IsShardMade, RefusesBeside, TestsParts, with_log}
-use Rattle.vt_core.specs.Recalling.{IsUnused, ReadsLogBack, opened}
+use Rattle.vt_recover.specs.Opening.{IsOpened, IsShardMade}
+use Rattle.vt_core.specs.Opening.{IsMountOf, RefusesBeside, TestsParts, with_log}
+use Rattle.vt_recover.specs.Recalling.{IsUnused, ReadsLogBack, opened}
 use Rattle.vt_core.specs.Whole.{IsWhole}
 use Rattle.vt_core.proofs.Beside.{all_from}
 use Rattle.vt_core.proofs.Chains.{unused_at, whole}
 use Rattle.vt_core.proofs.Fields.{short_regions}
 use Rattle.vt_core.proofs.Mounted.{mounts}
-use Rattle.vt_core.proofs.OpenWork.{items_after}
+use Rattle.vt_recover.proofs.OpenWork.{items_after}
 use Rattle.vt_core.proofs.Returned.{beside_mount, devices_same, found_mount, memory_mount, read_mount}
-use Rattle.vt_core.proofs.Standing.{held_many}
-use Rattle.vt_core.proofs.Zips.{zip_beside, zip_length}
+use Rattle.vt_recover.proofs.Held.{held_many}
+use Rattle.vt_recover.proofs.Zips.{zip_beside, zip_length}
 use Rattle.vt_core.proofs.mounting.open.Goals as goal
-use Rattle.vt_core.specs.Mounting.{AreCovered}
+use Rattle.vt_recover.specs.Marks.{AreCovered}
 
 pub open_beside-requires : goal.open_beside-requires
 open_beside-requires g c = omega (arith, c.requires.many)

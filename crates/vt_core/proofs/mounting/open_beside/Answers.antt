@@ -4,12 +4,12 @@ use Rattle.std.specs.Option.{option_map, option_to_list}
 use Rattle.vt_isect.specs.Section.{SectionState}
 use Rattle.vt_log.specs.Answers.{HoldTheSame}
 use Rattle.vt_core.specs.Opening.{TestsParts}
-use Rattle.vt_core.specs.Refusals.{CountsRefusal}
+use Rattle.vt_recover.specs.Refusals.{CountsRefusal}
 use Rattle.vt_core.proofs.Beside.{can_open, none_fails}
 use Rattle.vt_core.proofs.BesideWork.{both_held, closed_is, counts_filter, counts_none, counts_sections, filter_refused, sections_refused, tests_counts}
-use Rattle.vt_core.proofs.Held.{hold_still}
-use Rattle.vt_core.proofs.Zips.{zip_length}
-use Rattle.vt_core.specs.Opening.{IsOpened}
+use Rattle.vt_recover.proofs.Held.{hold_still}
+use Rattle.vt_recover.proofs.Zips.{zip_length}
+use Rattle.vt_recover.specs.Opening.{IsOpened}
 use Rattle.vt_core.proofs.mounting.open_beside.Goals as goal
 
 pub returns-in-Err-clause-refused : goal.returns-in-Err-clause-refused

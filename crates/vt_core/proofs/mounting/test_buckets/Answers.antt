@@ -3,7 +3,7 @@ use Rattle.std.specs.Prelude.{MatchOption, slice_get, sum}
 use Rattle.std.proofs.lemmas.List.{length-map, length-take, take_all}
 use Rattle.vt_base.specs.declared.mount.MountField.TheVariants.{Buckets}
 use Rattle.vt_core.specs.Refusals.{IsFirstPast, IsTally, PassesOrRefuses}
-use Rattle.vt_core.proofs.Lists.{at_map}
+use Rattle.vt_recover.proofs.Lists.{at_map}
 use Rattle.vt_core.proofs.Tallies.{sum_more}
 use Rattle.vt_core.proofs.TestsParts.{read_at}
 use Rattle.vt_core.proofs.mounting.test_buckets.Goals as goal

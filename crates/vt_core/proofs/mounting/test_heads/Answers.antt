@@ -4,7 +4,7 @@ use Rattle.std.proofs.lemmas.Option.{slice_get_within}
 use Rattle.std.proofs.lemmas.Result.{err_from_is_err_and}
 use Rattle.vt_model.specs.Places.{first_bucket}
 use Rattle.vt_core.specs.Opening.{buckets_in_each, wrong_at}
-use Rattle.vt_core.proofs.Lists.{at_map}
+use Rattle.vt_recover.proofs.Lists.{at_map}
 use Rattle.vt_core.proofs.TestsParts.{as_wrong, each_next, first_next, first_within, read_at}
 use Rattle.vt_core.proofs.mounting.test_heads.Goals as goal
 

@@ -2,10 +2,9 @@ use Rattle.std.proofs.Common.{◌≡◌, ℕ, Ok, Err, Result, inl, inr, refl, s
 use Rattle.vt_base.specs.declared.why.Why.{Why}
 use Rattle.vt_core.specs.declared.event.Event.{Event}
 use Rattle.vt_core.specs.declared.event.Event.TheVariants.{FileAdvance, FileBegin}
-use Rattle.vt_drive.specs.Working.{DoesWork, Files}
+use Rattle.vt_drive.specs.Working.{DoesWork, Files, IsOwnWork}
 use Rattle.vt_drive.proofs.AtShard.{begin_went_on, begun_ends}
 use Rattle.vt_drive.proofs.WorkDone.{AreOwn, did, handed_on, one_piece, work_for, work_then}
-use Rattle.vt_drive.specs.Working.{IsOwnWork}
 use Rattle.vt_drive.proofs.ending.file.Goals as goal
 
 advances_own : {D : Type 0} (shard : ℕ) → AreOwn {D = D} (λ event k. event ≡ FileAdvance shard)

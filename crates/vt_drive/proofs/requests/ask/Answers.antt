@@ -4,7 +4,7 @@ use Rattle.vt_core.specs.Core.{CoreState, history_len}
 use Rattle.vt_core.specs.Machine.{WaitsForNone, WaitsAt}
 use Rattle.vt_core.specs.Events.{operation_in}
 use Rattle.vt_core.specs.declared.event.Out.TheVariants.{NotYet, Waits}
-use Rattle.vt_core.proofs.Calls.{get_set}
+use Rattle.vt_recover.proofs.Places.{get_set}
 use Rattle.vt_wire.specs.Views.{message_of}
 use Rattle.vt_wire.specs.declared.message.Request.{Request}
 use Rattle.vt_drive.specs.Requests.{WritesAgain}

@@ -1,7 +1,7 @@
 -- what a crash leaves can be mounted, and is the old store behind a crash
 use Rattle.std.proofs.Common.{ap, arith}
 use Rattle.std.proofs.lemmas.Result.{IfOk-weaker}
-use Rattle.vt_core.specs.declared.devices.Devices.{Devices}
+use Rattle.vt_recover.specs.declared.devices.Devices.{Devices}
 use Rattle.vt_rehearse.proofs.Restarting.{can_be_mounted, crashes, have_tables, one_part, restarts, rooms, some_arena, two_sections}
 use Rattle.vt_rehearse.proofs.crashing.restart.Goals as goal
 

@@ -1,6 +1,6 @@
 use Rattle.std.proofs.Common.{List, length, Err, Option, sym, ◌∙◌, ap, subst}
 use Rattle.vt_core.specs.Opening.{with_log}
-use Rattle.vt_core.proofs.OpenWork.{items_after}
+use Rattle.vt_recover.proofs.OpenWork.{items_after}
 use Rattle.vt_isect.specs.Section.{SectionState}
 use Rattle.vt_rebuild.specs.Building.{disks_under}
 use Rattle.vt_upkeep.specs.Opened.{AreOpened}

@@ -18,13 +18,13 @@ use Rattle.vt_shard.specs.Shard.{ShardState, HasScore}
 use Rattle.vt_core.specs.declared.event.Out.TheVariants.{Said as SaidOut, NotYet}
 use Rattle.vt_core.specs.Asking.{HasNoRoom, says}
 use Rattle.vt_core.specs.Core.{CoreState, setup_of}
-use Rattle.vt_core.specs.Finding.{AreSound, parts_of}
+use Rattle.vt_lookup.specs.Finding.{AreSound, parts_of}
 use Rattle.vt_core.specs.Serving.{AddsIfRoom}
 use Rattle.vt_core.specs.Sound.{IsSound}
 use Rattle.vt_core.specs.View.{state_of}
-use Rattle.vt_core.proofs.Adding.{packed_is, written_is}
+use Rattle.vt_lookup.proofs.Adding.{packed_is, written_is}
 use Rattle.vt_core.proofs.AddWork.{adding_sound, adding_whole}
-use Rattle.vt_core.proofs.Answering.{there_is}
+use Rattle.vt_recover.proofs.Places.{there_is}
 use Rattle.vt_core.proofs.AskWork.{are_sound}
 use Rattle.vt_core.proofs.Room.{room_stays}
 use Rattle.vt_core.proofs.store.Core.add.Goals as goal

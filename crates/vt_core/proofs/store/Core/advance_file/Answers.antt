@@ -7,8 +7,9 @@ use Rattle.vt_core.specs.declared.event.Out.TheVariants.{Nothing}
 use Rattle.vt_core.specs.Core.{CoreState, setup_of}
 use Rattle.vt_core.specs.Steps.{Steps}
 use Rattle.vt_core.specs.View.{state_of}
-use Rattle.vt_core.proofs.Answering.{there_is}
-use Rattle.vt_core.proofs.ShardWork.{shard_whole, under_way}
+use Rattle.vt_recover.proofs.Places.{there_is}
+use Rattle.vt_core.proofs.ShardWork.{shard_whole}
+use Rattle.vt_recover.proofs.Owed.{under_way}
 use Rattle.vt_core.proofs.ShardCall.{call_steps, idle_steps, step_keeps, never_damaged}
 use Rattle.vt_core.specs.Whole.{IsWhole}
 use Rattle.vt_core.proofs.Room.{room_stays, set_same}

@@ -7,9 +7,9 @@ use Rattle.vt_core.specs.Core.{CoreState}
 use Rattle.vt_core.specs.Machine.{WaitsForNone}
 use Rattle.vt_core.specs.Steps.{Steps}
 use Rattle.vt_core.specs.View.{state_of}
-use Rattle.vt_core.proofs.Answering.{there_is}
+use Rattle.vt_recover.proofs.Places.{there_is}
 use Rattle.vt_core.proofs.AskWork.{waiting_steps}
-use Rattle.vt_core.proofs.Fetching.{is_there}
+use Rattle.vt_lookup.proofs.Fetching.{is_there}
 use Rattle.vt_arena.proofs.Commits.{none_is}
 use Rattle.vt_core.proofs.store.Core.ask.Goals as goal
 

@@ -8,8 +8,9 @@ use Rattle.vt_core.specs.Core.{CoreState, setup_of}
 use Rattle.vt_core.specs.Steps.{Steps}
 use Rattle.vt_core.specs.View.{state_of}
 use Rattle.vt_core.specs.Work.{BeginsWriteback}
-use Rattle.vt_core.proofs.Answering.{there_is}
-use Rattle.vt_core.proofs.ShardWork.{shard_whole, begun_rests, begun_writeback, file_steps, under_way}
+use Rattle.vt_recover.proofs.Places.{there_is}
+use Rattle.vt_core.proofs.ShardWork.{shard_whole, begun_rests, begun_writeback, file_steps}
+use Rattle.vt_recover.proofs.Owed.{under_way}
 use Rattle.vt_core.specs.Whole.{IsWhole}
 use Rattle.vt_core.proofs.Room.{room_stays, set_same}
 use Rattle.vt_core.proofs.store.Core.begin_file.Goals as goal

@@ -8,7 +8,7 @@ use Rattle.vt_core.specs.Core.{CoreState}
 use Rattle.vt_core.specs.Steps.{Steps}
 use Rattle.vt_core.specs.View.{state_of}
 use Rattle.vt_core.specs.Work.{IsMovedWhere}
-use Rattle.vt_core.proofs.Answering.{there_is}
+use Rattle.vt_recover.proofs.Places.{there_is}
 use Rattle.vt_core.proofs.ShardWork.{shard_whole, in_memory, entry_steps, by_count}
 use Rattle.vt_core.proofs.Room.{room_stays}
 use Rattle.vt_core.proofs.store.Core.drop_entry.Goals as goal

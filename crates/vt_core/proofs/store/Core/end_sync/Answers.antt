@@ -5,7 +5,8 @@ use Rattle.vt_core.specs.Core.{CoreState}
 use Rattle.vt_core.specs.Asking.{AnswersSync}
 use Rattle.vt_core.specs.Machine.{WaitsAt}
 use Rattle.vt_core.specs.View.{state_of}
-use Rattle.vt_core.proofs.Answering.{there_is, unset_whole}
+use Rattle.vt_recover.proofs.Places.{there_is}
+use Rattle.vt_core.proofs.Answering.{unset_whole}
 use Rattle.vt_core.proofs.store.Core.end_sync.Goals as goal
 
 pub invariant_of-self : goal.invariant_of-self

@@ -3,11 +3,11 @@ use Rattle.std.specs.Prelude.{slice_get}
 use Rattle.vt_shard.specs.Shard.{ShardState}
 use Rattle.vt_core.specs.Asking.{shard_of, with_parts}
 use Rattle.vt_core.specs.Core.{CoreState, setup_of}
-use Rattle.vt_core.specs.Finding.{parts_of}
+use Rattle.vt_lookup.specs.Finding.{parts_of}
 use Rattle.vt_core.specs.Serving.{FindsBlock}
 use Rattle.vt_core.specs.View.{state_of}
 use Rattle.vt_core.specs.Whole.{IsWhole}
-use Rattle.vt_core.proofs.Answering.{there_is}
+use Rattle.vt_recover.proofs.Places.{there_is}
 use Rattle.vt_core.proofs.AskWork.{are_sound, bits_right, looks_in_shard, mid_whole}
 use Rattle.vt_core.proofs.Room.{room_stays}
 use Rattle.vt_core.proofs.store.Core.find_on.Goals as goal

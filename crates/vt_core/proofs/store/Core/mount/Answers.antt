@@ -13,12 +13,12 @@ use Rattle.vt_part.specs.declared.layout.ArenaRegion.{ArenaRegion}
 use Rattle.vt_part.specs.declared.part.Part.{Part}
 use Rattle.vt_told.specs.Told.{of_log}
 use Rattle.vt_told.proofs.Partitions.{length_laid}
-use Rattle.vt_core.specs.declared.devices.Devices.{Devices}
+use Rattle.vt_recover.specs.declared.devices.Devices.{Devices}
 use Rattle.vt_core.specs.Mounting.{devices_in, tables_in}
 use Rattle.vt_core.specs.Opening.{IsMountOf}
 use Rattle.vt_core.specs.Refusals.{PassesOrRefuses}
 use Rattle.vt_core.proofs.LogMount.{arenas_mount, count_same, log_given, log_mount, names_same}
-use Rattle.vt_core.proofs.Standing.{held_many}
+use Rattle.vt_recover.proofs.Held.{held_many}
 use Rattle.vt_core.proofs.store.Core.mount.Goals as goal
 
 pub returns-in-Err-clause-found : goal.returns-in-Err-clause-found

@@ -7,7 +7,7 @@ use Rattle.vt_shard.specs.Shard.{ShardState, HasScore}
 use Rattle.vt_core.specs.Core.{CoreState, setup_of}
 use Rattle.vt_core.specs.View.{state_of}
 use Rattle.vt_core.proofs.AddWork.{has_is, one_has}
-use Rattle.vt_core.proofs.Answering.{there_is}
+use Rattle.vt_recover.proofs.Places.{there_is}
 use Rattle.vt_core.proofs.store.Core.shard_of.Goals as goal
 
 pub loop-i-init : goal.loop-i-init

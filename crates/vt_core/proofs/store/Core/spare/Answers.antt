@@ -8,7 +8,7 @@ use Rattle.vt_shard.specs.Shard.{ShardState}
 use Rattle.vt_core.specs.Core.{CoreState}
 use Rattle.vt_core.specs.View.{state_of}
 use Rattle.vt_core.specs.Whole.{IsWhole}
-use Rattle.vt_core.proofs.Answering.{there_is}
+use Rattle.vt_recover.proofs.Places.{there_is}
 use Rattle.vt_core.proofs.store.Core.spare.Goals as goal
 
 pub returns-clause-count : goal.returns-clause-count

@@ -5,7 +5,7 @@ use Rattle.std.proofs.lemmas.Option.{same_Some}
 use Rattle.vt_shard.specs.Shard.{ShardState}
 use Rattle.vt_core.specs.Core.{CoreState}
 use Rattle.vt_core.specs.View.{state_of}
-use Rattle.vt_core.proofs.Answering.{there_is}
+use Rattle.vt_recover.proofs.Places.{there_is}
 use Rattle.vt_core.proofs.store.Core.stop_for.Goals as goal
 
 pub returns : goal.returns

@@ -5,14 +5,13 @@ use Rattle.vt_icache.specs.Index.{dirty_info}
 use Rattle.vt_shard.specs.Shard.{ShardState}
 use Rattle.vt_core.specs.Asking.{shard_of, with_parts}
 use Rattle.vt_core.specs.Core.{CoreState, setup_of}
-use Rattle.vt_core.specs.Finding.{parts_of}
+use Rattle.vt_lookup.specs.Finding.{parts_of}
 use Rattle.vt_core.specs.Serving.{TestsBlock}
 use Rattle.vt_core.specs.View.{state_of}
 use Rattle.vt_core.specs.Whole.{IsWhole}
-use Rattle.vt_core.proofs.Answering.{there_is}
+use Rattle.vt_recover.proofs.Places.{there_is, get_set}
 use Rattle.vt_core.proofs.AskWork.{are_sound, bits_right, looks_in_shard, mid_whole}
-use Rattle.vt_core.proofs.Calls.{get_set}
-use Rattle.vt_core.proofs.TestWork.{absent_either}
+use Rattle.vt_lookup.proofs.TestWork.{absent_either}
 use Rattle.vt_core.proofs.Room.{room_stays}
 use Rattle.vt_core.proofs.store.Core.test_on.Goals as goal
 

@@ -11,8 +11,8 @@ use Rattle.vt_wire.specs.declared.message.Request.TheVariants as requests
 use Rattle.vt_core.specs.declared.event.Event.TheVariants.{Ask}
 use Rattle.vt_core.specs.declared.event.Out.{Out}
 use Rattle.vt_core.specs.declared.event.Out.TheVariants.{Said as SaidOut}
-use Rattle.vt_core.specs.declared.writing.Verdict.{Verdict}
-use Rattle.vt_core.specs.declared.writing.Verdict.TheVariants.{Held, New}
+use Rattle.vt_lookup.specs.declared.writing.Verdict.{Verdict}
+use Rattle.vt_lookup.specs.declared.writing.Verdict.TheVariants.{Held, New}
 use Rattle.vt_core.specs.Asking.{says, shard_of, stop_for}
 use Rattle.vt_core.specs.Core.{CoreState, history_len}
 use Rattle.vt_core.specs.Serving.{TestsBlock}

@@ -9,7 +9,7 @@ use Rattle.vt_part.specs.Parts.{table_of, tables_of}
 use Rattle.vt_part.specs.Table.{Table}
 use Rattle.vt_part.specs.declared.part.Part.{Part}
 use Rattle.vt_told.specs.Told.{of_log}
-use Rattle.vt_core.specs.declared.devices.Devices.{Devices}
+use Rattle.vt_recover.specs.declared.devices.Devices.{Devices}
 use Rattle.vt_core.specs.Refusals.{PassesOrRefuses}
 use Rattle.vt_core.proofs.LogMount.{count_same, log_given, names_same}
 use Rattle.vt_upkeep.proofs.Backs.{refused_arenas, refused_log}

@@ -2,10 +2,11 @@ use Rattle.std.proofs.Common.{◌≤◌, List, length, Option, refl, sym, ◌∙
 use Rattle.std.specs.Prelude.{Err, sum}
 use Rattle.std.specs.List.{AllZip}
 use Rattle.vt_base.specs.declared.mount.MountField.TheVariants.{Buckets}
-use Rattle.vt_core.specs.declared.devices.Devices.{Devices}
-use Rattle.vt_core.specs.Opening.{IsOpened, buckets_in_each, with_log}
+use Rattle.vt_recover.specs.declared.devices.Devices.{Devices}
+use Rattle.vt_recover.specs.Opening.{IsOpened}
+use Rattle.vt_core.specs.Opening.{buckets_in_each, with_log}
 use Rattle.vt_core.specs.Refusals.{PassesOrRefuses}
-use Rattle.vt_core.proofs.Zips.{zip_length}
+use Rattle.vt_recover.proofs.Zips.{zip_length}
 use Rattle.vt_isect.specs.Section.{SectionState}
 use Rattle.vt_rebuild.specs.Building.{disks_under}
 use Rattle.vt_upkeep.proofs.Backs.{closed_sections, refused_buckets, refused_sections}

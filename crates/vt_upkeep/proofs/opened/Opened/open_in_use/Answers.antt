@@ -1,7 +1,8 @@
 use Rattle.std.proofs.Common.{◌≡◌, ℕ, List, length, None, Option, Some, ◌∙◌, ap, subst, arith}
 use Rattle.std.specs.Prelude.{Err, slice_get}
-use Rattle.vt_core.specs.Opening.{IsOpened, TestsHeads, with_log, wrong_at}
-use Rattle.vt_core.proofs.Zips.{zip_length}
+use Rattle.vt_recover.specs.Opening.{IsOpened}
+use Rattle.vt_core.specs.Opening.{TestsHeads, with_log, wrong_at}
+use Rattle.vt_recover.proofs.Zips.{zip_length}
 use Rattle.vt_isect.specs.Section.{SectionState}
 use Rattle.vt_rebuild.specs.Building.{disks_under}
 use Rattle.vt_upkeep.proofs.Backs.{refused_use}

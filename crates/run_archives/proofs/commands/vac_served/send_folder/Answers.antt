@@ -1,0 +1,95 @@
+-- the folder that was handed out, what was sent of it, and that it is back
+use Rattle.std.proofs.Common.{◌≡◌, inl, inr, refl, ◌∙◌, ap, subst, Ok, Err}
+use Rattle.std.specs.Prelude.{MatchBool}
+use Rattle.vt_base.specs.Faults.{HasRisen}
+use Rattle.vt_out.specs.Files.{is_fault}
+use Rattle.run_base.specs.Change.{dialer_change}
+use Rattle.run_archives.proofs.FoldersBack.{same_everywhere}
+use Rattle.run_archives.proofs.SentDone.{sends_folder}
+use Rattle.run_archives.proofs.commands.vac_served.send_folder.Goals as goal
+
+pub returns-in-Err-Failed-clause-none : goal.returns-in-Err-Failed-clause-none
+returns-in-Err-Failed-clause-none g c =
+    let again = g.met.H.Host.lent_again in
+    let folders = g.H.Folders.Folders in
+    let first = c.folders.ensures.folders in
+    let x = c.in-Err-Failed.ensures in
+    let old = folders.faults (g.H.Host.lent c.args.host.now).folders in
+    let new = folders.faults c.folder.new.self in
+    simp again (inl (record {
+      none = subst (λ e. MatchBool (is_fault e) (HasRisen old new) (new ≡ old))
+          c.in-Err-Failed.field-0-is (rw first at x.cause);
+      same = λ t. same_everywhere (folders.standing (g.H.Host.lent c.args.host.now).folders)
+          (folders.standing c.folder.new.self) c.args.name.now ((rw first at x.stays) t)
+          ((rw first at x.others) t);
+      undialled = refl;
+    }))
+
+pub returns-in-Err-NoMemory-clause-none : goal.returns-in-Err-NoMemory-clause-none
+returns-in-Err-NoMemory-clause-none g c =
+    let again = g.met.H.Host.lent_again in
+    let folders = g.H.Folders.Folders in
+    let first = c.folders.ensures.folders in
+    let x = c.in-Err-NoMemory.ensures in
+    let old = folders.faults (g.H.Host.lent c.args.host.now).folders in
+    let new = folders.faults c.folder.new.self in
+    simp again (inl (record {
+      none = subst (λ e. MatchBool (is_fault e) (HasRisen old new) (new ≡ old))
+          c.in-Err-NoMemory.field-0-is (rw first at x.cause);
+      same = λ t. same_everywhere (folders.standing (g.H.Host.lent c.args.host.now).folders)
+          (folders.standing c.folder.new.self) c.args.name.now ((rw first at x.stays) t)
+          ((rw first at x.others) t);
+      undialled = refl;
+    }))
+
+pub returns-in-Ok-sent-clause-sent : goal.returns-in-Ok-sent-clause-sent
+returns-in-Ok-sent-clause-sent g c =
+    let again = g.met.H.Host.lent_again in
+    let folders = g.H.Folders.Folders in
+    let folder = g.H.Folders.Folder.Folder in
+    let before = g.H.Host.lent c.args.host.now in
+    let away = c.in-Ok.ensures in
+    let x = c.send_watched-sent.ensures in
+    let first = c.folders.ensures.folders in
+    let second = c.folders-2.ensures.folders ∙ (simp again at (ap (λ lent. lent.folders) x.rest)) in
+    simp again (sends_folder g.H.Dialer.Link.Link g.S.Scorer.score_of c.args.address.now
+    c.args.name.now c.args.bsize (dialer_change g.H.Dialer.Dialer g.H.Dialer.Link.Link
+    before.dialer (g.H.Host.lent c.send_watched-sent.new.host).dialer) folder.tells folders.tells
+    (folder.holds c.in-Ok.folder) (folder.holds c.send_watched-sent.result.1)
+    (folders.standing before.folders) (folders.standing c.folder.new.self)
+    (folders.standing c.done.new.self) c.send_watched-sent.result.0 (Ok c.in-Ok-sent.sent)
+    c.in-Ok-sent.is (folders.faults before.folders) (folders.faults c.folder.new.self)
+    (folders.faults c.done.new.self) (folder.faults c.in-Ok.folder)
+    (folder.faults c.send_watched-sent.result.1) (rw first at away.found) away.lent
+    (rw first at away.others) (rw second at c.done.ensures.back)
+    (rw second at c.done.ensures.others) x.stays (simp again at x.asks) away.fresh x.cause
+    (rw first at away.cause) (rw second at c.done.ensures.faults)
+    (g.met.H.Folders.Folders.faults_fit c.folder.new.self))
+
+pub returns-in-Err-clause-none : goal.returns-in-Err-clause-none
+returns-in-Err-clause-none g c =
+    let again = g.met.H.Host.lent_again in
+    let folders = g.H.Folders.Folders in
+    let folder = g.H.Folders.Folder.Folder in
+    let before = g.H.Host.lent c.args.host.now in
+    let away = c.in-Ok.ensures in
+    let x = c.send_watched-sent.ensures in
+    let first = c.folders.ensures.folders in
+    let second = c.folders-2.ensures.folders ∙ (simp again at (ap (λ lent. lent.folders) x.rest)) in
+    simp again (inr (
+      c.in-Err.bad,
+      sends_folder g.H.Dialer.Link.Link g.S.Scorer.score_of c.args.address.now
+          c.args.name.now c.args.bsize (dialer_change g.H.Dialer.Dialer g.H.Dialer.Link.Link
+          before.dialer (g.H.Host.lent c.send_watched-sent.new.host).dialer) folder.tells
+          folders.tells (folder.holds c.in-Ok.folder) (folder.holds c.send_watched-sent.result.1)
+          (folders.standing before.folders) (folders.standing c.folder.new.self)
+          (folders.standing c.done.new.self) c.send_watched-sent.result.0 (Err c.in-Err.bad)
+          c.in-Err.is (folders.faults before.folders) (folders.faults c.folder.new.self)
+          (folders.faults c.done.new.self) (folder.faults c.in-Ok.folder)
+          (folder.faults c.send_watched-sent.result.1) (rw first at away.found) away.lent
+          (rw first at away.others) (rw second at c.done.ensures.back)
+          (rw second at c.done.ensures.others) x.stays (simp again at x.asks) away.fresh x.cause
+          (rw first at away.cause) (rw second at c.done.ensures.faults)
+          (g.met.H.Folders.Folders.faults_fit c.folder.new.self),
+      c.refusal_for.ensures,
+    ))

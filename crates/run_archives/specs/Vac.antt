@@ -1,0 +1,151 @@
+-- The command `vac CONF FOLDER`, with `-b BSIZE`: archives a folder into the store of a
+-- configuration, and prints what the archive is found by (vac(1)).
+use Rattle.std.specs.Prelude.{ℕ, ◌≡◌, ◌⊎◌, ◌≤◌, ◌++◌, Bool, IsTrue, Option, Some, None, List, [], ◌∷◌, Result, Ok, Err, codes, decimal}
+use Rattle.hex.specs.Hex.{encode_lower}
+use Rattle.vt_base.specs.Faults.{CountsFault, HasRisen}
+use Rattle.vt_conf.specs.declared.conf.Conf.{Conf}
+use Rattle.vt_conf.specs.Numbers.{wrong_digit}
+use Rattle.vt_disk.specs.Members.{DiskOf}
+use Rattle.vt_folder.specs.declared.item.Facts.{Facts}
+use Rattle.vt_folder.specs.Items.{Items}
+use Rattle.vt_folders.specs.Standing.{there}
+use Rattle.vt_tree.specs.declared.err.TreeErr.TheVariants as trees
+use Rattle.vac_model.specs.declared.TheConstants.{MIN_BLOCK_SIZE, MAX_BLOCK_SIZE}
+use Rattle.vac_write.specs.declared.err.VacErr.{VacErr}
+use Rattle.vac_write.specs.declared.err.VacErr.TheVariants as vac
+use Rattle.vac_write.specs.Archiving.{IsSeen}
+use Rattle.vac_store.specs.declared.outcome.ArchiveBad.{ArchiveBad}
+use Rattle.vac_store.specs.declared.outcome.ArchiveBad.TheVariants as bads
+use Rattle.vac_store.specs.declared.outcome.StoredArchive.{StoredArchive}
+use Rattle.vac_store.specs.Stored.{ArchivesStored}
+use Rattle.vac_store.specs.Storing.{is_folder_fault}
+use Rattle.run_base.specs.declared.failure.Failure.{Failure}
+use Rattle.run_base.specs.declared.failure.Failure.TheVariants.{BadName, BadNumber, FolderFault, NoMemory, TooDeep, TooLong}
+use Rattle.run_base.specs.Blocks.{FindsNoConf, refusal_for}
+use Rattle.run_base.specs.Change.{AreUnused, FoldersChange, PartsChange, Work}
+use Rattle.run_base.specs.Unopened.{IsOpenRefusal}
+use Rattle.run_base.specs.Configurations.{ReadsConf}
+use Rattle.run_base.specs.Failure.{Outcome}
+use Rattle.run_base.specs.Formatting.{Prints, RefusesWord}
+use Rattle.run_archives.specs.Skipped.{skipped_lines}
+
+-- ---- its words
+
+-- the block size that is asked for: 8,192, where none is
+abbrev pub AsksForSize : Option (List ℕ) → (bsize : ℕ) → Type 0
+AsksForSize None bsize = bsize ≡ 8192
+AsksForSize (Some word) bsize =
+    (word ≡ decimal bsize) × (MIN_BLOCK_SIZE ≤ bsize) × (bsize ≤ MAX_BLOCK_SIZE)
+
+-- a word that asks for none, by its first byte that is no digit of one
+abbrev pub AsksForNoSize : Option (List ℕ) → Failure → Type 0
+AsksForNoSize None failure = ⊥
+AsksForNoSize (Some word) failure =
+    ((bsize : ℕ) → ¬ AsksForSize (Some word) bsize) × (failure ≡ BadNumber (wrong_digit word))
+
+-- ---- what is told
+
+-- what an archive is found by
+abbrev pub archive_line : (score : List ℕ) → List ℕ
+archive_line score = codes "vac:" ++ (encode_lower score ++ 10 ∷ [])
+
+-- why a folder isn't archived; the place of what is unfit is 0
+abbrev pub unfit_for : VacErr → Failure
+unfit_for vac.FolderFault = FolderFault
+unfit_for (vac.Tree trees.TooLong) = TooLong 0
+unfit_for (vac.Tree err) = NoMemory
+unfit_for (vac.BadName path) = BadName 0
+unfit_for (vac.TooDeep path) = TooDeep 0
+unfit_for vac.NoMemory = NoMemory
+
+abbrev pub IsArchiveRefusal : (file : List ℕ) → Conf → ArchiveBad → Failure → Type 0
+IsArchiveRefusal file conf (bads.Unopened bad) failure = IsOpenRefusal file conf bad failure
+IsArchiveRefusal file conf (bads.Folder err) failure = failure ≡ unfit_for err
+IsArchiveRefusal file conf (bads.Refused why) failure = failure ≡ refusal_for why
+
+-- ---- what is done
+
+-- what stands under each name is what stood there
+abbrev pub StandAgain : FoldersChange → Type 0
+StandAgain folders =
+    IsTrue folders.tells → (name : List ℕ) → folders.new name ≡ folders.old name
+
+-- The folder of this name was archived into the store of the configuration, with this result, and
+-- is back. A failed call of the folder is what is told where one failed.
+pub record StoresFolder {P D : Type 0} (score : List ℕ → List ℕ) (disk : DiskOf D)
+    (name : List ℕ) (conf : Conf) (bsize : ℕ) (result : Result StoredArchive ArchiveBad)
+    (folders : FoldersChange) (parts : PartsChange P D) : Type 0 where
+  -- what the folder holds, if it tells it
+  pub tells : Bool
+  pub held : Items Facts
+  pub handed_out : IsTrue folders.tells → IsTrue tells × (folders.old name ≡ there held)
+  pub back : StandAgain folders
+  -- the time that a clump was stamped with, which no clause ties to a clock
+  pub now : ℕ
+  pub archives : ArchivesStored score disk (IsTrue parts.tells) conf now bsize
+      (IsSeen tells held) parts.old parts.new parts.faults parts.faults' result
+  pub fault : CountsFault is_folder_fault result folders.faults folders.faults'
+
+-- why no folder was handed out: a call failed, as where there is none, or memory ran out
+abbrev pub HandsOutNone : FoldersChange → Failure → Type 0
+HandsOutNone folders FolderFault = HasRisen folders.faults folders.faults'
+HandsOutNone folders NoMemory = folders.faults' ≡ folders.faults
+HandsOutNone folders failure = ⊥
+
+-- there is none of this name, and no partition was handed out
+pub record FindsNoFolder {P D : Type 0} (failure : Failure) (folders : FoldersChange)
+    (parts : PartsChange P D) : Type 0 where
+  pub none : HandsOutNone folders failure
+  pub same : StandAgain folders
+  pub unused : parts.after ≡ parts.before
+
+-- why nothing was stored: there is no such folder, or it wasn't archived
+abbrev pub StoresNone : {P D : Type 0} → (List ℕ → List ℕ) → DiskOf D → (file name : List ℕ)
+    → Conf → (bsize : ℕ) → Failure → FoldersChange → PartsChange P D → Type 0
+StoresNone score disk file name conf bsize failure folders parts =
+    FindsNoFolder failure folders parts
+    ⊎ ((bad : ArchiveBad) × StoresFolder score disk name conf bsize (Err bad) folders parts
+    × IsArchiveRefusal file conf bad failure)
+
+-- it is told why, and nothing is printed
+pub record TellsNone {R K I P D N L : Type 0} (score : List ℕ → List ℕ) (disk : DiskOf D)
+    (file name : List ℕ) (conf : Conf) (bsize : ℕ) (preface : List ℕ) (outcome : Outcome)
+    (work : Work R K I P D N L) : Type 0 where
+  pub failure : Failure
+  pub outcome_is : outcome ≡ Err failure
+  pub none : StoresNone score disk file name conf bsize failure work.folders work.parts
+  pub nothing : preface ≡ []
+  pub unwritten : work.sink.after ≡ work.sink.before
+
+-- The folder was stored; each path that was left out is told, before the line on the fault sink,
+-- and what the archive is found by is printed.
+pub record TellsStored {R K I P D N L : Type 0} (score : List ℕ → List ℕ) (disk : DiskOf D)
+    (name : List ℕ) (conf : Conf) (bsize : ℕ) (preface : List ℕ) (outcome : Outcome)
+    (work : Work R K I P D N L) : Type 0 where
+  pub stored : StoredArchive
+  pub stores : StoresFolder score disk name conf bsize (Ok stored) work.folders work.parts
+  pub left_out : preface ≡ skipped_lines stored.archived.skipped
+  pub printed : Prints (archive_line stored.archived.score.0) outcome work.sink
+
+-- Its word was refused; or no configuration was read; or the folder was stored in blocks of the
+-- size that is asked for, or it is told why not.
+abbrev pub DoesVac : {R K I P D N L : Type 0} → (List ℕ → List ℕ) → DiskOf D
+    → (file name : List ℕ) → (size_word : Option (List ℕ)) → (preface : List ℕ) → Outcome
+    → Work R K I P D N L → Type 0
+DoesVac score disk file name size_word preface outcome work =
+    ((preface ≡ []) × AreUnused work.folders × RefusesWord (AsksForNoSize size_word) outcome work)
+    ⊎ ((bsize : ℕ) × AsksForSize size_word bsize
+    × (((preface ≡ []) × AreUnused work.folders × FindsNoConf file outcome work)
+    ⊎ ((conf : Conf) × ReadsConf file conf work.files
+    × (work.source.after ≡ work.source.before) × (work.dialer.after ≡ work.dialer.before)
+    × (TellsNone score disk file name conf bsize preface outcome work
+    ⊎ TellsStored score disk name conf bsize preface outcome work))))
+
+-- ---- what follows
+
+-- where the store was opened, this holds, and else that
+abbrev pub WhereStored : (stored unopened : Type 0) → Result StoredArchive ArchiveBad → Type 0
+WhereStored stored unopened (Ok made) = stored
+WhereStored stored unopened (Err (bads.Unopened bad)) = unopened
+WhereStored stored unopened (Err (bads.Folder err)) = stored
+WhereStored stored unopened (Err (bads.Refused why)) = stored

@@ -1,0 +1,11 @@
+//! The commands that archive a folder and show an archive (vac(1), vacfs(4)).
+#![tactic(auto)]
+
+mod commands;
+mod skipped;
+mod viewed;
+mod watched;
+
+pub use commands::vac::vac;
+pub use commands::vac_at::vac_at;
+pub use commands::vacfs::vacfs;

@@ -1,0 +1,8 @@
+pub mod Causes
+pub mod InMemory
+pub mod NameAt
+pub mod OpenCauses
+pub mod Puts
+pub mod SaidBefore
+pub mod StoredCauses
+pub mod WholeFile

@@ -1,0 +1,178 @@
+-- What a run did to the streams, the files, the partitions, the folders and the links of its host.
+use Rattle.std.specs.Prelude.{ℕ, ◌≡◌, ◌⊎◌, ◌++◌, Bool, IsTrue, List, [], Option}
+use Rattle.vt_base.specs.Faults.{HasRisen}
+use Rattle.vt_out.specs.Streams.{AppendsPrefix}
+use Rattle.vt_folders.specs.Standing.{Standing as FolderStanding}
+use Rattle.vt_parts.specs.Parts.{Standing}
+use Rattle.vt_dial.specs.Dialled.{Dialled}
+use Rattle.run_base.specs.Hosts.{Lent}
+use Rattle.run_base.specs.Members.{SourceOf, SinkOf, FilesOf, PartsOf, FoldersOf, DialerOf, LinkOf}
+
+-- A stream before the run and behind it: the stream itself; its bytes, left or written, where it
+-- tells them, and of one that is read those that were taken; and its count of faults.
+pub record Change (Stream : Type 0) : Type 0 where
+  pub before : Stream
+  pub after : Stream
+  pub tells : Bool
+  pub old : List ℕ
+  pub new : List ℕ
+  pub taken : List ℕ
+  pub taken' : List ℕ
+  pub faults : ℕ
+  pub faults' : ℕ
+
+abbrev pub source_change : {R : Type 0} → SourceOf R → (before after : R) → Change R
+source_change source before after = record {
+  before = before;
+  after = after;
+  tells = source.tells;
+  old = source.left before;
+  new = source.left after;
+  taken = source.given before;
+  taken' = source.given after;
+  faults = source.faults before;
+  faults' = source.faults after;
+}
+
+abbrev pub sink_change : {K : Type 0} → SinkOf K → (before after : K) → Change K
+sink_change sink before after = record {
+  before = before;
+  after = after;
+  tells = sink.tells;
+  old = sink.written before;
+  new = sink.written after;
+  taken = [];
+  taken' = [];
+  faults = sink.faults before;
+  faults' = sink.faults after;
+}
+
+-- The files before the run and behind it: they themselves; what each holds, where they tell it,
+-- which no run changes; and their count of faults.
+pub record FilesChange (Files : Type 0) : Type 0 where
+  pub before : Files
+  pub after : Files
+  pub tells : Bool
+  pub content : (name : List ℕ) → Option (List ℕ)
+  pub faults : ℕ
+  pub faults' : ℕ
+
+abbrev pub files_change : {I : Type 0} → FilesOf I → (before after : I) → FilesChange I
+files_change files before after = record {
+  before = before;
+  after = after;
+  tells = files.tells;
+  content = files.content before;
+  faults = files.faults before;
+  faults' = files.faults after;
+}
+
+-- The partitions before the run and behind it: they themselves; what stands under which name, where
+-- they tell it; and their count of faults.
+pub record PartsChange (Parts Disk : Type 0) : Type 0 where
+  pub before : Parts
+  pub after : Parts
+  pub tells : Bool
+  pub old : (name : List ℕ) → Standing Disk
+  pub new : (name : List ℕ) → Standing Disk
+  pub faults : ℕ
+  pub faults' : ℕ
+
+abbrev pub parts_change : {P D : Type 0} → PartsOf P D → (before after : P) → PartsChange P D
+parts_change parts before after = record {
+  before = before;
+  after = after;
+  tells = parts.tells;
+  old = parts.standing before;
+  new = parts.standing after;
+  faults = parts.faults before;
+  faults' = parts.faults after;
+}
+
+-- The dialer before the run and behind it: it itself; what became of its link, where it tells it;
+-- its count of faults; and how many calls of reading and of writing a link of it counts as failed.
+pub record DialerChange (Dialer Link : Type 0) : Type 0 where
+  pub before : Dialer
+  pub after : Dialer
+  pub tells : Bool
+  pub old : Dialled Link
+  pub new : Dialled Link
+  pub faults : ℕ
+  pub faults' : ℕ
+  pub read_faults : Link → ℕ
+  pub write_faults : Link → ℕ
+
+abbrev pub dialer_change : {N L : Type 0} → DialerOf N L → LinkOf L → (before after : N)
+    → DialerChange N L
+dialer_change dialer link before after = record {
+  before = before;
+  after = after;
+  tells = dialer.tells;
+  old = dialer.dialled before;
+  new = dialer.dialled after;
+  faults = dialer.faults before;
+  faults' = dialer.faults after;
+  read_faults = link.read_faults;
+  write_faults = link.write_faults;
+}
+
+-- The folders before the run and behind it: what stands under which name, where they tell it; and
+-- their count of faults.
+pub record FoldersChange : Type 0 where
+  pub tells : Bool
+  pub old : (name : List ℕ) → FolderStanding
+  pub new : (name : List ℕ) → FolderStanding
+  pub faults : ℕ
+  pub faults' : ℕ
+
+abbrev pub folders_change : {G E : Type 0} → FoldersOf G E → (before after : G) → FoldersChange
+folders_change folders before after = record {
+  tells = folders.tells;
+  old = folders.standing before;
+  new = folders.standing after;
+  faults = folders.faults before;
+  faults' = folders.faults after;
+}
+
+-- none was handed out, and no call of one failed
+abbrev pub AreUnused : FoldersChange → Type 0
+AreUnused folders = (folders.new ≡ folders.old) × (folders.faults' ≡ folders.faults)
+
+-- what a run did before its line on the fault sink
+pub record Work (R K I P D N L : Type 0) : Type 0 where
+  pub source : Change R
+  pub sink : Change K
+  pub files : FilesChange I
+  pub parts : PartsChange P D
+  pub dialer : DialerChange N L
+  pub folders : FoldersChange
+
+abbrev pub work_of : {R K F I P D G E N L : Type 0} → SourceOf R → SinkOf K → FilesOf I
+    → PartsOf P D → FoldersOf G E → DialerOf N L → LinkOf L
+    → (before after : Lent R K F I P N G) → Work R K I P D N L
+work_of source sink files parts folders dialer link before after = record {
+  source = source_change source before.source after.source;
+  sink = sink_change sink before.sink after.sink;
+  files = files_change files before.files after.files;
+  parts = parts_change parts before.parts after.parts;
+  dialer = dialer_change dialer link before.dialer after.dialer;
+  folders = folders_change folders before.folders after.folders;
+}
+
+-- nothing but files was read, nothing was written or handed out, and no link was made
+pub record ReadsFiles {R K I P D N L : Type 0} (work : Work R K I P D N L) : Type 0 where
+  pub unread : work.source.after ≡ work.source.before
+  pub unwritten : work.sink.after ≡ work.sink.before
+  pub unused : work.parts.after ≡ work.parts.before
+  pub undialled : work.dialer.after ≡ work.dialer.before
+
+-- nor was a file read
+pub record IsIdle {R K I P D N L : Type 0} (work : Work R K I P D N L) : Type 0 where
+  pub rest : ReadsFiles work
+  pub unopened : work.files.after ≡ work.files.before
+
+-- Where the stream tells what was written, the line was; or the write failed behind a front of it.
+abbrev pub Attempts : {F : Type 0} → Change F → (line : List ℕ) → Type 0
+Attempts change line = IsTrue change.tells
+    → (change.new ≡ change.old ++ line)
+    ⊎ (AppendsPrefix change.old change.new line × HasRisen change.faults change.faults')

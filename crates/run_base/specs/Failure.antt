@@ -1,0 +1,166 @@
+-- Why a command ends with a status other than 0: the status, the line that tells it, and the cause,
+-- one row for each.
+use Rattle.std.specs.Prelude.{ℕ, ◌≡◌, ◌≢◌, ◌⊎◌, ◌<◌, ◌-◌, ◌^◌, ⊤, IsTrue, List, [], ◌∷◌, ◌++◌, Option, Result, Ok, Err, codes, decimal}
+use Rattle.std.specs.List.{concat}
+use Rattle.vt_base.specs.Damage.{Differ}
+use Rattle.vt_base.specs.Faults.{HasRisen}
+use Rattle.vt_base.specs.Protocol.{text_of as why_text_of}
+use Rattle.vt_client.specs.declared.err.ClientErr.TheVariants as errs
+use Rattle.vt_conf.specs.Causes.{text_of}
+use Rattle.vt_conf.specs.declared.address.Address.{Address}
+use Rattle.vt_dial.specs.Dialled.{with_back, with_link}
+use Rattle.hex.specs.Hex.{encode_lower}
+use Rattle.vt_disk.specs.Members.{DiskOf}
+use Rattle.vt_parts.specs.Parts.{there, HandsOut}
+use Rattle.run_base.specs.declared.failure.Failure.{Failure}
+use Rattle.run_base.specs.declared.failure.Failure.TheVariants.{BadWords, BadConf, NotFormatted, TooSmall, Disagree, SameName, DiskFault, BadNumber, BadName, BadScore, BadArchive, TooDeep, TooLong, Cut, Malformed, Spent, ReadFault, FileFault, FolderFault, WriteFault, NoMemory, Damaged, IndexFull, ArenasFull, Refused, NoBlock, Server}
+use Rattle.run_base.specs.Change.{DialerChange, PartsChange, Work}
+use Rattle.run_base.specs.Fields.{field_name, value_text}
+use Rattle.vt_remote.specs.declared.remote.RemoteBad.{RemoteBad}
+use Rattle.vt_remote.specs.declared.remote.RemoteBad.TheVariants as remote
+
+abbrev pub Outcome : Type 0
+Outcome = Result (Unit {0}) Failure
+
+-- where a server is why: it wasn't reached, the link to it failed, or what it said is no answer
+abbrev pub server_status : RemoteBad → ℕ
+server_status remote.Undialled = 6
+server_status (remote.Refused errs.ReadFault) = 6
+server_status (remote.Refused errs.WriteFault) = 7
+server_status (remote.Refused errs.NoMemory) = 8
+server_status (remote.Refused (errs.WrongScore want found)) = 9
+server_status (remote.Refused (errs.Remote text)) = 11
+server_status (remote.Refused errs.Cut) = 11
+server_status (remote.Refused (errs.BadReply place)) = 11
+server_status (remote.Refused errs.NoVersion) = 11
+server_status (remote.Refused errs.Spent) = 11
+
+abbrev pub status_of : Outcome → ℕ
+status_of (Ok done) = 0
+status_of (Err BadWords) = 1
+status_of (Err (BadConf bad)) = 2
+status_of (Err (NotFormatted file)) = 3
+status_of (Err (TooSmall file len need)) = 3
+status_of (Err (Disagree file field found want)) = 3
+status_of (Err (SameName file other)) = 3
+status_of (Err DiskFault) = 4
+status_of (Err (BadNumber at)) = 5
+status_of (Err (BadName at)) = 5
+status_of (Err (BadScore at)) = 5
+status_of (Err (BadArchive at)) = 5
+status_of (Err (TooDeep at)) = 5
+status_of (Err (TooLong at)) = 5
+status_of (Err (Cut taken)) = 5
+status_of (Err (Malformed place)) = 5
+status_of (Err (Spent taken)) = 5
+status_of (Err ReadFault) = 6
+status_of (Err FileFault) = 6
+status_of (Err FolderFault) = 6
+status_of (Err WriteFault) = 7
+status_of (Err NoMemory) = 8
+status_of (Err (Damaged want found)) = 9
+status_of (Err IndexFull) = 10
+status_of (Err ArenasFull) = 10
+status_of (Err (Refused why)) = 11
+status_of (Err (NoBlock text)) = 11
+status_of (Err (Server bad)) = server_status bad
+
+-- a line on the fault sink
+abbrev pub line : (pieces : List (List ℕ)) → List ℕ
+line pieces = codes "venti: " ++ (concat pieces ++ 10 ∷ [])
+
+abbrev pub server_line : RemoteBad → List ℕ
+server_line remote.Undialled = line (codes "read fault" ∷ [])
+server_line (remote.Refused errs.ReadFault) = line (codes "read fault" ∷ [])
+server_line (remote.Refused errs.WriteFault) = line (codes "write fault" ∷ [])
+server_line (remote.Refused errs.NoMemory) = line (codes "no memory" ∷ [])
+server_line (remote.Refused (errs.WrongScore want found)) =
+    line (codes "damaged: want " ∷ encode_lower want.0 ∷ codes ", found " ∷ encode_lower found.0
+    ∷ [])
+server_line (remote.Refused (errs.Remote text)) = line (codes "refused: " ∷ text ∷ [])
+server_line (remote.Refused errs.Cut) = line (codes "refused: " ∷ codes "peer cut" ∷ [])
+server_line (remote.Refused (errs.BadReply place)) =
+    line (codes "refused: " ∷ codes "bad reply" ∷ [])
+server_line (remote.Refused errs.NoVersion) = line (codes "refused: " ∷ codes "no version" ∷ [])
+server_line (remote.Refused errs.Spent) = line (codes "refused: " ∷ codes "client spent" ∷ [])
+
+abbrev pub line_of : Outcome → List ℕ
+line_of (Ok done) = []
+line_of (Err BadWords) = line (codes "bad command line" ∷ [])
+line_of (Err (BadConf bad)) =
+    line (codes "config line " ∷ decimal bad.line ∷ codes ": " ∷ text_of bad.why ∷ [])
+line_of (Err (NotFormatted file)) = line (file ∷ codes ": not formatted" ∷ [])
+line_of (Err (TooSmall file len need)) =
+    line (file ∷ codes ": too small: " ∷ decimal len ∷ codes ", need " ∷ decimal need ∷ [])
+line_of (Err (Disagree file field found want)) =
+    line (file ∷ codes ": " ∷ field_name field ∷ codes " is " ∷ decimal found ∷ codes ", want "
+    ∷ decimal want ∷ [])
+line_of (Err (SameName file other)) = line (file ∷ codes ": name is that of " ∷ other ∷ [])
+line_of (Err DiskFault) = line (codes "disk fault" ∷ [])
+line_of (Err (BadNumber at)) = line (codes "bad number at " ∷ decimal at ∷ [])
+line_of (Err (BadName at)) = line (codes "bad name at " ∷ decimal at ∷ [])
+line_of (Err (BadScore at)) = line (codes "bad score at " ∷ decimal at ∷ [])
+line_of (Err (BadArchive at)) = line (codes "bad archive at " ∷ decimal at ∷ [])
+line_of (Err (TooDeep at)) = line (codes "too deep at " ∷ decimal at ∷ [])
+line_of (Err (TooLong at)) = line (codes "too long at " ∷ decimal at ∷ [])
+line_of (Err (Cut taken)) = line (codes "cut at " ∷ decimal taken ∷ [])
+line_of (Err (Malformed place)) = line (codes "malformed at " ∷ decimal place ∷ [])
+line_of (Err (Spent taken)) = line (codes "spent at " ∷ decimal taken ∷ [])
+line_of (Err ReadFault) = line (codes "read fault" ∷ [])
+line_of (Err FileFault) = line (codes "read fault" ∷ [])
+line_of (Err FolderFault) = line (codes "read fault" ∷ [])
+line_of (Err WriteFault) = line (codes "write fault" ∷ [])
+line_of (Err NoMemory) = line (codes "no memory" ∷ [])
+line_of (Err (Damaged want found)) =
+    line (codes "damaged: want " ∷ value_text want ∷ codes ", found " ∷ value_text found ∷ [])
+line_of (Err IndexFull) = line (codes "index full" ∷ [])
+line_of (Err ArenasFull) = line (codes "arenas full" ∷ [])
+line_of (Err (Refused why)) = line (codes "refused: " ∷ why_text_of why ∷ [])
+line_of (Err (NoBlock text)) = line (codes "refused: " ∷ text ∷ [])
+line_of (Err (Server bad)) = server_line bad
+
+-- calls failed meanwhile: the count is higher, or stands at the end of its type
+abbrev pub HaveFailed : (old new : ℕ) → Type 0
+HaveFailed old new = (old < new) ⊎ (new ≡ 2 ^ 64 - 1)
+
+-- a partition was handed out, calls of it failed, and it stands there again
+pub record HasFailed {P D : Type 0} (disk : DiskOf D) (parts : PartsChange P D) : Type 0 where
+  pub name : List ℕ
+  pub before : D
+  pub after : D
+  pub grow_to : Option ℕ
+  pub handed : IsTrue parts.tells → HandsOut disk (parts.old name) grow_to before
+  pub back : IsTrue parts.tells → parts.new name ≡ there after
+  pub rose : HaveFailed (disk.faults before) (disk.faults after)
+
+-- A link was made, counts a failed call of this kind, and was taken back.
+pub record HasLinkFailed {N L : Type 0} (count : L → ℕ) (dialer : DialerChange N L) : Type 0 where
+  pub link : L
+  pub failed : 0 < count link
+  pub address : Address
+  pub taken_back : IsTrue dialer.tells → dialer.new ≡ with_back link (with_link address dialer.old)
+
+-- where a server is why: no link to it was made, a call of its link failed, or two scores differ
+abbrev pub HasServerCause : {N L : Type 0} → DialerChange N L → RemoteBad → Type 0
+HasServerCause dialer remote.Undialled = HasRisen dialer.faults dialer.faults'
+HasServerCause dialer (remote.Refused errs.ReadFault) = HasLinkFailed dialer.read_faults dialer
+HasServerCause dialer (remote.Refused errs.WriteFault) =
+    HasLinkFailed dialer.write_faults dialer
+HasServerCause dialer (remote.Refused (errs.WrongScore want found)) = want.0 ≢ found.0
+HasServerCause dialer (remote.Refused why) = ⊤
+
+-- A fault is told only where the count of that stream rose, or that of the files, of the folders,
+-- of a disk or of the partitions; and of a partition that is refused, or damaged, two values are
+-- told that differ.
+abbrev pub HasCauseIn : {R K I P D N L : Type 0} → DiskOf D → Work R K I P D N L → Outcome → Type 0
+HasCauseIn disk work (Err (TooSmall file len need)) = len < need
+HasCauseIn disk work (Err (Disagree file field found want)) = found ≢ want
+HasCauseIn disk work (Err DiskFault) =
+    HasRisen work.parts.faults work.parts.faults' ⊎ HasFailed disk work.parts
+HasCauseIn disk work (Err ReadFault) = HasRisen work.source.faults work.source.faults'
+HasCauseIn disk work (Err FileFault) = HasRisen work.files.faults work.files.faults'
+HasCauseIn disk work (Err FolderFault) = HasRisen work.folders.faults work.folders.faults'
+HasCauseIn disk work (Err WriteFault) = HasRisen work.sink.faults work.sink.faults'
+HasCauseIn disk work (Err (Damaged want found)) = Differ want found
+HasCauseIn disk work (Err (Server bad)) = HasServerCause work.dialer bad
+HasCauseIn disk work outcome = ⊤

@@ -1,0 +1,67 @@
+-- What a command does that formats the partition of one file (venti(8)).
+use Rattle.std.specs.Prelude.{ℕ, ◌≡◌, ◌≢◌, ◌++◌, ⊤, IsTrue, List, Result, Ok, Err, MatchResult}
+use Rattle.vt_base.specs.Faults.{HasRisen}
+use Rattle.vt_base.specs.declared.mount.MountBad.{MountBad}
+use Rattle.vt_base.specs.declared.mount.MountBad.TheVariants as mount_bad
+use Rattle.vt_disk.specs.Members.{DiskOf}
+use Rattle.vt_format.specs.Worked.{WorksOn}
+use Rattle.vt_out.specs.Streams.{AppendsPrefix}
+use Rattle.run_base.specs.declared.failure.Failure.{Failure}
+use Rattle.run_base.specs.declared.failure.Failure.TheVariants.{NotFormatted, TooSmall, Disagree, DiskFault, WriteFault, NoMemory}
+use Rattle.run_base.specs.Change.{Change, Work, IsIdle}
+use Rattle.run_base.specs.Failure.{Outcome}
+
+-- what is told where the partition of this file is refused, which is the only one
+abbrev pub IsRefusalOf : (file : List ℕ) → MountBad → Failure → Type 0
+IsRefusalOf file mount_bad.Fault failure = failure ≡ DiskFault
+IsRefusalOf file (mount_bad.NotFormatted part) failure = failure ≡ NotFormatted file
+IsRefusalOf file (mount_bad.TooSmall part len need) failure = failure ≡ TooSmall file len need
+IsRefusalOf file (mount_bad.Disagree part field found want) failure =
+    failure ≡ Disagree file field found want
+IsRefusalOf file mount_bad.NoMemory failure = failure ≡ NoMemory
+IsRefusalOf file bad failure = ⊥
+
+-- it is one of these
+abbrev pub IsOfOneFile : MountBad → Type 0
+IsOfOneFile (mount_bad.DuplicateName first second) = ⊥
+IsOfOneFile (mount_bad.Damaged site want found) = ⊥
+IsOfOneFile bad = ⊤
+
+-- The text was written, and that is the outcome; or a write failed behind a front of it.
+abbrev pub Prints : {K : Type 0} → (text : List ℕ) → Outcome → Change K → Type 0
+Prints text (Ok done) change =
+    (IsTrue change.tells → change.new ≡ change.old ++ text) × (change.faults' ≡ change.faults)
+Prints text (Err WriteFault) change =
+    (IsTrue change.tells → AppendsPrefix change.old change.new text)
+    × HasRisen change.faults change.faults'
+Prints text (Err failure) change = ⊥
+
+-- What came of it is printed, or it is told why the partition is refused; then nothing is printed.
+abbrev pub Tells : {K T : Type 0} → (file : List ℕ) → (text : T → List ℕ) → Result T MountBad
+    → Outcome → Change K → Type 0
+Tells file text result outcome change = MatchResult result
+    (λ made. Prints (text made) outcome change)
+    (λ bad. ((failure : Failure) × (outcome ≡ Err failure) × IsRefusalOf file bad failure)
+    × (change.after ≡ change.before))
+
+-- This was done to the partition of the file, with so many bytes at least, and to no other.
+pub record FormatsFile {R K I P D N L T : Type 0} (disk : DiskOf D) (file : List ℕ) (len : ℕ)
+    (Formats : Result T MountBad → D → D → Type 0) (text : T → List ℕ) (outcome : Outcome)
+    (work : Work R K I P D N L) : Type 0 where
+  pub result : Result T MountBad
+  pub worked : WorksOn disk work.parts.tells len Formats work.parts.faults work.parts.faults'
+      (work.parts.old file) (work.parts.new file) result
+  pub others : IsTrue work.parts.tells → (other : List ℕ) → other ≢ file
+      → work.parts.new other ≡ work.parts.old other
+  pub told : Tells file text result outcome work.sink
+  pub unread : work.source.after ≡ work.source.before
+  pub unopened : work.files.after ≡ work.files.before
+  pub undialled : work.dialer.after ≡ work.dialer.before
+
+-- a word was refused, for this cause, and nothing was done
+pub record RefusesWord {R K I P D N L : Type 0} (IsWhy : Failure → Type 0) (outcome : Outcome)
+    (work : Work R K I P D N L) : Type 0 where
+  pub failure : Failure
+  pub why : IsWhy failure
+  pub outcome_is : outcome ≡ Err failure
+  pub idle : IsIdle work

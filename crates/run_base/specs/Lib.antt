@@ -1,0 +1,14 @@
+pub mod Hosts
+pub mod Members
+pub mod Change
+pub mod Configurations
+pub mod Fields
+pub mod Failure
+pub mod Formatting
+pub mod Memory
+pub mod Served
+pub mod Unopened
+pub mod Blocks
+pub mod Places
+pub mod Said
+pub mod Servers

@@ -1,0 +1,32 @@
+-- The place of a store, which a word of the command line names.
+use Rattle.std.specs.Prelude.{ℕ, ◌≡◌, ◌≢◌, ◌⊎◌, List, Err, codes}
+use Rattle.vt_conf.specs.declared.address.Address.{Address}
+use Rattle.vt_conf.specs.Addresses.{SpellsAddress}
+use Rattle.run_base.specs.declared.failure.Failure.TheVariants.{NoMemory}
+use Rattle.run_base.specs.declared.place.Place.{Place}
+use Rattle.run_base.specs.declared.place.Place.TheVariants.{Memory, Server, Conf}
+use Rattle.run_base.specs.Change.{Work, IsIdle}
+use Rattle.run_base.specs.Failure.{Outcome}
+
+-- the name of a store in memory
+abbrev pub in_memory : List ℕ
+in_memory = codes ":memory:"
+
+-- It is that name, or spells an address (venti(8)); any other word is the name of a configuration's
+-- file.
+abbrev pub Names : (word : List ℕ) → Place → Type 0
+Names word Memory = word ≡ in_memory
+Names word (Server address) = SpellsAddress address word
+Names word Conf = (word ≢ in_memory) × ((address : Address) → ¬ SpellsAddress address word)
+
+-- it ends so, and nothing is done
+pub record EndsIdle {R K I P D N L : Type 0} (end outcome : Outcome) (work : Work R K I P D N L)
+    : Type 0 where
+  pub is : outcome ≡ end
+  pub idle : IsIdle work
+
+-- this was done with the store that the word names, or memory ran out before it was known which
+abbrev pub AtPlace : {R K I P D N L : Type 0} → (word : List ℕ) → (Does : Place → Type 0)
+    → Outcome → Work R K I P D N L → Type 0
+AtPlace word Does outcome work =
+    EndsIdle (Err NoMemory) outcome work ⊎ ((place : Place) × Names word place × Does place)

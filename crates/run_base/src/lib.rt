@@ -1,0 +1,27 @@
+//! What all commands of the program share: the host that they are lent, how one may fail and what is
+//! then told, its configuration and its words, and what it prints and shows.
+#![tactic(auto)]
+
+mod block;
+mod complaint;
+mod configuration;
+mod failure;
+mod host;
+mod memory;
+mod place;
+mod printing;
+mod served;
+mod shown;
+mod unopened;
+
+pub use block::{refusal_for, score_in, told_stored, type_in};
+pub use complaint::{complain_of, hexadecimal, put_line};
+pub use configuration::read_conf;
+pub use failure::{Failure, status};
+pub use host::{Host, Outside};
+pub use memory::{memory_store, read_made, write_made};
+pub use place::{Place, is_in_memory, place_of};
+pub use printing::{print, put_pieces};
+pub use served::outcome_of;
+pub use shown::{Shown, Unit};
+pub use unopened::{name_at, refusal_among, told, told_on};

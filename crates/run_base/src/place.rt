@@ -1,0 +1,43 @@
+//! Where a store is: in memory, at a server's address, or in the partitions of a configuration.
+
+ghost use Rattle.std.specs.Prelude.{◌≡◌, IfErr, IfOk};
+ghost use Rattle.std.specs.Str.{bytes_eq};
+ghost use Rattle.run_base.specs.Places.{Names, in_memory};
+
+use crate::failure::Failure;
+use std::alloc::Global;
+use vt_base::{NoMemory, Text};
+use vt_conf::{Address, parse_address};
+
+/// Where the store is that a word of the command line names.
+#[derive(Drop)]
+pub enum Place {
+    /// In memory, and empty.
+    Memory,
+    /// A server at this address has it.
+    Server(Address),
+    /// The file of this name is its configuration.
+    Conf,
+}
+
+/// The place that a word names.
+pub fn place_of(alloc: Global, word: &Text) -> Result<Place, Failure>
+    ensures named { IfOk result (Names word.now) }
+    ensures memory { IfErr result (λ failure. failure ≡ Failure.NoMemory) }
+{
+    if is_in_memory(word) {
+        return Ok(Place::Memory);
+    }
+    match parse_address(alloc, word.as_slice()) {
+        Ok(Some(address)) => Ok(Place::Server(address)),
+        Ok(None) => Ok(Place::Conf),
+        Err(NoMemory) => Err(Failure::NoMemory),
+    }
+}
+
+/// It is the name of a store in memory.
+pub fn is_in_memory(store: &Text) -> bool
+    ensures { result ≡ bytes_eq store.now in_memory }
+{
+    store.as_slice() == b":memory:".as_slice()
+}

@@ -1,0 +1,3 @@
+pub mod BlockCauses
+pub mod MemorySessions
+pub mod SessionCauses

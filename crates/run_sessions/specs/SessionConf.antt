@@ -1,0 +1,139 @@
+-- The command `session CONF`: one session over the store that a configuration names (venti(8)).
+use Rattle.std.specs.Prelude.{ℕ, ◌≡◌, ◌⊎◌, ◌≤◌, ◌++◌, ◌&&◌, IsTrue, Some, List, length, map, Err}
+use Rattle.std.specs.List.{AllByRecursion}
+use Rattle.vt_base.specs.Faults.{HasRisen}
+use Rattle.vt_conf.specs.declared.conf.Conf.{Conf}
+use Rattle.vt_conf.specs.Configuration.{Configures}
+use Rattle.vt_disk.specs.Members.{DiskOf}
+use Rattle.vt_model.specs.History.{History}
+use Rattle.vt_model.specs.Places.{Setup}
+use Rattle.vt_part.specs.Table.{Table}
+use Rattle.vt_answer.specs.Links.{ReadCause}
+use Rattle.vt_answer.specs.Sessions.{SinkCause}
+use Rattle.vt_session.specs.Answered.{Faults, OneRose}
+use Rattle.vt_session.specs.Talk.{Alone}
+use Rattle.vt_session.specs.Turns.{Cause, Turn, causes_of, synced_numbers}
+use Rattle.vt_core.specs.Core.{CoreState, devices_of}
+use Rattle.vt_core.specs.Files.{PerDevice, all_of}
+use Rattle.vt_core.specs.Mounting.{AllStandFor, EachStands, IsLogOf, KeepsLimits}
+use Rattle.vt_open.specs.Names.{AreUnder, files_of, HaveOneShape}
+use Rattle.vt_open.specs.Opening.{Opens}
+use Rattle.vt_open.specs.Taking.{AreGiven}
+use Rattle.vt_parts.specs.Parts.{Standing}
+use Rattle.vt_alone.specs.declared.serving.StoreServed.{StoreServed}
+use Rattle.vt_alone.specs.Sessions.{AreMarkedOn, AreUnsaid, OnlyMemory, ServesStore}
+use Rattle.run_base.specs.declared.failure.Failure.{Failure}
+use Rattle.run_base.specs.Change.{Change, PartsChange, Work, ReadsFiles}
+use Rattle.run_base.specs.Configurations.{ReadsConf, ReadsNone}
+use Rattle.run_base.specs.Failure.{HasFailed, Outcome}
+use Rattle.run_base.specs.Served.{PassesOver, outcome_of}
+use Rattle.run_base.specs.Unopened.{OpensNone}
+
+-- ---- what is done
+
+-- A store that was opened served a session, and was closed: its partitions are back.
+pub record ServesOpened {R K D : Type 0} (score : List ℕ → List ℕ) (disk : DiskOf D) (conf : Conf)
+    (opened : CoreState D) (outcome : Outcome) (source : Change R) (sink : Change K)
+    (told : Type 0) (old new : List ℕ → Standing D) : Type 0 where
+  -- the second at which the session began
+  pub now : ℕ
+  pub ended : CoreState D
+  pub end : StoreServed
+  pub input : List ℕ
+  pub output : List ℕ
+  pub serves : ServesStore score disk end now opened ended (source.tells && sink.tells) input output
+  pub passes : IsTrue (source.tells && sink.tells) → PassesOver end input output source sink
+  pub read : ReadCause end.ended source.faults source.faults'
+  pub write : SinkCause end.ended sink.faults sink.faults'
+  pub shape : HaveOneShape (devices_of ended) (files_of conf)
+  pub given : AreGiven told (all_of (files_of conf)) old new (all_of (devices_of ended))
+  pub outcome_is : outcome ≡ outcome_of end
+
+-- The store of the configuration was opened, served a session, and was closed.
+pub record ServesConf {R K P D : Type 0} (score : List ℕ → List ℕ) (disk : DiskOf D)
+    (conf : Conf) (outcome : Outcome) (source : Change R) (sink : Change K)
+    (parts : PartsChange P D) : Type 0 where
+  pub opened : CoreState D
+  pub during : List ℕ → Standing D
+  pub opens : Opens score disk (IsTrue parts.tells) conf 1 parts.old during opened
+  pub serves : ServesOpened score disk conf opened outcome source sink (IsTrue parts.tells) during
+      parts.new
+  pub faults : parts.faults' ≡ parts.faults
+
+-- The configuration was read, and a session was served over its store, or it is told why that isn't
+-- opened; or it is told why none was read, and nothing else is done.
+abbrev pub DoesSessionConf : {R K I P D N L : Type 0} → (score : List ℕ → List ℕ) → DiskOf D
+    → (file : List ℕ) → Outcome → Work R K I P D N L → Type 0
+DoesSessionConf score disk file outcome work =
+    ((failure : Failure) × (outcome ≡ Err failure) × ReadsNone file failure work.files
+    × ReadsFiles work)
+    ⊎ ((conf : Conf) × ReadsConf file conf work.files
+    × (OpensNone score disk file conf outcome work.source work.sink work.parts
+    ⊎ ServesConf score disk conf outcome work.source work.sink work.parts)
+    × (work.dialer.after ≡ work.dialer.before))
+
+-- ---- the promise
+
+-- Where no device counts a failed call, each reply is the model's or `no memory`, and the devices
+-- stand for all of the history, which every mark that is read of them says.
+pub record EndsQuietly {D : Type 0} (score : List ℕ → List ℕ) (disk : DiskOf D) (c : Setup)
+    (tables : List Table) (causes : List Cause) (last : History) (back : PerDevice D) : Type 0
+  where
+    pub failures : OnlyMemory causes
+    pub stands : AllStandFor score disk c tables back last (length last)
+    pub marks : AreMarkedOn disk (length last) back
+
+-- What a session promises where all that is handed in tells what it holds, over partitions of which
+-- every combination of images stands for a prefix of one legal history, and that read as history
+-- `g`: what came in and went out is a session that nobody shares, from `g` to `last`; and whatever
+-- device calls failed, what any crash then leaves of the partitions, taken together, stands for a
+-- prefix of `last` that has each block behind which a sync was answered.
+pub record KeepsConf {D : Type 0} (score : List ℕ → List ℕ) (disk : DiskOf D) (conf : Conf)
+    (end : StoreServed) (input output : List ℕ) (new : List ℕ → Standing D) (tables : List Table)
+    (devices : PerDevice D) (c : Setup) (g : History) : Type 0 where
+  pub faults : Faults
+  pub turns : List Turn
+  pub between : History
+  pub alone : Alone score c faults g input output turns end.ended between
+  pub unsaid : List Turn
+  pub last : History
+  pub are_unsaid : AreUnsaid score c input turns unsaid end.ended between last
+  pub back : PerDevice D
+  pub under : AreUnder new conf back
+  pub least : ℕ
+  pub stands : EachStands score disk c tables least back last
+  pub synced : AllByRecursion (λ n. n ≤ least) (synced_numbers (turns ++ unsaid))
+  pub quiet : ¬ OneRose (map disk.faults (all_of devices)) (map disk.faults (all_of back))
+      → EndsQuietly score disk c tables (causes_of (turns ++ unsaid)) last back
+
+-- All that is handed in tells what it holds: the file of this name is a configuration, of what
+-- stands under its names every combination of images stands for a prefix of one legal history,
+-- within the limits of a store.
+pub record IsWellHandedIn {R K I P D N L : Type 0} (score : List ℕ → List ℕ) (disk : DiskOf D)
+    (file : List ℕ) (work : Work R K I P D N L) : Type 0 where
+  pub streams : IsTrue (work.source.tells && work.sink.tells)
+  pub files : IsTrue work.files.tells
+  pub parts : IsTrue work.parts.tells
+  pub disks : IsTrue disk.tells
+  pub text : List ℕ
+  pub content : work.files.content file ≡ Some text
+  pub conf : Conf
+  pub says : Configures text conf
+  pub tables : List Table
+  pub devices : PerDevice D
+  pub under : AreUnder work.parts.old conf devices
+  pub c : Setup
+  pub h : History
+  pub g : History
+  pub base : ℕ
+  pub log : IsLogOf score disk tables devices c h g base
+  pub limits : KeepsLimits tables c
+
+-- no call failed: no count rose, of the streams, the files, the partitions or a disk of these
+pub record NoneFails {R K I P D N L : Type 0} (disk : DiskOf D) (work : Work R K I P D N L)
+    : Type 0 where
+  pub source : ¬ HasRisen work.source.faults work.source.faults'
+  pub sink : ¬ HasRisen work.sink.faults work.sink.faults'
+  pub files : ¬ HasRisen work.files.faults work.files.faults'
+  pub parts : ¬ HasRisen work.parts.faults work.parts.faults'
+  pub disks : ¬ HasFailed disk work.parts

@@ -1,0 +1,146 @@
+-- The command `write STORE TYPE`: what comes in is one block of a store, whose score is printed
+-- (venti(8)).
+use Rattle.std.specs.Prelude.{ℕ, ◌≡◌, ◌⊎◌, ◌≤◌, ◌+◌, ◌++◌, IfOk, IsTrue, List, [], ◌∷◌, Err, length}
+use Rattle.hex.specs.Hex.{encode_lower}
+use Rattle.vt_base.specs.Faults.{HasRisen}
+use Rattle.vt_base.specs.Protocol.{write, r_write}
+use Rattle.vt_base.specs.declared.TheConstants.{MAX_BLOCK}
+use Rattle.vt_base.specs.declared.score.Score.{Score}
+use Rattle.vt_base.specs.declared.why.Why.TheVariants.{TooBig}
+use Rattle.vt_conf.specs.declared.address.Address.{Address}
+use Rattle.vt_conf.specs.declared.conf.Conf.{Conf}
+use Rattle.vt_disk.specs.Members.{DiskOf}
+use Rattle.vt_remote.specs.Remote.{PutsBlock}
+use Rattle.vt_single.specs.Single.{WritesBlock}
+use Rattle.run_base.specs.declared.failure.Failure.{Failure}
+use Rattle.run_base.specs.declared.failure.Failure.TheVariants.{NoMemory, ReadFault, Refused}
+use Rattle.run_base.specs.declared.place.Place.{Place}
+use Rattle.run_base.specs.declared.place.Place.TheVariants.{Memory, Server, Conf as InFile}
+use Rattle.run_base.specs.Blocks.{AsksMade, DoesStored, FindsNoConf, SaysNoType, SaysType}
+use Rattle.run_base.specs.Change.{Change, Work}
+use Rattle.run_base.specs.Configurations.{ReadsConf}
+use Rattle.run_base.specs.Failure.{Outcome}
+use Rattle.run_base.specs.Formatting.{RefusesWord}
+use Rattle.run_base.specs.Members.{LinkOf}
+use Rattle.run_base.specs.Places.{AtPlace}
+use Rattle.run_base.specs.Servers.{AsksAt}
+
+-- ---- what comes in
+
+-- the source was read to its end, and that is one block
+pub record TakesBlock {R : Type 0} (bytes : List ℕ) (source : Change R) : Type 0 where
+  pub short : length bytes ≤ MAX_BLOCK
+  pub all : IsTrue source.tells → (source.old ≡ bytes) × (source.new ≡ [])
+  pub quiet : source.faults' ≡ source.faults
+
+-- as many bytes were read of the source
+abbrev pub TakesFront : {R : Type 0} → (IsMany : ℕ → Type 0) → Change R → Type 0
+TakesFront IsMany source = IsTrue source.tells → (front : List ℕ) × IsMany (length front)
+    × (source.old ≡ front ++ source.new)
+
+-- Why none was: one byte more came than a block may have, and behind that nothing was read; a read
+-- failed behind no more than a block; or memory ran out before anything was read.
+abbrev pub TakesNone : {R : Type 0} → Failure → Change R → Type 0
+TakesNone (Refused why) source =
+    (why ≡ TooBig) × TakesFront (λ n. n ≡ MAX_BLOCK + 1) source × (source.faults' ≡ source.faults)
+TakesNone ReadFault source =
+    TakesFront (λ n. n ≤ MAX_BLOCK) source × HasRisen source.faults source.faults'
+TakesNone NoMemory source = source.after ≡ source.before
+TakesNone failure source = ⊥
+
+-- ---- what is done
+
+-- the 40 digits of a score, in a line
+abbrev pub score_line : Score → List ℕ
+score_line score = encode_lower score.0 ++ 10 ∷ []
+
+-- no block was taken, and nothing was handed out or written
+pub record TakesNoBlock {R K I P D N L : Type 0} (outcome : Outcome) (work : Work R K I P D N L)
+    : Type 0 where
+  pub failure : Failure
+  pub takes : TakesNone failure work.source
+  pub outcome_is : outcome ≡ Err failure
+  pub unwritten : work.sink.after ≡ work.sink.before
+  pub unused : work.parts.after ≡ work.parts.before
+  pub undialled : work.dialer.after ≡ work.dialer.before
+
+-- ---- in memory
+
+-- the store in memory was given the block that came in
+pub record WritesMade {R K I P D N L : Type 0} (score : List ℕ → List ℕ) (kind : ℕ)
+    (outcome : Outcome) (work : Work R K I P D N L) : Type 0 where
+  pub bytes : List ℕ
+  pub takes : TakesBlock bytes work.source
+  pub does : AsksMade score (write kind bytes) (λ (given : Score). r_write given.0) score_line
+      outcome work
+  pub scored : IfOk does.result (λ (given : Score). given.0 ≡ score bytes)
+
+-- no block was taken, and no file read; or one was written
+abbrev pub MakesInput : {R K I P D N L : Type 0} → (List ℕ → List ℕ) → (kind : ℕ) → Outcome
+    → Work R K I P D N L → Type 0
+MakesInput score kind outcome work =
+    (TakesNoBlock outcome work × (work.files.after ≡ work.files.before))
+    ⊎ WritesMade score kind outcome work
+
+-- ---- over a configuration
+
+-- the store that this configuration names was given the block that came in, committed it, and its
+-- score was printed, or it is told why not
+pub record WritesTo {R K I P D N L : Type 0} (score : List ℕ → List ℕ) (disk : DiskOf D)
+    (file : List ℕ) (conf : Conf) (kind : ℕ) (outcome : Outcome) (work : Work R K I P D N L)
+    : Type 0 where
+  pub bytes : List ℕ
+  pub takes : TakesBlock bytes work.source
+  -- the time that a clump was stamped with, which no clause ties to a clock
+  pub now : ℕ
+  pub does : DoesStored score disk file conf (WritesBlock score disk now kind bytes) score_line
+      outcome work.sink work.parts
+  pub scored : IfOk does.result (λ (given : Score). given.0 ≡ score bytes)
+  pub undialled : work.dialer.after ≡ work.dialer.before
+
+-- no configuration was read; or no block was taken; or one was written
+abbrev pub KeepsInput : {R K I P D N L : Type 0} → (List ℕ → List ℕ) → DiskOf D
+    → (file : List ℕ) → (kind : ℕ) → Outcome → Work R K I P D N L → Type 0
+KeepsInput score disk file kind outcome work =
+    FindsNoConf file outcome work
+    ⊎ ((conf : Conf) × ReadsConf file conf work.files
+    × (TakesNoBlock outcome work ⊎ WritesTo score disk file conf kind outcome work))
+
+-- ---- over an address
+
+-- The server at this address was given the block that came in, and committed it, and its score was
+-- printed, or it is told why not. Whatever the server sent, that is the block's score.
+pub record PutsTo {R K I P D N L : Type 0} (link : LinkOf L) (score : List ℕ → List ℕ)
+    (address : Address) (kind : ℕ) (outcome : Outcome) (work : Work R K I P D N L) : Type 0 where
+  pub bytes : List ℕ
+  pub takes : TakesBlock bytes work.source
+  pub does : AsksAt link score address (PutsBlock link score kind bytes) score_line outcome
+      work
+  pub scored : IfOk does.result (λ (given : Score). given.0 ≡ score bytes)
+
+-- no block was taken, and no file read; or one was written
+abbrev pub PutsInput : {R K I P D N L : Type 0} → LinkOf L → (List ℕ → List ℕ) → Address
+    → (kind : ℕ)
+    → Outcome → Work R K I P D N L → Type 0
+PutsInput link score address kind outcome work =
+    (TakesNoBlock outcome work × (work.files.after ≡ work.files.before))
+    ⊎ PutsTo link score address kind outcome work
+
+-- ---- the command
+
+-- what came in was written to the store at this place, or it is told why not
+abbrev pub WritesInput : {R K I P D N L : Type 0} → (List ℕ → List ℕ) → DiskOf D → LinkOf L
+    → (store : List ℕ) → (kind : ℕ) → Outcome → Work R K I P D N L → Place → Type 0
+WritesInput score disk link store kind outcome work Memory = MakesInput score kind outcome work
+WritesInput score disk link store kind outcome work (Server address) =
+    PutsInput link score address kind outcome work
+WritesInput score disk link store kind outcome work InFile =
+    KeepsInput score disk store kind outcome work
+
+-- its word was refused, or what came in was written as a block of its type
+abbrev pub DoesWrite : {R K I P D N L : Type 0} → (List ℕ → List ℕ) → DiskOf D → LinkOf L
+    → (store type_word : List ℕ) → Outcome → Work R K I P D N L → Type 0
+DoesWrite score disk link store type_word outcome work =
+    RefusesWord (SaysNoType type_word) outcome work
+    ⊎ ((kind : ℕ) × SaysType type_word kind
+    × AtPlace store (WritesInput score disk link store kind outcome work) outcome work)

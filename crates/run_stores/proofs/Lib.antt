@@ -1,0 +1,3 @@
+pub mod FormatCauses
+pub mod IndexCauses
+pub mod UpkeepCauses

@@ -1,0 +1,300 @@
+-- Why an index isn't rebuilt, or arenas aren't checked.
+use Rattle.std.proofs.Common.{◌≡◌, ◌≢◌, ⊎_elim, inl, inr, ℕ, suc, List, [], ◌∷◌, Option, None, Some, Result, Ok, Err, refl, sym, ◌∙◌, ap, subst}
+use Rattle.std.specs.Prelude.{IfSome, IsTrue, MatchResult, slice_get, slice_index}
+use Rattle.std.specs.Option.{option_or}
+use Rattle.vt_base.specs.declared.mount.MountBad.{MountBad}
+use Rattle.vt_base.specs.declared.mount.MountBad.TheVariants as mount_bad
+use Rattle.vt_check.specs.declared.checking.ArenaReport.{ArenaReport}
+use Rattle.vt_check.specs.declared.checking.CheckErr.{CheckErr}
+use Rattle.vt_check.specs.declared.checking.CheckErr.TheVariants as check_err
+use Rattle.vt_check.specs.declared.checking.Damage.{Damage}
+use Rattle.vt_check.specs.declared.checking.Report.{Report}
+use Rattle.vt_check.specs.Checking.{DamageDiffers}
+use Rattle.vt_conf.specs.declared.conf.Conf.{Conf}
+use Rattle.vt_recover.specs.declared.devices.Devices.{Devices}
+use Rattle.vt_core.specs.Files.{all_of}
+use Rattle.vt_core.specs.Mounting.{devices_in}
+use Rattle.vt_disk.specs.Members.{DiskOf}
+use Rattle.vt_format.specs.Index.{files_of as files_in}
+use Rattle.vt_log.specs.Faults.{OneHasRisen}
+use Rattle.vt_log.proofs.Lists.{slice_get_other}
+use Rattle.vt_open.specs.declared.bad.OpenBad.{OpenBad}
+use Rattle.vt_open.specs.declared.bad.OpenBad.TheVariants.{Refused}
+use Rattle.vt_open.specs.Names.{files_of}
+use Rattle.vt_open.specs.Opening.{NamesCause}
+use Rattle.vt_open.proofs.Opened.{same_faults}
+use Rattle.vt_rebuild.specs.declared.bad.RebuildBad.{RebuildBad}
+use Rattle.vt_rebuild.specs.declared.bad.RebuildBad.TheVariants as rebuild_bad
+use Rattle.vt_upkeep.specs.declared.bad.UpkeepBad.{UpkeepBad}
+use Rattle.vt_upkeep.specs.declared.bad.UpkeepBad.TheVariants.{Unopened, Ended}
+use Rattle.vt_upkeep.specs.Checking.{ChecksOn}
+use Rattle.vt_upkeep.specs.Devices.{Refuses, faults_of}
+use Rattle.vt_upkeep.specs.Opened.{RefusesOpening, RefusesUse}
+use Rattle.vt_upkeep.specs.Rebuilding.{Rebuilds, StopsOn}
+use Rattle.vt_upkeep.specs.Stores.{NamesUnopened, OnStore, UsesStore}
+use Rattle.run_base.specs.declared.failure.Failure.{Failure}
+use Rattle.run_base.specs.declared.failure.Failure.TheVariants.{DiskFault, NoMemory, WriteFault}
+use Rattle.run_base.specs.Change.{Change, Work}
+use Rattle.run_stores.specs.Buildindex.{DoesBuildindex, IsRebuildRefusal, RebuildsConf, blocks_line, failure_of as rebuild_failure}
+use Rattle.run_stores.specs.Checkarenas.{ChecksConf, DoesCheckarenas, IsCheckRefusal, TellsReports, arena_lines, failure_of as check_failure, first_of, outcome_of}
+use Rattle.run_base.specs.Unopened.{IsOpenRefusal}
+use Rattle.run_base.specs.Configurations.{IsRefusalAmong}
+use Rattle.run_base.specs.Failure.{HasCauseIn, HaveFailed, Outcome, status_of}
+use Rattle.run_base.specs.Formatting.{Prints}
+use Rattle.run_base.proofs.Causes.{have_failed, printed_never, IsOther, none_never, other_as, printed_has_cause}
+use Rattle.run_base.proofs.OpenCauses.{has_failed, open_never, open_told, same_len}
+
+-- ---- a store that isn't found, or on which a call failed
+
+module _ {R K I P D N L : Type 0} (score : List ℕ → List ℕ) (disk : DiskOf D) (file : List ℕ)
+    (conf : Conf) (work : Work R K I P D N L) where
+  as_told : (failure told : Failure) → failure ≡ told → HasCauseIn disk work (Err told)
+      → HasCauseIn disk work (Err failure)
+  as_told failure told is cause =
+      subst (λ (f : Failure). HasCauseIn disk work (Err f)) (sym is) cause
+
+  abbrev IsOn : ((devices back : Devices D) → Type 0) → Type 0
+  IsOn Does = OnStore disk (IsTrue work.parts.tells) conf Does work.parts.old work.parts.new
+
+  store_fault : (Does : (devices back : Devices D) → Type 0) (on : IsOn Does)
+      → OneHasRisen (faults_of disk on.devices) (faults_of disk on.back)
+      → HasCauseIn disk work (Err DiskFault)
+  store_fault Does on rose =
+      let all = on.taken in
+      let same = same_faults disk (IsTrue work.parts.tells) conf work.parts.old on.during on.devices
+      all in
+      let risen = have_failed _ _ rose.rose in
+      inr (has_failed disk work.parts (all_of (files_of conf)) (all_of all.handed)
+      (all_of (devices_in on.back)) rose.which
+      (same_len all.handed (files_of conf) all.shape)
+      (same_len (devices_in on.back) (files_of conf) on.shape) all.taken.stood
+      (λ t. on.given.stand t (all.taken.out t) (all.taken.apart t))
+      (subst (λ (counts : List ℕ). HaveFailed (slice_index counts rose.which)
+      (slice_index (faults_of disk on.back) rose.which)) same risen))
+
+  refused_told : (Cause : Devices D → MountBad → Type 0) (why : MountBad) (failure : Failure)
+      → IsOn (λ devices. Refuses (Cause devices) disk devices why) → NamesCause (Refused why)
+      → IsRefusalAmong file (files_in conf) why failure → HasCauseIn disk work (Err failure)
+  refused_told Cause mount_bad.Fault failure on names is =
+      as_told failure DiskFault is (store_fault _ on on.does.counts)
+  refused_told Cause (mount_bad.NotFormatted part) failure on names is = as_told failure _ is tt
+  refused_told Cause (mount_bad.TooSmall part len need) failure on names is =
+      as_told failure _ is names
+  refused_told Cause (mount_bad.DuplicateName first second) failure on names is =
+      as_told failure _ is tt
+  refused_told Cause (mount_bad.Disagree part field found want) failure on names is =
+      as_told failure _ is names
+  refused_told Cause (mount_bad.Damaged site want found) failure on names is =
+      as_told failure _ is names
+  refused_told Cause mount_bad.NoMemory failure on names is = as_told failure _ is tt
+
+  found_told : (Cause : Devices D → MountBad → Type 0) (why : MountBad) (bad : OpenBad)
+      (failure : Failure) → bad ≡ Refused why
+      → IsOn (λ devices. Refuses (Cause devices) disk devices why) → NamesCause bad
+      → IsOpenRefusal file conf bad failure → HasCauseIn disk work (Err failure)
+  found_told Cause why bad failure is on names told =
+      let two : NamesCause (Refused why) = subst NamesCause is names in
+      ⊎_elim
+      (λ among. refused_told Cause why failure on two among)
+      (λ memory. as_told failure NoMemory memory tt)
+      (subst (λ (b : OpenBad). IsOpenRefusal file conf b failure) is told)
+
+  unopened_told : {T E : Type 0} (Cause : Devices D → MountBad → Type 0)
+      (Does : Result T E → (devices back : Devices D) → Type 0) (bad : OpenBad) (failure : Failure)
+      → UsesStore disk (IsTrue work.parts.tells) conf Cause Does work.parts.old work.parts.new
+      work.parts.faults work.parts.faults' (Err (Unopened bad))
+      → NamesCause bad → IsOpenRefusal file conf bad failure → HasCauseIn disk work (Err failure)
+  unopened_told Cause Does bad failure uses names told = ⊎_elim
+      (λ taking. open_told score disk file conf work bad failure (inl taking) names told)
+      (λ found. found_told Cause found.0 bad failure found.1 found.3 names told)
+      uses
+
+  -- ---- an index that isn't rebuilt
+
+  rebuild_ended : (bad : RebuildBad) → IsOn (StopsOn score disk bad)
+      → HasCauseIn disk work (Err (rebuild_failure bad))
+  rebuild_ended rebuild_bad.Fault on = store_fault _ on on.does.counts
+  rebuild_ended (rebuild_bad.IndexFull bucket) on = tt
+  rebuild_ended (rebuild_bad.Damaged place want found) on = on.does.damage
+  rebuild_ended rebuild_bad.NoMemory on = tt
+
+  rebuild_told : (bad : UpkeepBad RebuildBad) (failure : Failure)
+      → UsesStore disk (IsTrue work.parts.tells) conf (RefusesOpening disk) (Rebuilds score disk)
+      work.parts.old work.parts.new work.parts.faults work.parts.faults' (Err bad)
+      → NamesUnopened bad → IsRebuildRefusal file conf bad failure
+      → HasCauseIn disk work (Err failure)
+  rebuild_told (Unopened bad) failure uses names told =
+      unopened_told (RefusesOpening disk) (Rebuilds score disk) bad failure uses names told
+  rebuild_told (Ended bad) failure uses names told =
+      as_told failure (rebuild_failure bad) told (rebuild_ended bad uses.0)
+
+  pub rebuilt_has_cause : (outcome : Outcome)
+      → RebuildsConf score disk file conf outcome work.parts work.sink
+      → HasCauseIn disk work outcome
+  rebuilt_has_cause outcome it = by it.result it.uses it.differs it.told
+    where
+      by : (result : Result ℕ (UpkeepBad RebuildBad))
+          → UsesStore disk (IsTrue work.parts.tells) conf (RefusesOpening disk)
+          (Rebuilds score disk) work.parts.old work.parts.new work.parts.faults work.parts.faults'
+          result → MatchResult result (λ _. Unit {0}) NamesUnopened
+          → MatchResult result (λ blocks. Prints (blocks_line blocks) outcome work.sink)
+          (λ bad. ((failure : Failure) × (outcome ≡ Err failure)
+          × IsRebuildRefusal file conf bad failure) × (work.sink.after ≡ work.sink.before))
+          → HasCauseIn disk work outcome
+      by (Ok blocks) uses names told =
+          printed_has_cause disk (blocks_line blocks) outcome work told
+      by (Err bad) uses names told = subst (HasCauseIn disk work) (sym told.0.1)
+          (rebuild_told bad told.0.0 uses names told.0.2)
+
+  -- ---- arenas that aren't checked, or are damaged
+
+  check_ended : (bad : CheckErr) → IsOn (ChecksOn score disk (Err bad))
+      → HasCauseIn disk work (Err (check_failure bad))
+  check_ended check_err.Fault on = store_fault _ on on.does.counts
+  check_ended check_err.NoMemory on = tt
+
+  check_told : (bad : UpkeepBad CheckErr) (failure : Failure)
+      → UsesStore disk (IsTrue work.parts.tells) conf (RefusesUse score disk) (ChecksOn score disk)
+      work.parts.old work.parts.new work.parts.faults work.parts.faults' (Err bad)
+      → NamesUnopened bad → IsCheckRefusal file conf bad failure
+      → HasCauseIn disk work (Err failure)
+  check_told (Unopened bad) failure uses names told =
+      unopened_told (RefusesUse score disk) (ChecksOn score disk) bad failure uses names told
+  check_told (Ended bad) failure uses names told =
+      as_told failure (check_failure bad) told (check_ended bad uses.0)
+
+  -- a damage that is told has two values
+  either_differs : (own : Option Damage) (rest : Option Damage) (damage : Damage)
+      → IfSome own DamageDiffers → ((d : Damage) → rest ≡ Some d → DamageDiffers d)
+      → option_or own rest ≡ Some damage → DamageDiffers damage
+  either_differs None rest damage differs more is = more damage is
+  either_differs (Some own) rest damage differs more is =
+      let same : own ≡ damage = cc in subst DamageDiffers same differs
+
+  first_differs : (reports : List ArenaReport)
+      → ((i : ℕ) (report : ArenaReport) → slice_get reports i ≡ Some report
+      → IfSome report.damage DamageDiffers)
+      → (damage : Damage) → first_of reports ≡ Some damage → DamageDiffers damage
+  first_differs [] each damage is = absurd (cc)
+  first_differs (report ∷ reports) each damage is =
+      either_differs report.damage (first_of reports) damage (each 0 report refl)
+      (first_differs reports (λ i. each (suc i))) is
+
+  each_differs : (report : Report) → IsOn (ChecksOn score disk (Ok report)) → (i : ℕ)
+      (arena : ArenaReport) → slice_get report.arenas.items i ≡ Some arena
+      → IfSome arena.damage DamageDiffers
+  each_differs report on i arena at =
+      let checks = on.does in
+      let many = checks.reports.many ∙ sym checks.opened.log_is.found.whole.many in
+      let found = slice_get_other checks.log.heads report.arenas.items i arena many at in
+      (checks.reports.each i found.0 arena found.1 at).differs
+
+  outcome_told : (first : Option Damage)
+      → ((damage : Damage) → first ≡ Some damage → DamageDiffers damage)
+      → HasCauseIn disk work (outcome_of first)
+  outcome_told None differs = tt
+  outcome_told (Some damage) differs = differs damage refl
+
+  reports_told : (reports : List ArenaReport) (outcome : Outcome)
+      → ((damage : Damage) → first_of reports ≡ Some damage → DamageDiffers damage)
+      → TellsReports reports outcome work.sink → HasCauseIn disk work outcome
+  reports_told reports outcome differs told = by told.0 told.1 told.2
+    where
+      by : (printed : Outcome) → Prints (arena_lines reports) printed work.sink
+          → MatchResult printed (λ _. outcome ≡ outcome_of (first_of reports))
+          (λ failure. outcome ≡ Err failure) → HasCauseIn disk work outcome
+      by (Ok done) prints is = subst (HasCauseIn disk work) (sym is)
+          (outcome_told (first_of reports) differs)
+      by (Err WriteFault) prints is = subst (HasCauseIn disk work) (sym is) prints.1
+      by (Err failure) prints is = absurd prints
+
+  pub checked_has_cause : (outcome : Outcome)
+      → ChecksConf score disk file conf outcome work.parts work.sink
+      → HasCauseIn disk work outcome
+  checked_has_cause outcome it = by it.result it.uses it.differs it.told
+    where
+      by : (result : Result Report (UpkeepBad CheckErr))
+          → UsesStore disk (IsTrue work.parts.tells) conf (RefusesUse score disk)
+          (ChecksOn score disk) work.parts.old work.parts.new work.parts.faults work.parts.faults'
+          result → MatchResult result (λ _. Unit {0}) NamesUnopened
+          → MatchResult result (λ report. TellsReports report.arenas.items outcome work.sink)
+          (λ bad. ((failure : Failure) × (outcome ≡ Err failure)
+          × IsCheckRefusal file conf bad failure) × (work.sink.after ≡ work.sink.before))
+          → HasCauseIn disk work outcome
+      by (Ok report) uses names told = reports_told report.arenas.items outcome
+          (first_differs report.arenas.items (each_differs report uses.0)) told
+      by (Err bad) uses names told = subst (HasCauseIn disk work) (sym told.0.1)
+          (check_told bad told.0.0 uses names told.0.2)
+
+-- ---- neither ends as other words do
+
+rebuild_failure_never : (bad : RebuildBad) → IsOther (rebuild_failure bad)
+rebuild_failure_never rebuild_bad.Fault is = cc
+rebuild_failure_never (rebuild_bad.IndexFull bucket) is = cc
+rebuild_failure_never (rebuild_bad.Damaged place want found) is = cc
+rebuild_failure_never rebuild_bad.NoMemory is = cc
+
+rebuild_refusal_never : (file : List ℕ) (conf : Conf) (bad : UpkeepBad RebuildBad)
+    (failure : Failure) → IsRebuildRefusal file conf bad failure → IsOther failure
+rebuild_refusal_never file conf (Unopened bad) failure told = open_never file conf bad failure told
+rebuild_refusal_never file conf (Ended bad) failure told =
+    other_as failure (rebuild_failure bad) told (rebuild_failure_never bad)
+
+pub rebuild_never : {R K I P D N L : Type 0} (score : List ℕ → List ℕ) (disk : DiskOf D)
+    (file : List ℕ) (outcome : Outcome) (work : Work R K I P D N L)
+    → DoesBuildindex score disk file outcome work → status_of outcome ≢ 1
+rebuild_never score disk file outcome work does = ⊎_elim
+    (λ none one. none_never file none.0 work.files none.2 (ap status_of (sym none.1) ∙ one))
+    (λ it. told it.0 it.2.result it.2.told)
+    does
+  where
+    told : (conf : Conf) (result : Result ℕ (UpkeepBad RebuildBad))
+        → MatchResult result (λ blocks. Prints (blocks_line blocks) outcome work.sink)
+        (λ bad. ((failure : Failure) × (outcome ≡ Err failure)
+        × IsRebuildRefusal file conf bad failure) × (work.sink.after ≡ work.sink.before))
+        → status_of outcome ≢ 1
+    told conf (Ok blocks) it = printed_never (blocks_line blocks) outcome work.sink it
+    told conf (Err bad) it = λ one.
+        rebuild_refusal_never file conf bad it.0.0 it.0.2 (ap status_of (sym it.0.1) ∙ one)
+
+check_failure_never : (bad : CheckErr) → IsOther (check_failure bad)
+check_failure_never check_err.Fault is = cc
+check_failure_never check_err.NoMemory is = cc
+
+check_refusal_never : (file : List ℕ) (conf : Conf) (bad : UpkeepBad CheckErr) (failure : Failure)
+    → IsCheckRefusal file conf bad failure → IsOther failure
+check_refusal_never file conf (Unopened bad) failure told = open_never file conf bad failure told
+check_refusal_never file conf (Ended bad) failure told =
+    other_as failure (check_failure bad) told (check_failure_never bad)
+
+outcome_never : (first : Option Damage) → status_of (outcome_of first) ≢ 1
+outcome_never None one = cc
+outcome_never (Some damage) one = cc
+
+reports_never : {K : Type 0} (reports : List ArenaReport) (outcome printed : Outcome)
+    (sink : Change K) → Prints (arena_lines reports) printed sink
+    → MatchResult printed (λ _. outcome ≡ outcome_of (first_of reports))
+    (λ failure. outcome ≡ Err failure) → status_of outcome ≢ 1
+reports_never reports outcome (Ok done) sink prints is = λ one.
+    outcome_never (first_of reports) (ap status_of (sym is) ∙ one)
+reports_never reports outcome (Err WriteFault) sink prints is = λ one.
+    let wrong = ap status_of (sym is) ∙ one in cc
+reports_never reports outcome (Err failure) sink prints is = absurd prints
+
+pub check_never : {R K I P D N L : Type 0} (score : List ℕ → List ℕ) (disk : DiskOf D)
+    (file : List ℕ) (outcome : Outcome) (work : Work R K I P D N L)
+    → DoesCheckarenas score disk file outcome work → status_of outcome ≢ 1
+check_never score disk file outcome work does = ⊎_elim
+    (λ none one. none_never file none.0 work.files none.2 (ap status_of (sym none.1) ∙ one))
+    (λ it. told it.0 it.2.result it.2.told)
+    does
+  where
+    told : (conf : Conf) (result : Result Report (UpkeepBad CheckErr))
+        → MatchResult result (λ report. TellsReports report.arenas.items outcome work.sink)
+        (λ bad. ((failure : Failure) × (outcome ≡ Err failure)
+        × IsCheckRefusal file conf bad failure) × (work.sink.after ≡ work.sink.before))
+        → status_of outcome ≢ 1
+    told conf (Ok report) it =
+        reports_never report.arenas.items outcome it.0 work.sink it.1 it.2
+    told conf (Err bad) it = λ one.
+        check_refusal_never file conf bad it.0.0 it.0.2 (ap status_of (sym it.0.1) ∙ one)

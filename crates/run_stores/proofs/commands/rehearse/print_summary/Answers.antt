@@ -1,0 +1,7 @@
+-- the digits of each number, and what is said of the comparisons
+use Rattle.std.proofs.Common.{◌∙◌}
+use Rattle.run_stores.proofs.commands.rehearse.print_summary.Goals as goal
+
+pub returns : goal.returns
+returns g c =
+    rw (c.as_bytes.ensures.value ∙ c.format.ensures.text, c.as_bytes-2.ensures.value ∙ c.format-2.ensures.text, c.as_bytes-3.ensures.value ∙ c.format-3.ensures.text, c.as_bytes-4.ensures.value ∙ c.format-4.ensures.text, c.as_bytes-5.ensures.value ∙ c.format-5.ensures.text, c.as_bytes-6.ensures.value ∙ c.format-6.ensures.text, c.as_bytes-7.ensures.value ∙ c.format-7.ensures.text, c.as_bytes-8.ensures.value ∙ c.format-8.ensures.text, c.as_bytes-9.ensures.value ∙ c.format-9.ensures.text, c.as_bytes-10.ensures.value ∙ c.format-10.ensures.text, c.as_bytes-11.ensures.value ∙ c.format-11.ensures.text, c.check_text.ensures) at c.print.ensures

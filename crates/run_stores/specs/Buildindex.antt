@@ -1,0 +1,61 @@
+-- The command `buildindex CONF`: rebuilds the index of the store that a configuration names from its
+-- arenas (venti(8)).
+use Rattle.std.specs.Prelude.{ℕ, ◌≡◌, ◌⊎◌, IfErr, IsTrue, List, [], ◌∷◌, Err, Result, codes, decimal, MatchResult}
+use Rattle.std.specs.List.{concat}
+use Rattle.vt_conf.specs.declared.conf.Conf.{Conf}
+use Rattle.vt_disk.specs.Members.{DiskOf}
+use Rattle.vt_rebuild.specs.declared.bad.RebuildBad.{RebuildBad}
+use Rattle.vt_rebuild.specs.declared.bad.RebuildBad.TheVariants as rebuild_bad
+use Rattle.vt_upkeep.specs.declared.bad.UpkeepBad.{UpkeepBad}
+use Rattle.vt_upkeep.specs.declared.bad.UpkeepBad.TheVariants.{Unopened, Ended}
+use Rattle.vt_upkeep.specs.Opened.{RefusesOpening}
+use Rattle.vt_upkeep.specs.Rebuilding.{Rebuilds}
+use Rattle.vt_upkeep.specs.Stores.{NamesUnopened, UsesStore}
+use Rattle.run_base.specs.declared.failure.Failure.{Failure}
+use Rattle.run_base.specs.declared.failure.Failure.TheVariants.{DiskFault, IndexFull, Damaged, NoMemory}
+use Rattle.run_base.specs.Change.{Change, PartsChange, Work, ReadsFiles}
+use Rattle.run_base.specs.Unopened.{IsOpenRefusal}
+use Rattle.run_base.specs.Configurations.{ReadsConf, ReadsNone}
+use Rattle.run_base.specs.Failure.{Outcome}
+use Rattle.run_base.specs.Formatting.{Prints}
+
+-- what is printed of an index with the entries of so many blocks
+abbrev pub blocks_line : (blocks : ℕ) → List ℕ
+blocks_line blocks = concat (codes "buildindex: " ∷ decimal blocks ∷ codes " blocks\n" ∷ [])
+
+-- what is told of what ended the work
+abbrev pub failure_of : RebuildBad → Failure
+failure_of rebuild_bad.Fault = DiskFault
+failure_of (rebuild_bad.IndexFull bucket) = IndexFull
+failure_of (rebuild_bad.Damaged place want found) = Damaged want found
+failure_of rebuild_bad.NoMemory = NoMemory
+
+-- what is told where the index isn't rebuilt
+abbrev pub IsRebuildRefusal : (file : List ℕ) → Conf → UpkeepBad RebuildBad → Failure → Type 0
+IsRebuildRefusal file conf (Unopened bad) failure = IsOpenRefusal file conf bad failure
+IsRebuildRefusal file conf (Ended bad) failure = failure ≡ failure_of bad
+
+-- It is rebuilt, and the count of its blocks is printed, or it is told why not, and nothing is
+-- printed.
+pub record RebuildsConf {K P D : Type 0} (score : List ℕ → List ℕ) (disk : DiskOf D)
+    (file : List ℕ) (conf : Conf) (outcome : Outcome) (parts : PartsChange P D) (sink : Change K)
+    : Type 0 where
+  pub result : Result ℕ (UpkeepBad RebuildBad)
+  pub uses : UsesStore disk (IsTrue parts.tells) conf (RefusesOpening disk) (Rebuilds score disk)
+      parts.old parts.new parts.faults parts.faults' result
+  pub differs : IfErr result NamesUnopened
+  pub told : MatchResult result (λ blocks. Prints (blocks_line blocks) outcome sink)
+      (λ bad. ((failure : Failure) × (outcome ≡ Err failure) × IsRebuildRefusal file conf bad failure)
+      × (sink.after ≡ sink.before))
+
+-- The configuration was read, and the index of its store rebuilt; or it is told why none was read,
+-- and nothing is done.
+abbrev pub DoesBuildindex : {R K I P D N L : Type 0} → (List ℕ → List ℕ) → DiskOf D
+    → (file : List ℕ) → Outcome → Work R K I P D N L → Type 0
+DoesBuildindex score disk file outcome work =
+    ((failure : Failure) × (outcome ≡ Err failure) × ReadsNone file failure work.files
+    × ReadsFiles work)
+    ⊎ ((conf : Conf) × ReadsConf file conf work.files
+    × RebuildsConf score disk file conf outcome work.parts work.sink
+    × (work.source.after ≡ work.source.before)
+    × (work.dialer.after ≡ work.dialer.before))

@@ -1,0 +1,99 @@
+-- The command `checkarenas CONF`: checks the arenas of the store that a configuration names
+-- (venti(8)).
+use Rattle.std.specs.Prelude.{ℕ, ◌≡◌, ◌⊎◌, Bool, IfErr, IsTrue, Option, Some, None, List, [], ◌∷◌, Ok, Err, Result, codes, decimal, if◌then◌else◌, map, MatchResult}
+use Rattle.std.specs.List.{concat}
+use Rattle.std.specs.Option.{option_or}
+use Rattle.vt_check.specs.declared.checking.ArenaReport.{ArenaReport}
+use Rattle.vt_check.specs.declared.checking.CheckErr.{CheckErr}
+use Rattle.vt_check.specs.declared.checking.CheckErr.TheVariants as check_err
+use Rattle.vt_check.specs.declared.checking.Damage.{Damage}
+use Rattle.vt_check.specs.declared.checking.Report.{Report}
+use Rattle.vt_conf.specs.declared.conf.Conf.{Conf}
+use Rattle.vt_disk.specs.Members.{DiskOf}
+use Rattle.vt_upkeep.specs.declared.bad.UpkeepBad.{UpkeepBad}
+use Rattle.vt_upkeep.specs.declared.bad.UpkeepBad.TheVariants.{Unopened, Ended}
+use Rattle.vt_upkeep.specs.Checking.{ChecksOn}
+use Rattle.vt_upkeep.specs.Opened.{RefusesUse}
+use Rattle.vt_upkeep.specs.Stores.{NamesUnopened, UsesStore}
+use Rattle.run_base.specs.declared.failure.Failure.{Failure}
+use Rattle.run_base.specs.declared.failure.Failure.TheVariants.{DiskFault, Damaged, NoMemory}
+use Rattle.run_base.specs.Change.{Change, PartsChange, Work, ReadsFiles}
+use Rattle.run_base.specs.Unopened.{IsOpenRefusal}
+use Rattle.run_base.specs.Configurations.{ReadsConf, ReadsNone}
+use Rattle.run_base.specs.Failure.{Outcome}
+use Rattle.run_base.specs.Formatting.{Prints}
+
+-- ---- what is printed
+
+abbrev pub state_text : (sealed : Bool) → List ℕ
+state_text sealed = if sealed then codes "sealed" else codes "unsealed"
+
+abbrev pub result_text : Option Damage → List ℕ
+result_text None = codes "ok"
+result_text (Some damage) = codes "damaged"
+
+-- the line of an arena
+abbrev pub arena_line : ArenaReport → List ℕ
+arena_line report = concat (codes "arena " ∷ decimal report.number ∷ codes ": "
+    ∷ decimal report.clumps ∷ codes " clumps, " ∷ decimal report.used ∷ codes " bytes, "
+    ∷ state_text report.sealed ∷ codes ", " ∷ result_text report.damage ∷ codes "\n" ∷ [])
+
+-- those of all arenas, in order
+abbrev pub arena_lines : List ArenaReport → List ℕ
+arena_lines reports = concat (map arena_line reports)
+
+-- ---- what is told
+
+-- the damage of the first arena that has one
+abbrev pub first_of : List ArenaReport → Option Damage
+first_of [] = None
+first_of (report ∷ reports) = option_or report.damage (first_of reports)
+
+-- it is told as the outcome
+abbrev pub outcome_of : Option Damage → Outcome
+outcome_of None = Ok tt
+outcome_of (Some damage) = Err (Damaged damage.want damage.found)
+
+-- The line of each arena was printed, whatever was found, and then the first damage is told, if there
+-- is one; or a write failed behind a front of them.
+abbrev pub TellsReports : {K : Type 0} → List ArenaReport → Outcome → Change K → Type 0
+TellsReports reports outcome sink = (printed : Outcome)
+    × Prints (arena_lines reports) printed sink
+    × MatchResult printed (λ _. outcome ≡ outcome_of (first_of reports))
+    (λ failure. outcome ≡ Err failure)
+
+-- what is told of what ended the work
+abbrev pub failure_of : CheckErr → Failure
+failure_of check_err.Fault = DiskFault
+failure_of check_err.NoMemory = NoMemory
+
+-- what is told where the arenas aren't checked
+abbrev pub IsCheckRefusal : (file : List ℕ) → Conf → UpkeepBad CheckErr → Failure → Type 0
+IsCheckRefusal file conf (Unopened bad) failure = IsOpenRefusal file conf bad failure
+IsCheckRefusal file conf (Ended bad) failure = failure ≡ failure_of bad
+
+-- ---- what is done
+
+-- The arenas were checked, and that is told, or it is told why not, and nothing is printed.
+pub record ChecksConf {K P D : Type 0} (score : List ℕ → List ℕ) (disk : DiskOf D)
+    (file : List ℕ) (conf : Conf) (outcome : Outcome) (parts : PartsChange P D) (sink : Change K)
+    : Type 0 where
+  pub result : Result Report (UpkeepBad CheckErr)
+  pub uses : UsesStore disk (IsTrue parts.tells) conf (RefusesUse score disk) (ChecksOn score disk)
+      parts.old parts.new parts.faults parts.faults' result
+  pub differs : IfErr result NamesUnopened
+  pub told : MatchResult result (λ report. TellsReports report.arenas.items outcome sink)
+      (λ bad. ((failure : Failure) × (outcome ≡ Err failure) × IsCheckRefusal file conf bad failure)
+      × (sink.after ≡ sink.before))
+
+-- The configuration was read, and the arenas of its store checked; or it is told why none was read,
+-- and nothing is done.
+abbrev pub DoesCheckarenas : {R K I P D N L : Type 0} → (List ℕ → List ℕ) → DiskOf D
+    → (file : List ℕ) → Outcome → Work R K I P D N L → Type 0
+DoesCheckarenas score disk file outcome work =
+    ((failure : Failure) × (outcome ≡ Err failure) × ReadsNone file failure work.files
+    × ReadsFiles work)
+    ⊎ ((conf : Conf) × ReadsConf file conf work.files
+    × ChecksConf score disk file conf outcome work.parts work.sink
+    × (work.source.after ≡ work.source.before)
+    × (work.dialer.after ≡ work.dialer.before))

@@ -1,0 +1,45 @@
+-- The command `fmtarenas FILE NAME LENGTH ARENASIZE`: makes a file a partition of arenas.
+use Rattle.std.specs.Prelude.{ℕ, ◌≡◌, ◌⊎◌, List, [], ◌∷◌, codes, decimal}
+use Rattle.std.specs.List.{concat}
+use Rattle.vt_conf.specs.Numbers.{wrong_digit}
+use Rattle.vt_disk.specs.Members.{DiskOf}
+use Rattle.vt_format.specs.Arenas.{FormatsArenas}
+use Rattle.vt_format.specs.Words.{wrong_name}
+use Rattle.vt_part.specs.Table.{IsName}
+use Rattle.run_base.specs.declared.failure.Failure.{Failure}
+use Rattle.run_base.specs.declared.failure.Failure.TheVariants.{BadNumber, BadName}
+use Rattle.run_base.specs.Change.{Work}
+use Rattle.run_base.specs.Failure.{Outcome}
+use Rattle.run_base.specs.Formatting.{FormatsFile, RefusesWord}
+use Rattle.run_stores.specs.Words.{IsLength, SaysArenaSize}
+
+-- its words are a name, a length and the size of each arena
+pub record AsksForArenas (name length arena_size : List ℕ) (len size : ℕ) : Type 0 where
+  pub name_is : IsName name
+  pub len_is : IsLength length len
+  pub size_is : SaysArenaSize arena_size size
+
+-- the first of them that isn't, and its first wrong byte
+abbrev pub AsksForNoArenas : (name length arena_size : List ℕ) → Failure → Type 0
+AsksForNoArenas name length arena_size failure =
+    (¬ IsName name × (failure ≡ BadName (wrong_name name)))
+    ⊎ (IsName name × ((len : ℕ) → ¬ IsLength length len)
+    × (failure ≡ BadNumber (wrong_digit length)))
+    ⊎ (IsName name × ((len : ℕ) × IsLength length len)
+    × ((size : ℕ) → ¬ SaysArenaSize arena_size size)
+    × (failure ≡ BadNumber (wrong_digit arena_size)))
+
+-- what is printed of a partition of so many arenas
+abbrev pub arenas_line : (name : List ℕ) → (size count : ℕ) → List ℕ
+arenas_line name size count =
+    concat (codes "fmtarenas " ∷ name ∷ codes ": " ∷ decimal count ∷ codes " arenas of "
+    ∷ decimal size ∷ codes " bytes\n" ∷ [])
+
+-- its words were refused, or the file was made a partition of arenas, of this name
+abbrev pub DoesFmtarenas : {R K I P D N L : Type 0} → DiskOf D
+    → (file name length arena_size : List ℕ)
+    → Outcome → Work R K I P D N L → Type 0
+DoesFmtarenas disk file name length arena_size outcome work =
+    RefusesWord (AsksForNoArenas name length arena_size) outcome work
+    ⊎ ((len size : ℕ) × AsksForArenas name length arena_size len size
+    × FormatsFile disk file len (FormatsArenas disk name size) (arenas_line name size) outcome work)

@@ -1,0 +1,167 @@
+//! The command `checkarenas CONF`: checks the arenas of the store that a configuration names.
+
+ghost use Rattle.std.specs.Prelude.{◌≡◌, ◌+◌, ◌++◌, ◌<◌, ◌^◌, IsTrue, OnErr, OnOk, length};
+ghost use Rattle.vt_base.specs.Faults.{HasCause};
+ghost use Rattle.vt_out.specs.Streams.{AppendsPrefix};
+ghost use Rattle.run_base.specs.Change.{parts_change, sink_change, work_of};
+ghost use Rattle.run_stores.specs.Checkarenas.{ChecksConf, DoesCheckarenas, TellsReports, arena_line, arena_lines, failure_of, first_of, outcome_of, result_text, state_text};
+ghost use Rattle.run_base.specs.Failure.{HasCauseIn};
+
+use itoa::Buffer;
+use run_base::{Failure, Host, Shown, Unit, put_pieces, read_conf, told_on};
+use std::alloc::Global;
+use std::thread::Threads;
+use vt_base::{Failed, Scorer, Text};
+use vt_check::{ArenaReport, CheckErr, Damage};
+use vt_conf::Conf;
+use vt_open::configurations_can_be_opened;
+use vt_out::Sink;
+use vt_upkeep::{UpkeepBad, check_store};
+
+/// Reads the configuration, checks the arenas of its store, and prints a line for each of them, also
+/// behind a damaged one.
+pub fn checkarenas<H: Host, S: Scorer + Sync>(
+    rt: &(impl Threads + Sync),
+    alloc: Global,
+    host: &mut H,
+    file: &Text,
+    scorer: &S,
+) -> Result<(), Failure>
+    ensures does { DoesCheckarenas S.score_of H.Parts.Disk.Disk file.now result (work_of H.Source.Source H.Sink.Sink
+        H.Files.Files H.Parts.Parts H.Folders.Folders H.Dialer.Dialer H.Dialer.Link.Link
+        (H.lent host.old) (H.lent host.new)) }
+    ensures cause { HasCauseIn H.Parts.Disk.Disk (work_of H.Source.Source H.Sink.Sink
+        H.Files.Files H.Parts.Parts H.Folders.Folders H.Dialer.Dialer H.Dialer.Link.Link
+        (H.lent host.old) (H.lent host.new)) result }
+    ensures quiet { (H.lent host.new).fault_sink ≡ (H.lent host.old).fault_sink }
+    ensures folders { (H.lent host.new).folders ≡ (H.lent host.old).folders }
+{
+    configurations_can_be_opened();
+    let conf = read_conf(alloc, host.files(), file)?;
+    let mut shown = Shown::new(host.terminal(), Unit::Arenas);
+    check_conf(rt, alloc, host, file, scorer, &conf, &mut shown)
+}
+
+/// Checks the arenas of a configuration's store, and prints a line for each of them.
+fn check_conf<H: Host, S: Scorer + Sync, T: Sink>(
+    rt: &(impl Threads + Sync),
+    alloc: Global,
+    host: &mut H,
+    file: &Text,
+    scorer: &S,
+    conf: &Conf,
+    shown: &mut Shown<T>,
+) -> Result<(), Failure>
+    requires { length conf.now.arenas.items + length conf.now.sections.items + 1 < 2 ^ 32 }
+    ensures checks { ChecksConf S.score_of H.Parts.Disk.Disk file.now conf.now result
+        (parts_change H.Parts.Parts (H.lent host.old).parts (H.lent host.new).parts)
+        (sink_change H.Sink.Sink (H.lent host.old).sink (H.lent host.new).sink) }
+    ensures source { (H.lent host.new).source ≡ (H.lent host.old).source }
+    ensures dialer { (H.lent host.new).dialer ≡ (H.lent host.old).dialer }
+    ensures files { (H.lent host.new).files ≡ (H.lent host.old).files }
+    ensures fault_sink { (H.lent host.new).fault_sink ≡ (H.lent host.old).fault_sink }
+    ensures folders { (H.lent host.new).folders ≡ (H.lent host.old).folders }
+{
+    match check_store(rt, alloc, host.parts(), conf, scorer, shown) {
+        Ok(report) => tell(host.sink(), &report.arenas),
+        Err(UpkeepBad::Unopened(bad)) => Err(told_on(alloc, shown, file, conf, bad)),
+        Err(UpkeepBad::Ended(bad)) => Err(failure_of(bad)),
+    }
+}
+
+/// Prints the line of each arena, and then tells the first damage, if there is one.
+fn tell<K: Sink>(sink: &mut K, reports: &[ArenaReport]) -> Result<(), Failure>
+    ensures { TellsReports reports.now result (sink_change K.Sink sink.old sink.new) }
+{
+    match put_reports(sink, reports) {
+        Ok(()) => outcome_of(first_of(reports)),
+        Err(Failed) => Err(Failure::WriteFault),
+    }
+}
+
+/// Puts the line of each arena, until a put fails.
+fn put_reports<K: Sink>(sink: &mut K, reports: &[ArenaReport]) -> Result<(), Failed>
+    ensures appended { OnOk result (IsTrue K.tells → K.written sink.new
+        ≡ K.written sink.old ++ arena_lines reports.now) }
+    ensures failed { OnErr result (IsTrue K.tells → AppendsPrefix (K.written sink.old)
+        (K.written sink.new) (arena_lines reports.now)) }
+    ensures cause { HasCause result (K.faults sink.old) (K.faults sink.new) }
+{
+    for report in reports {
+        put_report(sink, report)?;
+    }
+    Ok(())
+}
+
+/// Puts the line of an arena.
+fn put_report<K: Sink>(sink: &mut K, report: &ArenaReport) -> Result<(), Failed>
+    ensures appended { OnOk result (IsTrue K.tells → K.written sink.new
+        ≡ K.written sink.old ++ arena_line report.now) }
+    ensures failed { OnErr result (IsTrue K.tells → AppendsPrefix (K.written sink.old)
+        (K.written sink.new) (arena_line report.now)) }
+    ensures cause { HasCause result (K.faults sink.old) (K.faults sink.new) }
+{
+    let mut number_digits = Buffer::new();
+    let mut clumps_digits = Buffer::new();
+    let mut used_digits = Buffer::new();
+    put_pieces(
+        sink,
+        &[
+            b"arena ",
+            number_digits.format(report.number).as_bytes(),
+            b": ",
+            clumps_digits.format(report.clumps).as_bytes(),
+            b" clumps, ",
+            used_digits.format(report.used).as_bytes(),
+            b" bytes, ",
+            state_text(report.sealed),
+            b", ",
+            result_text(&report.damage),
+            b"\n",
+        ],
+    )
+}
+
+fn state_text(sealed: bool) -> &'static [u8]
+    ensures { result.now ≡ state_text sealed }
+{
+    if sealed { b"sealed" } else { b"unsealed" }
+}
+
+fn result_text(damage: &Option<Damage>) -> &'static [u8]
+    ensures { result.now ≡ result_text damage.now }
+{
+    match damage {
+        Some(_) => b"damaged",
+        None => b"ok",
+    }
+}
+
+/// The damage of the first arena that has one.
+fn first_of(reports: &[ArenaReport]) -> Option<Damage>
+    ensures { result ≡ first_of reports.now }
+{
+    match reports {
+        [report, rest @ ..] => report.damage.or(first_of(rest)),
+        [] => None,
+    }
+}
+
+fn outcome_of(first: Option<Damage>) -> Result<(), Failure>
+    ensures { result ≡ outcome_of first }
+{
+    match first {
+        Some(Damage { want, found }) => Err(Failure::Damaged { want, found }),
+        None => Ok(()),
+    }
+}
+
+/// What is told of what ended the work.
+fn failure_of(bad: CheckErr) -> Failure
+    ensures { result ≡ failure_of bad }
+{
+    match bad {
+        CheckErr::Fault => Failure::DiskFault,
+        CheckErr::NoMemory => Failure::NoMemory,
+    }
+}

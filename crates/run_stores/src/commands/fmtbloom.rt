@@ -1,0 +1,75 @@
+//! The command `fmtbloom FILE SIZE POSITIONS`: makes a file a Bloom filter.
+
+ghost use Rattle.std.specs.Prelude.{◌≡◌, ℕ, IfErr, IfOk};
+ghost use Rattle.run_base.specs.Change.{sink_change, work_of};
+ghost use Rattle.run_stores.specs.Fmtbloom.{AsksForFilter, AsksForNoFilter};
+ghost use Rattle.run_stores.specs.Fmtbloom.{DoesFmtbloom, filter_line};
+ghost use Rattle.run_base.specs.Failure.{HasCauseIn};
+ghost use Rattle.run_base.specs.Formatting.{Prints};
+
+use crate::refusal::refused;
+use itoa::Buffer;
+use run_base::{Failure, Host, print};
+use std::alloc::Global;
+use vt_base::Text;
+use vt_format::{format_filter, parse_filter_size, parse_positions};
+use vt_out::Sink;
+
+/// Reads the words, makes the file a Bloom filter of this size without a bit, and prints it.
+pub fn fmtbloom<H: Host>(
+    alloc: Global,
+    host: &mut H,
+    file: Text,
+    size: &Text,
+    positions: &Text,
+) -> Result<(), Failure>
+    ensures does { DoesFmtbloom H.Parts.Disk.Disk file size.now positions.now result
+        (work_of H.Source.Source H.Sink.Sink
+        H.Files.Files H.Parts.Parts H.Folders.Folders H.Dialer.Dialer H.Dialer.Link.Link
+        (H.lent host.old) (H.lent host.new)) }
+    ensures cause { HasCauseIn H.Parts.Disk.Disk (work_of H.Source.Source H.Sink.Sink
+        H.Files.Files H.Parts.Parts H.Folders.Folders H.Dialer.Dialer H.Dialer.Link.Link
+        (H.lent host.old) (H.lent host.new)) result }
+    ensures quiet { (H.lent host.new).fault_sink ≡ (H.lent host.old).fault_sink }
+    ensures folders { (H.lent host.new).folders ≡ (H.lent host.old).folders }
+{
+    let (bytes, bits) = read_words(size, positions)?;
+    match format_filter(alloc, host.parts(), &file, bytes, bits) {
+        Ok(()) => print_filter(host.sink(), bytes, bits),
+        Err(bad) => Err(refused(host, file, bad)),
+    }
+}
+
+/// Prints the line of a filter.
+fn print_filter<K: Sink>(sink: &mut K, bytes: u64, bits: u8) -> Result<(), Failure>
+    ensures { Prints (filter_line bytes bits) result (sink_change K.Sink sink.old sink.new) }
+{
+    let mut bytes_digits = Buffer::new();
+    let mut bits_digits = Buffer::new();
+    print(
+        sink,
+        &[
+            b"fmtbloom: ",
+            bytes_digits.format(bytes).as_bytes(),
+            b" bytes, ",
+            bits_digits.format(bits).as_bytes(),
+            b" positions\n",
+        ],
+    )
+}
+
+/// The size and the count of bits that are asked for.
+fn read_words(size: &Text, positions: &Text) -> Result<(u64, u8), Failure>
+    ensures good { IfOk result (λ asked.
+        (m : ℕ) × AsksForFilter size.now positions.now m asked.0 asked.1) }
+    ensures bad { IfErr result (AsksForNoFilter size.now positions.now) }
+{
+    let bytes = match parse_filter_size(size.as_slice()) {
+        Ok(bytes) => bytes,
+        Err(bad) => return Err(Failure::BadNumber(bad.at as u64)),
+    };
+    match parse_positions(positions.as_slice()) {
+        Ok(bits) => Ok((bytes, bits)),
+        Err(bad) => Err(Failure::BadNumber(bad.at as u64)),
+    }
+}

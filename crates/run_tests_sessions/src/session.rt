@@ -1,0 +1,464 @@
+//! Sessions from outside: what goes in, what comes out, the status and the line on the fault sink.
+
+use std::test::Fail;
+use vt_base::{NoMemory, Scorer, Sha1Scorer, ShortScorer};
+use vt_host_memory::messages::{
+    GAVE_ABC, GOODBYE, HELLO, LINE, OUR_LINE, READ_ABC, SYNC, SYNCED, WELCOME, WRITE_ABC, WROTE_ABC,
+};
+use vt_host_memory::{
+    Act, Bits, Given, Part, Partitions, Row, Runtime, Talk, Told, Wanted, do_acts, run,
+    run_patient, run_scored, store, told,
+};
+use vt_rows::Rows;
+
+const SCORE_ABC: &[u8] =
+    b"\xa9\x99\x3e\x36\x47\x06\x81\x6a\xba\x3e\x25\x71\x78\x50\xc2\x6c\x9c\xd0\xd8\x9d";
+
+const ZERO_SCORE: &[u8] =
+    b"\xda\x39\xa3\xee\x5e\x6b\x4b\x0d\x32\x55\xbf\xef\x95\x60\x18\x90\xaf\xd8\x07\x09";
+
+const WROTE: &[u8] = b"\x00\x16\x0f\x01";
+
+const READ: &[u8] = b"\x00\x1a\x0c\x02";
+
+const PING: &[u8] = b"\x00\x02\x02\x05";
+
+const PONG: &[u8] = b"\x00\x02\x03\x05";
+
+/// A hello of version 03, and what is said to it and where there was no hello.
+const THIRD: &[u8] = b"\x00\x0b\x04\x00\x00\x0203\x00\x00\x00\x00\x00";
+
+const NOT_AGREED: &[u8] = b"\x00\x16\x01\x00\x00\x12version not agreed";
+
+const EXPECTED: &[u8] = b"\x00\x12\x01\x05\x00\x0ehello expected";
+
+const COLLISION: &[u8] = b"\x00\x13\x01\x01\x00\x0fscore collision";
+
+/// What comes in, what goes out, the status, and the line on the fault sink.
+type Session<'a> = (&'a [&'a [u8]], &'a [&'a [u8]], u8, &'a str);
+
+/// Sessions one behind another, over the same store.
+const TALKS: [Session<'static>; 22] = [
+    // Blocks are written and read.
+    (&[LINE, HELLO], &[OUR_LINE, WELCOME], 0, ""),
+    (
+        &[LINE, HELLO, WRITE_ABC, WRITE_ABC],
+        &[OUR_LINE, WELCOME, WROTE_ABC, WROTE_ABC],
+        0,
+        "",
+    ),
+    (
+        &[LINE, HELLO, WRITE_ABC, READ_ABC],
+        &[OUR_LINE, WELCOME, WROTE_ABC, GAVE_ABC],
+        0,
+        "",
+    ),
+    (
+        &[LINE, HELLO, WRITE_ABC, READ, SCORE_ABC, b"\x0d\x00\x00\x02"],
+        &[
+            OUR_LINE,
+            WELCOME,
+            WROTE_ABC,
+            b"\x00\x13\x01\x02\x00\x0fcount too small",
+        ],
+        0,
+        "",
+    ),
+    (
+        &[LINE, HELLO, WRITE_ABC, READ, SCORE_ABC, b"\x02\x00\x00\x03"],
+        &[
+            OUR_LINE,
+            WELCOME,
+            WROTE_ABC,
+            b"\x00\x11\x01\x02\x00\x0dno such block",
+        ],
+        0,
+        "",
+    ),
+    (
+        &[LINE, HELLO, b"\x00\x06\x0e\x01\x0d\x00\x00\x00"],
+        &[OUR_LINE, WELCOME, WROTE, ZERO_SCORE],
+        0,
+        "",
+    ),
+    (
+        &[LINE, HELLO, READ, ZERO_SCORE, b"\x0d\x00\x00\x00"],
+        &[OUR_LINE, WELCOME, b"\x00\x02\x0d\x02"],
+        0,
+        "",
+    ),
+    // Other messages, and some that are refused.
+    (
+        &[LINE, HELLO, SYNC, PING, GOODBYE, PING],
+        &[OUR_LINE, WELCOME, SYNCED, PONG],
+        0,
+        "",
+    ),
+    (
+        &[LINE, HELLO, b"\x00\x06\x0e\x01\x0a\x00\x00\x00"],
+        &[OUR_LINE, WELCOME, b"\x00\x0c\x01\x01\x00\x08bad type"],
+        0,
+        "",
+    ),
+    (
+        &[LINE, HELLO, HELLO],
+        &[OUR_LINE, WELCOME, b"\x00\x12\x01\x00\x00\x0ehello repeated"],
+        0,
+        "",
+    ),
+    (
+        &[
+            LINE,
+            HELLO,
+            b"\x00\x1b\x0c\x02",
+            SCORE_ABC,
+            b"\x0d\x00\x00\x03\x00",
+        ],
+        &[OUR_LINE, WELCOME, b"\x00\x0f\x01\x02\x00\x0bbad message"],
+        0,
+        "",
+    ),
+    (
+        &[LINE, HELLO, b"\x00\x02\x63\x07", PING],
+        &[
+            OUR_LINE,
+            WELCOME,
+            b"\x00\x13\x01\x07\x00\x0funknown message",
+            PONG,
+        ],
+        0,
+        "",
+    ),
+    (
+        &[LINE, HELLO, b"\x00\x03\x06\x07x", PING],
+        &[
+            OUR_LINE,
+            WELCOME,
+            b"\x00\x0f\x01\x07\x00\x0bbad message",
+            PONG,
+        ],
+        0,
+        "",
+    ),
+    // There is no hello, or none that can be accepted.
+    (&[LINE, PING, HELLO], &[OUR_LINE, EXPECTED, WELCOME], 0, ""),
+    (
+        &[LINE, THIRD, HELLO],
+        &[OUR_LINE, NOT_AGREED, WELCOME],
+        0,
+        "",
+    ),
+    (
+        &[b"venti-04:03-test\n", HELLO, PING],
+        &[OUR_LINE, NOT_AGREED, EXPECTED],
+        0,
+        "",
+    ),
+    (&[LINE, GOODBYE, HELLO], &[OUR_LINE], 0, ""),
+    // The input ends badly.
+    (&[b"v"], &[OUR_LINE], 5, "venti: cut at 1\n"),
+    (&[b"xyz\n"], &[OUR_LINE], 5, "venti: malformed at 0\n"),
+    (&[b"venti-02\n"], &[OUR_LINE], 5, "venti: malformed at 8\n"),
+    (&[LINE, b"\x00"], &[OUR_LINE], 5, "venti: cut at 15\n"),
+    (
+        &[LINE, b"\x00\x01\x02\x00"],
+        &[OUR_LINE],
+        5,
+        "venti: malformed at 14\n",
+    ),
+];
+
+/// Blocks with one score, and no other bytes under it.
+const COLLISIONS: Session<'static> = (
+    &[
+        LINE,
+        HELLO,
+        WRITE_ABC,
+        b"\x00\x09\x0e\x01\x0d\x00\x00\x00abd",
+        b"\x00\x09\x0e\x01\x02\x00\x00\x00abd",
+        b"\x00\x09\x0e\x01\x02\x00\x00\x00abc",
+        b"\x00\x07\x0e\x01\x0d\x00\x00\x00\x00",
+    ],
+    &[
+        OUR_LINE, WELCOME, WROTE, b"a", &[0; 19], COLLISION, COLLISION, WROTE, b"a", &[0; 19],
+        COLLISION,
+    ],
+    0,
+    "",
+);
+
+/// Words that ask for a session, and what a failed row of such tells.
+type Over = (&'static [&'static str], Told);
+
+/// Sessions are held over a store of each kind: one in memory, and that of a configuration.
+const OVER: [Over; 2] = [
+    (
+        &["session", ":memory:"],
+        told!("a session over the store in memory"),
+    ),
+    (
+        &["session", "v.conf"],
+        told!("a session over the store of a configuration"),
+    ),
+];
+
+/// Notes whether a session over a store of each kind leaves what is said of it.
+fn see_session<C: Scorer + Sync>(
+    rt: &impl Runtime,
+    rows: &mut Rows,
+    parts: &mut Partitions,
+    number: usize,
+    session: &Session<'_>,
+    scorer: &C,
+) -> Result<(), NoMemory> {
+    let (input, output, status, complaint) = *session;
+    let wanted = Wanted {
+        status,
+        output,
+        complaint: complaint.as_bytes(),
+    };
+    for (words, told) in &OVER {
+        let ran = run_scored(rt, parts, &Given::new(words, input), scorer)?;
+        ran.see(rows, number, told, &wanted);
+    }
+    Ok(())
+}
+
+fn see_talks(rt: &impl Runtime, rows: &mut Rows, parts: &mut Partitions) -> Result<(), NoMemory> {
+    for (number, talk) in TALKS.iter().enumerate() {
+        see_session(rt, rows, parts, number, talk, &Sha1Scorer)?;
+    }
+    Ok(())
+}
+
+#[test]
+fn sessions_are_answered(rt: HostRuntime) -> Result<(), Fail> {
+    let mut rows = Rows::new();
+    let mut parts = store(&rt, &mut rows)?;
+    see_talks(&rt, &mut rows, &mut parts)?;
+    rows.all()?;
+    Ok(())
+}
+
+/// A session in which the largest block is taken, and a larger one isn't.
+fn large_blocks(rt: &impl Runtime) -> Result<Talk, NoMemory> {
+    let alloc = rt.alloc();
+    let block = vec![in alloc; 7; 57_345]?;
+    let mut talk = Talk::greeted(alloc)?;
+    talk.write(block.get(1..).unwrap_or(&[]))?;
+    talk.write_told(&block, &[b"\x00\x11\x01\x01\x00\x0dblock too big"])?;
+    Ok(talk)
+}
+
+#[test]
+fn a_block_has_57344_bytes_at_most(rt: HostRuntime) -> Result<(), Fail> {
+    let mut rows = Rows::new();
+    let talk = large_blocks(&rt)?;
+    let mut parts = store(&rt, &mut rows)?;
+    let session: Session<'_> = (&[&talk.asked], &[&talk.replied], 0, "");
+    see_session(&rt, &mut rows, &mut parts, 0, &session, &Sha1Scorer)?;
+    rows.all()?;
+    Ok(())
+}
+
+#[test]
+fn scores_may_collide(rt: HostRuntime) -> Result<(), Fail> {
+    let mut rows = Rows::new();
+    let mut parts = store(&rt, &mut rows)?;
+    see_session(&rt, &mut rows, &mut parts, 0, &COLLISIONS, &ShortScorer)?;
+    rows.all()?;
+    Ok(())
+}
+
+/// A session of a write, a read, a sync and a goodbye.
+const SAMPLE: Bits = &[LINE, HELLO, WRITE_ABC, READ_ABC, SYNC, GOODBYE];
+
+/// What it gives.
+const SAMPLE_OUTPUT: Bits = &[OUR_LINE, WELCOME, WROTE_ABC, GAVE_ABC, SYNCED];
+
+/// It ends well.
+const WELL: Wanted<'static> = Wanted {
+    status: 0,
+    output: SAMPLE_OUTPUT,
+    complaint: b"",
+};
+
+/// How many bytes come in at a time.
+const CUTS: [usize; 5] = [1, 2, 3, 5, 65_537];
+
+/// What a session is given whose input comes in such pieces.
+fn in_pieces<'a>(words: &'a [&'a str], pieces: &'a [usize]) -> Given<'a> {
+    Given {
+        pieces,
+        ..Given::new(words, SAMPLE)
+    }
+}
+
+/// Input in pieces of so many bytes gives the same output.
+fn see_pieces(
+    rt: &impl Runtime,
+    rows: &mut Rows,
+    parts: &mut Partitions,
+    number: usize,
+    cut: usize,
+    over: &Over,
+) -> Result<(), NoMemory> {
+    let (words, told) = over;
+    let pieces = [cut];
+    let ran = run(rt, parts, &in_pieces(words, &pieces))?;
+    ran.see(rows, number, told, &WELL);
+    Ok(())
+}
+
+/// The same, over a store of either kind.
+fn see_cut(
+    rt: &impl Runtime,
+    rows: &mut Rows,
+    parts: &mut Partitions,
+    number: usize,
+    cut: usize,
+) -> Result<(), NoMemory> {
+    for over in &OVER {
+        see_pieces(rt, rows, parts, number, cut, over)?;
+    }
+    Ok(())
+}
+
+#[test]
+fn pieces_leave_the_same(rt: HostRuntime) -> Result<(), Fail> {
+    let mut rows = Rows::new();
+    let mut parts = store(&rt, &mut rows)?;
+    for (number, cut) in CUTS.into_iter().enumerate() {
+        see_cut(&rt, &mut rows, &mut parts, number, cut)?;
+    }
+    rows.all()?;
+    Ok(())
+}
+
+/// A read that fails: what was taken is answered.
+fn see_failed_read(
+    rt: &impl Runtime,
+    rows: &mut Rows,
+    parts: &mut Partitions,
+    over: &Over,
+) -> Result<(), NoMemory> {
+    let (words, told) = over;
+    let given = Given {
+        pieces: &[40],
+        failing: &[1],
+        ..Given::new(words, SAMPLE)
+    };
+    let wanted = Wanted {
+        status: 6,
+        output: &[OUR_LINE, WELCOME, WROTE_ABC],
+        complaint: b"venti: read fault\n",
+    };
+    run(rt, parts, &given)?.see(rows, 0, told, &wanted);
+    Ok(())
+}
+
+/// A write that fails: a front of the output stands.
+fn see_full_sink(
+    rt: &impl Runtime,
+    rows: &mut Rows,
+    parts: &mut Partitions,
+    over: &Over,
+) -> Result<(), NoMemory> {
+    let (words, told) = over;
+    let given = Given {
+        room: 20,
+        ..Given::new(words, SAMPLE)
+    };
+    let ran = run(rt, parts, &given)?;
+    let wanted = Wanted {
+        status: 7,
+        output: &[&ran.output],
+        complaint: b"venti: write fault\n",
+    };
+    ran.see(rows, 1, told, &wanted);
+    rows.nth(
+        1,
+        "what went out is a front",
+        is_front(&ran.output, SAMPLE_OUTPUT),
+    );
+    Ok(())
+}
+
+/// Whether these bytes are a front of the parts, one behind another.
+fn is_front(bytes: &[u8], parts: &[&[u8]]) -> bool {
+    let mut left = bytes;
+    for part in parts {
+        match left.strip_prefix(*part) {
+            Some(behind) => left = behind,
+            None => return part.starts_with(left),
+        }
+    }
+    left.is_empty()
+}
+
+#[test]
+fn faults_leave_a_front(rt: HostRuntime) -> Result<(), Fail> {
+    let mut rows = Rows::new();
+    let mut parts = store(&rt, &mut rows)?;
+    for over in &OVER {
+        see_failed_read(&rt, &mut rows, &mut parts, over)?;
+        see_full_sink(&rt, &mut rows, &mut parts, over)?;
+    }
+    rows.all()?;
+    Ok(())
+}
+
+/// Words that are no command: nothing is read or answered.
+const BAD_WORDS: &[Row] = &[
+    (&["session"], SAMPLE, 1, &[], BAD),
+    (&["serve", ":memory:"], SAMPLE, 1, &[], BAD),
+    (&["session", ":memory:", "more"], SAMPLE, 1, &[], BAD),
+];
+
+const BAD: &str = "venti: bad command line\n";
+
+const UNKNOWN: &[Act] = &[Act::See(told!("words that are no command"), BAD_WORDS)];
+
+#[test]
+fn words_may_be_no_command(rt: HostRuntime) -> Result<(), Fail> {
+    let mut rows = Rows::new();
+    do_acts(&rt, &mut rows, UNKNOWN)?;
+    rows.all()?;
+    Ok(())
+}
+
+/// What a patient client sends, and how many bytes it is told before it sends more.
+const PATIENT: [Part; 6] = [
+    (LINE, 0),
+    (HELLO, WELCOME.len()),
+    (WRITE_ABC, WROTE_ABC.len()),
+    (READ_ABC, GAVE_ABC.len()),
+    (SYNC, SYNCED.len()),
+    (GOODBYE, 0),
+];
+
+/// A client that waits for each reply gets it, over a store of either kind.
+fn see_waits(
+    rt: &impl Runtime,
+    rows: &mut Rows,
+    parts: &mut Partitions,
+    number: usize,
+    cut: usize,
+) -> Result<(), NoMemory> {
+    for (words, told) in &OVER {
+        run_patient(rt, parts, words, &PATIENT, cut)?.see(rows, number, told, &WELL);
+    }
+    Ok(())
+}
+
+/// However its bytes come in.
+#[test]
+fn no_reply_waits(rt: HostRuntime) -> Result<(), Fail> {
+    let mut rows = Rows::new();
+    let mut parts = store(&rt, &mut rows)?;
+    for (number, cut) in CUTS.into_iter().enumerate() {
+        see_waits(&rt, &mut rows, &mut parts, number, cut)?;
+    }
+    rows.all()?;
+    Ok(())
+}

@@ -1,8 +1,0 @@
--- the digits of the two numbers
-use Rattle.std.proofs.Common.{◌∙◌}
-use Rattle.vt_commands.proofs.commands.fmtindex.print_index.Goals as goal
-
-pub returns : goal.returns
-returns g c =
-    rw (c.as_slice.ensures, c.as_bytes.ensures.value ∙ c.format.ensures.text, c.as_bytes-2.ensures.value ∙ c.format-2.ensures.text)
-    at c.print.ensures

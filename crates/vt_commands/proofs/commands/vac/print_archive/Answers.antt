@@ -1,5 +1,0 @@
--- the digits of the score
-use Rattle.vt_commands.proofs.commands.vac.print_archive.Goals as goal
-
-pub returns : goal.returns
-returns g c = rw c.hexadecimal.ensures at c.print.ensures

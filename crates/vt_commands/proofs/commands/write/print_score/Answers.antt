@@ -1,5 +1,0 @@
--- the digits of the score
-use Rattle.vt_commands.proofs.commands.write.print_score.Goals as goal
-
-pub returns : goal.returns
-returns g c = rw c.hexadecimal.ensures at c.print.ensures

@@ -1,0 +1,111 @@
+//! Partitions in memory, which runs leave to each other.
+
+use std::alloc::Global;
+use std::mem;
+use vt_base::{NoMemory, Text};
+use vt_disk::Disk;
+use vt_memdisk::{CrashMode, Listed, MemDisk};
+use vt_memparts::{Failing, MemParts};
+use vt_parts::Parts;
+
+/// The partitions that tests run on.
+pub(crate) type InMemory = MemParts<MemDisk<Listed>, Failing<Global>>;
+
+/// Partitions in memory, which the runs over them leave to each other.
+#[derive(Drop)]
+pub struct Partitions {
+    parts: InMemory,
+}
+
+/// None.
+fn none(alloc: Global) -> InMemory {
+    MemParts::new(alloc, Failing::new(Vec::new(alloc)))
+}
+
+impl Partitions {
+    /// None yet. Of each disk that is made for them no call fails.
+    pub fn new(alloc: Global) -> Self {
+        Partitions { parts: none(alloc) }
+    }
+
+    /// None yet. Of each disk that is made for them so many calls fail, from this one on: reads,
+    /// writes and syncs are numbered together, from 0.
+    pub fn failing(alloc: Global, first: u64, span: u64) -> Result<Self, NoMemory> {
+        let mut calls = Vec::new(alloc);
+        for behind in 0..span {
+            calls.push(first.saturating_add(behind))?;
+        }
+        let parts = MemParts::new(alloc, Failing::new(calls));
+        Ok(Partitions { parts })
+    }
+
+    /// They go to a run.
+    pub(crate) fn take(&mut self, alloc: Global) -> InMemory {
+        mem::replace(&mut self.parts, none(alloc))
+    }
+
+    /// A run gives them back.
+    pub(crate) fn put_back(&mut self, parts: InMemory) {
+        self.parts = parts;
+    }
+
+    /// The partition of this name is taken from those, of which each call goes on as it does there.
+    /// Says whether it was there.
+    pub fn take_from(
+        &mut self,
+        alloc: Global,
+        others: &mut Partitions,
+        name: &str,
+    ) -> Result<bool, NoMemory> {
+        let name = Text::copy_of(alloc, name.as_bytes())?;
+        let Ok(disk) = others.parts.part(alloc, &name, None) else {
+            return Ok(false);
+        };
+        let parts = self.take(alloc).with(name, disk)?;
+        self.parts = parts;
+        Ok(true)
+    }
+
+    /// A partition of this name and this length is made, and is handed out from now on. Says whether
+    /// it is.
+    pub fn lend(&mut self, alloc: Global, name: &str, len: u64) -> Result<bool, NoMemory> {
+        let name = Text::copy_of(alloc, name.as_bytes())?;
+        Ok(self.parts.part(alloc, &name, Some(len)).is_ok())
+    }
+
+    /// The bytes of the partition of this name are these from this place on. Says whether it has
+    /// such places.
+    pub fn spoil(
+        &mut self,
+        alloc: Global,
+        name: &str,
+        at: u64,
+        bytes: &[u8],
+    ) -> Result<bool, NoMemory> {
+        let name = Text::copy_of(alloc, name.as_bytes())?;
+        let Ok(mut disk) = self.parts.part(alloc, &name, None) else {
+            return Ok(false);
+        };
+        let spoilt = spoil_disk(&mut disk, at, bytes);
+        self.parts.done(&name, disk);
+        Ok(spoilt)
+    }
+
+    /// The partition of this name is as a crash leaves it. Says whether there is one.
+    pub fn crash(&mut self, alloc: Global, name: &str, mode: CrashMode) -> Result<bool, NoMemory> {
+        let name = Text::copy_of(alloc, name.as_bytes())?;
+        let Ok(disk) = self.parts.part(alloc, &name, None) else {
+            return Ok(false);
+        };
+        self.parts.done(&name, disk.crash_in(mode));
+        Ok(true)
+    }
+}
+
+/// The bytes of a disk are these from this place on, if it has such places.
+fn spoil_disk<D: Disk>(disk: &mut D, at: u64, bytes: &[u8]) -> bool {
+    if disk.len() < at || disk.len() - at < bytes.len() as u64 {
+        return false;
+    }
+    disk.write_at(at, bytes).is_ok()
+}

@@ -1,4 +1,0 @@
-use Rattle.vt_log.proofs.tests.run.Given as goal
-
-abbrev pub ghosts-play_on : goal.ghosts-play_on
-ghosts-play_on a = record { name = a.blank.name; parts = a.blank.parts }

@@ -1,6 +1,0 @@
--- The walk is one of the log.
-use Rattle.vt_log.specs.Back.{IsTailOf}
-use Rattle.vt_log.proofs.tests.walk.Given as goal
-
-abbrev pub invariant-loop : goal.invariant-loop
-invariant-loop g l = IsTailOf l.log l.tail

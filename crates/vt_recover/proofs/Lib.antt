@@ -1,0 +1,17 @@
+pub mod Lists
+pub mod Room
+pub mod Zips
+pub mod Places
+pub mod Counts
+pub mod Held
+pub mod Opened
+pub mod OpenWork
+pub mod TakingBack
+pub mod PuttingBack
+pub mod Below
+pub mod Lacking
+pub mod TakingAllBack
+pub mod NextBack
+pub mod Owed
+pub mod WritingBack
+pub mod ReadingBack

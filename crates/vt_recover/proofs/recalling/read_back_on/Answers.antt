@@ -1,0 +1,50 @@
+use Rattle.std.proofs.Common.{arith}
+use Rattle.std.proofs.lemmas.Result.{err_from_is_err_and}
+use Rattle.vt_recover.specs.Recalling.{Opened, opened}
+use Rattle.vt_recover.proofs.ReadingBack.{begin_reading, ends_at_least, ends_in_log, ends_in_shard, reads_on, stands_whole, begin_once, once_more}
+use Rattle.vt_recover.proofs.recalling.read_back_on.Goals as goal
+
+pub loop-tail-init : goal.loop-tail-init
+loop-tail-init g c =
+    let old : Opened g.row.D.Denot = opened c.args.log.now c.args.shards.now c.args.bits.now in
+    let e = c.tail-tail.ensures in (
+      begin_reading g.S.Scorer.score_of g.D.Disk old c.tail-tail.result c.requires.mounted (stands_whole g.D.Disk c.args.log.now e.whole) c.requires.unused e.tail e.all e.behind,
+      begin_once g.D.Disk c.args.least old c.tail-tail.result c.requires.mounted e.all,
+    )
+
+pub returns-in_err-info : goal.returns-in_err-info
+returns-in_err-info g c =
+    let old : Opened g.row.D.Denot = opened c.args.log.now c.args.shards.now c.args.bits.now in
+    let now : Opened g.row.D.Denot = opened c.loop-tail.log c.loop-tail.shards c.loop-tail.bits in
+    let e = c.in_err-info.ensures in
+    let p = err_from_is_err_and c.from_residual.result c.from_residual.ensures.1 in
+    rw (p.1, p.2) (ends_in_log g.S.Scorer.score_of g.D.Disk old now c.loop-tail.tail c.loop-tail.invariant.0 c.next_back.new.log _ c.args.least c.args.part e.reads e.counts e.ends_early e.blocks c.no_block_lacks.ensures.more)
+
+pub recall-requires-clause-quiet : goal.recall-requires-clause-quiet
+recall-requires-clause-quiet g c = λ i s at. (c.loop-tail.invariant.0.rest i s at).quiet
+
+pub loop-tail-preserved : goal.loop-tail-preserved
+loop-tail-preserved g c =
+    let old : Opened g.row.D.Denot = opened c.args.log.now c.args.shards.now c.args.bits.now in
+    let now : Opened g.row.D.Denot = opened c.loop-tail.log c.loop-tail.shards c.loop-tail.bits in (
+      reads_on g.S.Scorer.score_of g.D.Disk old now c.loop-tail.tail c.next_back.new.tail c.loop-tail.invariant.0 c.next_back.new.log c.in_ok-info.info c.in_ok-info.ensures tt c.args.part
+          c.recall.new.shards c.recall.new.bits c.in_ok-recall.ensures.takes c.recall.ensures.marks c.marked_scores_stay.ensures.stay c.marked_scores_stay.ensures.marked
+          c.sections_have_ranges.ensures c.sections_are_told_apart.ensures.head c.frames_are_told_apart.ensures.one c.no_block_lacks.ensures.more,
+      once_more g.S.Scorer.score_of g.D.Disk c.args.least old now c.loop-tail.tail c.next_back.new.tail c.loop-tail.invariant.1 c.next_back.new.log c.in_ok-info.info c.in_ok-info.ensures
+          (omega (arith, c.loop-tail-test.true, c.left.ensures)) c.recall.new.shards c.recall.new.bits,
+    )
+
+pub returns-in_err-recall : goal.returns-in_err-recall
+returns-in_err-recall g c =
+    let old : Opened g.row.D.Denot = opened c.args.log.now c.args.shards.now c.args.bits.now in
+    let now : Opened g.row.D.Denot = opened c.loop-tail.log c.loop-tail.shards c.loop-tail.bits in
+    let p = err_from_is_err_and c.from_residual-in_err-recall.result c.from_residual-in_err-recall.ensures.1 in
+    rw (p.1, p.2) (ends_in_shard g.S.Scorer.score_of g.D.Disk old now c.loop-tail.tail c.next_back.new.tail c.loop-tail.invariant.0 c.next_back.new.log c.in_ok-info.info c.in_ok-info.ensures _ c.args.least c.args.part
+    c.recall.new.shards c.recall.new.bits c.in_err-recall.ensures.takes c.recall.ensures.marks c.marked_scores_stay.ensures.stay c.marked_scores_stay.ensures.marked
+    c.sections_have_ranges.ensures c.sections_are_told_apart.ensures.head c.frames_are_told_apart.ensures.one c.no_block_lacks.ensures.more)
+
+pub returns : goal.returns
+returns g c =
+    let old : Opened g.row.D.Denot = opened c.args.log.now c.args.shards.now c.args.bits.now in
+    let now : Opened g.row.D.Denot = opened c.loop-tail.log c.loop-tail.shards c.loop-tail.bits in
+    ends_at_least g.S.Scorer.score_of g.D.Disk old now c.loop-tail.tail c.loop-tail.invariant.0 tt c.args.least c.args.part (omega (arith, c.loop-tail-test.false, c.left.ensures)) c.loop-tail.invariant.1 c.no_block_lacks.ensures.more
