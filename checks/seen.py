@@ -9,8 +9,9 @@ from contracts import CRATES, TOP
 EDITS = os.path.join(TOP, "checks", "edits")
 SEEN = os.path.join(EDITS, "SEEN")
 HEAD = """\
-# Edits of this folder that checks/edits/try saw refused: each with its sum, and each file that it changes with the sum
-# that this had then (the first 16 digits of SHA-256). Where one of them has another sum now, it is to be tried again.
+# Edits of this folder that were seen refused, by checks/edits/try or while the gate still tried them: each with its sum,
+# and each file that it changes with the sum that this had then (the first 16 digits of SHA-256). Where one of them has
+# another sum now, it is to be tried again.
 # It is a note of what was tried by hand: no part of the gate, and it stands in for no run of anything.
 """
 
