@@ -30,7 +30,7 @@ ghost use Rattle.vt_part.specs.Table.{end_of};
 
 use std::alloc::Global;
 use std::io::{self, ErrorKind, Read};
-use vt_answer::Store;
+use vt_answer::{Store, read, write};
 use vt_base::{Scorer, Sha1Scorer};
 use vt_core::{Core, Devices, Event, Out};
 use vt_disk::Disk;
@@ -125,7 +125,7 @@ fn block(number: u64) -> [u8; 64] {
 /// Writes so many blocks.
 fn write_all<T: Store>(alloc: Global, store: &mut T, blocks: u64) -> Option<()> {
     for number in 0..blocks {
-        store.write(alloc, DATA, &block(number)).ok()?;
+        write(alloc, store, DATA, &block(number)).ok()?;
     }
     Some(())
 }
@@ -135,8 +135,8 @@ fn repeat_all<T: Store>(alloc: Global, store: &mut T, blocks: u64) -> Option<()>
     let mut at = 0u64;
     for _ in 0..blocks {
         let bytes = block(at);
-        let score = store.write(alloc, DATA, &bytes).ok()?;
-        if store.read(alloc, &score, DATA, 64).ok()?.as_slice() != &bytes[..] {
+        let score = write(alloc, store, DATA, &bytes).ok()?;
+        if read(alloc, store, &score, DATA, 64).ok()?.as_slice() != &bytes[..] {
             return None;
         }
         at = at.checked_add(STRIDE)?.checked_rem(blocks)?;
@@ -244,7 +244,7 @@ fn driven<D: Disk + Drop>(
         return None;
     }
     match core.step(alloc, Event::Answer(0)) {
-        Out::Nothing => Some(Driven::new(core, alloc, 0)),
+        Out::Nothing => Some(Driven::new(core, 0)),
         _ => None,
     }
 }

@@ -5,9 +5,9 @@ use crate::samples::{
     Came, Case, Failure, Row, Shown, Talk, calls_of_sample, see_shown, see_talk, serve,
 };
 use nine_view::View;
-use std::alloc::Global;
+use std::alloc::{AllocError, Global};
 use std::test::Fail;
-use vt_base::{Bytes, Kind, NoMemory, Score, Scorer, ShortScorer, Text};
+use vt_base::{Bytes, Kind, Score, Scorer, ShortScorer, Text};
 use vt_rows::Rows;
 use vt_tree::{BlockErr, Blocks};
 
@@ -17,7 +17,7 @@ fn serve_talk<B: Blocks>(
     view: &mut View,
     blocks: &mut B,
     talk: &Talk,
-) -> Result<Came, NoMemory> {
+) -> Result<Came, AllocError> {
     serve(
         alloc,
         view,
@@ -59,7 +59,7 @@ fn attach_of(fid: u32) -> [u8; 20] {
 
 /// Asks for the files of the top folder behind so many bytes, by this count: as many files are told as
 /// have room, each whole and once.
-fn say_read(talk: &mut Talk, from: u32, count: u32) -> Result<(), NoMemory> {
+fn say_read(talk: &mut Talk, from: u32, count: u32) -> Result<(), AllocError> {
     let most = (count / 53).saturating_mul(53);
     if most == 0 {
         return talk.say(&read_of(from, count), SMALL);
@@ -72,7 +72,7 @@ fn say_read(talk: &mut Talk, from: u32, count: u32) -> Result<(), NoMemory> {
 }
 
 /// Such reads one behind the other, from the folder's start to its end.
-fn reads(alloc: Global, count: u32) -> Result<Talk, NoMemory> {
+fn reads(alloc: Global, count: u32) -> Result<Talk, AllocError> {
     let most = (count / 53).saturating_mul(53);
     let mut talk = Talk::new(alloc);
     for n in 0..5u32 {
@@ -82,7 +82,7 @@ fn reads(alloc: Global, count: u32) -> Result<Talk, NoMemory> {
 }
 
 /// As many attaches as there may be fids, from 0 on.
-fn attaches(alloc: Global) -> Result<Talk, NoMemory> {
+fn attaches(alloc: Global) -> Result<Talk, AllocError> {
     let mut talk = Talk::new(alloc);
     talk.say(VERSION.0, VERSION.1)?;
     for fid in 0..1024u32 {
@@ -215,7 +215,7 @@ impl Case for Counts {
         view: &mut View,
         blocks: &mut B,
         rows: &mut Rows,
-    ) -> Result<(), NoMemory> {
+    ) -> Result<(), AllocError> {
         let opened = see_talk(alloc, view, blocks, &[VERSION, ATTACH, OPEN], 100, rows)?;
         rows.is("a failure of an open", opened.failure == None);
         for count in 0..241u32 {
@@ -244,7 +244,7 @@ impl Case for Fids {
         view: &mut View,
         blocks: &mut B,
         rows: &mut Rows,
-    ) -> Result<(), NoMemory> {
+    ) -> Result<(), AllocError> {
         let talk = attaches(alloc)?;
         let attached = serve_talk(alloc, view, blocks, &talk)?;
         rows.is("the replies to 1,024 attaches", attached.is_well());
@@ -275,7 +275,7 @@ impl Case for Told {
         view: &mut View,
         blocks: &mut B,
         rows: &mut Rows,
-    ) -> Result<(), NoMemory> {
+    ) -> Result<(), AllocError> {
         let came = see_talk(alloc, view, blocks, self.table, 100, rows)?;
         rows.is("the failure", came.failure == self.failure);
         Ok(())
@@ -322,7 +322,7 @@ impl Refusing {
                 self.refusals = self.refusals.saturating_add(1);
                 BlockErr::Refused(text)
             }
-            Err(NoMemory) => BlockErr::NoMemory,
+            Err(AllocError) => BlockErr::NoMemory,
         }
     }
 }
@@ -409,7 +409,7 @@ const CUTS: &[(Row, &[u8], usize)] = &[
 ];
 
 /// What is asked where the store says no, and what is replied with so much of its text.
-fn cut_talk(alloc: Global, version: Row, head: &[u8], len: usize) -> Result<Talk, NoMemory> {
+fn cut_talk(alloc: Global, version: Row, head: &[u8], len: usize) -> Result<Talk, AllocError> {
     let mut talk = Talk::new(alloc);
     talk.say_all(&[version, ATTACH])?;
     talk.say(WALK, head)?;
@@ -427,7 +427,7 @@ impl Case for Cuts {
         view: &mut View,
         _blocks: &mut B,
         rows: &mut Rows,
-    ) -> Result<(), NoMemory> {
+    ) -> Result<(), AllocError> {
         let mut refusing = Refusing { refusals: 0 };
         for (n, (version, head, len)) in CUTS.iter().enumerate() {
             let talk = cut_talk(alloc, *version, head, *len)?;

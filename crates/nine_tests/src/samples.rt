@@ -5,10 +5,10 @@ ghost use Rattle.vt_tree.specs.Entries.{IsEntry};
 ghost use Rattle.nine_view.specs.Files.{IsTold};
 
 use nine_view::{Ended, View, serve_nine};
-use std::alloc::Global;
+use std::alloc::{AllocError, Global};
 use std::test::Fail;
 use vac_read::{Archive, VacBad};
-use vt_base::{Kind, NoMemory, Score, Sha1Scorer};
+use vt_base::{Kind, Score, Sha1Scorer};
 use vt_out::{MemLink, MemSink, MemSource};
 use vt_rows::Rows;
 use vt_tree::{BlockErr, Blocks, Entry, MemBlocks, Root, TreeErr, write_stream};
@@ -58,7 +58,7 @@ fn record(name: u8, is_folder: bool, numbers: [u32; 4]) -> [u8; 30] {
 }
 
 /// These bytes, one part behind another.
-pub fn joined(alloc: Global, parts: &[&[u8]]) -> Result<Vec<u8>, NoMemory> {
+pub fn joined(alloc: Global, parts: &[&[u8]]) -> Result<Vec<u8>, AllocError> {
     let mut bytes = Vec::new(alloc);
     for part in parts {
         bytes.extend_from_slice(part)?;
@@ -165,7 +165,7 @@ pub trait Case {
         view: &mut View,
         blocks: &mut B,
         rows: &mut Rows,
-    ) -> Result<(), NoMemory>;
+    ) -> Result<(), AllocError>;
 }
 
 /// Makes the view of an archive, and sees what comes of its clients.
@@ -224,13 +224,13 @@ impl Talk {
         }
     }
 
-    pub fn say(&mut self, asked: &[u8], replied: &[u8]) -> Result<(), NoMemory> {
+    pub fn say(&mut self, asked: &[u8], replied: &[u8]) -> Result<(), AllocError> {
         self.asked.extend_from_slice(asked)?;
         self.replied.extend_from_slice(replied)?;
         Ok(())
     }
 
-    pub fn say_all(&mut self, rows: &[Row]) -> Result<(), NoMemory> {
+    pub fn say_all(&mut self, rows: &[Row]) -> Result<(), AllocError> {
         for (asked, replied) in rows {
             self.say(asked, replied)?;
         }
@@ -276,7 +276,7 @@ impl Came {
 }
 
 /// A link that brings these bytes in pieces of this length, and has room for so many.
-pub fn link(alloc: Global, input: &[u8], piece: usize, room: usize) -> Result<MemLink, NoMemory> {
+pub fn link(alloc: Global, input: &[u8], piece: usize, room: usize) -> Result<MemLink, AllocError> {
     let pieces = vec![in alloc; piece]?;
     let sink = MemSink::new(alloc, room)?;
     let source = MemSource::new(alloc, Vec::from_slice(alloc, input)?);
@@ -314,7 +314,7 @@ pub fn serve<B: Blocks>(
     input: &[u8],
     (piece, room): (usize, usize),
     wanted: &[u8],
-) -> Result<Came, NoMemory> {
+) -> Result<Came, AllocError> {
     let mut link = link(alloc, input, piece, room)?;
     Ok(served(alloc, view, blocks, &mut link, wanted))
 }
@@ -339,7 +339,7 @@ pub fn see_talk<B: Blocks>(
     table: &[Row],
     piece: usize,
     rows: &mut Rows,
-) -> Result<Came, NoMemory> {
+) -> Result<Came, AllocError> {
     let mut talk = Talk::new(alloc);
     talk.say_all(table)?;
     let mut link = link(alloc, &talk.asked, piece, 100_000)?;

@@ -3,9 +3,8 @@
 
 use crate::samples::{Case, Failure, Row, Shown, see_shown, see_talk, serve};
 use nine_view::{Ended, View};
-use std::alloc::Global;
+use std::alloc::{AllocError, Global};
 use std::test::Fail;
-use vt_base::NoMemory;
 use vt_rows::Rows;
 use vt_tree::Blocks;
 
@@ -429,7 +428,7 @@ impl Case for Each {
         view: &mut View,
         blocks: &mut B,
         rows: &mut Rows,
-    ) -> Result<(), NoMemory> {
+    ) -> Result<(), AllocError> {
         for (n, (asked, replied)) in ROWS.iter().enumerate() {
             let came = serve(alloc, view, blocks, asked, (100, 1000), replied)?;
             rows.nth(n, "the reply", came.is_replied);
@@ -454,7 +453,7 @@ impl Case for Pieces {
         view: &mut View,
         blocks: &mut B,
         rows: &mut Rows,
-    ) -> Result<(), NoMemory> {
+    ) -> Result<(), AllocError> {
         let came = see_talk(alloc, view, blocks, &ROWS, self.0, rows)?;
         // The first failure is kept.
         rows.is("the failure", came.failure == Some(Failure::Refused));
@@ -534,7 +533,7 @@ impl Case for Connections {
         view: &mut View,
         blocks: &mut B,
         rows: &mut Rows,
-    ) -> Result<(), NoMemory> {
+    ) -> Result<(), AllocError> {
         for (n, (input, room, ended, taken, len)) in CONNECTIONS.iter().enumerate() {
             let came = serve(alloc, view, blocks, input, (3, *room), b"")?;
             rows.nth(n, "how the connection ends", came.ended == *ended);

@@ -4,8 +4,8 @@ ghost use Rattle.std.specs.Prelude.{◌≡◌, ◌≤◌, take};
 ghost use Rattle.nine_view.specs.Failures.{failure_words};
 
 use crate::Refusal;
+use std::alloc::AllocError;
 use vac_read::VacBad;
-use vt_base::NoMemory;
 use vt_tree::{BlockErr, TreeErr};
 
 /// How many bytes of an Rerror stand round its text.
@@ -40,14 +40,14 @@ impl From<VacBad> for Denied {
     }
 }
 
-impl From<NoMemory> for Denied {
+impl From<AllocError> for Denied {
     ghost use Rattle.std.specs.Prelude.{◌≡◌};
     ghost use Rattle.vac_read.specs.declared.err.VacBad.TheVariants.{NoMemory as Memory};
     ghost use Rattle.nine_view.specs.declared.failure.Denied.TheVariants.{Failed};
 
     ghost from_gives = { λ _ denied. denied ≡ Failed Memory };
 
-    fn from(_error: NoMemory) -> Self {
+    fn from(_error: AllocError) -> Self {
         Denied::Failed(VacBad::NoMemory)
     }
 }

@@ -3,9 +3,8 @@
 ghost use Rattle.std.specs.Prelude.{◌≡◌, IfOk};
 
 use crate::{Place, Way};
-use std::alloc::Global;
+use std::alloc::{AllocError, Global};
 use vac_read::{Node, Nodes};
-use vt_base::NoMemory;
 
 /// What stands behind a fid (intro(5)).
 #[derive(Drop)]
@@ -41,7 +40,7 @@ impl Reading {
 
 impl Fid {
     /// Where it stands, in memory of its own.
-    pub fn place(&self, alloc: Global) -> Result<Place, NoMemory>
+    pub fn place(&self, alloc: Global) -> Result<Place, AllocError>
         ensures { IfOk result (λ at. (at.node ≡ self.now.node) × (at.above ≡ self.now.above)) }
     {
         Ok(Place {

@@ -5,10 +5,9 @@ ghost use Rattle.std.specs.Option.{option_copied};
 ghost use Rattle.nine_view.specs.Known.{fid_at, is_known, with_fid, without_fid};
 
 use crate::{Fid, Reading};
-use std::alloc::Global;
+use std::alloc::{AllocError, Global};
 use std::marker::Model;
 use vac_read::Nodes;
-use vt_base::NoMemory;
 
 /// Fids by their numbers, which contracts see as a list.
 #[derive(Drop)]
@@ -63,7 +62,7 @@ impl Fids {
     }
 
     /// Sets a fid, whether it was known or not.
-    pub(crate) fn set(&mut self, fid: u32, f: Fid) -> Result<(), NoMemory>
+    pub(crate) fn set(&mut self, fid: u32, f: Fid) -> Result<(), AllocError>
         ensures ok { IfOk result (λ _. self.new ≡ with_fid fid f self.old) }
         ensures err { OnErr result (self.new ≡ self.old) }
     {

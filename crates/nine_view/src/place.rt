@@ -4,9 +4,8 @@ ghost use Rattle.std.specs.Prelude.{◌≡◌, ◌∷◌, IfOk};
 ghost use Rattle.nine_view.specs.Walks.{parent};
 
 use crate::{Fid, Way};
-use std::alloc::Global;
+use std::alloc::{AllocError, Global};
 use vac_read::Node;
-use vt_base::NoMemory;
 
 /// A file of an archive, and the folders above it.
 #[derive(Drop)]
@@ -33,7 +32,7 @@ impl Place {
     }
 
     /// A file in this folder.
-    pub fn into_file(self, node: Node) -> Result<Place, NoMemory>
+    pub fn into_file(self, node: Node) -> Result<Place, AllocError>
         ensures { IfOk result (λ at. (at.node ≡ node) × (at.above ≡ self.node ∷ self.above)) }
     {
         let mut above = self.above;

@@ -8,9 +8,9 @@ ghost use Rattle.nine_view.specs.Serving.{Serves, Turns, ReadCause, ReadsSo, Wri
 
 use crate::{MAX_MESSAGE, View};
 use byteorder::{ByteOrder, LittleEndian};
-use std::alloc::Global;
+use std::alloc::{AllocError, Global};
 use vac_read::VacBad;
-use vt_base::{Failed, NoMemory};
+use vt_base::Failed;
 use vt_out::Link;
 use vt_session::MAX_TAKEN;
 use vt_tree::Blocks;
@@ -85,7 +85,7 @@ struct Buffers {
 }
 
 impl Buffers {
-    fn new(alloc: Global) -> Result<Self, NoMemory>
+    fn new(alloc: Global) -> Result<Self, AllocError>
         ensures message { IfOk result (λ b. length b.message.items ≡ 65536) }
         ensures reply { IfOk result (λ b. length b.reply.items ≡ 65536) }
     {

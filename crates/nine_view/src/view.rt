@@ -6,10 +6,9 @@ ghost use Rattle.nine_view.specs.Known.{limit};
 
 use crate::MAX_MESSAGE;
 use crate::fids::Fids;
-use std::alloc::Global;
+use std::alloc::{AllocError, Global};
 use std::marker::Model;
 use vac_read::{Archive, Node};
-use vt_base::NoMemory;
 
 /// An archive as a tree of files, and what its client has said so far: the size of messages that
 /// is agreed, and the fids that it has set.
@@ -38,7 +37,7 @@ impl Model for View {
 
 impl View {
     /// No version is agreed, and no fid is set. The buffer's memory is taken here.
-    pub fn new(alloc: Global, archive: Archive) -> Result<Self, NoMemory>
+    pub fn new(alloc: Global, archive: Archive) -> Result<Self, AllocError>
         requires { IsTold archive.top }
         ensures { IfOk result (λ view.
             view ≡ record { top = archive.top; msize = None; fids = [] }) }

@@ -16,7 +16,6 @@ use crate::{MAX_FIDS, MAX_NAMES, Place, Refusal, View};
 use nine_wire::{NO_FID, Names, Qid, Reply, encode};
 use std::alloc::Global;
 use vac_read::{VacBad, find_item};
-use vt_base::NoMemory;
 use vt_tree::Blocks;
 
 /// Where names lead.

@@ -2,10 +2,9 @@
 
 ghost use Rattle.std.specs.Prelude.{◌≡◌, [], ◌∷◌, MatchOption, IfOk, OnErr};
 
-use std::alloc::Global;
+use std::alloc::{AllocError, Global};
 use std::marker::Model;
 use vac_read::Node;
-use vt_base::NoMemory;
 
 /// The folders above a file, which contracts see as a list, the nearest first.
 #[derive(Drop)]
@@ -34,7 +33,7 @@ impl Way {
     }
 
     /// The same in memory of its own.
-    pub fn copied(&self, alloc: Global) -> Result<Self, NoMemory>
+    pub fn copied(&self, alloc: Global) -> Result<Self, AllocError>
         ensures { IfOk result (λ way. way ≡ self.now) }
     {
         let mut nodes = Vec::with_capacity(alloc, self.nodes.len())?;
@@ -45,7 +44,7 @@ impl Way {
     }
 
     /// One folder further down.
-    pub fn push(&mut self, node: Node) -> Result<(), NoMemory>
+    pub fn push(&mut self, node: Node) -> Result<(), AllocError>
         ensures { IfOk result (λ _. self.new ≡ node ∷ self.old) }
     {
         self.nodes.push(node)?;

@@ -9,7 +9,7 @@ use Rattle.vt_conf.specs.declared.address.Address.{Address}
 use Rattle.vt_conf.specs.declared.conf.Conf.{Conf}
 use Rattle.vt_dial.specs.Dialled.{Dialled}
 use Rattle.vt_disk.specs.Members.{DiskOf}
-use Rattle.vt_session.specs.Answered.{OneRose}
+use Rattle.vt_model.specs.Causes.{OneRose}
 use Rattle.vt_core.specs.Core.{CoreState, each_of, stops_of}
 use Rattle.vt_remote.specs.declared.remote.RemoteBad.{RemoteBad}
 use Rattle.vt_remote.specs.declared.remote.RemoteBad.TheVariants as remote

@@ -10,8 +10,9 @@ use Rattle.vt_disk.specs.Members.{DiskOf}
 use Rattle.vt_model.specs.Answer.{answer}
 use Rattle.vt_model.specs.Places.{Setup}
 use Rattle.vt_session.specs.declared.Ended.TheVariants as ends
-use Rattle.vt_session.specs.Turns.{Turn, Cause, cause_of, causes_of}
-use Rattle.vt_session.specs.Answered.{AreToldBy, CountsRise, IsKnownStop, OneRose, no_faults}
+use Rattle.vt_model.specs.Causes.{Cause, OneRose}
+use Rattle.vt_session.specs.Turns.{Turn, cause_of, causes_of}
+use Rattle.vt_session.specs.Answered.{AreToldBy, CountsRise, IsKnownStop, no_faults}
 use Rattle.vt_answer.specs.Serving.{answered, tells_failure}
 use Rattle.vt_core.specs.Causes.{IsUndamagedWhy}
 use Rattle.vt_core.specs.Core.{CoreState, each_of, setup_of}

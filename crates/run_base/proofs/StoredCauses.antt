@@ -10,7 +10,7 @@ use Rattle.vt_client.specs.Clients.{ClientState}
 use Rattle.vt_conf.specs.declared.address.Address.{Address}
 use Rattle.vt_conf.specs.declared.conf.Conf.{Conf}
 use Rattle.vt_disk.specs.Members.{DiskOf}
-use Rattle.vt_session.specs.Answered.{OneRose}
+use Rattle.vt_model.specs.Causes.{OneRose}
 use Rattle.vt_answer.specs.Serving.{tells_failure}
 use Rattle.vt_core.specs.Core.{CoreState, devices_of, each_of, stops_of}
 use Rattle.vt_core.specs.Files.{all_of}

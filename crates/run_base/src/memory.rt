@@ -8,8 +8,8 @@ ghost use Rattle.vt_answer.specs.Serving.{answered};
 ghost use Rattle.run_base.specs.Blocks.{AnswersInMemory, FailsInMemory};
 ghost use Rattle.run_base.specs.Memory.{IsMemoryStore};
 
-use std::alloc::Global;
-use vt_base::{Bytes, Kind, NoMemory, Score, Scorer, Why};
+use std::alloc::{AllocError, Global};
+use vt_base::{Bytes, Kind, Score, Scorer, Why};
 use vt_conf::{block_room, entry_room};
 use vt_core::Core;
 use vt_disk::Disk;
@@ -36,7 +36,7 @@ const MEM: u64 = 1 << 20;
 pub fn memory_store<S: Scorer + Drop>(
     alloc: Global,
     scorer: S,
-) -> Result<Core<MemDisk, S>, NoMemory>
+) -> Result<Core<MemDisk, S>, AllocError>
     ensures { IfOk result (IsMemoryStore S.score_of ⟦<MemDisk as Disk>⟧) }
 {
     let sizes = Sizes {

@@ -5,8 +5,8 @@ ghost use Rattle.std.specs.Str.{bytes_eq};
 ghost use Rattle.run_base.specs.Places.{Names, in_memory};
 
 use crate::failure::Failure;
-use std::alloc::Global;
-use vt_base::{NoMemory, Text};
+use std::alloc::{AllocError, Global};
+use vt_base::Text;
 use vt_conf::{Address, parse_address};
 
 /// Where the store is that a word of the command line names.
@@ -31,7 +31,7 @@ pub fn place_of(alloc: Global, word: &Text) -> Result<Place, Failure>
     match parse_address(alloc, word.as_slice()) {
         Ok(Some(address)) => Ok(Place::Server(address)),
         Ok(None) => Ok(Place::Conf),
-        Err(NoMemory) => Err(Failure::NoMemory),
+        Err(AllocError) => Err(Failure::NoMemory),
     }
 }
 

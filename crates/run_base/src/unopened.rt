@@ -8,8 +8,8 @@ ghost use Rattle.run_base.specs.Unopened.{IsOpenRefusal};
 use crate::failure::Failure;
 use crate::host::Host;
 use crate::shown::{Shown, Unit};
-use std::alloc::Global;
-use vt_base::{MountBad, NoMemory, Text};
+use std::alloc::{AllocError, Global};
+use vt_base::{MountBad, Text};
 use vt_conf::Conf;
 use vt_open::OpenBad;
 use vt_out::Sink;
@@ -40,7 +40,7 @@ pub fn told_on<T: Sink>(
         }
         OpenBad::Refused(bad) => match refusal_among(alloc, file, conf, bad) {
             Ok(failure) => failure,
-            Err(NoMemory) => Failure::NoMemory,
+            Err(AllocError) => Failure::NoMemory,
         },
     }
 }
@@ -51,7 +51,7 @@ pub fn refusal_among(
     file: &Text,
     conf: &Conf,
     bad: MountBad,
-) -> Result<Failure, NoMemory>
+) -> Result<Failure, AllocError>
     ensures { IfOk result (IsRefusalAmong file.now (files_of conf.now) bad) }
 {
     Ok(match bad {
@@ -89,7 +89,7 @@ pub fn refusal_among(
 }
 
 /// The name of that file.
-fn name_of(alloc: Global, file: &Text, conf: &Conf, part: u32) -> Result<Text, NoMemory>
+fn name_of(alloc: Global, file: &Text, conf: &Conf, part: u32) -> Result<Text, AllocError>
     ensures { IfOk result (λ name. name ≡ name_at file.now (files_of conf.now) part) }
 {
     Text::copy_of(alloc, name_at(file, conf, part).as_slice())

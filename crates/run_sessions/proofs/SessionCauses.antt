@@ -5,7 +5,7 @@ use Rattle.vt_base.specs.declared.why.Why.{Why}
 use Rattle.vt_base.specs.declared.why.Why.TheVariants as whys
 use Rattle.vt_conf.specs.declared.conf.Conf.{Conf}
 use Rattle.vt_disk.specs.Members.{DiskOf}
-use Rattle.vt_session.specs.Answered.{OneRose}
+use Rattle.vt_model.specs.Causes.{OneRose}
 use Rattle.vt_session.specs.declared.Ended.{Ended}
 use Rattle.vt_session.specs.declared.Ended.TheVariants as ends
 use Rattle.vt_answer.specs.Links.{ReadCause}

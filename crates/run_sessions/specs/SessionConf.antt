@@ -10,9 +10,10 @@ use Rattle.vt_model.specs.Places.{Setup}
 use Rattle.vt_part.specs.Table.{Table}
 use Rattle.vt_answer.specs.Links.{ReadCause}
 use Rattle.vt_answer.specs.Sessions.{SinkCause}
-use Rattle.vt_session.specs.Answered.{Faults, OneRose}
+use Rattle.vt_model.specs.Causes.{OneRose, Cause}
+use Rattle.vt_session.specs.Answered.{Faults}
 use Rattle.vt_session.specs.Talk.{Alone}
-use Rattle.vt_session.specs.Turns.{Cause, Turn, causes_of, synced_numbers}
+use Rattle.vt_session.specs.Turns.{Turn, causes_of, synced_numbers}
 use Rattle.vt_core.specs.Core.{CoreState, devices_of}
 use Rattle.vt_core.specs.Files.{PerDevice, all_of}
 use Rattle.vt_core.specs.Mounting.{AllStandFor, EachStands, IsLogOf, KeepsLimits}

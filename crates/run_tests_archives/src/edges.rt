@@ -2,9 +2,8 @@
 //! message from 256 on, offsets in it, and those in a file of two blocks.
 
 use crate::items::{file, two};
-use std::alloc::Global;
+use std::alloc::{AllocError, Global};
 use std::test::Fail;
-use vt_base::NoMemory;
 use vt_folders::MemFolders;
 use vt_host_memory::{
     Given, ONE_ARENA, Partitions, Ran, Runtime, Talk, Told, folder_named, made, run_with_folders,
@@ -15,7 +14,7 @@ use vt_rows::Rows;
 // ---- the folder
 
 /// 8,194 bytes, of which no block of 8,192 has two equal pairs.
-fn content(alloc: Global) -> Result<Vec<u8>, NoMemory> {
+fn content(alloc: Global) -> Result<Vec<u8>, AllocError> {
     let mut bytes = Vec::new(alloc);
     for n in 0..4_097u16 {
         bytes.extend_from_slice(&n.to_be_bytes())?;
@@ -24,7 +23,7 @@ fn content(alloc: Global) -> Result<Vec<u8>, NoMemory> {
 }
 
 /// Under the name `home`, the file `n` of these bytes, whose owner's name is long, and an empty one.
-fn home(alloc: Global) -> Result<MemFolders, NoMemory> {
+fn home(alloc: Global) -> Result<MemFolders, AllocError> {
     let n = file(alloc, (b"n", 0o644, OWNER), content(alloc)?)?;
     let s = file(alloc, (b"s", 0o644, b"u"), Vec::new(alloc))?;
     let items = two(alloc, s, n)?;
@@ -91,13 +90,13 @@ enum Gives {
 }
 
 /// These bytes are read.
-fn say_read(talk: &mut Talk, asked: &[u8], bytes: &[u8]) -> Result<(), NoMemory> {
+fn say_read(talk: &mut Talk, asked: &[u8], bytes: &[u8]) -> Result<(), AllocError> {
     let len = u32::try_from(bytes.len()).unwrap_or(0);
     talk.say(&[asked], &[&head(len), bytes])
 }
 
 /// A new connection, in which the folder is open.
-fn begin(talk: &mut Talk, most: u32) -> Result<(), NoMemory> {
+fn begin(talk: &mut Talk, most: u32) -> Result<(), AllocError> {
     talk.say(
         &[&version(b'd', most), ATTACH, OPEN],
         &[&version(b'e', most), ATTACHED, &opened(most)],
@@ -105,7 +104,7 @@ fn begin(talk: &mut Talk, most: u32) -> Result<(), NoMemory> {
 }
 
 /// The folder is read from this place on: either these bytes of it, or what is said.
-fn say_folder(talk: &mut Talk, from: u64, count: u32, gives: Gives) -> Result<(), NoMemory> {
+fn say_folder(talk: &mut Talk, from: u64, count: u32, gives: Gives) -> Result<(), AllocError> {
     let asked = read(1, from, count);
     match gives {
         Gives::Files(first, last) => {
@@ -128,7 +127,7 @@ fn at_most(most: u32) -> (Gives, Gives) {
 }
 
 /// The folder at each size of a message.
-fn sizes(alloc: Global) -> Result<Talk, NoMemory> {
+fn sizes(alloc: Global) -> Result<Talk, AllocError> {
     let mut talk = Talk::new(alloc);
     for most in 256..=340u32 {
         let (first, second) = at_most(most);
@@ -158,7 +157,7 @@ const OFFSETS: &[(u64, u32, Gives)] = &[
     (251, 8_192, Gives::BadOffset),
 ];
 
-fn offsets(alloc: Global) -> Result<Talk, NoMemory> {
+fn offsets(alloc: Global) -> Result<Talk, AllocError> {
     let mut talk = Talk::new(alloc);
     begin(&mut talk, 8_192)?;
     for &(from, count, gives) in OFFSETS {
@@ -211,7 +210,7 @@ const PARTS: &[(u64, u32, usize, usize)] = &[
     (u64::MAX, 8_192, 0, 0),
 ];
 
-fn parts_of_file(alloc: Global) -> Result<Talk, NoMemory> {
+fn parts_of_file(alloc: Global) -> Result<Talk, AllocError> {
     let content = content(alloc)?;
     let mut talk = Talk::new(alloc);
     talk.say(
@@ -225,7 +224,7 @@ fn parts_of_file(alloc: Global) -> Result<Talk, NoMemory> {
     Ok(talk)
 }
 
-fn say_parts(talk: &mut Talk, content: &[u8]) -> Result<(), NoMemory> {
+fn say_parts(talk: &mut Talk, content: &[u8]) -> Result<(), AllocError> {
     for &(from, count, first, last) in PARTS {
         let part = content.get(first..last).unwrap_or(&[]);
         say_read(talk, &read(2, from, count), part)?;
@@ -236,7 +235,7 @@ fn say_parts(talk: &mut Talk, content: &[u8]) -> Result<(), NoMemory> {
 // ---- it is said
 
 /// The folder is archived.
-fn archive(rt: &impl Runtime, rows: &mut Rows, parts: &mut Partitions) -> Result<Ran, NoMemory> {
+fn archive(rt: &impl Runtime, rows: &mut Rows, parts: &mut Partitions) -> Result<Ran, AllocError> {
     let folders = home(rt.alloc())?;
     let words = ["vac", "small.conf", "home"];
     let ran = run_with_folders(rt, parts, folders, &Given::new(&words, &[]))?;
@@ -247,7 +246,7 @@ fn archive(rt: &impl Runtime, rows: &mut Rows, parts: &mut Partitions) -> Result
 const SHOWS: Told = told!("an archive that is shown");
 
 /// Notes whether the archive is shown so. What it is found by has 44 bytes.
-fn see_shown(rt: &impl Runtime, rows: &mut Rows, talk: &Talk) -> Result<(), NoMemory> {
+fn see_shown(rt: &impl Runtime, rows: &mut Rows, talk: &Talk) -> Result<(), AllocError> {
     let mut parts = made(rt, rows, ONE_ARENA)?;
     let archived = archive(rt, rows, &mut parts)?;
     let line = archived.output.get(..44).unwrap_or(&[]);

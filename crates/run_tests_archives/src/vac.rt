@@ -2,9 +2,9 @@
 //! goes to the fault sink, and the status.
 
 use crate::items::{file, folder, one, other, two};
-use std::alloc::Global;
+use std::alloc::{AllocError, Global};
 use std::test::Fail;
-use vt_base::{NoMemory, Text};
+use vt_base::Text;
 use vt_folder::{Facts, MemContent, MemItem};
 use vt_folders::MemFolders;
 use vt_host_memory::{
@@ -14,7 +14,7 @@ use vt_host_memory::{
 use vt_rows::Rows;
 
 /// The folder `d` with the file `f` of `abc` and a link.
-fn inner(alloc: Global) -> Result<MemItem, NoMemory> {
+fn inner(alloc: Global) -> Result<MemItem, AllocError> {
     let content = Vec::from_slice(alloc, b"abc")?;
     let f = file(alloc, (b"f", 0o100_644, b"u"), content)?;
     let link = other(alloc, (b"l\xff", 0o777, b"u"))?;
@@ -22,7 +22,7 @@ fn inner(alloc: Global) -> Result<MemItem, NoMemory> {
 }
 
 /// Under the name `home`, that folder, and the empty file `a` or one of this name.
-fn home(alloc: Global, name: &[u8], failing: &[u64]) -> Result<MemFolders, NoMemory> {
+fn home(alloc: Global, name: &[u8], failing: &[u64]) -> Result<MemFolders, AllocError> {
     let empty = file(alloc, (name, 0o100_644, b"u"), Vec::new(alloc))?;
     let items = two(alloc, inner(alloc)?, empty)?;
     folder_named(alloc, "home", items, usize::MAX, failing)
@@ -155,7 +155,7 @@ fn see_archived(
     parts: &mut Partitions,
     number: usize,
     row: &Archived,
-) -> Result<(), NoMemory> {
+) -> Result<(), AllocError> {
     let (words, name, failing, status, output, complaint) = *row;
     let folders = home(rt.alloc(), name, failing)?;
     let ran = run_with_folders(rt, parts, folders, &Given::new(words, &[]))?;
@@ -194,7 +194,7 @@ fn see_refused(
     folders: MemFolders,
     status: u8,
     complaint: &[u8],
-) -> Result<(), NoMemory> {
+) -> Result<(), AllocError> {
     let mut parts = made(rt, rows, SMALL_ARENA)?;
     let ran = run_with_folders(rt, &mut parts, folders, &Given::new(VAC, &[]))?;
     let wanted = Wanted {
@@ -207,7 +207,7 @@ fn see_refused(
 }
 
 /// A file that is larger than the one arena.
-fn large(alloc: Global) -> Result<MemFolders, NoMemory> {
+fn large(alloc: Global) -> Result<MemFolders, AllocError> {
     let mut bytes = Vec::new(alloc);
     for n in 0..20_000u16 {
         bytes.extend_from_slice(&n.to_be_bytes())?;
@@ -226,7 +226,7 @@ fn a_store_may_be_too_small_for_a_folder(rt: HostRuntime) -> Result<(), Fail> {
 }
 
 /// So many folders `d`, one in another.
-fn nested(alloc: Global, depth: u16) -> Result<Vec<MemItem>, NoMemory> {
+fn nested(alloc: Global, depth: u16) -> Result<Vec<MemItem>, AllocError> {
     let mut items = Vec::new(alloc);
     for _ in 0..depth {
         items = one(alloc, folder(alloc, (b"d", 0o755, b"u"), items)?)?;
@@ -246,14 +246,14 @@ fn a_folder_may_be_too_deep(rt: HostRuntime) -> Result<(), Fail> {
 }
 
 /// A text of 255 bytes.
-fn long_text(alloc: Global, front: &[u8], filler: &[u8; 250]) -> Result<Text, NoMemory> {
+fn long_text(alloc: Global, front: &[u8], filler: &[u8; 250]) -> Result<Text, AllocError> {
     let mut text = Vec::from_slice(alloc, front)?;
     text.extend_from_slice(filler)?;
     Ok(Text::from_vec(text))
 }
 
 /// An empty file of this number, with a name, a uid and a gid of 255 bytes, and a record of 792.
-fn long_named(alloc: Global, number: u16) -> Result<MemItem, NoMemory> {
+fn long_named(alloc: Global, number: u16) -> Result<MemItem, AllocError> {
     let digits = format!(in alloc; "{number:05}")?;
     let name = long_text(alloc, digits.as_bytes(), &[b'n'; 250])?;
     let uid = long_text(alloc, b"ooooo", &[b'o'; 250])?;
@@ -269,7 +269,7 @@ fn long_named(alloc: Global, number: u16) -> Result<MemItem, NoMemory> {
 }
 
 /// So many such files.
-fn many(alloc: Global, count: u16) -> Result<Vec<MemItem>, NoMemory> {
+fn many(alloc: Global, count: u16) -> Result<Vec<MemItem>, AllocError> {
     let mut items = Vec::new(alloc);
     for number in 0..count {
         items.push(long_named(alloc, number)?)?;

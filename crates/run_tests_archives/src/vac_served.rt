@@ -2,9 +2,8 @@
 //! before: what is printed, what goes to the fault sink, the status, and what the server heard.
 
 use crate::items::{one, other};
-use std::alloc::Global;
+use std::alloc::{AllocError, Global};
 use std::test::Fail;
-use vt_base::NoMemory;
 use vt_folders::MemFolders;
 use vt_host_memory::messages::{OUR_LINE, WELCOME};
 use vt_host_memory::{
@@ -14,7 +13,7 @@ use vt_host_memory::{
 use vt_rows::Rows;
 
 /// Under the name `home`, a folder with nothing but an item that is no file and no folder.
-fn home(alloc: Global, name: &[u8], failing: &[u64]) -> Result<MemFolders, NoMemory> {
+fn home(alloc: Global, name: &[u8], failing: &[u64]) -> Result<MemFolders, AllocError> {
     let items = one(alloc, other(alloc, (name, 0o777, b"u"))?)?;
     folder_named(alloc, "home", items, usize::MAX, failing)
 }
@@ -127,7 +126,7 @@ fn run_served(
     input: &[u8],
     says: &[u8],
     folders: MemFolders,
-) -> Result<Ran, NoMemory> {
+) -> Result<Ran, AllocError> {
     let mut parts = Partitions::new(rt.alloc());
     let input = [input];
     let server = Server {
@@ -145,7 +144,7 @@ fn run_served(
 const SENDS: Told = told!("a folder that goes to a server");
 
 /// Notes whether the run of this row is as it says.
-fn see_row(rt: &impl Runtime, rows: &mut Rows, number: usize, row: &Row) -> Result<(), NoMemory> {
+fn see_row(rt: &impl Runtime, rows: &mut Rows, number: usize, row: &Row) -> Result<(), AllocError> {
     let (words, says, name, failing, status, output, complaint) = *row;
     let folders = home(rt.alloc(), name, failing)?;
     let says = joined(rt.alloc(), says)?;

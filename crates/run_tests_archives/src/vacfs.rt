@@ -1,8 +1,8 @@
 //! An archive that is shown over the partitions of a configuration, or over a server: what its client
 //! says, the status, what goes out, and the line on the fault sink.
 
+use std::alloc::AllocError;
 use std::test::Fail;
-use vt_base::NoMemory;
 use vt_host_memory::messages::{OUR_LINE, WELCOME};
 use vt_host_memory::{
     Act, Bits, Given, INDEX, PARTITIONS, Partitions, Row, Runtime, Server, THIRD_BYTE, Told,
@@ -305,7 +305,11 @@ const WRITES: Told = told!("the blocks of an archive");
 const FAILS: Told = told!("a call that fails");
 
 /// The archive is written to this store, and that call fails.
-fn see_faulty(rt: &impl Runtime, rows: &mut Rows, parts: &mut Partitions) -> Result<(), NoMemory> {
+fn see_faulty(
+    rt: &impl Runtime,
+    rows: &mut Rows,
+    parts: &mut Partitions,
+) -> Result<(), AllocError> {
     see_rows(rt, rows, parts, &WRITES, FILE)?;
     see_rows(rt, rows, parts, &WRITES, FOLDER)?;
     see_rows(rt, rows, parts, &FAILS, FAULTY)
@@ -382,7 +386,7 @@ fn see_served(
     rows: &mut Rows,
     number: usize,
     row: &Served,
-) -> Result<(), NoMemory> {
+) -> Result<(), AllocError> {
     let (last, failing, status, replied, line) = *row;
     let before = joined(rt.alloc(), SAYS)?;
     let mut parts = Partitions::new(rt.alloc());

@@ -1,9 +1,9 @@
 //! Blocks that go to the store of a configuration and come back: words, what comes in, the status,
 //! what goes out, and the line on the fault sink.
 
-use std::alloc::Global;
+use std::alloc::{AllocError, Global};
 use std::test::Fail;
-use vt_base::{NoMemory, Scorer, Sha1Scorer, score_text};
+use vt_base::{Scorer, Sha1Scorer, score_text};
 use vt_host_memory::messages::OUR_LINE;
 use vt_host_memory::{
     Act, Commands, Given, ONE_ARENA, ONE_BUCKET, Partitions, Ran, Row, Runtime, SMALL_ARENA, Talk,
@@ -152,7 +152,7 @@ const WRITE: &[&str] = &["write", "small.conf", "13"];
 const WRITES: Told = told!("a block that is written");
 
 /// Runs the program with a write of this block.
-fn run_write(rt: &impl Runtime, parts: &mut Partitions, block: &[u8]) -> Result<Ran, NoMemory> {
+fn run_write(rt: &impl Runtime, parts: &mut Partitions, block: &[u8]) -> Result<Ran, AllocError> {
     let input = [block];
     run(rt, parts, &Given::new(WRITE, &input))
 }
@@ -189,7 +189,7 @@ fn see_write(
     number: usize,
     block: &[u8],
     end: &End,
-) -> Result<(), NoMemory> {
+) -> Result<(), AllocError> {
     let score = score_text(rt.alloc(), &Sha1Scorer.score(block))?;
     let ran = run_write(rt, parts, block)?;
     if end.0 == 0 {
@@ -229,7 +229,7 @@ fn see_lengths(
     rows: &mut Rows,
     parts: &mut Partitions,
     lengths: &[Length],
-) -> Result<(), NoMemory> {
+) -> Result<(), AllocError> {
     for (number, (len, end)) in lengths.iter().enumerate() {
         let block = vec![in rt.alloc(); 7; *len]?;
         see_write(rt, rows, parts, number, &block, end)?;
@@ -250,7 +250,7 @@ fn a_block_may_be_too_large(rt: HostRuntime) -> Result<(), Fail> {
 }
 
 /// A session that writes so many blocks, each of two bytes.
-fn writes(alloc: Global, count: u16) -> Result<Talk, NoMemory> {
+fn writes(alloc: Global, count: u16) -> Result<Talk, AllocError> {
     let mut talk = Talk::greeted(alloc)?;
     for n in 0..count {
         talk.write(&n.to_be_bytes())?;
@@ -261,7 +261,7 @@ fn writes(alloc: Global, count: u16) -> Result<Talk, NoMemory> {
 const FILLS: Told = told!("a session that fills a bucket");
 
 /// A store whose one bucket is full.
-fn full(rt: &impl Runtime, rows: &mut Rows) -> Result<Partitions, NoMemory> {
+fn full(rt: &impl Runtime, rows: &mut Rows) -> Result<Partitions, AllocError> {
     let talk = writes(rt.alloc(), 263)?;
     let mut parts = made(rt, rows, ONE_BUCKET)?;
     let words = ["session", "small.conf"];

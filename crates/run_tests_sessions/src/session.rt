@@ -1,7 +1,8 @@
 //! Sessions from outside: what goes in, what comes out, the status and the line on the fault sink.
 
+use std::alloc::AllocError;
 use std::test::Fail;
-use vt_base::{NoMemory, Scorer, Sha1Scorer, ShortScorer};
+use vt_base::{Scorer, Sha1Scorer, ShortScorer};
 use vt_host_memory::messages::{
     GAVE_ABC, GOODBYE, HELLO, LINE, OUR_LINE, READ_ABC, SYNC, SYNCED, WELCOME, WRITE_ABC, WROTE_ABC,
 };
@@ -210,7 +211,7 @@ fn see_session<C: Scorer + Sync>(
     number: usize,
     session: &Session<'_>,
     scorer: &C,
-) -> Result<(), NoMemory> {
+) -> Result<(), AllocError> {
     let (input, output, status, complaint) = *session;
     let wanted = Wanted {
         status,
@@ -224,7 +225,7 @@ fn see_session<C: Scorer + Sync>(
     Ok(())
 }
 
-fn see_talks(rt: &impl Runtime, rows: &mut Rows, parts: &mut Partitions) -> Result<(), NoMemory> {
+fn see_talks(rt: &impl Runtime, rows: &mut Rows, parts: &mut Partitions) -> Result<(), AllocError> {
     for (number, talk) in TALKS.iter().enumerate() {
         see_session(rt, rows, parts, number, talk, &Sha1Scorer)?;
     }
@@ -241,7 +242,7 @@ fn sessions_are_answered(rt: HostRuntime) -> Result<(), Fail> {
 }
 
 /// A session in which the largest block is taken, and a larger one isn't.
-fn large_blocks(rt: &impl Runtime) -> Result<Talk, NoMemory> {
+fn large_blocks(rt: &impl Runtime) -> Result<Talk, AllocError> {
     let alloc = rt.alloc();
     let block = vec![in alloc; 7; 57_345]?;
     let mut talk = Talk::greeted(alloc)?;
@@ -302,7 +303,7 @@ fn see_pieces(
     number: usize,
     cut: usize,
     over: &Over,
-) -> Result<(), NoMemory> {
+) -> Result<(), AllocError> {
     let (words, told) = over;
     let pieces = [cut];
     let ran = run(rt, parts, &in_pieces(words, &pieces))?;
@@ -317,7 +318,7 @@ fn see_cut(
     parts: &mut Partitions,
     number: usize,
     cut: usize,
-) -> Result<(), NoMemory> {
+) -> Result<(), AllocError> {
     for over in &OVER {
         see_pieces(rt, rows, parts, number, cut, over)?;
     }
@@ -341,7 +342,7 @@ fn see_failed_read(
     rows: &mut Rows,
     parts: &mut Partitions,
     over: &Over,
-) -> Result<(), NoMemory> {
+) -> Result<(), AllocError> {
     let (words, told) = over;
     let given = Given {
         pieces: &[40],
@@ -363,7 +364,7 @@ fn see_full_sink(
     rows: &mut Rows,
     parts: &mut Partitions,
     over: &Over,
-) -> Result<(), NoMemory> {
+) -> Result<(), AllocError> {
     let (words, told) = over;
     let given = Given {
         room: 20,
@@ -444,7 +445,7 @@ fn see_waits(
     parts: &mut Partitions,
     number: usize,
     cut: usize,
-) -> Result<(), NoMemory> {
+) -> Result<(), AllocError> {
     for (words, told) in &OVER {
         run_patient(rt, parts, words, &PATIENT, cut)?.see(rows, number, told, &WELL);
     }

@@ -1,9 +1,8 @@
 //! Sessions over the store of a configuration: words, what comes in, what goes out, the status and
 //! the line on the fault sink; and what the next command then says.
 
-use std::alloc::Global;
+use std::alloc::{AllocError, Global};
 use std::test::Fail;
-use vt_base::NoMemory;
 use vt_host_memory::messages::{
     GAVE_ABC, HELLO, LINE, OUR_LINE, READ_ABC, SYNC, SYNCED, WELCOME, WRITE_ABC, WROTE_ABC,
 };
@@ -133,7 +132,7 @@ const INDEX_FULL: &[u8] = b"\x00\x0e\x01\x01\x00\x0aindex full";
 
 /// A session in which so many blocks are taken without a sync, the next one is refused, and the
 /// first one is still there.
-fn too_many(alloc: Global, count: u16, refusal: &[u8]) -> Result<Talk, NoMemory> {
+fn too_many(alloc: Global, count: u16, refusal: &[u8]) -> Result<Talk, AllocError> {
     let mut talk = Talk::many(alloc, count)?;
     talk.write_told(&numbered(count), &[refusal])?;
     talk.write(&numbered(0))?;
@@ -142,7 +141,7 @@ fn too_many(alloc: Global, count: u16, refusal: &[u8]) -> Result<Talk, NoMemory>
 
 /// A session in which an arena takes, as its first block, one of so many bytes, and none of one byte
 /// more.
-fn largest(alloc: Global) -> Result<Talk, NoMemory> {
+fn largest(alloc: Global) -> Result<Talk, AllocError> {
     let block = vec![in alloc; 7; 8_130]?;
     let mut talk = Talk::greeted(alloc)?;
     talk.write_told(&block, &[ARENAS_FULL])?;
@@ -159,7 +158,7 @@ fn see_new(
     number: usize,
     commands: Commands,
     talk: &Talk,
-) -> Result<(), NoMemory> {
+) -> Result<(), AllocError> {
     let mut parts = made(rt, rows, commands)?;
     see_talk(rt, rows, &mut parts, &IN_USE, number, SMALL, talk)
 }
@@ -255,7 +254,7 @@ fn crash(
     rows: &mut Rows,
     parts: &mut Partitions,
     mode: CrashMode,
-) -> Result<(), NoMemory> {
+) -> Result<(), AllocError> {
     for (name, _) in FILTERED {
         let is_there = parts.crash(alloc, name, mode)?;
         rows.is("a partition that crashes", is_there);
@@ -319,7 +318,7 @@ fn fails(
     call: usize,
     first: u64,
     span: u64,
-) -> Result<u8, NoMemory> {
+) -> Result<u8, AllocError> {
     let Some(mut parts) = failing_store(rt, rows, number, first, span)? else {
         return Ok(b'm');
     };
@@ -361,7 +360,7 @@ fn see_letters(
     rows: &mut Rows,
     failing: &Failing,
     span: u64,
-) -> Result<(), NoMemory> {
+) -> Result<(), AllocError> {
     let (number, first, letters, what) = *failing;
     for (call, wanted) in letters.iter().enumerate() {
         let begin = first.saturating_add(call as u64);
@@ -433,7 +432,7 @@ fn end_well(
     number: usize,
     first: u64,
     inputs: &[Bits],
-) -> Result<bool, NoMemory> {
+) -> Result<bool, AllocError> {
     let Some(mut parts) = failing_store(rt, rows, number, first, FROM_THEN_ON)? else {
         return Ok(false);
     };
@@ -453,7 +452,7 @@ fn calls(
     rows: &mut Rows,
     number: usize,
     inputs: &[Bits],
-) -> Result<u64, NoMemory> {
+) -> Result<u64, AllocError> {
     let (mut least, mut most) = (0u64, FROM_THEN_ON);
     for _ in 0..8 {
         let middle = least.saturating_add(most) / 2;
@@ -495,7 +494,7 @@ fn more_calls(
     number: usize,
     those: Sessions,
     these: Sessions,
-) -> Result<u64, NoMemory> {
+) -> Result<u64, AllocError> {
     let few = calls(rt, rows, number, those)?;
     let many = calls(rt, rows, number, these)?;
     Ok(many.abs_diff(few))

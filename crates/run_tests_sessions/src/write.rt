@@ -1,8 +1,8 @@
 //! Blocks that go to a server in memory, which says what was written down before, and come back; and
 //! those of the store in memory.
 
+use std::alloc::AllocError;
 use std::test::Fail;
-use vt_base::NoMemory;
 use vt_host_memory::messages::{OUR_LINE, WELCOME, WROTE_ABC};
 use vt_host_memory::{Given, Partitions, Ran, Runtime, Server, Told, Wanted, run, told};
 use vt_rows::Rows;
@@ -138,7 +138,7 @@ fn run_served(
     words: &[&str],
     input: &[u8],
     says: &[u8],
-) -> Result<Ran, NoMemory> {
+) -> Result<Ran, AllocError> {
     let mut parts = Partitions::new(rt.alloc());
     let input = [input];
     let server = Server {
@@ -154,7 +154,7 @@ fn run_served(
 }
 
 /// Notes whether the run of this row is as it says.
-fn see_row(rt: &impl Runtime, rows: &mut Rows, number: usize, row: &Row) -> Result<(), NoMemory> {
+fn see_row(rt: &impl Runtime, rows: &mut Rows, number: usize, row: &Row) -> Result<(), AllocError> {
     let (words, input, says, status, output, complaint) = *row;
     let ran = run_served(rt, words, input, says)?;
     let wanted = Wanted {

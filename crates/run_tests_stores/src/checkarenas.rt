@@ -1,9 +1,9 @@
 //! Indices that are rebuilt, and arenas that are checked, over partitions in memory: what is printed,
 //! the status, and the line on the fault sink.
 
-use std::alloc::Global;
+use std::alloc::{AllocError, Global};
 use std::test::Fail;
-use vt_base::{NoMemory, Scorer, Sha1Scorer};
+use vt_base::{Scorer, Sha1Scorer};
 use vt_host_memory::messages::OUR_LINE;
 use vt_host_memory::{
     Act, Given, ONE_ARENA, Partitions, Row, Runtime, THIRD_BYTE, TWO_ARENAS, Talk, Told, do_acts,
@@ -138,7 +138,7 @@ const REBUILT: &[Row] = &[
 ];
 
 /// A session that reads the blocks with the numbers below this one.
-fn reads(alloc: Global, count: u16) -> Result<Talk, NoMemory> {
+fn reads(alloc: Global, count: u16) -> Result<Talk, AllocError> {
     let mut talk = Talk::greeted(alloc)?;
     for number in 0..count {
         read(&mut talk, &numbered(number))?;
@@ -147,7 +147,7 @@ fn reads(alloc: Global, count: u16) -> Result<Talk, NoMemory> {
 }
 
 /// This block of three bytes is read.
-fn read(talk: &mut Talk, block: &[u8]) -> Result<(), NoMemory> {
+fn read(talk: &mut Talk, block: &[u8]) -> Result<(), AllocError> {
     let score = Sha1Scorer.score(block);
     talk.say(
         &[b"\x00\x1a\x0c\x02", &score.0, b"\x0d\x00\x00\x03"],
@@ -168,7 +168,7 @@ fn lose_and_rebuild(
     rt: &impl Runtime,
     rows: &mut Rows,
     parts: &mut Partitions,
-) -> Result<(), NoMemory> {
+) -> Result<(), AllocError> {
     let zeros = vec![in rt.alloc(); 0u8; 92_160]?;
     let is_lost = parts.spoil(rt.alloc(), "i.part", 0, &zeros)?;
     rows.is("the section is lost", is_lost);
@@ -298,7 +298,7 @@ fn see_stopped(
     rows: &mut Rows,
     number: usize,
     behind: &Row,
-) -> Result<(), NoMemory> {
+) -> Result<(), AllocError> {
     let Some(mut parts) = failing_store(rt, rows, 1, FAILING, 1)? else {
         rows.is("a store is made", false);
         return Ok(());

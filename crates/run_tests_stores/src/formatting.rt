@@ -1,8 +1,8 @@
 //! Commands that format, and the rehearsal: words, what is printed, the status and the line on the
 //! fault sink.
 
+use std::alloc::AllocError;
 use std::test::Fail;
-use vt_base::NoMemory;
 use vt_host_memory::{
     FILTERED, Given, INDEX, Partitions, Ran, Row, Runtime, Told, Wanted, all_but, run, see_rows,
     told,
@@ -408,7 +408,7 @@ fn a_sink_may_be_full(rt: HostRuntime) -> Result<(), Fail> {
 }
 
 /// Runs the program with these words.
-fn run_words(rt: &impl Runtime, parts: &mut Partitions, words: &[&str]) -> Result<Ran, NoMemory> {
+fn run_words(rt: &impl Runtime, parts: &mut Partitions, words: &[&str]) -> Result<Ran, AllocError> {
     run(rt, parts, &Given::new(words, &[]))
 }
 
@@ -420,7 +420,7 @@ fn letter(
     number: usize,
     words: &[&str],
     call: usize,
-) -> Result<u8, NoMemory> {
+) -> Result<u8, AllocError> {
     let mut parts = all_but(rt, rows, number, call as u64, 1)?;
     let ran = run_words(rt, &mut parts, words)?;
     if ran.status == 0 {
@@ -443,7 +443,7 @@ const FAULT: Wanted<'static> = Wanted {
 
 /// What `fmtindex` says of partitions at one of which a command stopped: `n` that the file isn't
 /// formatted, or `f` that the index is. Done again, the command ends well.
-fn at_stop(rt: &impl Runtime, parts: &mut Partitions) -> Result<u8, NoMemory> {
+fn at_stop(rt: &impl Runtime, parts: &mut Partitions) -> Result<u8, AllocError> {
     let ran = run(rt, parts, &Given::new(INDEX, &[]))?;
     Ok(if ran.complaint.ends_with(b": not formatted\n") {
         b'n'
@@ -469,7 +469,7 @@ fn see_letters(
     number: usize,
     letters: &(&[u8], &'static str),
     words: &[&str],
-) -> Result<(), NoMemory> {
+) -> Result<(), AllocError> {
     let (wanted, what) = *letters;
     for (call, wanted) in wanted.iter().enumerate() {
         let found = letter(rt, rows, number, words, call)?;

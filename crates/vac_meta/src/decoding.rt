@@ -14,8 +14,8 @@ ghost use Rattle.vac_meta.specs.Records.{spelled, string};
 ghost use Rattle.vac_meta.specs.Found.{record_of};
 
 use crate::{Flaw, MAX_NAME, MetaErr, Record, RecordKind, Records};
-use std::alloc::Global;
-use vt_base::{NoMemory, Text};
+use std::alloc::{AllocError, Global};
+use vt_base::Text;
 use vt_fields::{u16_at, u32_at, u64_at};
 
 /// The records of a folder's metadata, or the first record that can't stand there: the first of its
@@ -55,7 +55,7 @@ struct Found<'a> {
 
 impl<'a> Found<'a> {
     /// The record in memory of its own.
-    fn kept(&self, alloc: Global) -> Result<Record, NoMemory>
+    fn kept(&self, alloc: Global) -> Result<Record, AllocError>
         requires { length self.now.numbers.now ≡ 21 }
         ensures { IfOk result (λ kept. kept ≡ record_of self.now) }
     {

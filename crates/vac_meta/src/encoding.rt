@@ -8,7 +8,7 @@ ghost use Rattle.vac_meta.specs.Records.{FitsRecord, HasRanges, Spells, is_next,
 ghost use Rattle.vac_meta.specs.Records.{kind_byte, numbers, spelled, string};
 
 use crate::{Record, RecordKind};
-use vt_base::NoMemory;
+use std::alloc::AllocError;
 use vt_fields::{put, put_u8, put_u16, put_u32, put_u64};
 
 /// The most bytes of a record.
@@ -17,7 +17,7 @@ const MAX_RECORD: usize = 792;
 /// Puts the bytes of a record behind those of others. Its name is 1 to 255 bytes without a slash or
 /// zero; its uid and gid have at most 255 bytes. Records of a folder stand in the order of their
 /// names.
-pub fn encode(item: &Record, metadata: &mut Vec<u8>) -> Result<(), NoMemory>
+pub fn encode(item: &Record, metadata: &mut Vec<u8>) -> Result<(), AllocError>
     requires { FitsRecord item.now }
     ensures written { OnOk result
         (metadata.new.items ≡ metadata.old.items ++ spelled item.now) }

@@ -1,7 +1,6 @@
 //! Why bytes are no folder's metadata.
 
 use std::alloc::{AllocError, AllocFailed};
-use vt_base::NoMemory;
 
 /// Why metadata was not read.
 #[derive(Clone, Copy, Debug, PartialEq, Eq)]
@@ -28,13 +27,13 @@ pub enum Flaw {
     OwnerLength,
 }
 
-impl From<NoMemory> for MetaErr {
+impl From<AllocError> for MetaErr {
     ghost use Rattle.std.specs.Prelude.{◌≡◌};
     ghost use Rattle.vac_meta.specs.declared.err.MetaErr.TheVariants.{NoMemory};
 
     ghost from_gives = { λ _ err. err ≡ NoMemory };
 
-    fn from(_error: NoMemory) -> Self {
+    fn from(_error: AllocError) -> Self {
         MetaErr::NoMemory
     }
 }

@@ -8,9 +8,9 @@ ghost use Rattle.vac_read.specs.Reading.{Reads, OpensArchive};
 
 use crate::directory::entry_in;
 use crate::{Node, RootField, Stored, VacBad};
-use std::alloc::Global;
+use std::alloc::{AllocError, Global};
 use vac_model::{MAX_BLOCK_SIZE, MIN_BLOCK_SIZE};
-use vt_base::{Kind, NoMemory, Score, Text};
+use vt_base::{Kind, Score, Text};
 use vt_folder::{Item, ItemKind};
 use vt_tree::{Blocks, Root};
 
@@ -82,7 +82,7 @@ fn top_in(bytes: &[u8]) -> Result<Stored, VacBad>
 }
 
 /// What is told of the top folder.
-fn top_item(alloc: Global) -> Result<Item, NoMemory>
+fn top_item(alloc: Global) -> Result<Item, AllocError>
     ensures { IfOk result (λ item. item ≡ top_item) }
 {
     Ok(Item {

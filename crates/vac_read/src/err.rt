@@ -1,7 +1,6 @@
 //! Why an archive isn't read.
 
 use std::alloc::{AllocError, AllocFailed};
-use vt_base::NoMemory;
 use vt_tree::{BadEntry, BlockErr, TreeErr};
 
 /// Why a part of an archive can't be read.
@@ -75,17 +74,6 @@ impl From<vt_tree::RootField> for VacBad {
                 vt_tree::RootField::Version => RootField::Version,
             },
         }
-    }
-}
-
-impl From<NoMemory> for VacBad {
-    ghost use Rattle.std.specs.Prelude.{◌≡◌};
-    ghost use Rattle.vac_read.specs.declared.err.VacBad.TheVariants.{NoMemory};
-
-    ghost from_gives = { λ _ bad. bad ≡ NoMemory };
-
-    fn from(_error: NoMemory) -> Self {
-        VacBad::NoMemory
     }
 }
 

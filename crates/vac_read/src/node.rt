@@ -1,9 +1,9 @@
 //! Items of an archive.
 
 use crate::directory::size_of;
-use std::alloc::Global;
+use std::alloc::{AllocError, Global};
 use std::marker::Model;
-use vt_base::{NoMemory, Text};
+use vt_base::Text;
 use vt_folder::Item;
 use vt_tree::Entry;
 
@@ -44,7 +44,7 @@ impl Node {
     ghost use Rattle.std.specs.Prelude.{◌≡◌, IfOk};
 
     /// The same in memory of its own.
-    pub fn copied(&self, alloc: Global) -> Result<Self, NoMemory>
+    pub fn copied(&self, alloc: Global) -> Result<Self, AllocError>
         ensures { IfOk result (λ node. node ≡ self.now) }
     {
         Ok(Node {

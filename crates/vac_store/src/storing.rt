@@ -39,7 +39,7 @@ pub fn archive_into<D: Disk, S: Scorer + Drop, F: Folder>(
     ensures stays { IsTrue F.tells → F.holds folder.new ≡ F.holds folder.old }
 {
     let before = core.history_len();
-    let mut blocks = Local::new(Driven::new(core, alloc, now), scorer);
+    let mut blocks = Local::new(Driven::new(core, now), scorer);
     let answer = archive(alloc, folder, &mut blocks, bsize);
     let refused = blocks.refused();
     let mut core = blocks.into_parts().0.into_core();

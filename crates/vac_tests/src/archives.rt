@@ -1,10 +1,10 @@
 //! Folders in memory become archives, with scores from an encoder of its own.
 
 use crate::items::{Sample, facts, file, folder, items_of, link, long_named, nested, one, two};
-use std::alloc::Global;
+use std::alloc::{AllocError, Global};
 use std::test::Fail;
 use vac_write::{Archived, Paths, VacErr, archive};
-use vt_base::{Failed, NoMemory, Score, Sha1Scorer, Text, parse_score};
+use vt_base::{Failed, Score, Sha1Scorer, Text, parse_score};
 use vt_folder::{Folder, Item, ItemKind, Listing, MemContent, MemFolder, MemItem};
 use vt_out::OutErr;
 use vt_rows::Rows;
@@ -81,7 +81,7 @@ fn archive_again(
 }
 
 /// The paths, with a space behind each.
-fn listed(alloc: Global, paths: &Paths) -> Result<Vec<u8>, NoMemory> {
+fn listed(alloc: Global, paths: &Paths) -> Result<Vec<u8>, AllocError> {
     let mut names = Vec::new(alloc);
     for path in paths.as_slice() {
         names.extend_from_slice(path.as_slice())?;
@@ -442,7 +442,7 @@ impl Folder for Growing {
     }
 }
 
-fn growing_file(alloc: Global) -> Result<Item, NoMemory> {
+fn growing_file(alloc: Global) -> Result<Item, AllocError> {
     facts(alloc, b"f", 0o644, 0, b"u", b"g")?.listed(alloc, ItemKind::File)
 }
 

@@ -1,8 +1,8 @@
 //! Items of folders in memory.
 
-use std::alloc::Global;
+use std::alloc::{AllocError, Global};
 use std::test::Fail;
-use vt_base::{NoMemory, Text};
+use vt_base::Text;
 use vt_folder::{Facts, MemContent, MemItem};
 
 pub fn facts(
@@ -12,7 +12,7 @@ pub fn facts(
     mtime: u32,
     uid: &[u8],
     gid: &[u8],
-) -> Result<Facts, NoMemory> {
+) -> Result<Facts, AllocError> {
     Ok(Facts {
         name: Text::copy_of(alloc, name)?,
         mode,

@@ -5,12 +5,12 @@ ghost use Rattle.std.specs.Prelude.{IfSome};
 ghost use Rattle.vac_read.specs.Nodes.{AreEntries};
 
 use crate::items::{Sample, items_of};
-use std::alloc::Global;
+use std::alloc::{AllocError, Global};
 use std::test::Fail;
 use vac_read::{Archive, Node, read, walk};
 use vac_store::{ArchiveBad, StoredArchive, archive_stored};
 use vac_write::VacErr;
-use vt_base::{NoMemory, Score, Sha1Scorer, Text, Why, parse_score};
+use vt_base::{Score, Sha1Scorer, Text, Why, parse_score};
 use vt_conf::parse_conf;
 use vt_drive::Driven;
 use vt_folder::{Folder, MemFolder};
@@ -82,13 +82,13 @@ impl<P: Parts> Stores<P> {
         let conf = parse_conf(self.alloc, text).ok().ok_or("configuration")?;
         let core = open_store(self.alloc, &mut self.parts, &conf, 1, Sha1Scorer);
         let core = core.ok().ok_or("not opened")?;
-        let mut blocks = Local::new(Driven::new(core, self.alloc, 0), Sha1Scorer);
+        let mut blocks = Local::new(Driven::new(core, 0), Sha1Scorer);
         Ok(has_file(self.alloc, &mut blocks, score, wanted))
     }
 }
 
 /// The names that lead to the file `d/f`.
-fn names(alloc: Global) -> Result<[Text; 2], NoMemory> {
+fn names(alloc: Global) -> Result<[Text; 2], AllocError> {
     Ok([Text::copy_of(alloc, b"d")?, Text::copy_of(alloc, b"f")?])
 }
 

@@ -30,7 +30,7 @@ pub fn view_on<D: Disk, S: Scorer + Drop, L: Link>(
         result.0 core result.1 }
     ensures untouched { OnErr result.0 (link.new ≡ link.old) }
 {
-    let mut blocks = Local::new(Driven::new(core, alloc, 0), scorer);
+    let mut blocks = Local::new(Driven::new(core, 0), scorer);
     let served = view_archive(alloc, &mut blocks, score, link);
     let (store, _) = blocks.into_parts();
     (served, store.into_core())

@@ -1,7 +1,7 @@
 //! Why a folder isn't archived.
 
 use std::alloc::{AllocError, AllocFailed};
-use vt_base::{NoMemory, Text};
+use vt_base::Text;
 use vt_out::OutErr;
 use vt_tree::{BlockErr, TreeErr};
 
@@ -59,17 +59,6 @@ impl From<OutErr> for VacErr {
             OutErr::Failed => VacErr::FolderFault,
             OutErr::NoMemory => VacErr::NoMemory,
         }
-    }
-}
-
-impl From<NoMemory> for VacErr {
-    ghost use Rattle.std.specs.Prelude.{◌≡◌};
-    ghost use Rattle.vac_write.specs.declared.err.VacErr.TheVariants.{NoMemory};
-
-    ghost from_gives = { λ _ err. err ≡ NoMemory };
-
-    fn from(_error: NoMemory) -> Self {
-        VacErr::NoMemory
     }
 }
 

@@ -16,11 +16,11 @@ ghost use Rattle.vac_write.specs.Listing.{AreListed, joined, metadata_len, IsNot
 ghost use Rattle.vac_write.specs.Listing.{has_bad_owner, record_len};
 
 use crate::VacErr;
-use std::alloc::Global;
+use std::alloc::{AllocError, Global};
 use std::cmp::Ordering;
 use vac_meta::MAX_NAME;
 use vac_model::MAX_METADATA;
-use vt_base::{NoMemory, Text};
+use vt_base::Text;
 use vt_folder::{Folder, Item, ItemKind};
 use vt_tree::TreeErr;
 
@@ -138,7 +138,7 @@ fn record_len(item: &Item) -> usize
 }
 
 /// The path of an item of this name in the folder at this path, with slashes between the names.
-pub(crate) fn path_to(alloc: Global, path: &[Text], name: &[u8]) -> Result<Text, NoMemory>
+pub(crate) fn path_to(alloc: Global, path: &[Text], name: &[u8]) -> Result<Text, AllocError>
     ensures { IfOk result (λ text. text ≡ path_to (joined path.now) name.now) }
 {
     let mut whole = Vec::new(alloc);
@@ -150,7 +150,7 @@ pub(crate) fn path_to(alloc: Global, path: &[Text], name: &[u8]) -> Result<Text,
 }
 
 /// Puts a name behind a path.
-fn put_name(path: &mut Vec<u8>, name: &[u8]) -> Result<(), NoMemory>
+fn put_name(path: &mut Vec<u8>, name: &[u8]) -> Result<(), AllocError>
     ensures { OnOk result (path.new.items ≡ path_to path.old.items name.now) }
 {
     if !path.is_empty() {

@@ -11,17 +11,17 @@ use Rattle.vt_base.specs.declared.why.Why.TheVariants.{BadType, TooBig, TooSmall
 use Rattle.vt_base.specs.Protocol.{Operation, ping, read, write, sync, RMessage}
 use Rattle.vt_bloom.specs.Bloom.{BloomState}
 use Rattle.vt_disk.specs.Members.{DiskOf}
-use Rattle.vt_session.specs.Answered.{OneRose}
+use Rattle.vt_model.specs.Causes.{OneRose}
 use Rattle.vt_answer.specs.Serving.{tells_failure}
 use Rattle.vt_answer.specs.Taking.{DoesOne, DoesCalls, DoesSome, first_told}
 use Rattle.vt_shard.specs.Shard.{ShardState}
 use Rattle.vt_core.specs.Asking.{MayBeTold, shard_of, stop_for}
 use Rattle.vt_core.specs.Causes.{CountsSaid}
 use Rattle.vt_core.specs.Core.{CoreState, each_of, stops_of}
-use Rattle.vt_core.specs.Events.{operation_in}
+use Rattle.vt_base.specs.Operations.{operation_of}
 use Rattle.vt_core.proofs.AskWork.{one_rose}
-use Rattle.vt_wire.specs.Views.{message_of}
-use Rattle.vt_drive.specs.Driven.{DrivenState, DoesRequest, result_of}
+use Rattle.vt_base.specs.Operations.{result_of}
+use Rattle.vt_drive.specs.Driven.{DrivenState, DoesRequest}
 use Rattle.vt_drive.specs.Ending.{EndsFor}
 use Rattle.vt_drive.proofs.Risen.{same_fell}
 use Rattle.vt_alone.specs.Sessions.{FailsFor, TellsStops, store_on}
@@ -127,7 +127,7 @@ module _ {D : Type 0} (score : List ℕ → List ℕ) (disk : DiskOf D)
         → TellsStops disk d'.core last.core → FailsFor disk why start last.core
     request_fails why m d d' last it fails before later behind =
         let said = said_why it.answer.said why it.says in
-        why_for why (operation_in (message_of it.request)) d.core d'.core last.core before later
+        why_for why (operation_of it.asked) d.core d'.core last.core before later
         behind
         (subst (λ (s : Said). CountsSaid s (counts d.core) (counts d'.core)) said
         it.answers.counts)

@@ -7,8 +7,9 @@ use Rattle.vt_disk.specs.Members.{DiskOf}
 use Rattle.vt_bloom.specs.Bloom.{BloomState}
 use Rattle.vt_model.specs.History.{History}
 use Rattle.vt_model.specs.Places.{Setup}
-use Rattle.vt_session.specs.Turns.{Part, Turn, told, served, failed, Cause, disk_fault, stopped, damaged, no_memory, causes_of}
-use Rattle.vt_session.specs.Answered.{AnsweredAlone, AreToldBy, CountsRise, IsKnownStop, NoneFell, OneRose}
+use Rattle.vt_model.specs.Causes.{Part, Cause, disk_fault, stopped, damaged, no_memory, NoneFell, OneRose}
+use Rattle.vt_session.specs.Turns.{Turn, told, served, failed, causes_of}
+use Rattle.vt_session.specs.Answered.{AnsweredAlone, AreToldBy, CountsRise, IsKnownStop}
 use Rattle.vt_answer.specs.Condition.{IsNoDamage, IsNoFault}
 use Rattle.vt_shard.specs.Shard.{ShardState}
 use Rattle.vt_core.specs.Core.{CoreState, each_of, setup_of, stops_of}

@@ -33,7 +33,7 @@ module _ {D : Type 0} (score : List ℕ → List ℕ) (disk : DiskOf D) where
   request_runs : (d d' : DrivenState D) (m : Operation) (given : Result RMessage Why)
       → DoesRequest score disk m given d d' → MakesRun score disk d.core d'.core
   request_runs d d' m given it =
-      let run = requested_runs score disk 0 it.request d.now it.answer d.core d'.core
+      let run = requested_runs score disk 0 it.asked d.now it.answer d.core d'.core
       it.answers.requested in
       (run.0, run.1, run.2)
 

@@ -6,7 +6,7 @@ use Rattle.vt_base.specs.declared.answer.Said.TheVariants.{Refused}
 use Rattle.vt_base.specs.declared.why.Why.{Why}
 use Rattle.vt_base.specs.declared.why.Why.TheVariants.{BadType, TooBig, TooSmall, Absent, Collision, IndexFull, ArenasFull, DiskFault, Stopped, Damaged, NoMemory}
 use Rattle.vt_disk.specs.Members.{DiskOf}
-use Rattle.vt_session.specs.Answered.{NoneFell, OneRose}
+use Rattle.vt_model.specs.Causes.{NoneFell, OneRose}
 use Rattle.vt_core.specs.Causes.{CountsWhy, CountsSaid, CountsOut, KeepsStops}
 use Rattle.vt_core.specs.Core.{CoreState, each_of, stops_of}
 use Rattle.vt_core.specs.Steps.{Runs}

@@ -11,8 +11,9 @@ use Rattle.vt_model.specs.Places.{Setup}
 use Rattle.vt_session.specs.declared.Ended.{Ended}
 use Rattle.vt_session.specs.declared.Ended.TheVariants.{WriteFault, NoMemory}
 use Rattle.vt_session.specs.Heard.{Item, Heard}
-use Rattle.vt_session.specs.Turns.{Turn, Cause, no_memory, items_of, causes_of, first_why, synced_numbers}
-use Rattle.vt_session.specs.Answered.{AnsweredAlone, Faults, AreToldBy, NoneFell, OneRose}
+use Rattle.vt_model.specs.Causes.{Cause, no_memory, NoneFell, OneRose}
+use Rattle.vt_session.specs.Turns.{Turn, items_of, causes_of, first_why, synced_numbers}
+use Rattle.vt_session.specs.Answered.{AnsweredAlone, Faults, AreToldBy}
 use Rattle.vt_session.specs.Talk.{Alone}
 use Rattle.vt_answer.specs.Condition.{IsNoDamage}
 use Rattle.vt_alone.specs.Members.{StoreOf}

@@ -62,7 +62,7 @@ pub fn serve_store<D: Disk, S: Scorer, C: Client>(
         (C.write_faults client.old) (C.write_faults client.new) }
     ensures memory { result.0.ended ≡ Ended.NoMemory → client.new ≡ client.old }
 {
-    let mut driven = Driven::new(core, alloc, now);
+    let mut driven = Driven::new(core, now);
     let (served, failure) = serve_session(alloc, &mut driven, client);
     let mut core = driven.into_core();
     let closed = end(&mut core, alloc);

@@ -1,13 +1,14 @@
 -- What a store did, call by call.
 use Rattle.std.proofs.Common.{◌≡◌, Option, Some, None, List, [], ◌∷◌, ◌++◌, refl, sym, ◌∙◌, ap, subst, Result, Ok, Err}
 use Rattle.std.specs.Option.{option_or}
-use Rattle.vt_base.specs.Protocol.{Operation, TMessage, t_hello, t_goodbye, t_ask, RMessage}
+use Rattle.vt_base.specs.declared.operation.Operation.{Operation as Asked}
+use Rattle.vt_base.specs.declared.operation.Operation.TheVariants.{Read, Write, Sync}
 use Rattle.vt_base.specs.declared.why.Why.{Why}
-use Rattle.vt_answer.specs.declared.asking.Said.{Said}
-use Rattle.vt_answer.specs.Asking.{DoesMessage, reply_to}
+use Rattle.vt_base.specs.Operations.{operation_of}
+use Rattle.vt_base.specs.Protocol.{Operation, RMessage}
 use Rattle.vt_answer.specs.Members.{StoreOf}
-use Rattle.vt_answer.specs.Serving.{answered, failure_of}
-use Rattle.vt_answer.specs.Taking.{DoesCalls, DoesSome, first_told}
+use Rattle.vt_answer.specs.Serving.{failure_of}
+use Rattle.vt_answer.specs.Taking.{DoesCalls, DoesOne, DoesSome, first_told}
 
 -- what failed first
 or_none : (a : Option Why) → a ≡ option_or a None
@@ -48,25 +49,18 @@ module _ {S : Type 0} (T : StoreOf S) where
         ∙ ap (option_or failure) (sym (first_more it.calls then.calls));
   }
 
-  same_failure : (answer : Result Said Why)
-      → failure_of answer ≡ failure_of (answered (λ said. reply_to (Ok said)) answer)
-  same_failure (Ok said) = refl
-  same_failure (Err why) = refl
+  -- what is asked of a store is no ping
+  pub does_asked : (s s' : S) (asked : Asked) (given : Result RMessage Why)
+      → T.does s (operation_of asked) given s' → DoesOne T s (operation_of asked) given s'
+  does_asked s s' (Read score kind count) given it = it
+  does_asked s s' (Write kind bytes) given it = it
+  does_asked s s' Sync given it = it
 
-  -- a message asks for one operation, or for none
-  pub message_does : (s s' : S) (m : TMessage) (answer : Result Said Why)
-      (failure failure' : Option Why) → DoesMessage T s s' m answer
-      → failure' ≡ option_or failure (failure_of answer)
-      → DoesSome T s s' failure failure'
-  message_does s s' (t_hello version) answer failure failure' it failed = record {
-    calls = [];
-    does = it.1;
-    failure_is = failed ∙ ap (λ (a : Result Said Why). option_or failure (failure_of a)) it.0;
-  }
-  message_does s s' t_goodbye answer failure failure' it failed = absurd it
-  message_does s s' (t_ask m) answer failure failure' it failed = record {
-    calls = (m, answered (λ said. reply_to (Ok said)) answer) ∷ [];
+  pub does_one : (s s' : S) (m : Operation) (given : Result RMessage Why)
+      (failure failure' : Option Why) → DoesOne T s m given s'
+      → failure' ≡ option_or failure (failure_of given) → DoesSome T s s' failure failure'
+  does_one s s' m given failure failure' it failed = record {
+    calls = (m, given) ∷ [];
     does = (s', it, refl);
-    failure_is = failed ∙ ap (option_or failure) (same_failure answer
-        ∙ or_none (failure_of (answered (λ said. reply_to (Ok said)) answer)));
+    failure_is = failed ∙ ap (option_or failure) (or_none (failure_of given));
   }

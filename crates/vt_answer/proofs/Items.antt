@@ -4,23 +4,24 @@ use Rattle.std.specs.List.{flat_map}
 use Rattle.std.specs.Option.{option_or}
 use Rattle.std.proofs.lemmas.Grind.{flat_map-append}
 use Rattle.std.proofs.lemmas.List.{map-append}
+use Rattle.vt_base.specs.declared.answer.Said.{Said}
+use Rattle.vt_base.specs.declared.answer.Said.TheVariants.{Score, Block, Synced, Refused}
 use Rattle.vt_base.specs.declared.why.Failed.{Failed}
 use Rattle.vt_base.specs.declared.why.Why.{Why}
-use Rattle.vt_base.specs.Protocol.{ping, TMessage, t_hello, t_goodbye, t_ask, RMessage, r_hello, r_ping, r_refused}
+use Rattle.vt_base.specs.Operations.{reply_of, result_of}
+use Rattle.vt_base.specs.Protocol.{Operation, ping, RMessage, r_ping, r_refused}
 use Rattle.vt_model.specs.History.{History}
 use Rattle.vt_wire.specs.Messages.{spelled}
-use Rattle.vt_session.specs.Heard.{Item, settled}
-use Rattle.vt_session.specs.Hearing.{MatchMessage}
-use Rattle.vt_session.specs.Turns.{Turn, told, Cause, disk_fault, stopped, damaged, no_memory, why_of, item_of_turn, items_of, spelled_turn, cause_of, causes_of, first_why}
-use Rattle.vt_answer.specs.Asking.{reply_to, ServesMessage, DoesMessage}
+use Rattle.vt_session.specs.Heard.{Item, settled, asked}
+use Rattle.vt_model.specs.Causes.{Cause, disk_fault, stopped, damaged, no_memory, why_of}
+use Rattle.vt_session.specs.Turns.{Turn, told, item_of_turn, items_of, spelled_turn, cause_of, causes_of, first_why}
 use Rattle.vt_answer.specs.Condition.{GoesOn, Condition}
 use Rattle.vt_answer.specs.Members.{StoreOf}
-use Rattle.vt_answer.specs.Serving.{Answers, failure_of, tells_failure}
+use Rattle.vt_answer.specs.Serving.{Answers, Serves, failure_of, reply_in, tells_failure}
 use Rattle.vt_answer.specs.Sessions.{AnswersItems}
-use Rattle.vt_answer.specs.Taking.{Takes}
+use Rattle.vt_answer.specs.Taking.{DoesOne, Takes}
 use Rattle.vt_answer.specs.Writing.{Writes}
-use Rattle.vt_answer.specs.declared.asking.Said.{Said}
-use Rattle.vt_answer.proofs.Taking.{takes_none, takes_told, takes_served, takes_failed, takes_more}
+use Rattle.vt_answer.proofs.Taking.{stays, takes_none, takes_told, takes_served, takes_failed, takes_more}
 use Rattle.vt_answer.proofs.Written.{writes_more}
 
 -- a ping is answered over any history that is held
@@ -43,6 +44,13 @@ ping_answered score_of c holds h hold = record {
   stops = λ a. refl;
 }
 
+-- what an operation gave is said by the reply of the answer
+pub same_reply : (said : Said) → reply_in (result_of said) ≡ reply_of said
+same_reply (Score score) = refl
+same_reply (Block block) = refl
+same_reply Synced = refl
+same_reply (Refused why) = refl
+
 -- ---- the first failure
 
 earlier_none : (failure : Option Why) → failure ≡ option_or failure None
@@ -63,7 +71,7 @@ is_failure (damaged site want found) = refl
 is_failure no_memory = refl
 
 failed_by : (why : Why) (cause : Cause) → why ≡ why_of cause
-    → failure_of {X = Said} (Err why) ≡ first_why (cause ∷ [])
+    → failure_of {X = RMessage} (Err why) ≡ first_why (cause ∷ [])
 failed_by why cause is =
     ap (λ (w : Why). cond (tells_failure w) (Some w) None) is
     ∙ ap (λ (b : Bool). cond b (Some (why_of cause)) None) (is_failure cause)
@@ -108,32 +116,33 @@ module _ {S : Type 0} (T : StoreOf S) where
 
   module _ (s s' : S) (h : History) (failure failure' : Option Why) (writes : List ℕ → Type 0)
       (tag : ℕ) (on : GoesOn (T.condition s) (T.condition s')) where
-    pub message_item : (m : TMessage) (answer : Result Said Why) → T.holds s h
-        → ServesMessage T s s' h m answer → DoesMessage T s s' m answer
-        → failure' ≡ option_or failure (failure_of answer) → writes (spelled tag (reply_to answer))
-        → MatchMessage tag m (λ item. AnswersItems T s s' h failure failure' writes (item ∷ []))
-    message_item (t_hello version) answer hold serves does failed written =
-        let is : s ≡ s' = sym does.1 in
-        let takes = subst (λ (z : S). Takes T s z h (told tag r_hello ∷ [])) is
-        (takes_told T s h tag r_hello hold) in
-        by_turn s s' h failure failure' writes (told tag r_hello) _ takes written
-        (ap (λ (a : Result Said Why). spelled tag (reply_to a)) serves)
-        (failed ∙ ap (λ (a : Result Said Why). option_or failure (failure_of a)) serves)
-    message_item t_goodbye answer hold serves does failed written = absurd serves
-    message_item (t_ask m) (Ok x) hold serves does failed written =
+    pub asked_item : (m : Operation) (given : Result RMessage Why)
+        → Serves T.score_of (T.condition s) (T.condition s') (T.holds s') h m (λ reply. reply) given
+        → DoesOne T s m given s' → failure' ≡ option_or failure (failure_of given)
+        → writes (spelled tag (reply_in given))
+        → AnswersItems T s s' h failure failure' writes (asked tag m ∷ [])
+    asked_item m (Ok reply) serves does failed written =
         by_turn s s' h failure failure' writes _ _
-        (takes_served T s s' h tag m (Ok (reply_to (Ok x))) on does serves) written
+        (takes_served T s s' h tag m (Ok reply) on does serves) written
         (ap (spelled tag) (sym serves.reply_is)) failed
-    message_item (t_ask m) (Err why) hold (inl refused) does failed written =
+    asked_item m (Err why) (inl refused) does failed written =
         by_turn s s' h failure failure' writes _ _
         (takes_served T s s' h tag m (Err why) on does refused.1) written
         (ap (spelled tag) (sym refused.1.reply_is))
         (failed ∙ ap (λ (b : Bool). option_or failure (cond b (Some why) None)) refused.0)
-    message_item (t_ask m) (Err why) hold (inr fails) does failed written =
+    asked_item m (Err why) (inr fails) does failed written =
         by_turn s s' h failure failure' writes _ _
         (takes_failed T s s' h tag m why on does fails) written
         (ap (λ (w : Why). spelled tag (r_refused w)) fails.why_is)
         (failed ∙ ap (option_or failure) (failed_by why fails.cause fails.why_is))
+
+  pub ping_item : (s : S) (h : History) (failure : Option Why) (writes : List ℕ → Type 0) (tag : ℕ)
+      → T.holds s h → writes (spelled tag r_ping)
+      → AnswersItems T s s h failure failure writes (asked tag ping ∷ [])
+  ping_item s h failure writes tag hold written =
+      asked_item s s h failure failure writes tag (stays (T.condition s)) ping (Ok r_ping)
+      (ping_answered T.score_of (T.condition s) (T.holds s) h hold) (refl, refl)
+      (earlier_none failure) written
 
   -- ---- more items
 

@@ -5,19 +5,18 @@ use Rattle.std.specs.Prelude.{◌-◌, min, Bool, true, false, if◌then◌else�
 use Rattle.std.specs.Option.{option_or}
 use Rattle.vt_base.specs.Bytes.{AreBytes, AreBytes-none, AreBytes-append}
 use Rattle.vt_base.specs.declared.why.Failed.{Failed}
-use Rattle.vt_base.specs.Protocol.{RMessage, TMessage, t_hello, t_goodbye, t_ask}
+use Rattle.vt_base.specs.Protocol.{RMessage}
 use Rattle.vt_model.specs.History.{History}
 use Rattle.vt_wire.specs.Lines.{line_of}
 use Rattle.vt_wire.specs.declared.line.Line.{Line}
 use Rattle.vt_wire.specs.declared.line.Line.TheVariants.{Whole, More, Bad}
 use Rattle.vt_wire.specs.Messages.{spelled}
-use Rattle.vt_wire.specs.Views.{message_of}
 use Rattle.vt_session.specs.declared.Ended.{Ended}
 use Rattle.vt_session.specs.declared.Ended.TheVariants.{Goodbye, Closed, Cut, Malformed, Spent, ReadFault, WriteFault, NoMemory}
 use Rattle.vt_session.specs.declared.parsed.Next.{Next}
-use Rattle.vt_session.specs.declared.parsed.Next.TheVariants.{Message, Refused, End}
+use Rattle.vt_session.specs.declared.parsed.Next.TheVariants.{Hello, Ping, Ask, Refused, End}
 use Rattle.vt_session.specs.Heard.{Item, end_of, Heard}
-use Rattle.vt_session.specs.Hearing.{going_on, over, MatchMessage, MatchNext}
+use Rattle.vt_session.specs.Hearing.{going_on, over, MatchNext}
 use Rattle.vt_session.specs.Talk.{EndsInLast, HearsAll, BreaksOff, Took, spent_len}
 use Rattle.vt_session.specs.Talking.{Stage, at_line, behind_line, HearsStage, IsHeardStage, stage_with, line_heard, fed_stage, fed, Talking, needs_more, room, unheard_len, ended_at, IsOpen, EndsAnyhow, Passes, PassesItem}
 use Rattle.vt_session.specs.Turns.{Turn, items_of, pieces_of, output_of, server_line, causes_of, first_why}
@@ -165,20 +164,11 @@ module _ {S : Type 0} (T : StoreOf S) where
       written = says.1;
     }
 
-    message_advances : (tag : ℕ) (m : TMessage) → MatchMessage tag m (PassesItem stage stage')
-        → ((h : History) → T.holds s h → MatchMessage tag m
-        (λ item. AnswersItems T s s' h old.failure new.failure Waits (item ∷ [])))
-        → MatchMessage tag m (λ item. (reply : RMessage)
-        × (new.waiting ≡ old.waiting ++ spelled (tag_of item) reply)) → SaysIt
-    message_advances tag (t_hello version) passes answers says =
-        item_advances _ passes answers says
-    message_advances tag t_goodbye passes answers says = absurd passes
-    message_advances tag (t_ask m) passes answers says = item_advances _ passes answers says
-
     pub next_advances : (next : Next) → Passes next stage stage'
         → AnswersNext T s s' old new Waits next → SaysNext next old.waiting new.waiting → SaysIt
-    next_advances (Message tag request) passes answers says =
-        message_advances tag (message_of request) passes answers says
+    next_advances (Hello tag) passes answers says = item_advances _ passes answers says
+    next_advances (Ping tag) passes answers says = item_advances _ passes answers says
+    next_advances (Ask tag operation) passes answers says = item_advances _ passes answers says
     next_advances (Refused rule tag) passes answers says = item_advances _ passes answers says
     next_advances (End ended) passes answers says = record {
       items = [];
@@ -311,18 +301,13 @@ ends_over NoMemory stage taken ends is = absurd ends
 no_end : (result : Option Ended) (t : Talking) → result ≡ None → EndsHere (Ok result) t
 no_end result t is = subst (λ r. EndsHere (Ok r) t) (sym is) tt
 
-message_ends : (tag : ℕ) (m : TMessage) (result : Option Ended) (t : Talking)
-    → MatchMessage tag m (λ item. result ≡ None) → EndsHere (Ok result) t
-message_ends tag (t_hello version) result t is = no_end result t is
-message_ends tag t_goodbye result t is = absurd is
-message_ends tag (t_ask m) result t is = no_end result t is
-
 pub next_ends : (next : Next) (result : Option Ended) (stage : Stage) (t : Talking)
     → Passes next stage t.stage
     → MatchNext next (λ item. result ≡ None) (λ ended. result ≡ Some ended)
     → ((ended : Ended) → next ≡ End ended → EndsAnyhow ended) → EndsHere (Ok result) t
-next_ends (Message tag request) result stage t passes is ends =
-    message_ends tag (message_of request) result t is
+next_ends (Hello tag) result stage t passes is ends = no_end result t is
+next_ends (Ping tag) result stage t passes is ends = no_end result t is
+next_ends (Ask tag operation) result stage t passes is ends = no_end result t is
 next_ends (Refused rule tag) result stage t passes is ends = no_end result t is
 next_ends (End ended) result stage t passes is ends =
     subst (λ r. EndsHere (Ok r) t) (sym is)

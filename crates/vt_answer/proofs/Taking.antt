@@ -8,7 +8,8 @@ use Rattle.vt_base.specs.declared.why.Why.{Why}
 use Rattle.vt_model.specs.History.{History}
 use Rattle.vt_model.specs.Answer.{answer, Outcome}
 use Rattle.vt_model.specs.Places.{Setup}
-use Rattle.vt_session.specs.Turns.{Part, Turn, told, served, failed, Cause, disk_fault, stopped, damaged, no_memory, cause_of, causes_of, synced_number, synced_numbers}
+use Rattle.vt_model.specs.Causes.{Part, Cause, disk_fault, stopped, damaged, no_memory}
+use Rattle.vt_session.specs.Turns.{Turn, told, served, failed, cause_of, causes_of, synced_number, synced_numbers}
 use Rattle.vt_session.specs.Answered.{AnsweredBy, AnsweredAlone, AreToldBy, IsKnownStop}
 use Rattle.vt_session.proofs.Turns.{turns_join, turns_join_later}
 use Rattle.vt_session.proofs.Causes.{counts_join}

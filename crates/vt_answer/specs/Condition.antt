@@ -2,8 +2,8 @@
 use Rattle.std.specs.Prelude.{ℕ, ◌≡◌, ◌≤◌, ⊤, Bool, IsTrue, List}
 use Rattle.std.specs.List.{Contains}
 use Rattle.vt_model.specs.Places.{Setup}
-use Rattle.vt_session.specs.Turns.{Part, Cause, disk_fault, damaged}
-use Rattle.vt_session.specs.Answered.{Faults, NoneFell}
+use Rattle.vt_model.specs.Causes.{Part, Cause, disk_fault, damaged, NoneFell}
+use Rattle.vt_session.specs.Answered.{Faults}
 
 -- What it was opened with; whether nobody else adds blocks to its history; the counts of failed
 -- calls of its parts, in one order; which parts have stopped, each with the device call at which it

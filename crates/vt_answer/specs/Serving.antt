@@ -1,13 +1,16 @@
 -- How a store serves an operation: by the model's answer on a beginning of its history, or not.
-use Rattle.std.specs.Prelude.{ℕ, ◌≡◌, ◌≤◌, ◌⊎◌, ⊤, Bool, IsTrue, if◌then◌else◌, Option, None, Some, List, [], ◌∷◌, ◌++◌, length, take, Result, Ok, Err}
+use Rattle.std.specs.Prelude.{ℕ, ◌≡◌, ◌≤◌, ◌⊎◌, ⊤, min, Bool, IsTrue, if◌then◌else◌, Option, None, Some, List, [], ◌∷◌, ◌++◌, length, take, Result, Ok, Err}
 use Rattle.std.specs.List.{Contains}
+use Rattle.vt_base.specs.declared.TheConstants.{MAX_BLOCK}
+use Rattle.vt_base.specs.declared.answer.Said.{Said}
+use Rattle.vt_base.specs.declared.answer.Said.TheVariants.{Score, Block, Synced, Refused}
 use Rattle.vt_base.specs.declared.why.Why.{Why}
 use Rattle.vt_base.specs.declared.why.Why.TheVariants.{DiskFault, Stopped, Damaged, NoMemory}
-use Rattle.vt_base.specs.Protocol.{Operation, sync, RMessage, r_refused}
+use Rattle.vt_base.specs.Protocol.{Operation, ping, read, write, sync, RMessage, r_refused}
 use Rattle.vt_model.specs.History.{History, Accepted}
 use Rattle.vt_model.specs.Answer.{answer, with_added}
-use Rattle.vt_session.specs.Turns.{Part, Cause, why_of}
-use Rattle.vt_session.specs.Answered.{MayFail, OneRose, AreToldBy, StandsAt}
+use Rattle.vt_model.specs.Causes.{Part, Cause, why_of, MayFail, OneRose}
+use Rattle.vt_session.specs.Answered.{AreToldBy, StandsAt}
 use Rattle.vt_answer.specs.Condition.{Condition, faults_over, IsNoDamage, IsNoFault}
 
 -- the store failed, and it isn't the model that refuses
@@ -22,6 +25,21 @@ tells_failure why = Bool.false
 abbrev pub answered : {X : Type 0} → (X → RMessage) → Result X Why → Result RMessage Why
 answered message (Ok x) = Ok (message x)
 answered message (Err why) = Err why
+
+-- what a store is asked for: no block has more bytes than a reader may ask for
+abbrev pub asked_for : Operation → Operation
+asked_for (read s kind count) = read s kind (min count MAX_BLOCK)
+asked_for (write kind bytes) = write kind bytes
+asked_for sync = sync
+asked_for ping = ping
+
+-- what may be said to an operation, whatever the store holds
+abbrev pub Suits : (List ℕ → List ℕ) → Operation → Said → Type 0
+Suits score_of m (Refused why) = ⊤
+Suits score_of (read s kind count) (Block bytes) = length bytes ≤ count
+Suits score_of (write kind bytes) (Score given) = given.0 ≡ score_of bytes
+Suits score_of sync Synced = ⊤
+Suits score_of m said = ⊥
 
 -- the reply that says it
 abbrev pub reply_in : Result RMessage Why → RMessage

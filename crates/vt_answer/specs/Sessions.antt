@@ -3,12 +3,15 @@ use Rattle.std.specs.Prelude.{ℕ, ◌≡◌, ⊤, Option, List, [], ◌∷◌}
 use Rattle.std.specs.List.{flat_map}
 use Rattle.std.specs.Option.{option_or}
 use Rattle.vt_base.specs.Faults.{HasRisen}
+use Rattle.vt_base.specs.declared.answer.Said.{Said}
 use Rattle.vt_base.specs.declared.why.Why.{Why}
+use Rattle.vt_base.specs.Operations.{operation_of, result_of}
 use Rattle.vt_model.specs.History.{History}
 use Rattle.vt_session.specs.declared.Ended.{Ended}
 use Rattle.vt_session.specs.declared.Ended.TheVariants.{WriteFault}
 use Rattle.vt_session.specs.Heard.{Item}
 use Rattle.vt_session.specs.declared.parsed.Next.{Next}
+use Rattle.vt_session.specs.declared.parsed.Next.TheVariants.{Ask}
 use Rattle.vt_session.specs.Hearing.{MatchNext}
 use Rattle.vt_session.specs.Turns.{Turn, items_of, spelled_turn, causes_of, first_why}
 use Rattle.vt_answer.specs.Members.{StoreOf}
@@ -42,6 +45,13 @@ AnswersNext T s s' old new writes next =
     (h : History) → T.holds s h → MatchNext next
     (λ item. AnswersItems T s s' h old.failure new.failure writes (item ∷ []))
     (λ ended. AnswersItems T s s' h old.failure new.failure writes [])
+
+-- An operation that came next was asked of the store, once, and nothing else; whatever else came,
+-- nothing was.
+abbrev pub AsksOnce : {S : Type 0} → StoreOf S → (s s' : S) → Next → Type 0
+AsksOnce T s s' (Ask tag operation) =
+    (said : Said) × T.does s (operation_of operation) (result_of said) s'
+AsksOnce T s s' next = s' ≡ s
 
 -- a sink's count of faults rose where a session ended in a write fault, and only there
 abbrev pub SinkCause : Ended → (old new : ℕ) → Type 0

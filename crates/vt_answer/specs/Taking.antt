@@ -5,7 +5,8 @@ use Rattle.std.specs.Option.{option_or}
 use Rattle.vt_base.specs.declared.why.Why.{Why}
 use Rattle.vt_base.specs.Protocol.{Operation, ping, read, write, sync, RMessage, r_ping}
 use Rattle.vt_model.specs.History.{History}
-use Rattle.vt_session.specs.Turns.{Turn, told, served, failed, causes_of, synced_numbers, why_of}
+use Rattle.vt_model.specs.Causes.{why_of}
+use Rattle.vt_session.specs.Turns.{Turn, told, served, failed, causes_of, synced_numbers}
 use Rattle.vt_session.specs.Answered.{AnsweredBy, AnsweredAlone, AreToldBy}
 use Rattle.vt_answer.specs.Condition.{faults_over, GoesOn, IsNoDamage, IsNoFault}
 use Rattle.vt_answer.specs.Members.{StoreOf}

@@ -4,9 +4,9 @@ ghost use Rattle.std.specs.Prelude.{◌≡◌, None, IfOk};
 ghost use Rattle.vt_session.specs.Turns.{server_line};
 
 use crate::output::Output;
-use std::alloc::Global;
+use std::alloc::{AllocError, Global};
 use std::marker::Model;
-use vt_base::{NoMemory, Why};
+use vt_base::Why;
 
 /// One session's answers: the replies that wait to be written, and why the store failed first.
 #[derive(Drop)]
@@ -25,7 +25,7 @@ impl Model for Answering {
 
 impl Answering {
     /// The server's line waits, and nothing failed.
-    pub fn new(alloc: Global) -> Result<Self, NoMemory>
+    pub fn new(alloc: Global) -> Result<Self, AllocError>
         ensures { IfOk result (λ it. it ≡ record { waiting = server_line; failure = None }) }
     {
         let output = Output::new(alloc)?;

@@ -1,80 +1,45 @@
-//! Asking a store, with or without a session.
+//! What is said of a store's answer.
 
-ghost use Rattle.std.specs.Prelude.{◌≡◌, ◌≢◌};
-ghost use Rattle.vt_model.specs.History.{History};
+ghost use Rattle.std.specs.Prelude.{◌≡◌, ℕ, List, length};
+ghost use Rattle.vt_base.specs.Operations.{reply_of, result_of};
+ghost use Rattle.vt_base.specs.Protocol.{Operation};
 ghost use Rattle.vt_wire.specs.Messages.{FitsReply};
-ghost use Rattle.vt_wire.specs.Views.{message_of, reply_of};
-ghost use Rattle.vt_answer.specs.Asking.{reply_to, ServesMessage, DoesMessage};
-ghost use Rattle.vt_answer.specs.Condition.{GoesOn};
-ghost use Rattle.vt_answer.specs.Serving.{TellsCause, failure_of as failure_in};
+ghost use Rattle.vt_wire.specs.Views.{reply_of as reply_in};
+ghost use Rattle.vt_answer.specs.Serving.{Suits, asked_for, failure_of as failure_in};
 
-use crate::store::Store;
-use std::alloc::Global;
-use vt_base::{Bytes, Score, Why, why_text};
-use vt_wire::{Reply, Request};
-
-/// What is said to a message that is not refused.
-#[derive(Drop)]
-pub enum Said {
-    Hello,
-    Ping,
-    Synced,
-    Score(Score),
-    Block(Bytes),
-}
-
-/// Asks a store what a message asks, and gives what it answers: one call of the store for an
-/// operation other than a ping, and none for the others.
-pub fn ask<T: Store>(alloc: Global, store: &mut T, request: &Request<'_>) -> Result<Said, Why>
-    requires known { request.now ≢ Request.Goodbye }
-    ensures served { (h : History) → T.holds store.old h
-        → ServesMessage T.Store store.old store.new h (message_of request.now) result }
-    ensures cause { TellsCause (T.condition store.old) (T.condition store.new) result }
-    ensures goes_on { GoesOn (T.condition store.old) (T.condition store.new) }
-    ensures once { DoesMessage T.Store store.old store.new (message_of request.now) result }
-    ensures fits { FitsReply (reply_to result) }
-{
-    match *request {
-        Request::Hello { .. } => Ok(Said::Hello),
-        Request::Ping => Ok(Said::Ping),
-        Request::Sync => {
-            store.sync()?;
-            Ok(Said::Synced)
-        }
-        Request::Read { score, kind, count } => {
-            let block = store.read(alloc, &score, kind, count)?;
-            Ok(Said::Block(block))
-        }
-        Request::Write { kind, bytes } => {
-            let score = store.write(alloc, kind, bytes)?;
-            Ok(Said::Score(score))
-        }
-        Request::Goodbye => unreachable!(),
-    }
-}
+use vt_base::{Said, Score, Why, why_text};
+use vt_wire::Reply;
 
 /// The reply that says what a store answers.
-pub fn reply(answer: &Result<Said, Why>) -> Reply<'_>
-    ensures { reply_of result ≡ reply_to answer.now }
+pub fn reply(said: &Said) -> Reply<'_>
+    ensures says { reply_in result ≡ reply_of said.now }
+    ensures fits { (score_of : List ℕ → List ℕ) (m : Operation) → Suits score_of (asked_for m) said.now
+        → FitsReply (reply_in result) }
 {
-    match answer {
-        Ok(Said::Hello) => Reply::Hello,
-        Ok(Said::Ping) => Reply::Ping,
-        Ok(Said::Synced) => Reply::Sync,
-        Ok(Said::Score(score)) => Reply::Write(*score),
-        Ok(Said::Block(block)) => Reply::Read(block.as_slice()),
-        Err(why) => Reply::Error(why_text(why).as_bytes()),
+    match said {
+        Said::Synced => Reply::Sync,
+        Said::Score(score) => {
+            is_whole(*score);
+            Reply::Write(*score)
+        }
+        Said::Block(block) => Reply::Read(block.as_slice()),
+        Said::Refused(why) => Reply::Error(why_text(why).as_bytes()),
     }
 }
 
+/// A score has 20 bytes.
+fn is_whole(score: Score)
+    ensures { length score.0 ≡ 20 }
+{}
+
 /// Why the store failed, if it isn't the model that refuses.
-pub fn failure_of(answer: &Result<Said, Why>) -> Option<Why>
-    ensures { result ≡ failure_in answer.now }
+pub fn failure_of(said: &Said) -> Option<Why>
+    ensures { result ≡ failure_in (result_of said.now) }
 {
-    match answer {
-        Err(why @ (Why::DiskFault | Why::Stopped(_) | Why::Damaged { .. } | Why::NoMemory)) => {
-            Some(*why)
-        }
+    match said {
+        Said::Refused(
+            why @ (Why::DiskFault | Why::Stopped(_) | Why::Damaged { .. } | Why::NoMemory),
+        ) => Some(*why),
         _ => None,
     }
 }

@@ -6,6 +6,7 @@
 
 mod answering;
 mod asking;
+mod calls;
 mod client;
 mod link_client;
 mod output;
@@ -14,7 +15,8 @@ mod store;
 mod streams;
 
 pub use answering::Answering;
-pub use asking::{Said, ask, reply};
+pub use asking::reply;
+pub use calls::{read, sync, write};
 pub use client::Client;
 pub use link_client::LinkClient;
 pub use output::Output;

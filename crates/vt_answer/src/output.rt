@@ -8,9 +8,9 @@ ghost use Rattle.vt_wire.specs.Views.{reply_of};
 ghost use Rattle.vt_answer.specs.Writing.{Writes};
 
 use crate::Client;
-use std::alloc::Global;
+use std::alloc::{AllocError, Global};
 use std::marker::Model;
-use vt_base::{Failed, MAX_BLOCK, NoMemory};
+use vt_base::{Failed, MAX_BLOCK};
 use vt_fields::put;
 use vt_wire::{Reply, encode};
 
@@ -42,7 +42,7 @@ impl Model for Output {
 
 impl Output {
     /// The server's line waits.
-    pub fn new(alloc: Global) -> Result<Self, NoMemory>
+    pub fn new(alloc: Global) -> Result<Self, AllocError>
         ensures { IfOk result (λ output. output ≡ server_line) }
     {
         let mut buffer = vec![in alloc; 0; ROOM]?;

@@ -11,14 +11,14 @@ ghost use Rattle.vt_session.specs.Turns.{server_line};
 ghost use Rattle.vt_answer.specs.Clients.{IsAnswered};
 ghost use Rattle.vt_answer.specs.Condition.{GoesOn};
 ghost use Rattle.vt_answer.specs.Links.{Advances, Comes, Goes, SaysNext, EndsHere, TookAll, AllSaid, ReadCause, ReadsSo, LessIsLeft, AnswersLink, ended_of, since};
-ghost use Rattle.vt_answer.specs.Sessions.{AnswersNext, IsItemOrEnd, SinkCause};
+ghost use Rattle.vt_answer.specs.Sessions.{AnswersNext, AsksOnce, IsItemOrEnd, SinkCause};
 ghost use Rattle.vt_answer.specs.Taking.{DoesSome};
 ghost use Rattle.vt_answer.specs.Writing.{Writes};
 
-use crate::asking::{ask, failure_of, reply};
+use crate::asking::{failure_of, reply};
 use crate::{Answering, Client, Store};
-use std::alloc::Global;
-use vt_base::{Failed, NoMemory};
+use std::alloc::{AllocError, Global};
+use vt_base::Failed;
 use vt_session::{Ended, Next, Talker};
 use vt_wire::{Reply, rule_text};
 
@@ -228,6 +228,7 @@ impl Answering {
         ensures end { MatchNext next.now (λ item. result ≡ None) (λ ended. result ≡ Some ended) }
         ensures goes_on { GoesOn (T.condition store.old) (T.condition store.new) }
         ensures does { DoesSome T.Store store.old store.new self.old.failure self.new.failure }
+        ensures once { AsksOnce T.Store store.old store.new next.now }
     {
         match *next {
             Next::End(ended) => Some(ended),
@@ -236,10 +237,18 @@ impl Answering {
                 self.output.push(tag, &Reply::Error(text));
                 None
             }
-            Next::Message(tag, request) => {
-                let answer = ask(alloc, store, &request);
-                self.failure = self.failure.or(failure_of(&answer));
-                self.output.push(tag, &reply(&answer));
+            Next::Hello(tag) => {
+                self.output.push(tag, &Reply::Hello);
+                None
+            }
+            Next::Ping(tag) => {
+                self.output.push(tag, &Reply::Ping);
+                None
+            }
+            Next::Ask(tag, operation) => {
+                let said = store.ask(alloc, operation);
+                self.failure = self.failure.or(failure_of(&said));
+                self.output.push(tag, &reply(&said));
                 None
             }
         }
@@ -289,7 +298,7 @@ fn feed_all(talker: &mut Talker, piece: &[u8])
 }
 
 /// What hears the input, and a buffer for pieces of it.
-fn prepare(alloc: Global) -> Result<(Talker, Vec<u8>), NoMemory>
+fn prepare(alloc: Global) -> Result<(Talker, Vec<u8>), AllocError>
     ensures talker { IfOk result (λ it. it.0 ≡ record { stage = at_line []; taken = 0 }) }
     ensures piece { IfOk result (λ it. 0 < length it.1.items) }
 {

@@ -1,15 +1,15 @@
 //! What a session asks.
 
-ghost use Rattle.std.specs.Prelude.{◌≡◌, ◌≤◌, ℕ, List, Result, IfOk, length};
+ghost use Rattle.std.specs.Prelude.{◌≤◌, ℕ, List, Result, length};
 ghost use Rattle.vt_base.specs.declared.why.Why.{Why};
-ghost use Rattle.vt_base.specs.declared.TheConstants.{MAX_BLOCK};
-ghost use Rattle.vt_base.specs.Protocol.{Operation, read, write, sync, RMessage, r_read, r_write, r_sync};
+ghost use Rattle.vt_base.specs.Operations.{operation_of, result_of};
+ghost use Rattle.vt_base.specs.Protocol.{Operation as Asked, RMessage};
 ghost use Rattle.vt_model.specs.History.{History};
 ghost use Rattle.vt_answer.specs.Condition.{Condition, GoesOn};
-ghost use Rattle.vt_answer.specs.Serving.{Serves, TellsCause, answered};
+ghost use Rattle.vt_answer.specs.Serving.{Serves, Suits, TellsCause, asked_for};
 
 use std::alloc::Global;
-use vt_base::{Bytes, Score, Why};
+use vt_base::{Operation, Said};
 
 /// A write-once store of blocks, which holds a history of them (Quinlan and Dorward 2002).
 ///
@@ -28,38 +28,17 @@ pub trait Store {
 
     /// What an implementation says of its own of an operation, which it answers so: which calls of
     /// its devices it makes, for one.
-    ghost does: { Self → Operation → Result RMessage Why → Self → Type 0 };
+    ghost does: { Self → Asked → Result RMessage Why → Self → Type 0 };
 
-    /// Takes a block in, and gives its score. A sync makes it durable.
-    fn write(&mut self, alloc: Global, kind: u8, bytes: &[u8]) -> Result<Score, Why>
+    /// What it answers to an operation. A block that it takes in is durable from the next sync on.
+    fn ask(&mut self, alloc: Global, operation: Operation<'_>) -> Said
         ensures serves { (h : History) → holds self.old h
             → Serves score_of (condition self.old) (condition self.new) (holds self.new) h
-            (write kind bytes.now) (λ score. r_write score.0) result }
-        ensures cause { TellsCause (condition self.old) (condition self.new) result }
+            (operation_of operation.entry) (λ reply. reply) (result_of result) }
+        ensures cause { TellsCause (condition self.old) (condition self.new) (result_of result) }
         ensures goes_on { GoesOn (condition self.old) (condition self.new) }
-        ensures once { does self.old (write kind bytes.now)
-            (answered (λ score. r_write score.0) result) self.new }
-        ensures scored { IfOk result (λ score. score.0 ≡ score_of bytes.now) };
-
-    /// The bytes of a block, if it has `count` at most.
-    fn read(&mut self, alloc: Global, score: &Score, kind: u8, count: u32) -> Result<Bytes, Why>
-        ensures serves { (h : History) → holds self.old h
-            → Serves score_of (condition self.old) (condition self.new) (holds self.new) h
-            (read score.now.0 kind count) (λ block. r_read block) result }
-        ensures cause { TellsCause (condition self.old) (condition self.new) result }
-        ensures goes_on { GoesOn (condition self.old) (condition self.new) }
-        ensures once { does self.old (read score.now.0 kind count)
-            (answered (λ block. r_read block) result) self.new }
-        ensures most { IfOk result (λ block. length block ≤ MAX_BLOCK) };
-
-    /// Makes every block durable that was accepted before it.
-    fn sync(&mut self) -> Result<(), Why>
-        ensures serves { (h : History) → holds self.old h
-            → Serves score_of (condition self.old) (condition self.new) (holds self.new) h
-            sync (λ _. r_sync) result }
-        ensures cause { TellsCause (condition self.old) (condition self.new) result }
-        ensures goes_on { GoesOn (condition self.old) (condition self.new) }
-        ensures once { does self.old sync (answered (λ _. r_sync) result) self.new };
+        ensures once { does self.old (operation_of operation.entry) (result_of result) self.new }
+        ensures suits { Suits score_of (asked_for (operation_of operation.entry)) result };
 
     /// No more is durable than it holds.
     ghost durable_is_held: { (store : Self) (h : History) → holds store h

@@ -5,9 +5,9 @@ ghost use Rattle.std.specs.Prelude.{◌≡◌, ◌⊎◌, ◌↔◌, ◌+◌, �
 use crate::committing::entry_bytes;
 use crate::head::{ArenaHead, Found};
 use crate::{DIRECTORY_MAX, FRAME_LEN, STAGED_MAX, block_room, has_room};
-use std::alloc::Global;
+use std::alloc::{AllocError, Global};
 use std::marker::Model;
-use vt_base::{Bytes, NoMemory, Scorer};
+use vt_base::{Bytes, Scorer};
 use vt_clump::Packed;
 use vt_disk::{Disk, Region};
 use vt_fields::put;
@@ -68,7 +68,7 @@ impl Arena {
     ghost use Rattle.vt_arena.specs.Written.{Writes};
 
     /// The arena of this length that was found. It makes room for commits, and no device call.
-    pub fn resume(alloc: Global, len: u64, found: Found) -> Result<Arena, NoMemory>
+    pub fn resume(alloc: Global, len: u64, found: Found) -> Result<Arena, AllocError>
         requires len { IsArenaLen len }
         requires fit { found.head.used + directory_room found.head.clumps ≤ arena_room len }
         ensures { IfOk result (λ a. a ≡ fresh_arena len (found.selector % 2) found.head) }

@@ -15,8 +15,8 @@ use crate::arena::Arena;
 use crate::bad::ArenaBad;
 use crate::head::{ArenaHead, Found};
 use crate::{FIELDS_LEN, FRAME_LEN};
-use std::alloc::Global;
-use vt_base::{Failed, NoMemory, Score};
+use std::alloc::{AllocError, Global};
+use vt_base::{Failed, Score};
 use vt_disk::{Disk, Region};
 use vt_model::ARENA_HEAD_LEN;
 
@@ -149,6 +149,6 @@ pub fn mount<D: Disk>(
     };
     match Arena::resume(alloc, region.len, found) {
         Ok(arena) => Ok(arena),
-        Err(NoMemory) => Err(ArenaBad::NoMemory),
+        Err(AllocError) => Err(ArenaBad::NoMemory),
     }
 }

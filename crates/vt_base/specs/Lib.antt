@@ -3,6 +3,7 @@ pub mod Damage
 pub mod Faults
 pub mod Key
 pub mod Kind
+pub mod Operations
 pub mod Protocol
 pub mod ScoreText
 pub mod Scores

@@ -2,8 +2,7 @@
 
 ghost use Rattle.std.specs.Prelude.{◌≡◌, ◌==◌, length, IfOk};
 
-use crate::NoMemory;
-use std::alloc::Global;
+use std::alloc::{AllocError, Global};
 use std::marker::Model;
 
 /// Bytes in memory, as a block's or a frame's.
@@ -29,7 +28,7 @@ impl Bytes {
     }
 
     /// A copy of these bytes.
-    pub fn copy_of(alloc: Global, content: &[u8]) -> Result<Self, NoMemory>
+    pub fn copy_of(alloc: Global, content: &[u8]) -> Result<Self, AllocError>
         ensures { IfOk result (λ copy. copy ≡ content.now) }
     {
         Ok(Bytes {
@@ -86,7 +85,7 @@ impl Text {
     }
 
     /// A copy of this text.
-    pub fn copy_of(alloc: Global, content: &[u8]) -> Result<Self, NoMemory>
+    pub fn copy_of(alloc: Global, content: &[u8]) -> Result<Self, AllocError>
         ensures { IfOk result (λ copy. copy ≡ content.now) }
     {
         Ok(Text {

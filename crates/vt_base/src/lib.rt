@@ -1,5 +1,5 @@
 //! What the whole store shares: scores and what computes them, block types, keys, places, bytes and
-//! text, what a store answers, and why a request was not done.
+//! text, what a store is asked and what it answers, and why a request was not done.
 #![tactic(auto)]
 
 mod answer;
@@ -7,6 +7,7 @@ mod bytes;
 mod key;
 mod kind;
 mod mount;
+mod operation;
 mod place;
 mod printed;
 mod score;
@@ -17,10 +18,11 @@ pub use bytes::{Bytes, Text};
 pub use key::Key;
 pub use kind::Kind;
 pub use mount::{MountBad, MountField};
+pub use operation::Operation;
 pub use place::{Entry, Info, Place};
 pub use printed::{BadScore, parse_score, score_text};
 pub use score::{Score, Scorer, Sha1Scorer, ShortScorer};
-pub use why::{Failed, FieldValue, NoMemory, Site, Why, why_text};
+pub use why::{Failed, FieldValue, Site, Why, why_text};
 
 /// The most bytes that a block may have, 56 KiB (venti(6)).
 pub const MAX_BLOCK: usize = 57_344;

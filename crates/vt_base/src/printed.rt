@@ -5,9 +5,9 @@ ghost use Rattle.std.specs.List.{prefix_len};
 ghost use Rattle.hex.specs.Hex.{encode_lower};
 ghost use Rattle.vt_base.specs.ScoreText.{SpellsScore, is_label_byte, front_len, digits_len, wrong_place};
 
-use crate::{NoMemory, Score, Text};
+use crate::{Score, Text};
 use hex::FromHex;
-use std::alloc::Global;
+use std::alloc::{AllocError, Global};
 
 /// How many digits a score has.
 const DIGITS: usize = 40;
@@ -21,7 +21,7 @@ pub struct BadScore {
 }
 
 /// The 40 digits of a score, with small letters.
-pub fn score_text(alloc: Global, score: &Score) -> Result<Text, NoMemory>
+pub fn score_text(alloc: Global, score: &Score) -> Result<Text, AllocError>
     ensures { IfOk result (λ text. text ≡ encode_lower score.now.0) }
 {
     let text = hex::encode(alloc, score.0.as_slice())?;

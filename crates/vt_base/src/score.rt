@@ -17,6 +17,13 @@ pub trait Scorer {
     fn score(&self, block: &[u8]) -> Score
         ensures { result.0 ≡ score_of block.now };
 
+    /// The zero score, that of no bytes.
+    fn zero_score(&self) -> Score
+        ensures { result.0 ≡ score_of [] }
+    {
+        self.score(&[])
+    }
+
     /// A score has 20 bytes.
     ghost score_len: { (block : List ℕ) → length (score_of block) ≡ 20 };
 
@@ -34,7 +41,17 @@ impl<S: Scorer> Scorer for &S {
     fn score(&self, block: &[u8]) -> Score {
         (**self).score(block)
     }
+
+    fn zero_score(&self) -> Score {
+        (**self).zero_score()
+    }
 }
+
+/// The SHA-1 of no bytes.
+const NO_BYTES: Score = Score([
+    0xda, 0x39, 0xa3, 0xee, 0x5e, 0x6b, 0x4b, 0x0d, 0x32, 0x55, 0xbf, 0xef, 0x95, 0x60, 0x18, 0x90,
+    0xaf, 0xd8, 0x07, 0x09,
+]);
 
 /// SHA-1 (FIPS 180-4), by the crate `sha1`.
 #[derive(Clone, Copy, Debug)]
@@ -51,6 +68,10 @@ impl Scorer for Sha1Scorer {
 
     fn score(&self, block: &[u8]) -> Score {
         Score(sha1::Sha1::digest(block))
+    }
+
+    fn zero_score(&self) -> Score {
+        NO_BYTES
     }
 }
 

@@ -4,35 +4,10 @@ ghost use Rattle.std.specs.Prelude.{◌≡◌};
 ghost use Rattle.vt_base.specs.Protocol.{text_of};
 
 use crate::{Place, Score};
-use std::alloc::{AllocError, AllocFailed};
 
 /// A call on an object that was handed in has failed, and its count of faults has risen.
 #[derive(Clone, Copy, Debug, PartialEq, Eq)]
 pub struct Failed;
-
-/// Memory ran out.
-#[derive(Clone, Copy, Debug, PartialEq, Eq)]
-pub struct NoMemory;
-
-impl From<AllocError> for NoMemory {
-    ghost use Rattle.std.specs.Prelude.{⊤};
-
-    ghost from_gives = { λ _ _. ⊤ };
-
-    fn from(_error: AllocError) -> Self {
-        NoMemory
-    }
-}
-
-impl<T: Drop> From<AllocFailed<T>> for NoMemory {
-    ghost use Rattle.std.specs.Prelude.{⊤};
-
-    ghost from_gives = { λ _ _. ⊤ };
-
-    fn from(_error: AllocFailed<T>) -> Self {
-        NoMemory
-    }
-}
 
 /// What stands in a field, or should stand there. Numbers have 128 bits, since sums of fields as read
 /// can pass 64.

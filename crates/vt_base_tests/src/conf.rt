@@ -2,7 +2,6 @@
 
 use std::alloc::{AllocError, Global};
 use std::test::Fail;
-use vt_base::NoMemory;
 use vt_conf::{
     Conf, ConfBad, ConfErr, ConfWhy, PartFile, block_room, conf_text, entry_room, parse_address,
     parse_conf, parse_number, parse_size,
@@ -277,7 +276,7 @@ fn sizes_are_read() -> Result<(), Fail> {
 }
 
 /// The port of the address that a text says, if it says one.
-fn port(alloc: Global, text: &[u8]) -> Result<Option<u16>, NoMemory> {
+fn port(alloc: Global, text: &[u8]) -> Result<Option<u16>, AllocError> {
     match parse_address(alloc, text)? {
         Some(address) => Ok(Some(address.port)),
         None => Ok(None),

@@ -1,15 +1,15 @@
 //! A server in memory: it is dialled once, at its address alone.
 
-use std::alloc::Global;
+use std::alloc::{AllocError, Global};
 use std::test::Fail;
-use vt_base::{NoMemory, Text};
+use vt_base::Text;
 use vt_conf::parse_address;
 use vt_dial::{Dialer, MemDialer};
 use vt_out::{Link, MemLink, MemSink, MemSource};
 use vt_rows::Rows;
 
 /// A server on this machine, which says two bytes.
-fn dialer(alloc: Global) -> Result<MemDialer, NoMemory> {
+fn dialer(alloc: Global) -> Result<MemDialer, AllocError> {
     let content = Vec::from_slice(alloc, b"hi")?;
     let host = Text::copy_of(alloc, b"localhost")?;
     let sink = MemSink::new(alloc, 10)?;

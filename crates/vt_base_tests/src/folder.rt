@@ -1,13 +1,13 @@
 //! A folder in memory: what it lists and reads, and which of its calls fail.
 
-use std::alloc::Global;
+use std::alloc::{AllocError, Global};
 use std::test::Fail;
-use vt_base::{Failed, NoMemory, Text};
+use vt_base::{Failed, Text};
 use vt_folder::{Facts, Folder, Item, ItemKind, MemContent, MemFolder, MemItem};
 use vt_out::OutErr;
 use vt_rows::Rows;
 
-fn facts(alloc: Global, name: &[u8], mode: u32) -> Result<Facts, NoMemory> {
+fn facts(alloc: Global, name: &[u8], mode: u32) -> Result<Facts, AllocError> {
     let name = Text::copy_of(alloc, name)?;
     let uid = Text::copy_of(alloc, b"u")?;
     let gid = Text::copy_of(alloc, b"g")?;
@@ -21,35 +21,35 @@ fn facts(alloc: Global, name: &[u8], mode: u32) -> Result<Facts, NoMemory> {
 }
 
 /// A file of this name, mode and content.
-fn file(alloc: Global, name: &[u8], mode: u32, bytes: &[u8]) -> Result<MemItem, NoMemory> {
+fn file(alloc: Global, name: &[u8], mode: u32, bytes: &[u8]) -> Result<MemItem, AllocError> {
     let bytes = Vec::from_slice(alloc, bytes)?;
     let facts = facts(alloc, name, mode)?;
     Ok(MemItem::File(facts, MemContent::from_vec(bytes)))
 }
 
 /// These items, and one more.
-fn with(items: Vec<MemItem>, item: MemItem) -> Result<Vec<MemItem>, NoMemory> {
+fn with(items: Vec<MemItem>, item: MemItem) -> Result<Vec<MemItem>, AllocError> {
     let mut items = items;
     items.push(item)?;
     Ok(items)
 }
 
 /// The folder `d` with the file `f` of `abcde`.
-fn inner(alloc: Global) -> Result<MemItem, NoMemory> {
+fn inner(alloc: Global) -> Result<MemItem, AllocError> {
     let inside = with(Vec::new(alloc), file(alloc, b"f", 0o644, b"abcde")?)?;
     let facts = facts(alloc, b"d", 0o755)?;
     Ok(MemItem::Folder(facts, inside))
 }
 
 /// The folder `d` with the file `f` of `abcde`, and the link `f`.
-fn front(alloc: Global) -> Result<Vec<MemItem>, NoMemory> {
+fn front(alloc: Global) -> Result<Vec<MemItem>, AllocError> {
     let items = with(Vec::new(alloc), inner(alloc)?)?;
     let link = facts(alloc, b"f", 0o777)?;
     with(items, MemItem::Other(link))
 }
 
 /// These, and the file `d` of no bytes.
-fn sample(alloc: Global) -> Result<MemFolder, NoMemory> {
+fn sample(alloc: Global) -> Result<MemFolder, AllocError> {
     let items = front(alloc)?;
     let empty = file(alloc, b"d", 0o600, b"")?;
     Ok(MemFolder::new(alloc, with(items, empty)?))
@@ -100,7 +100,7 @@ fn read<F: Folder>(folder: &mut F, path: &[Text], at: u64) -> (Result<usize, Fai
 }
 
 /// The path of these names.
-fn path(alloc: Global, names: &[&[u8]]) -> Result<Vec<Text>, NoMemory> {
+fn path(alloc: Global, names: &[&[u8]]) -> Result<Vec<Text>, AllocError> {
     let mut path = Vec::new(alloc);
     for name in names {
         path.push(Text::copy_of(alloc, name)?)?;

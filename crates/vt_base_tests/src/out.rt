@@ -1,8 +1,8 @@
 //! What stands outside the store, as its fakes in memory do it.
 
-use std::alloc::Global;
+use std::alloc::{AllocError, Global};
 use std::test::Fail;
-use vt_base::{Bytes, Failed, NoMemory, Text};
+use vt_base::{Bytes, Failed, Text};
 use vt_out::{
     Clock, Files, Link, MemClock, MemFiles, MemLink, MemSink, MemSource, OutErr, Progress, Silent,
     Sink, Source,
@@ -24,14 +24,14 @@ fn take_all<S: Source>(alloc: Global, source: &mut S, room: usize) -> Option<Vec
 }
 
 /// A source of these bytes, in pieces of these lengths in turn.
-fn source_in_pieces(alloc: Global, bytes: &[u8], lens: &[usize]) -> Result<MemSource, NoMemory> {
+fn source_in_pieces(alloc: Global, bytes: &[u8], lens: &[usize]) -> Result<MemSource, AllocError> {
     let lens = Vec::from_slice(alloc, lens)?;
     let bytes = Vec::from_slice(alloc, bytes)?;
     Ok(MemSource::new(alloc, bytes).in_pieces(lens))
 }
 
 /// A source of these bytes, of which these calls fail.
-fn failing_source(alloc: Global, bytes: &[u8], calls: &[u64]) -> Result<MemSource, NoMemory> {
+fn failing_source(alloc: Global, bytes: &[u8], calls: &[u64]) -> Result<MemSource, AllocError> {
     let calls = Vec::from_slice(alloc, calls)?;
     let bytes = Vec::from_slice(alloc, bytes)?;
     Ok(MemSource::new(alloc, bytes).failing(calls))
@@ -132,7 +132,7 @@ fn a_failed_take_loses_nothing(rt: HostRuntime) -> Result<(), Fail> {
 }
 
 /// A sink with room for so many bytes, of which these calls fail.
-fn failing_sink(alloc: Global, room: usize, calls: &[u64]) -> Result<MemSink, NoMemory> {
+fn failing_sink(alloc: Global, room: usize, calls: &[u64]) -> Result<MemSink, AllocError> {
     let calls = Vec::from_slice(alloc, calls)?;
     Ok(MemSink::new(alloc, room)?.failing(calls))
 }
@@ -249,14 +249,14 @@ fn with_file(
     files: MemFiles,
     name: &[u8],
     content: &[u8],
-) -> Result<MemFiles, NoMemory> {
+) -> Result<MemFiles, AllocError> {
     let name = Text::copy_of(alloc, name)?;
     let content = Bytes::copy_of(alloc, content)?;
     files.with(name, content)
 }
 
 /// Three files, of which two have one name.
-fn three_files(alloc: Global) -> Result<MemFiles, NoMemory> {
+fn three_files(alloc: Global) -> Result<MemFiles, AllocError> {
     let files = with_file(alloc, MemFiles::new(alloc), b"a", b"abc")?;
     let files = with_file(alloc, files, b"b", b"def")?;
     with_file(alloc, files, b"a", b"ghi")

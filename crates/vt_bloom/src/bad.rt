@@ -1,7 +1,7 @@
 //! Why a device is refused.
 
 use std::alloc::{AllocError, AllocFailed};
-use vt_base::{Failed, NoMemory};
+use vt_base::Failed;
 
 /// A field of a frame that is tested.
 #[derive(Clone, Copy, Debug, PartialEq, Eq)]
@@ -35,17 +35,6 @@ impl From<Failed> for BloomBad {
 
     fn from(_failed: Failed) -> Self {
         BloomBad::Fault
-    }
-}
-
-impl From<NoMemory> for BloomBad {
-    ghost use Rattle.std.specs.Prelude.{◌≡◌};
-    ghost use Rattle.vt_bloom.specs.declared.bad.BloomBad.{BloomBad};
-
-    ghost from_gives = { λ _ bad. bad ≡ BloomBad.NoMemory };
-
-    fn from(_error: NoMemory) -> Self {
-        BloomBad::NoMemory
     }
 }
 

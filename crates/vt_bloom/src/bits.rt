@@ -4,9 +4,9 @@ ghost use Rattle.std.specs.Prelude.{◌≡◌, ◌↔◌, ◌⊎◌, ℕ, ◌*�
 ghost use Rattle.vt_bloom.specs.Bits.{position_of, stride_of, AreCounts, IsSetIn};
 
 use arrayvec::ArrayVec;
-use std::alloc::Global;
+use std::alloc::{AllocError, Global};
 use std::marker::Model;
-use vt_base::{NoMemory, Score};
+use vt_base::Score;
 use vt_fields::u64_at;
 
 /// Position i of a score among 2^m bits.
@@ -64,7 +64,7 @@ impl Bits {
     ghost use Rattle.vt_bloom.specs.Bits.{IsFilter, IsSet, HasBitsOf, Marks, clear_of};
 
     /// Bits of which none is set. m is 16 to 23, k 1 to 32.
-    pub fn new(alloc: Global, m: u8, k: u8) -> Result<Bits, NoMemory>
+    pub fn new(alloc: Global, m: u8, k: u8) -> Result<Bits, AllocError>
         requires { AreCounts m k }
         ensures bits { IfOk result (λ bits. bits ≡ clear_of m k) }
         ensures clear { IfOk result (λ bits. (p : ℕ) → ¬ IsSet bits p) }

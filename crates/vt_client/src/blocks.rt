@@ -4,8 +4,8 @@ ghost use Rattle.std.specs.Prelude.{◌≡◌};
 ghost use Rattle.vt_client.specs.Stores.{IsToldAs};
 
 use crate::{Client, ClientErr};
-use std::alloc::Global;
-use vt_base::{Bytes, Kind, NoMemory, Score, Scorer, Text};
+use std::alloc::{AllocError, Global};
+use vt_base::{Bytes, Kind, Score, Scorer, Text};
 use vt_out::Link;
 use vt_tree::{BlockErr, Blocks};
 
@@ -67,7 +67,7 @@ fn told(alloc: Global, why: &ClientErr) -> BlockErr
     };
     match Text::copy_of(alloc, text) {
         Ok(text) => BlockErr::Refused(text),
-        Err(NoMemory) => BlockErr::NoMemory,
+        Err(AllocError) => BlockErr::NoMemory,
     }
 }
 

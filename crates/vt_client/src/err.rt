@@ -1,6 +1,7 @@
 //! Why a server's client didn't get what it asked for.
 
-use vt_base::{NoMemory, Score, Text};
+use std::alloc::AllocError;
+use vt_base::{Score, Text};
 
 /// Why a client didn't get what it asked for. After one other than `Remote`, `WrongScore` or
 /// `NoMemory` each further call answers `Spent`, and touches nothing.
@@ -46,13 +47,13 @@ impl ClientErr {
     }
 }
 
-impl From<NoMemory> for ClientErr {
+impl From<AllocError> for ClientErr {
     ghost use Rattle.std.specs.Prelude.{◌≡◌};
     ghost use Rattle.vt_client.specs.declared.err.ClientErr.TheVariants.{NoMemory};
 
     ghost from_gives = { λ _ err. err ≡ NoMemory };
 
-    fn from(_error: NoMemory) -> Self {
+    fn from(_error: AllocError) -> Self {
         ClientErr::NoMemory
     }
 }

@@ -6,8 +6,8 @@ ghost use Rattle.vt_clump.specs.Spelling.{spelled};
 
 use crate::Packed;
 use crate::header::{HEADER_LEN, Header};
-use std::alloc::Global;
-use vt_base::{Bytes, Kind, MAX_BLOCK, NoMemory, Score};
+use std::alloc::{AllocError, Global};
+use vt_base::{Bytes, Kind, MAX_BLOCK, Score};
 
 /// The clump of a block of 1 to 57,344 bytes. The score is taken as given.
 pub fn pack(
@@ -16,7 +16,7 @@ pub fn pack(
     block: &[u8],
     score: Score,
     time: u32,
-) -> Result<Packed, NoMemory>
+) -> Result<Packed, AllocError>
     requires some { 0 < length block.now }
     requires most { length block.now ≤ MAX_BLOCK }
     ensures kind { IfOk result (λ packed. packed.kind ≡ kind) }

@@ -11,10 +11,10 @@ use run_archives::{vac_at, vacfs};
 use run_base::{Failure, Host, complain_of, print, status};
 use run_sessions::{read, session_at, write};
 use run_stores::{buildindex, checkarenas, fmtarenas, fmtbloom, fmtindex, fmtisect, rehearse};
-use std::alloc::Global;
+use std::alloc::{AllocError, Global};
 use std::convert::AsStr;
 use std::thread::Threads;
-use vt_base::{Failed, NoMemory, Scorer, Sha1Scorer};
+use vt_base::{Failed, Scorer, Sha1Scorer};
 use vt_out::Sink;
 use vt_words::{Asked, Command, ask};
 
@@ -114,7 +114,7 @@ fn do_words<R: Threads + Sync, H: Host, S: Scorer + Sync, W: AsStr>(
             host.fault_sink().put(text.as_bytes()),
             Err(Failure::BadWords),
         ),
-        Err(NoMemory) => (Ok(()), Err(Failure::NoMemory)),
+        Err(AllocError) => (Ok(()), Err(Failure::NoMemory)),
     }
 }
 

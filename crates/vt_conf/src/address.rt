@@ -6,8 +6,8 @@ ghost use Rattle.std.specs.Bool.{OnTrue, OnFalse};
 ghost use Rattle.vt_conf.specs.Addresses.{SpellsAddress, SpellsParts, IsHost, IsPort};
 
 use crate::number::parse_number;
-use std::alloc::Global;
-use vt_base::{NoMemory, Text};
+use std::alloc::{AllocError, Global};
+use vt_base::Text;
 
 /// The port of a Venti server.
 pub const VENTI_PORT: u16 = 17_034;
@@ -23,7 +23,7 @@ pub struct Address {
 
 /// The address that a text says (venti.conf(6)), as `tcp!localhost!venti`, if it says one. The host
 /// `*` is every host; the port is a number from 1 to 65,535, or `venti`, which is 17034.
-pub fn parse_address(alloc: Global, text: &[u8]) -> Result<Option<Address>, NoMemory>
+pub fn parse_address(alloc: Global, text: &[u8]) -> Result<Option<Address>, AllocError>
     ensures address { IfOk result (λ found. IfSome found (λ a. SpellsAddress a text.now)) }
     ensures only { IfOk result (λ found. (a : Address) → SpellsAddress a text.now
         → found ≡ Some a) }
@@ -66,7 +66,7 @@ fn host_len(text: &[u8]) -> Option<usize>
 }
 
 /// The host that this text names, none where it is every host.
-fn host_of(alloc: Global, text: &[u8]) -> Result<Option<Text>, NoMemory>
+fn host_of(alloc: Global, text: &[u8]) -> Result<Option<Text>, AllocError>
     ensures { IfOk result (λ host. IsHost host text.now) }
 {
     if text == b"*".as_slice() {

@@ -10,11 +10,11 @@ ghost use Rattle.vt_conf.specs.Parsing.{HaveValues};
 use crate::conf::{Conf, DEFAULT_MEM, PartFile};
 use crate::setting::Setting;
 use crate::{Address, Keyword, VENTI_PORT, parse_address, parse_size};
-use std::alloc::Global;
-use vt_base::{NoMemory, Text};
+use std::alloc::{AllocError, Global};
+use vt_base::Text;
 
 /// What these settings come to.
-pub(crate) fn conf_of(alloc: Global, settings: &[Setting]) -> Result<Conf, NoMemory>
+pub(crate) fn conf_of(alloc: Global, settings: &[Setting]) -> Result<Conf, AllocError>
     requires { HaveValues settings.now }
     ensures { IfOk result (ComeTo settings.now) }
 {
@@ -48,7 +48,7 @@ fn files_of(
     alloc: Global,
     settings: &[Setting],
     keyword: Keyword,
-) -> Result<Vec<PartFile>, NoMemory>
+) -> Result<Vec<PartFile>, AllocError>
     ensures { IfOk result (λ files. files.items ≡ map file_of (said keyword settings.now)) }
 {
     let mut files = Vec::new(alloc);
@@ -65,7 +65,7 @@ fn first_file(
     alloc: Global,
     settings: &[Setting],
     keyword: Keyword,
-) -> Result<Option<PartFile>, NoMemory>
+) -> Result<Option<PartFile>, AllocError>
     ensures { IfOk result (λ file. file ≡ first_of (map file_of (said keyword settings.now))) }
 {
     match first(settings, keyword) {
@@ -75,7 +75,7 @@ fn first_file(
 }
 
 /// The file that a setting names.
-fn file_of(alloc: Global, setting: &Setting) -> Result<PartFile, NoMemory>
+fn file_of(alloc: Global, setting: &Setting) -> Result<PartFile, AllocError>
     ensures { IfOk result (λ file. file ≡ file_of setting.now) }
 {
     let name = Text::copy_of(alloc, setting.value.as_slice())?;
@@ -86,7 +86,7 @@ fn file_of(alloc: Global, setting: &Setting) -> Result<PartFile, NoMemory>
 }
 
 /// The index's name.
-fn name_in(alloc: Global, settings: &[Setting]) -> Result<Text, NoMemory>
+fn name_in(alloc: Global, settings: &[Setting]) -> Result<Text, AllocError>
     ensures { IfOk result (λ name. name ≡ name_in (said Keyword.Index settings.now)) }
 {
     match first(settings, Keyword::Index) {
@@ -108,7 +108,7 @@ fn size_in(settings: &[Setting], keyword: Keyword) -> u64
 }
 
 /// The address that the settings say.
-fn address_in(alloc: Global, settings: &[Setting]) -> Result<Address, NoMemory>
+fn address_in(alloc: Global, settings: &[Setting]) -> Result<Address, AllocError>
     requires { HaveValues settings.now }
     ensures { IfOk result (λ address. IsAddressIn address (said Keyword.Addr settings.now)) }
 {

@@ -4,7 +4,6 @@ ghost use Rattle.std.specs.Prelude.{◌≡◌};
 ghost use Rattle.vt_conf.specs.Causes.{text_of};
 
 use std::alloc::{AllocError, AllocFailed};
-use vt_base::NoMemory;
 
 /// What is wrong with a configuration.
 #[derive(Clone, Copy, Debug, PartialEq, Eq)]
@@ -46,17 +45,6 @@ pub struct ConfBad {
 pub enum ConfErr {
     Bad(ConfBad),
     NoMemory,
-}
-
-impl From<NoMemory> for ConfErr {
-    ghost use Rattle.std.specs.Prelude.{◌≡◌};
-    ghost use Rattle.vt_conf.specs.declared.why.ConfErr.TheVariants.{NoMemory};
-
-    ghost from_gives = { λ _ e. e ≡ NoMemory };
-
-    fn from(_error: NoMemory) -> Self {
-        ConfErr::NoMemory
-    }
 }
 
 impl From<AllocError> for ConfErr {

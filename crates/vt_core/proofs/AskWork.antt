@@ -22,19 +22,18 @@ use Rattle.vt_log.specs.Log.{LogState}
 use Rattle.vt_model.specs.Answer.{Outcome, answer, lends, refuses, replies}
 use Rattle.vt_model.specs.History.{History, has_key, held}
 use Rattle.vt_model.specs.Places.{Setup}
-use Rattle.vt_session.specs.Answered.{ReachesParts, MayFindDamage, TakesMemory, MayFail, OneRose}
-use Rattle.vt_session.specs.Turns.{Cause, disk_fault, no_memory, stopped as part_stopped, log as log_part, why_of}
+use Rattle.vt_model.specs.Causes.{ReachesParts, MayFindDamage, TakesMemory, MayFail, OneRose, Cause, disk_fault, no_memory, stopped as part_stopped, log as log_part, why_of}
 use Rattle.vt_shard.specs.Shard.{ShardState}
-use Rattle.vt_wire.specs.Views.{message_of}
-use Rattle.vt_wire.specs.declared.message.Request.{Request}
-use Rattle.vt_wire.specs.declared.message.Request.TheVariants as requests
+use Rattle.vt_base.specs.declared.operation.Operation.{Operation as Asked}
+use Rattle.vt_base.specs.declared.operation.Operation.TheVariants as asks
 use Rattle.vt_core.specs.declared.event.Event.TheVariants.{Ask}
 use Rattle.vt_core.specs.declared.event.Out.{Out}
 use Rattle.vt_core.specs.declared.event.Out.TheVariants.{Said as SaidOut, Waits, NotYet, Moved, Nothing, Failed}
 use Rattle.vt_core.specs.Asking.{AnswersRequest, LooksIn, MayBeTold, lent, says, shard_of, stop_for, with_parts, with_waiting}
 use Rattle.vt_core.specs.Causes.{CountsOut, CountsSaid, CountsWhy, IsUndamaged, IsUndamagedSaid, IsUndamagedWhy}
 use Rattle.vt_core.specs.Core.{CoreState, setup_of, machine_of, devices_of, each_of, history_len}
-use Rattle.vt_core.specs.Events.{IsAsked, FailsIn, GivesAnswer, operation_in, reply_of}
+use Rattle.vt_base.specs.Operations.{operation_of, reply_of}
+use Rattle.vt_core.specs.Events.{IsAsked, FailsIn, GivesAnswer}
 use Rattle.vt_core.specs.Files.{all_of}
 use Rattle.vt_lookup.specs.Finding.{Parts, AreSound, CountsFailure, IsRight, LooksFor, MayEndLook, MayKeepFrom, NoneRose, Sought, parts_of}
 use Rattle.vt_lookup.specs.Seeking.{StaySound}
@@ -67,9 +66,9 @@ said_is k a b e = ap (said_in a) e
 
 -- ---- nothing changes
 
-module _ {D : Type 0} (score : List ℕ → List ℕ) (disk : DiskOf D) (k : CoreState D) (gives : GivesPrefix disk) (w : IsWhole disk k) (session now : ℕ) (r : Request) where
-  pub still_steps : (out : Out) → ((h : History) → IsTrue disk.tells → IsSound score disk k h → IsAsked score session (operation_in (message_of r)) out (machine_of k h) (machine_of k h))
-      → IsUndamaged out → ((ns : List ℕ) → CountsOut out ns ns) → AnswersRequest score disk session (operation_in (message_of r)) now out k k
+module _ {D : Type 0} (score : List ℕ → List ℕ) (disk : DiskOf D) (k : CoreState D) (gives : GivesPrefix disk) (w : IsWhole disk k) (session now : ℕ) (r : Asked) where
+  pub still_steps : (out : Out) → ((h : History) → IsTrue disk.tells → IsSound score disk k h → IsAsked score session (operation_of r) out (machine_of k h) (machine_of k h))
+      → IsUndamaged out → ((ns : List ℕ) → CountsOut out ns ns) → AnswersRequest score disk session (operation_of r) now out k k
       → Steps score disk (Ask session r now) out k k
   still_steps out makes undamaged counts does = record {
     machine = λ tells h sound. (h, makes h tells sound, sound);
@@ -102,9 +101,9 @@ module _ {D : Type 0} (score : List ℕ → List ℕ) (disk : DiskOf D) (k : Cor
     waits_for_none out new number at = absurd (waits_or_not k session number none at)
 
     -- an answer that needs no part of the store
-    pub early_steps : (said : Said) → operation_in (message_of r) ≢ sync → ¬ ReachesParts score (operation_in (message_of r))
-        → ((c : Setup) (h : History) → answer score c h (operation_in (message_of r)) ≡ record { reply = reply_of said; added = None })
-        → IsUndamagedSaid said → ((ns : List ℕ) → CountsSaid said ns ns) → ((why : Why) → said ≡ Refused why → MayBeTold score k (operation_in (message_of r)) why)
+    pub early_steps : (said : Said) → operation_of r ≢ sync → ¬ ReachesParts score (operation_of r)
+        → ((c : Setup) (h : History) → answer score c h (operation_of r) ≡ record { reply = reply_of said; added = None })
+        → IsUndamagedSaid said → ((ns : List ℕ) → CountsSaid said ns ns) → ((why : Why) → said ≡ Refused why → MayBeTold score k (operation_of r) why)
         → Steps score disk (Ask session r now) (says said k) k k
     early_steps said other far is undamaged counts told = still_steps (says said k)
         (λ h tells sound. (none, sound.log.front, inl (other, inr (record { answer_is = is (setup_of k) h; same = refl }))))
@@ -119,8 +118,8 @@ module _ {D : Type 0} (score : List ℕ → List ℕ) (disk : DiskOf D) (k : Cor
         })
 
     -- a part that it writes to has stopped
-    pub stopped_steps : (call : ℕ) → ReachesParts score (operation_in (message_of r)) → stop_for score k (operation_in (message_of r)) ≡ Some call
-        → ((c : Setup) → (cause : Cause) × (Refused (Stopped call) ≡ Refused (why_of cause)) × MayFail score c (operation_in (message_of r)) cause)
+    pub stopped_steps : (call : ℕ) → ReachesParts score (operation_of r) → stop_for score k (operation_of r) ≡ Some call
+        → ((c : Setup) → (cause : Cause) × (Refused (Stopped call) ≡ Refused (why_of cause)) × MayFail score c (operation_of r) cause)
         → Steps score disk (Ask session r now) (says (Refused (Stopped call)) k) k k
     stopped_steps call reaches stop fails = still_steps (says (Refused (Stopped call)) k)
         (λ h tells sound. let it = fails (setup_of k) in (none, sound.log.front, inr (it.0, it.1, it.2, refl)))
@@ -134,7 +133,7 @@ module _ {D : Type 0} (score : List ℕ → List ℕ) (disk : DiskOf D) (k : Cor
           cause = λ why e. told why (said_is k (Refused (Stopped call)) (Refused why) e);
         })
       where
-        told : (why : Why) → Refused (Stopped call) ≡ Refused why → MayBeTold score k (operation_in (message_of r)) why
+        told : (why : Why) → Refused (Stopped call) ≡ Refused why → MayBeTold score k (operation_of r) why
         told (Stopped other) e = let same : call ≡ other = cc in (reaches, stop ∙ ap (λ (n : ℕ). Some n) same)
         told BadType e = tt
         told TooBig e = tt
@@ -170,7 +169,7 @@ module _ {D : Type 0} (score : List ℕ → List ℕ) (disk : DiskOf D) (k : Cor
   }
 
   pub sync_steps : (gives : GivesPrefix disk) (w : IsWhole disk k) (now : ℕ) → WaitsForNone k.waiting session → k.log.stopped ≡ None
-      → Steps score disk (Ask session requests.Sync now) Waits k (with_waiting session (Some (history_len k)) k)
+      → Steps score disk (Ask session asks.Sync now) Waits k (with_waiting session (Some (history_len k)) k)
   sync_steps gives w now none goes = record {
     machine = λ tells h sound. (
       h,
@@ -223,8 +222,8 @@ module _ {D : Type 0} (score : List ℕ → List ℕ) (disk : DiskOf D) (k : Cor
 
 -- and one where the log has stopped
 pub sync_stops : {D : Type 0} (score : List ℕ → List ℕ) (disk : DiskOf D) (k : CoreState D) (session now call : ℕ) → GivesPrefix disk → IsWhole disk k → WaitsForNone k.waiting session → k.log.stopped ≡ Some call
-    → Steps score disk (Ask session requests.Sync now) (says (Refused (Stopped call)) k) k k
-sync_stops score disk k session now call gives w none stop = stopped_steps score disk k gives w session now requests.Sync none call tt stop (λ c. (part_stopped log_part call, refl, (tt, refl)))
+    → Steps score disk (Ask session asks.Sync now) (says (Refused (Stopped call)) k) k k
+sync_stops score disk k session now call gives w none stop = stopped_steps score disk k gives w session now asks.Sync none call tt stop (λ c. (part_stopped log_part call, refl, (tt, refl)))
 
 -- ---- what is said of a block
 
@@ -293,8 +292,8 @@ lent_told score k m count found why e = told found e
 -- ---- answers that need no part of the store
 
 module _ {D : Type 0} (score : List ℕ → List ℕ) (disk : DiskOf D) (k : CoreState D) (gives : GivesPrefix disk) (w : IsWhole disk k) (session now : ℕ) (none : WaitsForNone k.waiting session) where
-  pub bad_read : (s : Score) (kind count : ℕ) → is_kind kind ≡ false → Steps score disk (Ask session (requests.Read s kind count) now) (says (Refused BadType) k) k k
-  bad_read s kind count bad = early_steps score disk k gives w session now (requests.Read s kind count) none (Refused BadType) (λ e. cc)
+  pub bad_read : (s : Score) (kind count : ℕ) → is_kind kind ≡ false → Steps score disk (Ask session (asks.Read s kind count) now) (says (Refused BadType) k) k k
+  bad_read s kind count bad = early_steps score disk k gives w session now (asks.Read s kind count) none (Refused BadType) (λ e. cc)
       (λ reaches. let both : false ≡ true = sym bad ∙ reaches.0 in absurd (cc))
       (λ c h. ap (λ (b : Bool). if not b then refuses BadType else lends count (held score h s.0 kind)) bad) tt (λ ns. refl) (λ why e. told why e)
     where
@@ -312,8 +311,8 @@ module _ {D : Type 0} (score : List ℕ → List ℕ) (disk : DiskOf D) (k : Cor
       told NoMemory e = absurd (cc)
 
   pub zero_read : (s : Score) (kind count : ℕ) → is_kind kind ≡ true → s.0 ≡ score []
-      → Steps score disk (Ask session (requests.Read s kind count) now) (says (lent count (Ok (Some []))) k) k k
-  zero_read s kind count own same = early_steps score disk k gives w session now (requests.Read s kind count) none (lent count (Ok (Some []))) (λ e. cc)
+      → Steps score disk (Ask session (asks.Read s kind count) now) (says (lent count (Ok (Some []))) k) k k
+  zero_read s kind count own same = early_steps score disk k gives w session now (asks.Read s kind count) none (lent count (Ok (Some []))) (λ e. cc)
       (λ reaches. reaches.1 same)
       (λ c h. ap (λ (b : Bool). if not b then refuses BadType else lends count (held score h s.0 kind)) own
       ∙ ap (λ (b : Bool). lends count (if b then Some [] else option_map (λ e. e.block.bytes) (find (has_key score s.0 kind) h))) ((bytes_eq-Decides s.0 (score [])).1 same)
@@ -479,13 +478,13 @@ module _ {D : Type 0} (score : List ℕ → List ℕ) (disk : DiskOf D) (k new :
       (reads_whole score disk k (shard_of k key.score.0) it.before.shard it.after.shard it.after.log.disks it.looks_in.shard
       (log_reads score disk k key.score.0 it.before it.after it.may_have it.looks_in block it.looks) it.looks.shard w)
 
-  pub read_steps : Steps score disk (Ask session (requests.Read key.score key.kind count) now) (says (lent count block) k) k new
+  pub read_steps : Steps score disk (Ask session (asks.Read key.score key.kind count) now) (says (lent count block) k) k new
   read_steps =
       let i : ℕ = shard_of k key.score.0 in
       let same = mid_is score disk k key.score.0 it.before it.after it.may_have it.looks_in block it.looks in
       let reads = log_reads score disk k key.score.0 it.before it.after it.may_have it.looks_in block it.looks in
       let whys = read_whys block it.looks.counts in
-      subst (λ (m : CoreState D). Steps score disk (Ask session (requests.Read key.score key.kind count) now) (says (lent count block) k) k m) (sym (it.new_is ∙ same)) (record {
+      subst (λ (m : CoreState D). Steps score disk (Ask session (asks.Read key.score key.kind count) now) (says (lent count block) k) k m) (sym (it.new_is ∙ same)) (record {
         machine = λ tells h sound.
             let quiet = reads_machine score disk k i it.before.shard it.after.shard it.after.log.disks it.looks_in.shard reads it.looks.shard w h in (
               h,

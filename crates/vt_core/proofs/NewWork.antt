@@ -18,7 +18,7 @@ use Rattle.vt_model.specs.Answer.{Outcome, answer}
 use Rattle.vt_model.specs.History.{History, Accepted, IsBlock}
 use Rattle.vt_model.specs.Places.{Setup}
 use Rattle.vt_shard.specs.Shard.{ShardState, HasScore}
-use Rattle.vt_wire.specs.declared.message.Request.TheVariants as requests
+use Rattle.vt_base.specs.declared.operation.Operation.TheVariants as asks
 use Rattle.vt_core.specs.declared.event.Event.TheVariants.{Ask}
 use Rattle.vt_core.specs.declared.event.Out.{Out}
 use Rattle.vt_core.specs.declared.event.Out.TheVariants.{NotYet}
@@ -106,9 +106,9 @@ module _ {D : Type 0} (score : List ℕ → List ℕ) (disk : DiskOf D) (k teste
 
   waiting_steps : (out : Out) → EndsWrite score key block.now now (Ok New) it.after out k after → ((why : Why) → out ≡ says (Refused why) k → MayBeTold score k (write kind block.now) why)
       → ((h : History) → IsTrue disk.tells → IsSound score disk k h → IsAsked score session (write kind block.now) out (machine_of k h) (machine_of after h))
-      → IsUndamaged out → CountsOut out (each_of disk.faults k) (each_of disk.faults after) → Steps score disk (Ask session (requests.Write kind block) now) out k tested
+      → IsUndamaged out → CountsOut out (each_of disk.faults k) (each_of disk.faults after) → Steps score disk (Ask session (asks.Write kind block) now) out k tested
   waiting_steps out ends told makes undamaged counts =
-      subst (λ (m : CoreState D). Steps score disk (Ask session (requests.Write kind block) now) out k m) (sym tested_is) (record {
+      subst (λ (m : CoreState D). Steps score disk (Ask session (asks.Write kind block) now) out k m) (sym tested_is) (record {
         machine = λ tells h sound. (
           h,
           makes h tells sound,
@@ -124,12 +124,12 @@ module _ {D : Type 0} (score : List ℕ → List ℕ) (disk : DiskOf D) (k teste
       })
 
   -- there is no room yet
-  pub not_yet_steps : HasNoRoom it.after → Steps score disk (Ask session (requests.Write kind block) now) NotYet k tested
+  pub not_yet_steps : HasNoRoom it.after → Steps score disk (Ask session (asks.Write kind block) now) NotYet k tested
   not_yet_steps full = waiting_steps NotYet (inl (full, refl, sym parts_are)) (λ why e. absurd (cc))
       (λ h tells sound. (none, it.judged h tells sound is refl nonzero, quiet h)) tt none_failed
 
   -- memory is short
-  pub no_memory_steps : ¬ HasNoRoom it.after → Steps score disk (Ask session (requests.Write kind block) now) (says (Refused NoMemory) k) k tested
+  pub no_memory_steps : ¬ HasNoRoom it.after → Steps score disk (Ask session (asks.Write kind block) now) (says (Refused NoMemory) k) k tested
   no_memory_steps room = waiting_steps (says (Refused NoMemory) k) (inr (inl (room, refl, sym parts_are))) told
       (λ h tells sound. (
         none,
@@ -209,8 +209,8 @@ module _ {D : Type 0} (score : List ℕ → List ℕ) (disk : DiskOf D) (k teste
           ),
         )
 
-    pub added_steps : Steps score disk (Ask session (requests.Write kind block) now) out k new
-    added_steps = subst (λ (o : Out). Steps score disk (Ask session (requests.Write kind block) now) o k new) (sym adds.out_is) (record {
+    pub added_steps : Steps score disk (Ask session (asks.Write kind block) now) out k new
+    added_steps = subst (λ (o : Out). Steps score disk (Ask session (asks.Write kind block) now) o k new) (sym adds.out_is) (record {
       machine = λ tells h sound.
           let e = is_there (answer score (setup_of k) h (write kind block.now)).added (it.judged h tells sound is refl nonzero) in
           let here = mid_sound score disk k (score block.now) it.before it.after it.may_have it.looks_in (Ok New) it.looks it.stay tells h sound in (
@@ -247,7 +247,7 @@ module _ {D : Type 0} (score : List ℕ → List ℕ) (disk : DiskOf D) (k teste
       → MarkedStay → AreMarked → AddsWritten → RepliesScore
       → ((h : History) (added : Accepted) → IsTrue disk.tells → IsSound score disk tested h → (answer score (setup_of tested) h (write own.kind block.now)).added ≡ Some added
       → out ≡ says (Score own.score) tested → IsSound score disk new (h ++ added ∷ []))
-      → Steps score disk (Ask session (requests.Write kind block) now) out k new
+      → Steps score disk (Ask session (asks.Write kind block) now) out k new
   given_steps new out own same n place adds stay marked written replies sound =
       let parts : parts_of tested.log it.after.shard ≡ it.after = ap (λ (m : CoreState D). parts_of m.log it.after.shard) it.new_is in
       let here : AddsIfRoom score key block.now now i it.after out after new =
@@ -257,12 +257,12 @@ module _ {D : Type 0} (score : List ℕ → List ℕ) (disk : DiskOf D) (k teste
       (subst (λ (x : Key). AddsIfRoom score x block.now now n (parts_of tested.log it.after.shard) out tested new) same adds))) in
       ⊎_elim
       (λ full.
-      subst (λ (o : Out). Steps score disk (Ask session (requests.Write kind block) now) o k new) (sym full.1)
-      (subst (λ (m : CoreState D). Steps score disk (Ask session (requests.Write kind block) now) NotYet k m) (tested_is ∙ sym full.2) (not_yet_steps full.0)))
+      subst (λ (o : Out). Steps score disk (Ask session (asks.Write kind block) now) o k new) (sym full.1)
+      (subst (λ (m : CoreState D). Steps score disk (Ask session (asks.Write kind block) now) NotYet k m) (tested_is ∙ sym full.2) (not_yet_steps full.0)))
       (λ rest. ⊎_elim
       (λ short.
-      subst (λ (o : Out). Steps score disk (Ask session (requests.Write kind block) now) o k new) (sym short.1)
-      (subst (λ (m : CoreState D). Steps score disk (Ask session (requests.Write kind block) now) (says (Refused NoMemory) k) k m) (tested_is ∙ sym short.2) (no_memory_steps short.0)))
+      subst (λ (o : Out). Steps score disk (Ask session (asks.Write kind block) now) o k new) (sym short.1)
+      (subst (λ (m : CoreState D). Steps score disk (Ask session (asks.Write kind block) now) (says (Refused NoMemory) k) k m) (tested_is ∙ sym short.2) (no_memory_steps short.0)))
       (λ stored. added_steps new out stored stay marked written replies (λ h added tells was is.
       sound h added tells (subst (λ (m : CoreState D). IsSound score disk m h) (sym tested_is) was)
       (ap (λ (m : CoreState D). (answer score (setup_of m) h (write own.kind block.now)).added) tested_is ∙ ap (λ (x : Key). (answer score (setup_of after) h (write x.kind block.now)).added) same ∙ is)

@@ -17,9 +17,9 @@ use Rattle.vt_base.specs.declared.why.Why.TheVariants.{BadType, TooBig, TooSmall
 use Rattle.vt_disk.specs.Members.{DiskOf}
 use Rattle.vt_model.specs.Answer.{collides, refuses, replies}
 use Rattle.vt_model.specs.History.{History, IsBlock}
-use Rattle.vt_session.specs.Turns.{stopped as part_stopped, log as log_part}
+use Rattle.vt_model.specs.Causes.{stopped as part_stopped, log as log_part}
 use Rattle.vt_shard.specs.Shard.{ShardState}
-use Rattle.vt_wire.specs.declared.message.Request.TheVariants as requests
+use Rattle.vt_base.specs.declared.operation.Operation.TheVariants as asks
 use Rattle.vt_core.specs.declared.event.Event.TheVariants.{Ask}
 use Rattle.vt_lookup.specs.declared.writing.Verdict.{Verdict}
 use Rattle.vt_lookup.specs.declared.writing.Verdict.TheVariants.{Held, New}
@@ -58,15 +58,15 @@ module _ {D : Type 0} (score : List ℕ → List ℕ) (disk : DiskOf D) (k : Cor
     (kind : ℕ) (block : Bor (List ℕ)) where
   -- ---- refused, or answered, before anything is looked up
 
-  pub bad_write : is_kind kind ≡ false → Steps score disk (Ask session (requests.Write kind block) now) (says (Refused BadType) k) k k
-  bad_write bad = early_steps score disk k gives w session now (requests.Write kind block) none (Refused BadType) (λ e. cc)
+  pub bad_write : is_kind kind ≡ false → Steps score disk (Ask session (asks.Write kind block) now) (says (Refused BadType) k) k k
+  bad_write bad = early_steps score disk k gives w session now (asks.Write kind block) none (Refused BadType) (λ e. cc)
       (λ reaches. let both : false ≡ true = sym bad ∙ reaches.kind in absurd (cc))
       (λ c h. ap (λ (b : Bool). if not b then refuses BadType else if nat_lt MAX_BLOCK (length block.now) then refuses TooBig
       else if length block.now == 0 then replies (r_write (score [])) else by_score score c h kind block.now) bad)
       tt (λ ns. refl) (λ why e. let same : BadType ≡ why = cc in plain_told score k kind block.now BadType why tt same)
 
-  pub big_write : is_kind kind ≡ true → MAX_BLOCK < length block.now → Steps score disk (Ask session (requests.Write kind block) now) (says (Refused TooBig) k) k k
-  big_write own big = early_steps score disk k gives w session now (requests.Write kind block) none (Refused TooBig) (λ e. cc)
+  pub big_write : is_kind kind ≡ true → MAX_BLOCK < length block.now → Steps score disk (Ask session (asks.Write kind block) now) (says (Refused TooBig) k) k k
+  big_write own big = early_steps score disk k gives w session now (asks.Write kind block) none (Refused TooBig) (λ e. cc)
       (λ reaches. absurd (omega (arith, reaches.most, big)))
       (λ c h. ap (λ (b : Bool). if not b then refuses BadType else if nat_lt MAX_BLOCK (length block.now) then refuses TooBig
       else if length block.now == 0 then replies (r_write (score [])) else by_score score c h kind block.now) own
@@ -80,8 +80,8 @@ module _ {D : Type 0} (score : List ℕ → List ℕ) (disk : DiskOf D) (k : Cor
       empty [] e = refl
       empty (x ∷ xs) e = absurd (omega (arith, e))
 
-  pub empty_write : (s : ScoreOf) → is_kind kind ≡ true → length block.now ≡ 0 → s.0 ≡ score block.now → Steps score disk (Ask session (requests.Write kind block) now) (says (Score s) k) k k
-  empty_write s own empty scored = early_steps score disk k gives w session now (requests.Write kind block) none (Score s) (λ e. cc)
+  pub empty_write : (s : ScoreOf) → is_kind kind ≡ true → length block.now ≡ 0 → s.0 ≡ score block.now → Steps score disk (Ask session (asks.Write kind block) now) (says (Score s) k) k k
+  empty_write s own empty scored = early_steps score disk k gives w session now (asks.Write kind block) none (Score s) (λ e. cc)
       (λ reaches. absurd (omega (arith, reaches.some, empty)))
       (λ c h. ap (λ (b : Bool). if not b then refuses BadType else if nat_lt MAX_BLOCK (length block.now) then refuses TooBig
       else if length block.now == 0 then replies (r_write (score [])) else by_score score c h kind block.now) own
@@ -92,8 +92,8 @@ module _ {D : Type 0} (score : List ℕ → List ℕ) (disk : DiskOf D) (k : Cor
 
   module _ (is : IsBlock (record { kind = kind; bytes = block.now })) where
     -- the log or the shard has stopped
-    pub stops_write : (call : ℕ) → stop_for score k (write kind block.now) ≡ Some call → Steps score disk (Ask session (requests.Write kind block) now) (says (Refused (Stopped call)) k) k k
-    stops_write call stop = stopped_steps score disk k gives w session now (requests.Write kind block) none call is stop (λ c. (part_stopped log_part call, refl, (is, inl refl)))
+    pub stops_write : (call : ℕ) → stop_for score k (write kind block.now) ≡ Some call → Steps score disk (Ask session (asks.Write kind block) now) (says (Refused (Stopped call)) k) k k
+    stops_write call stop = stopped_steps score disk k gives w session now (asks.Write kind block) none call is stop (λ c. (part_stopped log_part call, refl, (is, inl refl)))
 
     module _ (goes : stop_for score k (write kind block.now) ≡ None) where
       performs_write : (said : Said) (new : CoreState D) → Performs score disk session (write kind block.now) now (says said k) k new → ((why : Why) → said ≡ Refused why → MayBeTold score k (write kind block.now) why)
@@ -110,8 +110,8 @@ module _ {D : Type 0} (score : List ℕ → List ℕ) (disk : DiskOf D) (k : Cor
 
       -- the score is the zero score
       pub zero_write : score block.now ≡ score [] → ((h : History) → collides score h block.now ≡ true)
-          → Steps score disk (Ask session (requests.Write kind block) now) (says (Refused Collision) k) k k
-      zero_write zero both = still_steps score disk k gives w session now (requests.Write kind block) (says (Refused Collision) k)
+          → Steps score disk (Ask session (asks.Write kind block) now) (says (Refused Collision) k) k k
+      zero_write zero both = still_steps score disk k gives w session now (asks.Write kind block) (says (Refused Collision) k)
           (λ h tells sound. (none, sound.log.front, inl ((λ e. cc), inr (record { answer_is = collision score (setup_of k) h kind block.now is (both h); same = refl }))))
           tt (λ ns. refl)
           (performs_write (Refused Collision) k
@@ -183,13 +183,13 @@ module _ {D : Type 0} (score : List ℕ → List ℕ) (disk : DiskOf D) (k new :
   tested_ends (Ok New) old m same = absurd (old refl)
   tested_ends (Err why) old m same = (refl, same)
 
-  pub tested_steps : verdict ≢ Ok New → Steps score disk (Ask session (requests.Write kind block) now) (says (said_of key verdict) k) k new
+  pub tested_steps : verdict ≢ Ok New → Steps score disk (Ask session (asks.Write kind block) now) (says (said_of key verdict) k) k new
   tested_steps old =
       let i : ℕ = shard_of k (score block.now) in
       let same = mid_is score disk k (score block.now) it.before it.after it.may_have it.looks_in verdict it.looks in
       let reads = log_reads score disk k (score block.now) it.before it.after it.may_have it.looks_in verdict it.looks in
       let whys = tested_whys verdict it.looks.counts in
-      subst (λ (m : CoreState D). Steps score disk (Ask session (requests.Write kind block) now) (says (said_of key verdict) k) k m) (sym (it.new_is ∙ same)) (record {
+      subst (λ (m : CoreState D). Steps score disk (Ask session (asks.Write kind block) now) (says (said_of key verdict) k) k m) (sym (it.new_is ∙ same)) (record {
         machine = λ tells h sound.
             let quiet = reads_machine score disk k i it.before.shard it.after.shard it.after.log.disks it.looks_in.shard reads it.looks.shard w h in (
               h,

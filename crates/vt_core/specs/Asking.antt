@@ -18,13 +18,13 @@ use Rattle.vt_log.specs.declared.TheConstants.{QUEUE_MAX}
 use Rattle.vt_log.specs.Log.{queued}
 use Rattle.vt_bloom.specs.Bits.{HasBitsOf, Marks}
 use Rattle.vt_shard.specs.declared.TheConstants.{ROOM}
-use Rattle.vt_session.specs.Answered.{ReachesParts, MayFindDamage, TakesMemory}
+use Rattle.vt_model.specs.Causes.{ReachesParts, MayFindDamage, TakesMemory}
 use Rattle.vt_lookup.specs.declared.writing.Verdict.{Verdict}
 use Rattle.vt_lookup.specs.declared.writing.Verdict.TheVariants.{Held, New}
 use Rattle.vt_core.specs.declared.event.Out.{Out}
 use Rattle.vt_core.specs.declared.event.Out.TheVariants.{Said as SaidOut, Waits, NotYet, Nothing, Moved, Failed}
 use Rattle.vt_core.specs.Core.{CoreState, history_len, setup_of}
-use Rattle.vt_core.specs.Events.{reply_of}
+use Rattle.vt_base.specs.Operations.{reply_of}
 use Rattle.vt_core.specs.Machine.{WaitsForNone, WaitsAt}
 use Rattle.vt_lookup.specs.Finding.{Parts, Sought, SeeksBlock, TestsWrite}
 use Rattle.vt_lookup.specs.Adding.{AddsPacked}

@@ -87,7 +87,7 @@ abbrev pub MakesCalls : {D : Type 0} → DiskOf D → Event → Out → (old new
 MakesCalls disk LogAdvance out old new = CallsOnce disk out old new
 MakesCalls disk (FileAdvance shard) out old new = CallsOnce disk out old new
 MakesCalls disk BloomAdvance out old new = CallsOnce disk out old new
-MakesCalls disk (Ask session request now) out old new = OnlyReadFrom disk READS_MOST old new
+MakesCalls disk (Ask session operation now) out old new = OnlyReadFrom disk READS_MOST old new
 MakesCalls disk (AskAnswer session) out old new = new ≡ old
 MakesCalls disk (FileBegin shard) out old new = new ≡ old
 MakesCalls disk (EvictLump shard) out old new = new ≡ old

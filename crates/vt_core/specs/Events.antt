@@ -1,13 +1,12 @@
 -- Which step of the machine an event is, by what it gives.
 use Rattle.std.specs.Prelude.{◌≡◌, ◌≢◌, ◌⊎◌, ⊤, ℕ, ◌<◌, IsSome, List, length}
 use Rattle.vt_base.specs.declared.answer.Said.{Said}
-use Rattle.vt_base.specs.declared.answer.Said.TheVariants.{Score, Block, Synced, Refused}
+use Rattle.vt_base.specs.declared.answer.Said.TheVariants.{Synced, Refused}
 use Rattle.vt_base.specs.declared.why.Why.TheVariants.{Stopped}
-use Rattle.vt_base.specs.Protocol.{Operation, ping, sync, TMessage, t_hello, t_goodbye, t_ask, RMessage, r_read, r_write, r_sync, r_refused}
+use Rattle.vt_base.specs.Operations.{operation_of, reply_of}
+use Rattle.vt_base.specs.Protocol.{Operation, sync}
 use Rattle.vt_model.specs.Answer.{answer}
-use Rattle.vt_session.specs.Answered.{MayFail}
-use Rattle.vt_session.specs.Turns.{Cause, why_of}
-use Rattle.vt_wire.specs.Views.{message_of}
+use Rattle.vt_model.specs.Causes.{MayFail, Cause, why_of}
 use Rattle.vt_core.specs.declared.event.Event.{Event}
 use Rattle.vt_core.specs.declared.event.Event.TheVariants.{Ask, Answer as AskAnswer, LogAdvance, FileBegin, FileAdvance, BloomAdvance, EvictLump, EvictIndex}
 use Rattle.vt_core.specs.declared.event.Out.{Out}
@@ -16,20 +15,9 @@ use Rattle.vt_core.specs.Machine.{Machine, Accepts, Answers, WaitsForNone, Waits
 
 -- ---- events
 
--- what a message asks of the store
-abbrev pub operation_in : TMessage → Operation
-operation_in (t_ask m) = m
-operation_in (t_hello version) = ping
-operation_in t_goodbye = ping
-
--- it asks for a read, a write or a sync
-abbrev pub IsForStore : TMessage → Type 0
-IsForStore message = operation_in message ≢ ping
-
 -- an event for a store with so many sessions and shards
 abbrev pub IsFor : (sessions shards : ℕ) → Event → Type 0
-IsFor sessions shards (Ask session request now) =
-    (session < sessions) × IsForStore (message_of request)
+IsFor sessions shards (Ask session operation now) = session < sessions
 IsFor sessions shards (AskAnswer session) = session < sessions
 IsFor sessions shards LogAdvance = ⊤
 IsFor sessions shards (FileBegin shard) = shard < shards
@@ -37,13 +25,6 @@ IsFor sessions shards (FileAdvance shard) = shard < shards
 IsFor sessions shards BloomAdvance = ⊤
 IsFor sessions shards (EvictLump shard) = shard < shards
 IsFor sessions shards (EvictIndex shard) = shard < shards
-
--- the reply that says it
-abbrev pub reply_of : Said → RMessage
-reply_of (Score score) = r_write score.0
-reply_of (Block block) = r_read block
-reply_of Synced = r_sync
-reply_of (Refused why) = r_refused why
 
 -- ---- their steps
 
@@ -100,8 +81,8 @@ IsWork NotYet old new = ⊥
 
 -- the step of the machine that an event is
 abbrev pub MakesStep : (List ℕ → List ℕ) → Event → Out → (old new : Machine) → Type 0
-MakesStep score (Ask session request now) out old new =
-    IsAsked score session (operation_in (message_of request)) out old new
+MakesStep score (Ask session operation now) out old new =
+    IsAsked score session (operation_of operation) out old new
 MakesStep score (AskAnswer session) out old new = IsAwaited session out old new
 MakesStep score LogAdvance out old new = IsWork out old new
 MakesStep score (FileBegin shard) out old new = IsWork out old new

@@ -3,14 +3,14 @@ use Rattle.std.specs.Prelude.{◌≡◌, ℕ, ◌+◌, ◌≤◌, IsTrue, List, 
 use Rattle.std.specs.Option.{option_map}
 use Rattle.vt_disk.specs.Members.{DiskOf}
 use Rattle.vt_model.specs.History.{History}
-use Rattle.vt_wire.specs.Views.{message_of}
 use Rattle.vt_core.specs.declared.event.Event.{Event}
 use Rattle.vt_core.specs.declared.event.Event.TheVariants.{Ask, Answer as AskAnswer, LogAdvance, FileBegin, FileAdvance, BloomAdvance, EvictLump, EvictIndex}
 use Rattle.vt_core.specs.declared.event.Out.{Out}
 use Rattle.vt_core.specs.Asking.{AnswersRequest, AnswersSync}
 use Rattle.vt_core.specs.Causes.{CountsOut, IsUndamaged, KeepsStops, MakesCalls}
 use Rattle.vt_core.specs.Core.{CoreState, setup_of, machine_of, devices_of, each_of, history_len}
-use Rattle.vt_core.specs.Events.{MakesStep, operation_in}
+use Rattle.vt_base.specs.Operations.{operation_of}
+use Rattle.vt_core.specs.Events.{MakesStep}
 use Rattle.vt_core.specs.Files.{Files, AreWithinCall, all_of}
 use Rattle.vt_core.specs.Machine.{Machine}
 use Rattle.vt_core.specs.Sound.{IsSound}
@@ -39,8 +39,8 @@ LeavesPrefix score disk old new = (h : History) (files : Files) → IsSound scor
 
 abbrev pub Does : {D : Type 0} → (List ℕ → List ℕ) → DiskOf D → Event → Out
     → (old new : CoreState D) → Type 0
-Does score disk (Ask session request now) out old new =
-    AnswersRequest score disk session (operation_in (message_of request)) now out old new
+Does score disk (Ask session operation now) out old new =
+    AnswersRequest score disk session (operation_of operation) now out old new
 Does score disk (AskAnswer session) out old new = AnswersSync session out old new
 Does score disk LogAdvance out old new = AdvancesLog disk out old new
 Does score disk BloomAdvance out old new = SavesFilter out old new

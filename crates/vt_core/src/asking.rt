@@ -1,20 +1,18 @@
-//! Requests of sessions.
+//! Operations of sessions.
 
 ghost use Rattle.std.specs.Prelude.{◌≡◌, ◌<◌, ◌≤◌, ◌++◌, ◌∷◌, [], ◌^◌, ℕ, IsTrue, None, Ok, Some, length, slice_get};
 ghost use Rattle.std.specs.Option.{option_or};
 ghost use Rattle.vt_base.specs.Protocol.{write};
+ghost use Rattle.vt_base.specs.declared.operation.Operation.{Operation};
 ghost use Rattle.vt_icache.specs.Index.{dirty_info};
 ghost use Rattle.vt_log.specs.Log.{has_next};
 ghost use Rattle.vt_model.specs.Answer.{answer};
 ghost use Rattle.vt_model.specs.History.{Accepted, History, IsBlock};
 ghost use Rattle.vt_shard.specs.Shard.{HasScore, ShardState};
-ghost use Rattle.vt_wire.specs.Views.{message_of};
-ghost use Rattle.vt_wire.specs.declared.message.Request.{Request};
 ghost use Rattle.vt_core.specs.declared.event.Event.{Event};
 ghost use Rattle.vt_lookup.specs.declared.writing.Verdict.TheVariants.{New};
 ghost use Rattle.vt_core.specs.Asking.{lent, says, shard_of};
 ghost use Rattle.vt_core.specs.Core.{setup_of};
-ghost use Rattle.vt_core.specs.Events.{IsForStore};
 ghost use Rattle.vt_lookup.specs.Finding.{parts_of};
 ghost use Rattle.vt_core.specs.Machine.{WaitsForNone};
 ghost use Rattle.vt_core.specs.Serving.{AddsIfRoom, FindsBlock, TestsBlock};
@@ -26,32 +24,35 @@ use crate::store::Core;
 use std::alloc::Global;
 use std::marker::Brand;
 use std::sync::ledger::{Blank, Ledger};
-use vt_base::{Answer, Bytes, Key, Kind, MAX_BLOCK, Said, Score, Scorer, Why};
+use vt_base::{Answer, Bytes, Key, Kind, MAX_BLOCK, Operation, Said, Score, Scorer, Why};
 use vt_clump::pack;
 use vt_disk::Disk;
 use vt_lookup::{Verdict, add_block, find_block, test_write};
-use vt_wire::Request;
 
 impl<D: Disk, S: Scorer> Core<D, S> {
     ghost use Rattle.vt_core.specs.Steps.{Steps};
     ghost use Rattle.vt_core.specs.Whole.{IsWhole};
 
     /// What a session asks.
-    pub(crate) fn ask(&mut self, alloc: Global, session: u32, request: Request<'_>, now: u32) -> Out
-        requires session { session < length self.old.waiting }
-        requires store { IsForStore (message_of request) }
-        ensures { Steps S.score_of D.Disk (Event.Ask session request.entry now) result
+    pub(crate) fn ask(
+        &mut self,
+        alloc: Global,
+        session: u32,
+        operation: Operation<'_>,
+        now: u32,
+    ) -> Out
+        requires { session < length self.old.waiting }
+        ensures { Steps S.score_of D.Disk (Event.Ask session operation.entry now) result
             self.old self.new }
     {
         crash_gives_a_prefix::<D>();
         if self.waiting[session as usize].is_some() {
             return Out::Nothing;
         }
-        match request {
-            Request::Read { score, kind, count } => self.ask_read(alloc, score, kind, count),
-            Request::Write { kind, bytes } => self.ask_write(alloc, kind, bytes, now),
-            Request::Sync => self.ask_sync(session, now),
-            Request::Ping | Request::Hello { .. } | Request::Goodbye => unreachable!(),
+        match operation {
+            Operation::Read { score, kind, count } => self.ask_read(alloc, score, kind, count),
+            Operation::Write { kind, bytes } => self.ask_write(alloc, kind, bytes, now),
+            Operation::Sync => self.ask_sync(session, now),
         }
     }
 
@@ -59,7 +60,7 @@ impl<D: Disk, S: Scorer> Core<D, S> {
     fn ask_sync(&mut self, session: u32, now: u32) -> Out
         requires session { session < length self.old.waiting }
         requires free { WaitsForNone self.old.waiting session }
-        ensures { Steps S.score_of D.Disk (Event.Ask session Request.Sync now) result
+        ensures { Steps S.score_of D.Disk (Event.Ask session Operation.Sync now) result
             self.old self.new }
     {
         crash_gives_a_prefix::<D>();
@@ -76,7 +77,7 @@ impl<D: Disk, S: Scorer> Core<D, S> {
     /// A read: the block of a score and type, where the reader takes so many bytes.
     fn ask_read(&mut self, alloc: Global, score: Score, kind: u8, count: u32) -> Out
         ensures { (session now : ℕ) → WaitsForNone self.old.waiting session
-            → Steps S.score_of D.Disk (Event.Ask session (Request.Read score kind count) now)
+            → Steps S.score_of D.Disk (Event.Ask session (Operation.Read score kind count) now)
             result self.old self.new }
     {
         crash_gives_a_prefix::<D>();
@@ -84,7 +85,7 @@ impl<D: Disk, S: Scorer> Core<D, S> {
         let Some(kind) = Kind::from_wire(kind) else {
             return say(Said::Refused(Why::BadType), at);
         };
-        if score == self.log.score(&[]) {
+        if score == self.log.zero_score() {
             return say(lend(Ok(Some(Bytes::from_vec(Vec::new(alloc)))), count), at);
         }
         let key = Key { score, kind };
@@ -130,7 +131,7 @@ impl<D: Disk, S: Scorer> Core<D, S> {
     /// A write: a block that can be one is looked for.
     fn ask_write(&mut self, alloc: Global, kind: u8, block: &[u8], now: u32) -> Out
         ensures { (session : ℕ) → WaitsForNone self.old.waiting session
-            → Steps S.score_of D.Disk (Event.Ask session (Request.Write kind block.entry) now)
+            → Steps S.score_of D.Disk (Event.Ask session (Operation.Write kind block.entry) now)
             result self.old self.new }
     {
         crash_gives_a_prefix::<D>();
@@ -153,7 +154,7 @@ impl<D: Disk, S: Scorer> Core<D, S> {
         requires block { IsBlock (record { kind = key.now.kind; bytes = block.now }) }
         requires scored { key.now.score.0 ≡ S.score_of block.now }
         ensures { (session : ℕ) → WaitsForNone self.old.waiting session
-            → Steps S.score_of D.Disk (Event.Ask session (Request.Write key.now.kind block.entry)
+            → Steps S.score_of D.Disk (Event.Ask session (Operation.Write key.now.kind block.entry)
             now) result self.old self.new }
     {
         crash_gives_a_prefix::<D>();
@@ -165,7 +166,7 @@ impl<D: Disk, S: Scorer> Core<D, S> {
         if let Some(call) = self.stop_for(shard) {
             return say(Said::Refused(Why::Stopped(call)), at);
         }
-        if key.score == self.log.score(&[]) {
+        if key.score == self.log.zero_score() {
             return say(Said::Refused(Why::Collision), at);
         }
         match self.test(alloc, shard, key, block) {

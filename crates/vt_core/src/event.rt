@@ -1,17 +1,15 @@
 //! What is asked of a store, and what it answers.
 
-use vt_base::{Answer, Why};
-use vt_wire::Request;
+use vt_base::{Answer, Operation, Why};
 
-/// One step of a store: a request of a session, the answer to a sync that waits, or one device call
+/// One step of a store: an operation of a session, the answer to a sync that waits, or one device call
 /// or one drop of its own work. Sessions and shards are counted from 0.
 #[derive(Clone, Copy, Debug)]
 pub enum Event<'a> {
-    /// A session asks for a read, a write or a sync. `now` is the time that a clump gets which it
-    /// adds.
+    /// A session asks for an operation. `now` is the time that a clump gets which it adds.
     Ask {
         session: u32,
-        request: Request<'a>,
+        operation: Operation<'a>,
         now: u32,
     },
     /// A session asks for the answer to the sync that it waits for.

@@ -11,9 +11,9 @@ ghost use Rattle.vt_shard.specs.declared.TheConstants.{ROOM};
 
 use crate::event::{Event, Out};
 use crate::outs::Outs;
-use std::alloc::Global;
+use std::alloc::{AllocError, Global};
 use std::marker::Model;
-use vt_base::{NoMemory, Score, Scorer};
+use vt_base::{Score, Scorer};
 use vt_bloom::{Bits, Bloom};
 use vt_disk::Disk;
 use vt_log::Log;
@@ -21,11 +21,11 @@ use vt_recover::{Devices, close_shards, device_of};
 use vt_shard::Shard;
 
 /// A write-once store over its devices (Quinlan and Dorward 2002). It does one thing at a time, an
-/// event: a request of a session, the answer to a sync that waits, or one piece of its own work.
+/// event: an operation of a session, the answer to a sync that waits, or one piece of its own work.
 ///
 /// What it accepts is queued, and its own work brings that to the disks: the log's commits, the
 /// writebacks of index entries, and saves of the Bloom filter. An event makes one device call at
-/// most, but for a request, which may read.
+/// most, but for an operation, which may read.
 #[derive(Drop)]
 pub struct Core<D: Disk, S: Scorer> {
     pub(crate) log: Log<D, S>,
@@ -63,13 +63,13 @@ impl<D: Disk, S: Scorer> Core<D, S> {
     ghost use Rattle.vt_core.specs.Steps.{Steps, Runs};
     ghost use Rattle.vt_shard.specs.Shard.{ShardState, HasScore};
 
-    /// One event. Its session is one of those for which the store was mounted, its shard one of the
-    /// store's, and its request a read, a write or a sync.
+    /// One event. Its session is one of those for which the store was mounted, and its shard one of
+    /// the store's.
     ///
     /// For each history for which the devices are sound it is a step of the write-once machine, and
     /// at every moment of it whatever a crash leaves of all devices, taken together, stands for a
     /// prefix of that history with every durable block. Whatever the devices hold, each answer has
-    /// its cause, one device call is made or none, and a request only reads.
+    /// its cause, one device call is made or none, and an operation only reads.
     pub fn step(&mut self, alloc: Global, event: Event<'_>) -> Out
         requires { IsFor (length self.old.waiting) (length self.old.shards) event }
         ensures { Steps S.score_of D.Disk event.entry result self.old self.new }
@@ -77,9 +77,9 @@ impl<D: Disk, S: Scorer> Core<D, S> {
         match event {
             Event::Ask {
                 session,
-                request,
+                operation,
                 now,
-            } => self.ask(alloc, session, request, now),
+            } => self.ask(alloc, session, operation, now),
             Event::Answer(session) => self.answer_sync(session),
             Event::LogAdvance => self.advance_log(),
             Event::FileBegin(shard) => self.begin_file(shard),
@@ -91,7 +91,7 @@ impl<D: Disk, S: Scorer> Core<D, S> {
     }
 
     /// A list of events, one after another, and what each gave. The memory for that is taken first.
-    pub fn run(&mut self, alloc: Global, events: &[Event<'_>]) -> Result<Outs, NoMemory>
+    pub fn run(&mut self, alloc: Global, events: &[Event<'_>]) -> Result<Outs, AllocError>
         requires { All (IsFor (length self.old.waiting) (length self.old.shards)) events.now }
         ensures runs { IfOk result (λ outs. Runs S.score_of D.Disk events.now outs
             self.old self.new) }

@@ -5,11 +5,10 @@ use crate::disks::{Fails, Mem};
 use crate::stores::{Act, DATA, Given, TestStore, again, do_all, does, fresh, there};
 use std::alloc::Global;
 use std::test::Fail;
-use vt_base::{Sha1Scorer, Why};
+use vt_base::{Operation, Sha1Scorer, Why};
 use vt_core::{Core, Event};
 use vt_memdisk::CrashMode;
 use vt_rows::Rows;
-use vt_wire::Request;
 
 /// Reads of a store that holds `abc` as data, and not as a directory.
 const READS: [Act<'static>; 6] = [
@@ -34,8 +33,8 @@ const WRITES: [Act<'static>; 7] = [
 
 /// A sync waits until its blocks are durable.
 const SYNCS: [Act<'static>; 8] = [
-    Act::Ask(1, Request::Sync, Given::Waits),
-    Act::Ask(1, Request::Sync, Given::Nothing),
+    Act::Ask(1, Operation::Sync, Given::Waits),
+    Act::Ask(1, Operation::Sync, Given::Nothing),
     Act::Step(Event::Answer(1), Given::NotYet),
     Act::Step(Event::Answer(0), Given::Nothing),
     Act::Work(Event::LogAdvance),
@@ -97,7 +96,7 @@ fn answers<T: TestStore>(alloc: Global, rows: &mut Rows) {
 const FULL: [Act<'static>; 5] = [
     Act::Ask(
         0,
-        Request::Write {
+        Operation::Write {
             kind: DATA,
             bytes: &[64],
         },
@@ -135,13 +134,13 @@ const MOUNTING: u64 = 4;
 /// but that a queued block is still read.
 const STOPPED: [Act<'static>; 9] = [
     Act::Write(DATA, b"abc", Ok(())),
-    Act::Ask(0, Request::Sync, Given::Waits),
+    Act::Ask(0, Operation::Sync, Given::Waits),
     Act::Step(Event::LogAdvance, Given::Moved),
     Act::Step(Event::LogAdvance, Given::Moved),
     Act::Step(Event::LogAdvance, Given::Failed),
     Act::Step(Event::Answer(0), Given::Refused(Why::Stopped(2))),
     Act::Write(DATA, b"abd", Err(Why::Stopped(2))),
-    Act::Ask(0, Request::Sync, Given::Refused(Why::Stopped(2))),
+    Act::Ask(0, Operation::Sync, Given::Refused(Why::Stopped(2))),
     Act::Read(DATA, b"abc", 3, Ok(b"abc")),
 ];
 

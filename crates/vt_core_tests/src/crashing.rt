@@ -6,11 +6,10 @@ use crate::stores::{
 };
 use std::alloc::Global;
 use std::test::Fail;
-use vt_base::{MountBad, Sha1Scorer, Why};
+use vt_base::{MountBad, Operation, Sha1Scorer, Why};
 use vt_core::{Core, Event};
 use vt_memdisk::CrashMode;
 use vt_rows::{Rows, Wrong};
-use vt_wire::Request;
 
 // ---- a script
 
@@ -56,9 +55,9 @@ fn event(deed: Deed) -> Event<'static> {
     match deed {
         Deed::Write(block) => {
             let bytes = if block < 3 { BLOCKS[block] } else { b"" };
-            ask(0, Request::Write { kind: DATA, bytes })
+            ask(0, Operation::Write { kind: DATA, bytes })
         }
-        Deed::Sync => ask(0, Request::Sync),
+        Deed::Sync => ask(0, Operation::Sync),
         Deed::Own(event) => event,
     }
 }

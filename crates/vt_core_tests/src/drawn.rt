@@ -6,12 +6,11 @@ use crate::disks::{Fails, Mem};
 use crate::stores::{Given, TestStore, again, ask, fresh, is, is_block, is_score, there, work};
 use std::alloc::Global;
 use std::test::Fail;
-use vt_base::{Scorer, ShortScorer};
+use vt_base::{Operation, Scorer, ShortScorer};
 use vt_core::{Core, Event, Out};
 use vt_memdisk::CrashMode;
 use vt_model::PlainStore;
 use vt_rows::Rows;
-use vt_wire::Request;
 
 /// Numbers that follow from the first one.
 #[derive(Drop)]
@@ -95,7 +94,7 @@ fn new_pair<T: TestStore>(alloc: Global, rows: &mut Rows) -> Option<Pair<T>> {
 
 /// A block is written. Where the queue is full, the log commits first.
 fn write_through<T: TestStore>(alloc: Global, store: &mut T, kind: u8, bytes: &[u8]) -> Out {
-    let write = ask(0, Request::Write { kind, bytes });
+    let write = ask(0, Operation::Write { kind, bytes });
     let out = store.event(alloc, write);
     if matches!(out, Out::NotYet) && work(alloc, store, Event::LogAdvance) {
         return store.event(alloc, write);
@@ -135,14 +134,14 @@ fn write_word<T: TestStore>(alloc: Global, pair: &mut Pair<T>, number: u32) -> b
 fn read_word<T: TestStore>(alloc: Global, pair: &mut Pair<T>, number: u32) -> bool {
     let it = word_of(number);
     let (score, kind, count) = (ShortScorer.score(&it.bytes), it.kind, 57_344);
-    let read = ask(0, Request::Read { score, kind, count });
+    let read = ask(0, Operation::Read { score, kind, count });
     let out = pair.store.event(alloc, read);
     is_block(&out, pair.plain.read(&score, kind, count))
 }
 
 /// A sync, and what it waits for.
 fn sync<T: TestStore>(alloc: Global, store: &mut T, rows: &mut Rows, row: usize) {
-    let out = store.event(alloc, ask(0, Request::Sync));
+    let out = store.event(alloc, ask(0, Operation::Sync));
     rows.nth(row, "a sync waits", matches!(out, Out::Waits));
     let done = work(alloc, store, Event::LogAdvance);
     rows.nth(row, "the commit of a sync", done);

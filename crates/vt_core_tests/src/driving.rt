@@ -7,14 +7,13 @@ use crate::disks::{Disks, Fails, Mem, TestDisk, crashed, only, partition, sectio
 use crate::stores::{DATA, TestScorer, TestStore, there};
 use std::alloc::Global;
 use std::test::Fail;
-use vt_answer::Store;
-use vt_base::{Said, Scorer, Sha1Scorer, Why};
+use vt_answer::{Store, read, write};
+use vt_base::{Operation, Said, Scorer, Sha1Scorer, Why};
 use vt_core::{Core, Event, Out};
 use vt_disk::Disk;
 use vt_drive::{Driven, ask, end, sync};
 use vt_memdisk::CrashMode;
 use vt_rows::{Rows, Wrong};
-use vt_wire::Request;
 
 /// What is done to a store behind its session: its use is ended, or all is synced, by the call for
 /// that or by a request.
@@ -51,7 +50,7 @@ impl<D: TestDisk, S: TestScorer> DrivenStore for Driven<D, S> {
     fn open(alloc: Global, disks: Disks<D>) -> Option<Self> {
         let mut core = mounted(alloc, disks)?;
         if is_free(alloc, &mut core) {
-            Some(Driven::new(core, alloc, 7))
+            Some(Driven::new(core, 7))
         } else {
             None
         }
@@ -62,7 +61,7 @@ impl<D: TestDisk, S: TestScorer> DrivenStore for Driven<D, S> {
         let done = match last {
             Last::End => end(&mut core, alloc),
             Last::Sync => sync(&mut core, alloc, 0),
-            Last::Ask => synced(ask(&mut core, alloc, 0, Request::Sync, 7).said),
+            Last::Ask => synced(ask(&mut core, alloc, 0, Operation::Sync, 7).said),
         };
         let counts = core.counts();
         let disks = core.close()?;
@@ -109,7 +108,7 @@ fn opened<T: DrivenStore>(alloc: Global, disks: Option<Disks<T::Disk>>) -> Resul
 /// Whether the block with this number is written.
 fn is_written<T: Store>(alloc: Global, store: &mut T, number: u32) -> bool {
     let bytes = number.to_be_bytes();
-    match store.write(alloc, DATA, &bytes) {
+    match write(alloc, store, DATA, &bytes) {
         Ok(score) => score == Sha1Scorer.score(&bytes),
         Err(_) => false,
     }
@@ -128,7 +127,7 @@ fn writes<T: Store>(alloc: Global, store: &mut T, count: u32) -> bool {
 /// Whether the block with this number is read.
 fn is_read<T: Store>(alloc: Global, store: &mut T, number: u32) -> bool {
     let bytes = number.to_be_bytes();
-    match store.read(alloc, &Sha1Scorer.score(&bytes), DATA, 4) {
+    match read(alloc, store, &Sha1Scorer.score(&bytes), DATA, 4) {
         Ok(found) => found.as_slice() == &bytes[..],
         Err(_) => false,
     }
@@ -249,11 +248,11 @@ const STOPPED: Why = Why::Stopped(2);
 fn see_stopped<T: Store>(alloc: Global, store: &mut T, rows: &mut Rows) {
     let written = writes(alloc, store, 1);
     rows.is("a block is written", written);
-    let sync = store.sync();
+    let sync = vt_answer::sync(alloc, store);
     rows.is("the sync that fails", sync == Err(Why::DiskFault));
-    let sync = store.sync();
+    let sync = vt_answer::sync(alloc, store);
     rows.is("a later sync", sync == Err(STOPPED));
-    let write = store.write(alloc, DATA, b"abc");
+    let write = write(alloc, store, DATA, b"abc");
     rows.is("a later write", write == Err(STOPPED));
     let found = reads(alloc, store, 1);
     rows.is("what was queued is read", found);

@@ -7,11 +7,10 @@ use crate::disks::{
 use crate::stores::{Act, DATA, TestStore, ask, does, file, opened, there, work};
 use std::alloc::Global;
 use std::test::Fail;
-use vt_base::{FieldValue, MountBad, MountField, Place, ShortScorer, Site};
+use vt_base::{FieldValue, MountBad, MountField, Operation, Place, ShortScorer, Site};
 use vt_core::{Core, Event, Out};
 use vt_memdisk::CrashMode;
 use vt_rows::{Rows, Wrong};
-use vt_wire::Request;
 
 /// The bytes of an arena with room for more blocks than a shard has for their entries.
 const LARGE: u32 = 131_072;
@@ -54,7 +53,7 @@ fn write_block<T: TestStore>(alloc: Global, store: &mut T, number: u32) -> bool 
     let (kind, bytes) = block(number);
     let write = ask(
         0,
-        Request::Write {
+        Operation::Write {
             kind,
             bytes: &bytes,
         },

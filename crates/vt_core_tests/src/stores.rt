@@ -5,14 +5,13 @@ ghost use Rattle.vt_core.specs.Events.{IsFor};
 
 use crate::disks::{Disks, Fails, TestDisk, closed, crashed, mounted_part, only, small};
 use std::alloc::Global;
-use vt_base::{MountBad, Said, Score, Scorer, Sha1Scorer, ShortScorer, Why};
+use vt_base::{MountBad, Operation, Said, Score, Scorer, Sha1Scorer, ShortScorer, Why};
 use vt_core::{Core, Event, Out};
 use vt_disk::Disk;
 use vt_memdisk::CrashMode;
 use vt_recover::Devices;
 use vt_rows::Rows;
 use vt_shard::Sizes;
-use vt_wire::Request;
 
 pub const SIZES: Sizes = Sizes {
     lumps: 4,
@@ -122,18 +121,7 @@ fn is_for<D: Disk, S: Scorer>(core: &Core<D, S>, event: &Event<'_>) -> bool
         → IsFor (length core.now.waiting) (length core.now.shards) event.now }
 {
     match *event {
-        Event::Ask {
-            session,
-            request,
-            ..
-        } => {
-            session < core.sessions()
-                && matches!(
-                    request,
-                    Request::Read { .. } | Request::Write { .. } | Request::Sync
-                )
-        }
-        Event::Answer(session) => session < core.sessions(),
+        Event::Ask { session, .. } | Event::Answer(session) => session < core.sessions(),
         Event::LogAdvance | Event::BloomAdvance => true,
         Event::FileBegin(shard)
         | Event::FileAdvance(shard)
@@ -178,10 +166,10 @@ pub fn again<T: TestStore>(alloc: Global, store: T, mode: CrashMode) -> Result<T
 // ---- events
 
 /// A session asks.
-pub fn ask(session: u32, request: Request<'_>) -> Event<'_> {
+pub fn ask(session: u32, operation: Operation<'_>) -> Event<'_> {
     Event::Ask {
         session,
-        request,
+        operation,
         now: 0,
     }
 }
@@ -234,7 +222,7 @@ pub enum Act<'a> {
     /// Of the block of a type with the score of these bytes this many bytes are asked for.
     Read(u8, &'a [u8], u32, Result<&'a [u8], Why>),
     /// A session asks.
-    Ask(u32, Request<'a>, Given),
+    Ask(u32, Operation<'a>, Given),
     /// An event happens once.
     Step(Event<'static>, Given),
     /// It happens until there is nothing to do, and no call fails.
@@ -248,15 +236,17 @@ pub fn does<T: TestStore>(alloc: Global, store: &mut T, act: &Act<'_>) -> bool {
     match *act {
         Act::Write(kind, bytes, wanted) => {
             let score = store.score(bytes);
-            let out = store.event(alloc, ask(0, Request::Write { kind, bytes }));
+            let out = store.event(alloc, ask(0, Operation::Write { kind, bytes }));
             is_score(&out, &score, wanted)
         }
         Act::Read(kind, bytes, count, wanted) => {
             let score = store.score(bytes);
-            let out = store.event(alloc, ask(0, Request::Read { score, kind, count }));
+            let out = store.event(alloc, ask(0, Operation::Read { score, kind, count }));
             is_block(&out, wanted)
         }
-        Act::Ask(session, request, given) => is(&store.event(alloc, ask(session, request)), given),
+        Act::Ask(session, operation, given) => {
+            is(&store.event(alloc, ask(session, operation)), given)
+        }
         Act::Step(event, given) => is(&store.event(alloc, event), given),
         Act::Work(event) => work(alloc, store, event),
         Act::Count(counts) => store.counts() == counts,

@@ -3,23 +3,22 @@ use Rattle.std.proofs.Common.{◌≡◌, ◌≢◌, ◌⊎◌, ⊎_elim, ℕ, Li
 use Rattle.std.specs.Prelude.{IsSome, IsTrue}
 use Rattle.vt_base.specs.declared.answer.Answer.{Answer}
 use Rattle.vt_base.specs.declared.why.Why.{Why}
-use Rattle.vt_base.specs.Protocol.{Operation, ping, sync}
+use Rattle.vt_base.specs.Protocol.{Operation, sync}
 use Rattle.vt_disk.specs.Members.{DiskOf}
 use Rattle.vt_model.specs.Answer.{answer}
 use Rattle.vt_model.specs.History.{Accepted, History}
-use Rattle.vt_wire.specs.declared.message.Request.{Request}
-use Rattle.vt_wire.specs.Views.{message_of}
+use Rattle.vt_base.specs.declared.operation.Operation.{Operation as Asked}
 use Rattle.vt_core.specs.declared.event.Out.{Out}
 use Rattle.vt_core.specs.declared.event.Out.TheVariants.{NotYet, Waits, Moved, Nothing, Failed}
 use Rattle.vt_core.specs.Causes.{OnlyReadFrom, READS_MOST}
 use Rattle.vt_core.specs.Core.{CoreState, devices_of, setup_of}
-use Rattle.vt_core.specs.Events.{operation_in}
+use Rattle.vt_base.specs.Operations.{operation_of}
 use Rattle.vt_core.specs.Files.{all_of}
 use Rattle.vt_core.specs.Machine.{WaitsForNone}
 use Rattle.vt_core.specs.Sound.{IsSound}
 use Rattle.vt_drive.specs.Answers.{DrivesRequest}
 use Rattle.vt_drive.specs.Requests.{IsRequested}
-use Rattle.vt_drive.proofs.AskGives.{FindsNoRoom, Given, IsWaiting, gives}
+use Rattle.vt_drive.proofs.AskGives.{FindsNoRoom, Given, IsWaiting, gives, never_ping}
 use Rattle.vt_drive.proofs.SyncTold.{told_wait}
 use Rattle.vt_drive.proofs.Told.{Told, behind_test, told_again, told_at_once, told_behind}
 use Rattle.vt_drive.proofs.Whys.{stop_for_same}
@@ -44,26 +43,25 @@ not_given score session m out old new given = ⊎_elim
     none : {o : Out} → out ≡ o → (out ≡ Moved) ⊎ (out ≡ Nothing) ⊎ ((why : Why) × (out ≡ Failed why)) → (o ≡ Moved → ⊥) → (o ≡ Nothing → ⊥) → ((w : Why) → o ≡ Failed w → ⊥) → ⊥
     none is other no1 no2 no3 = ⊎_elim (λ e. no1 (sym is ∙ e)) (λ more. ⊎_elim (λ e. no2 (sym is ∙ e)) (λ e. no3 e.0 (sym is ∙ e.1)) more) other
 
-module _ {D : Type 0} (score : List ℕ → List ℕ) (disk : DiskOf D) (session now : ℕ) (r : Request) (a : Answer) (old new : CoreState D) (free : WaitsForNone old.waiting session)
-    (other : operation_in (message_of r) ≢ ping) where
-  told : IsRequested score disk session r now a old new → Told score disk (operation_in (message_of r)) a old new
+module _ {D : Type 0} (score : List ℕ → List ℕ) (disk : DiskOf D) (session now : ℕ) (r : Asked) (a : Answer) (old new : CoreState D) (free : WaitsForNone old.waiting session) where
+  told : IsRequested score disk session r now a old new → Told score disk (operation_of r) a old new
   told it = ⊎_elim
-      (λ step. told_at_once score disk session now r a old new free other step)
+      (λ step. told_at_once score disk session now r a old new free step)
       (λ later. ⊎_elim
       (λ again.
-      let room = room_given score session (operation_in (message_of r)) old later.mid (gives score disk session now NotYet old later.mid (operation_in (message_of r)) other (again.0.does.serves free)) in
+      let room = room_given score session (operation_of r) old later.mid (gives score disk session now NotYet old later.mid (operation_of r) (never_ping r) (again.0.does.serves free)) in
       let before = behind_test score disk session now r old later.mid again.0 room in
-      told_behind score disk (operation_in (message_of r)) a old later.mid new before
+      told_behind score disk (operation_of r) a old later.mid new before
       (told_again score disk session now r a later.mid new (subst (λ (ws : List (Option ℕ)). WaitsForNone ws session) (sym room.waiting) free) room.reaches
-      (stop_for_same score (operation_in (message_of r)) old later.mid before.stops before.keeps.store.shards before.keeps.store.setup ∙ room.goes) again.1))
+      (stop_for_same score (operation_of r) old later.mid before.stops before.keeps.store.shards before.keeps.store.setup ∙ room.goes) again.1))
       (λ waits.
       told_wait score disk session now r a old later.mid new free waits.0
-      (wait_given score session (operation_in (message_of r)) old later.mid (gives score disk session now Waits old later.mid (operation_in (message_of r)) other (waits.0.does.serves free))) waits.1)
+      (wait_given score session (operation_of r) old later.mid (gives score disk session now Waits old later.mid (operation_of r) (never_ping r) (waits.0.does.serves free))) waits.1)
       later.later)
       it
 
-  only_reads : IsRequested score disk session r now a old new → (h : History) → IsTrue disk.tells → IsSound score disk old h → operation_in (message_of r) ≢ sync
-      → (answer score (setup_of old) h (operation_in (message_of r))).added ≡ None → OnlyReadFrom disk READS_MOST (all_of (devices_of old)) (all_of (devices_of new))
+  only_reads : IsRequested score disk session r now a old new → (h : History) → IsTrue disk.tells → IsSound score disk old h → operation_of r ≢ sync
+      → (answer score (setup_of old) h (operation_of r)).added ≡ None → OnlyReadFrom disk READS_MOST (all_of (devices_of old)) (all_of (devices_of new))
   only_reads it h tells sound no_sync none = ⊎_elim
       (λ step. step.calls)
       (λ later. ⊎_elim

@@ -8,6 +8,8 @@ use Rattle.std.proofs.lemmas.List.{nil_from_length}
 use Rattle.vt_base.specs.declared.TheConstants.{MAX_BLOCK}
 use Rattle.vt_base.specs.declared.answer.Said.{Said}
 use Rattle.vt_base.specs.declared.answer.Said.TheVariants.{Score, Block, Synced, Refused}
+use Rattle.vt_base.specs.declared.operation.Operation.{Operation as Asked}
+use Rattle.vt_base.specs.declared.operation.Operation.TheVariants.{Read, Write, Sync}
 use Rattle.vt_base.specs.declared.score.Score.{Score as ScoreOf}
 use Rattle.vt_base.specs.declared.why.Why.{Why}
 use Rattle.vt_base.specs.declared.why.Why.TheVariants.{Stopped, NoMemory, Collision, TooSmall, Absent}
@@ -21,7 +23,7 @@ use Rattle.vt_model.specs.Places.{Setup, bucket_count, bucket_of, crowd, next_ar
 use Rattle.vt_model.specs.declared.TheConstants.{BUCKET_ROOM}
 use Rattle.vt_log.specs.declared.TheConstants.{QUEUE_MAX}
 use Rattle.vt_log.specs.Log.{LogState, queued}
-use Rattle.vt_session.specs.Answered.{ReachesParts}
+use Rattle.vt_model.specs.Causes.{ReachesParts}
 use Rattle.vt_shard.specs.Shard.{ShardState}
 use Rattle.vt_shard.specs.declared.TheConstants.{ROOM}
 use Rattle.vt_core.specs.declared.event.Out.{Out}
@@ -30,10 +32,16 @@ use Rattle.vt_lookup.specs.declared.writing.Verdict.{Verdict}
 use Rattle.vt_lookup.specs.declared.writing.Verdict.TheVariants.{Held, New}
 use Rattle.vt_core.specs.Asking.{EndsWrite, Performs, Serves, Writes, lent, says, shard_of, stop_for, with_parts, with_waiting}
 use Rattle.vt_core.specs.Core.{CoreState, history_len, setup_of}
-use Rattle.vt_core.specs.Events.{reply_of}
+use Rattle.vt_base.specs.Operations.{operation_of, reply_of}
 use Rattle.vt_lookup.specs.Finding.{Parts, Sought}
-use Rattle.vt_drive.specs.Answers.{Suits}
+use Rattle.vt_answer.specs.Serving.{Suits}
 use Rattle.vt_drive.proofs.TestKeeps.{test_keeps}
+
+-- what is asked of a store is no ping
+pub never_ping : (asked : Asked) → operation_of asked ≢ ping
+never_ping (Read score kind count) is = cc
+never_ping (Write kind bytes) is = cc
+never_ping Sync is = cc
 
 -- ---- whether it reaches the store's parts
 

@@ -10,7 +10,7 @@ use Rattle.std.specs.Option.{option_map, option_to_list}
 use Rattle.std.specs.Prelude.{min, nat_lt, not, slice_get, slice_index}
 use Rattle.std.specs.Str.{bytes_eq}
 use Rattle.vt_base.specs.Kind.{is_kind}
-use Rattle.vt_base.specs.Protocol.{Operation, ping, read, write, sync, r_read, r_refused, text_of}
+use Rattle.vt_base.specs.Protocol.{Operation, RMessage, ping, read, write, sync, r_read, r_refused, text_of}
 use Rattle.vt_base.specs.declared.TheConstants.{MAX_BLOCK}
 use Rattle.vt_base.specs.declared.answer.Answer.{Answer}
 use Rattle.vt_base.specs.declared.answer.Said.{Said}
@@ -24,21 +24,23 @@ use Rattle.vt_model.specs.Legal.{IsLegal}
 use Rattle.vt_model.specs.Places.{Setup}
 use Rattle.vt_model.proofs.Added.{added-refused}
 use Rattle.vt_model.proofs.Numbers.{held-by}
-use Rattle.vt_session.specs.Answered.{AreToldBy, MayFail, NoneFell, ReachesParts, StandsAt, TakesMemory, WritesTo}
-use Rattle.vt_session.specs.Turns.{Cause, Part, disk_fault, stopped, damaged, no_memory, why_of}
+use Rattle.vt_model.specs.Causes.{MayFail, NoneFell, ReachesParts, TakesMemory, WritesTo, Cause, Part, disk_fault, stopped, damaged, no_memory, why_of}
+use Rattle.vt_session.specs.Answered.{AreToldBy, StandsAt}
 use Rattle.vt_answer.specs.Condition.{Condition, GoesOn, IsNoDamage, IsNoFault, faults_over}
-use Rattle.vt_answer.specs.Serving.{Answers, Fails, IsCovered, Lengthens, TellsCause, tells_failure}
-use Rattle.vt_wire.specs.Views.{message_of}
-use Rattle.vt_wire.specs.declared.message.Request.{Request}
+use Rattle.vt_answer.specs.Serving.{Answers, Fails, IsCovered, Lengthens, Serves, TellsCause, tells_failure}
+use Rattle.vt_base.specs.declared.operation.Operation.{Operation as Asked}
 use Rattle.vt_core.specs.Causes.{CountsSaid, IsUndamagedSaid, IsUndamagedWhy}
 use Rattle.vt_core.specs.Core.{devices_of, each_of, machine_of, setup_of}
-use Rattle.vt_core.specs.Events.{GivesAnswer, operation_in, reply_of}
+use Rattle.vt_base.specs.Operations.{operation_of, reply_of}
+use Rattle.vt_core.specs.Events.{GivesAnswer}
 use Rattle.vt_core.specs.Files.{all_of}
 use Rattle.vt_core.specs.Machine.{Machine}
 use Rattle.vt_core.specs.Sound.{IsSound}
 use Rattle.vt_core.proofs.AskWork.{one_rose}
 use Rattle.vt_drive.specs.Answers.{DrivesRequest, IsServed}
-use Rattle.vt_drive.specs.Driven.{DoesRequest, DrivenState, HoldsOn, asked_for, condition_of, result_of, stops_in}
+use Rattle.vt_base.specs.Operations.{result_of}
+use Rattle.vt_answer.specs.Serving.{asked_for}
+use Rattle.vt_drive.specs.Driven.{DoesRequest, DrivenState, HoldsOn, condition_of, stops_in}
 use Rattle.vt_drive.proofs.DrivenStops.{stop_known, stops_in_same, stops_stay}
 use Rattle.vt_drive.proofs.EndsAll.{why_fell}
 use Rattle.vt_drive.proofs.Risen.{AllFit, fits_in, same_fell}
@@ -139,14 +141,6 @@ lengthens h o = record {
 
 -- ---- what is said
 
--- a refusal that tells no failure is the model's, as every other answer is
-abbrev pub ServesSaid : (List ℕ → List ℕ) → (c c' : Condition) → (holds : History → Type 0) → History → Operation → Said → Type 0
-ServesSaid score c c' holds h m (Score given) = Answers score c c' holds h m (reply_of (Score given))
-ServesSaid score c c' holds h m (Block bytes) = Answers score c c' holds h m (reply_of (Block bytes))
-ServesSaid score c c' holds h m Synced = Answers score c c' holds h m (reply_of Synced)
-ServesSaid score c c' holds h m (Refused why) =
-    ((tells_failure why ≡ false) × Answers score c c' holds h m (r_refused why)) ⊎ Fails score c c' holds h m why
-
 -- it tells of no failure
 abbrev IsFine : Said → Type 0
 IsFine said = (why : Why) → said ≡ Refused why → tells_failure why ≡ false
@@ -163,11 +157,11 @@ refused_inside (Score given) o = o
 refused_inside (Block bytes) o = o
 refused_inside Synced o = o
 
--- an operation is a request of a store that is this one
-pub asked : {D : Type 0} (score : List ℕ → List ℕ) (disk : DiskOf D) (m : Operation) (r : Request) (a : Answer) (said : Said) (x old new : DrivenState D) → x ≡ old → new.now ≡ x.now → a.said ≡ said
-    → operation_in (message_of r) ≡ asked_for m → DrivesRequest score disk 0 r x.now a x.core new.core → DoesRequest score disk m (result_of said) old new
+-- an operation is one of a store that is this one
+pub asked : {D : Type 0} (score : List ℕ → List ℕ) (disk : DiskOf D) (m : Operation) (r : Asked) (a : Answer) (said : Said) (x old new : DrivenState D) → x ≡ old → new.now ≡ x.now → a.said ≡ said
+    → operation_of r ≡ asked_for m → DrivesRequest score disk 0 r x.now a x.core new.core → DoesRequest score disk m (result_of said) old new
 asked {D} score disk m r a said x old new is time says asks it = record {
-  request = r;
+  asked = r;
   answer = a;
   asks = asks;
   says = ap result_of says;
@@ -176,8 +170,8 @@ asked {D} score disk m r a said x old new is time says asks it = record {
 }
 
 -- all that it tells but its events
-pub told_of : {D : Type 0} (score : List ℕ → List ℕ) (disk : DiskOf D) (m : Operation) (r : Request) (a : Answer) (x old new : DrivenState D) → x ≡ old
-    → operation_in (message_of r) ≡ asked_for m → DrivesRequest score disk 0 r x.now a x.core new.core → Told score disk (asked_for m) a old.core new.core
+pub told_of : {D : Type 0} (score : List ℕ → List ℕ) (disk : DiskOf D) (m : Operation) (r : Asked) (a : Answer) (x old new : DrivenState D) → x ≡ old
+    → operation_of r ≡ asked_for m → DrivesRequest score disk 0 r x.now a x.core new.core → Told score disk (asked_for m) a old.core new.core
 told_of {D} score disk m r a x old new is asks it =
     subst (λ (y : DrivenState D). Told score disk (asked_for m) a y.core new.core) is
     (subst (λ (q : Operation). Told score disk q a x.core new.core) asks (record {
@@ -217,19 +211,25 @@ module _ {D : Type 0} (score : List ℕ → List ℕ) (disk : DiskOf D) (fit : (
       let same = same_stops (λ e. let no : Refused (Stopped call) ≡ Refused DiskFault = sym is ∙ e in cc) in
       (known.0, asked_writes score (setup_of old.core) m known.0 known.1, subst (λ (l : List (Part × ℕ)). Contains l (known.0, call)) (sym same) known.2)
 
-  pub tells : (X : Type 0) (why : Why) → a.said ≡ Refused why → TellsCause {X = X} (condition_of disk old) (condition_of disk new) (Err why)
-  tells X DiskFault is =
+  tells : (why : Why) → a.said ≡ Refused why → TellsCause {X = RMessage} (condition_of disk old) (condition_of disk new) (Err why)
+  tells DiskFault is =
       one_rose (each_of disk.faults old.core) (each_of disk.faults new.core) (subst (λ (s : Said). CountsSaid s (each_of disk.faults old.core) (each_of disk.faults new.core)) is it.counts)
-  tells X (Stopped call) is = let known = stop_here call is in (known.0, known.2)
-  tells X (Damaged site want found) is = tt
-  tells X NoMemory is = tt
-  tells X BadType is = tt
-  tells X TooBig is = tt
-  tells X TooSmall is = tt
-  tells X Absent is = tt
-  tells X Collision is = tt
-  tells X IndexFull is = tt
-  tells X ArenasFull is = tt
+  tells (Stopped call) is = let known = stop_here call is in (known.0, known.2)
+  tells (Damaged site want found) is = tt
+  tells NoMemory is = tt
+  tells BadType is = tt
+  tells TooBig is = tt
+  tells TooSmall is = tt
+  tells Absent is = tt
+  tells Collision is = tt
+  tells IndexFull is = tt
+  tells ArenasFull is = tt
+
+  pub tells_cause : (said : Said) → a.said ≡ said → TellsCause (condition_of disk old) (condition_of disk new) (result_of said)
+  tells_cause (Score given) is = tt
+  tells_cause (Block bytes) is = tt
+  tells_cause Synced is = tt
+  tells_cause (Refused why) is = tells why is
 
   -- ---- it fails
 
@@ -246,7 +246,7 @@ module _ {D : Type 0} (score : List ℕ → List ℕ) (disk : DiskOf D) (fit : (
   fails_so DiskFault true_is is undamaged = record {
     cause = disk_fault (each_of disk.faults old.core) (each_of disk.faults new.core);
     why_is = refl;
-    may = (asked_reaches score m (it.cause DiskFault is), tells (Unit {0}) DiskFault is);
+    may = (asked_reaches score m (it.cause DiskFault is), tells DiskFault is);
     told = record { counts = (same_fell (each_of disk.faults old.core), counts_fell, same_fell (each_of disk.faults new.core)); stops = (tt, tt) };
     undamaged = tt;
     stops = λ no. absurd no;
@@ -375,7 +375,7 @@ module _ {D : Type 0} (score : List ℕ → List ℕ) (disk : DiskOf D) (fit : (
           stops = λ alone no. so.stops no;
         }
 
-    pub serves : (said : Said) → a.said ≡ said → ServesSaid score (condition_of disk old) (condition_of disk new) (HoldsOn score disk new) h m said
+    pub serves : (said : Said) → a.said ≡ said → Serves score (condition_of disk old) (condition_of disk new) (HoldsOn score disk new) h m (λ (reply : RMessage). reply) (result_of said)
     serves (Score given) is =
         subst (λ (s : Said). Answers score (condition_of disk old) (condition_of disk new) (HoldsOn score disk new) h m (reply_of s)) is
         (answers (λ why e. let no : Score given ≡ Refused why = sym is ∙ e in absurd (cc)))

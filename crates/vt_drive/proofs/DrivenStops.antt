@@ -7,8 +7,7 @@ use Rattle.std.specs.List.{Contains}
 use Rattle.std.specs.Option.{option_and_then, option_or, option_to_list}
 use Rattle.std.specs.Prelude.{slice_get}
 use Rattle.vt_bloom.specs.Bloom.{BloomState}
-use Rattle.vt_session.specs.Answered.{WritesTo}
-use Rattle.vt_session.specs.Turns.{Part, log, section}
+use Rattle.vt_model.specs.Causes.{WritesTo, Part, log, section}
 use Rattle.vt_base.specs.Protocol.{Operation, ping, read, write, sync}
 use Rattle.vt_shard.specs.Shard.{ShardState}
 use Rattle.vt_core.specs.Asking.{shard_of, stop_for}

@@ -5,7 +5,7 @@ use Rattle.std.specs.Prelude.{MatchResult}
 use Rattle.vt_base.specs.declared.answer.Answer.{Answer}
 use Rattle.vt_base.specs.declared.why.Why.{Why}
 use Rattle.vt_disk.specs.Members.{DiskOf}
-use Rattle.vt_wire.specs.declared.message.Request.{Request}
+use Rattle.vt_base.specs.declared.operation.Operation.{Operation as Asked}
 use Rattle.vt_core.specs.declared.event.Event.{Event}
 use Rattle.vt_core.specs.declared.event.Event.TheVariants.{Ask, Answer as AskAnswer, LogAdvance, FileBegin, FileAdvance, BloomAdvance, EvictLump, EvictIndex}
 use Rattle.vt_core.specs.declared.event.Out.{Out}
@@ -23,7 +23,7 @@ use Rattle.vt_drive.proofs.Told.{room_is_own}
 use Rattle.vt_drive.proofs.WorkDone.{AreOwn, works_run}
 
 -- the store's own work is for any request
-own_is_for : (session : ℕ) (r : Request) (now : ℕ) (event : Event) → IsOwnWork event → IsForRequest session r now event
+own_is_for : (session : ℕ) (r : Asked) (now : ℕ) (event : Event) → IsOwnWork event → IsForRequest session r now event
 own_is_for session r now LogAdvance own = own
 own_is_for session r now (FileBegin shard) own = own
 own_is_for session r now (FileAdvance shard) own = own
@@ -33,7 +33,7 @@ own_is_for session r now (AskAnswer by) own = absurd own
 own_is_for session r now (EvictLump shard) own = absurd own
 own_is_for session r now (EvictIndex shard) own = absurd own
 
-module _ {D : Type 0} (score : List ℕ → List ℕ) (disk : DiskOf D) (session : ℕ) (r : Request) (now : ℕ) where
+module _ {D : Type 0} (score : List ℕ → List ℕ) (disk : DiskOf D) (session : ℕ) (r : Asked) (now : ℕ) where
   -- events for this request, by which a store turned into another
   abbrev pub IsRun : (old new : CoreState D) → Type 0
   IsRun old new = (events : List Event) × (outs : List Out) × AllByRecursion (IsForRequest session r now) events × Runs score disk events outs old new
@@ -85,6 +85,6 @@ module _ {D : Type 0} (score : List ℕ → List ℕ) (disk : DiskOf D) (session
       later.later)
       it
 
-pub requested_runs : {D : Type 0} (score : List ℕ → List ℕ) (disk : DiskOf D) (session : ℕ) (r : Request) (now : ℕ) (a : Answer) (old new : CoreState D) → IsRequested score disk session r now a old new
+pub requested_runs : {D : Type 0} (score : List ℕ → List ℕ) (disk : DiskOf D) (session : ℕ) (r : Asked) (now : ℕ) (a : Answer) (old new : CoreState D) → IsRequested score disk session r now a old new
     → (events : List Event) × (outs : List Out) × Runs score disk events outs old new
 requested_runs score disk session r now a old new it = let run = request_events score disk session r now a old new it in (run.0, run.1, run.3)

@@ -4,7 +4,7 @@ use Rattle.std.proofs.lemmas.Bool.{cases_lt}
 use Rattle.std.specs.Prelude.{slice_index}
 use Rattle.vt_base.specs.Faults.{HasRisen}
 use Rattle.vt_log.specs.Faults.{OneHasRisen}
-use Rattle.vt_session.specs.Answered.{NoneFell, OneRose}
+use Rattle.vt_model.specs.Causes.{NoneFell, OneRose}
 use Rattle.vt_recover.proofs.Places.{one_or_other}
 
 -- ---- no count falls, since each fits its type

@@ -16,9 +16,8 @@ use Rattle.vt_log.specs.declared.bad.Progress.TheVariants.{Idle, Step as LogStep
 use Rattle.vt_log.specs.Answers.{Advances}
 use Rattle.vt_log.specs.Faults.{OneHasRisen}
 use Rattle.vt_log.specs.Log.{LogState}
-use Rattle.vt_session.specs.Turns.{disk_fault}
-use Rattle.vt_wire.specs.declared.message.Request.{Request}
-use Rattle.vt_wire.specs.Views.{message_of}
+use Rattle.vt_model.specs.Causes.{disk_fault}
+use Rattle.vt_base.specs.declared.operation.Operation.{Operation as Asked}
 use Rattle.vt_core.specs.declared.event.Event.{Event}
 use Rattle.vt_core.specs.declared.event.Event.TheVariants.{Ask, Answer as AskAnswer, LogAdvance}
 use Rattle.vt_core.specs.declared.event.Out.TheVariants.{Said as SaidOut, Waits, NotYet, Moved, Nothing, Failed}
@@ -26,7 +25,8 @@ use Rattle.vt_core.specs.declared.event.Out.{Out}
 use Rattle.vt_core.specs.Asking.{AnswersSync, EndsSync, MayBeTold, with_waiting}
 use Rattle.vt_core.specs.Causes.{CountsSaid, CountsWhy, IsUndamagedSaid, IsUndamagedWhy}
 use Rattle.vt_core.specs.Core.{CoreState, each_of, history_len, machine_of, stops_of}
-use Rattle.vt_core.specs.Events.{EndsWaiting, operation_in}
+use Rattle.vt_base.specs.Operations.{operation_of}
+use Rattle.vt_core.specs.Events.{EndsWaiting}
 use Rattle.vt_core.specs.Machine.{Machine, WaitsForNone, WaitsAt}
 use Rattle.vt_core.specs.Sound.{IsSound}
 use Rattle.vt_core.specs.Steps.{KeepsStore, Steps}
@@ -36,7 +36,7 @@ use Rattle.vt_core.proofs.AskWork.{one_rose}
 use Rattle.vt_recover.proofs.TakingAllBack.{set_same}
 use Rattle.vt_core.proofs.NewWork.{set_set}
 use Rattle.vt_core.specs.Work.{AdvancesLog, out_of_progress}
-use Rattle.vt_drive.specs.Answers.{Suits}
+use Rattle.vt_answer.specs.Serving.{Suits}
 use Rattle.vt_drive.specs.Requests.{EndsWait, refused}
 use Rattle.vt_drive.specs.Working.{DoesWork, IsOwnWork, NeedsDurable}
 use Rattle.vt_drive.proofs.AskGives.{IsWaiting}
@@ -99,8 +99,8 @@ sync_fell {D} score disk number why old new goes it =
 
 -- ---- a sync that waits is told
 
-module _ {D : Type 0} (score : List ℕ → List ℕ) (disk : DiskOf D) (session now : ℕ) (r : Request) (old w committed new : CoreState D) (free : WaitsForNone old.waiting session)
-    (asks : Steps score disk (Ask session r now) Waits old w) (waits : IsWaiting score session (operation_in (message_of r)) Waits old w)
+module _ {D : Type 0} (score : List ℕ → List ℕ) (disk : DiskOf D) (session now : ℕ) (r : Asked) (old w committed new : CoreState D) (free : WaitsForNone old.waiting session)
+    (asks : Steps score disk (Ask session r now) Waits old w) (waits : IsWaiting score session (operation_of r) Waits old w)
     (said : Answer) (ends : Steps score disk (AskAnswer session) (SaidOut said) committed new) (worked : Worked score disk w committed) where
   len : history_len w ≡ history_len old
   len = ap (λ (k : CoreState D). history_len k) waits.new_is
@@ -206,8 +206,8 @@ module _ {D : Type 0} (score : List ℕ → List ℕ) (disk : DiskOf D) (session
       refused_why : (x y : Why) → Refused x ≡ Refused y → x ≡ y
       refused_why x y is = cc
 
-pub told_wait : {D : Type 0} (score : List ℕ → List ℕ) (disk : DiskOf D) (session now : ℕ) (r : Request) (a : Answer) (old w new : CoreState D) → WaitsForNone old.waiting session
-    → Steps score disk (Ask session r now) Waits old w → IsWaiting score session (operation_in (message_of r)) Waits old w → EndsWait score disk session a w new → Told score disk (operation_in (message_of r)) a old new
+pub told_wait : {D : Type 0} (score : List ℕ → List ℕ) (disk : DiskOf D) (session now : ℕ) (r : Asked) (a : Answer) (old w new : CoreState D) → WaitsForNone old.waiting session
+    → Steps score disk (Ask session r now) Waits old w → IsWaiting score session (operation_of r) Waits old w → EndsWait score disk session a w new → Told score disk (operation_of r) a old new
 told_wait {D} score disk session now r a old w new free asks waits it =
     subst (λ (m : Operation). Told score disk m a old new) (sym waits.m_is) (by_made it.made it.works it.answer_is)
   where

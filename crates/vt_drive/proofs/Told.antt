@@ -6,12 +6,11 @@ use Rattle.vt_base.specs.declared.answer.Said.{Said}
 use Rattle.vt_base.specs.declared.answer.Said.TheVariants.{Synced, Refused}
 use Rattle.vt_base.specs.declared.why.Why.{Why}
 use Rattle.vt_base.specs.declared.why.Why.TheVariants.{BadType, TooBig, TooSmall, Absent, Collision, IndexFull, ArenasFull, DiskFault, Stopped, Damaged, NoMemory}
-use Rattle.vt_base.specs.Protocol.{Operation, ping, write}
+use Rattle.vt_base.specs.Protocol.{Operation, write}
 use Rattle.vt_disk.specs.Members.{DiskOf}
 use Rattle.vt_model.specs.History.{History}
-use Rattle.vt_session.specs.Answered.{ReachesParts}
-use Rattle.vt_wire.specs.declared.message.Request.{Request}
-use Rattle.vt_wire.specs.Views.{message_of}
+use Rattle.vt_model.specs.Causes.{ReachesParts}
+use Rattle.vt_base.specs.declared.operation.Operation.{Operation as Asked}
 use Rattle.vt_core.specs.declared.event.Event.{Event}
 use Rattle.vt_core.specs.declared.event.Event.TheVariants.{Ask, Answer as AskAnswer, LogAdvance, FileBegin, FileAdvance, BloomAdvance, EvictLump, EvictIndex}
 use Rattle.vt_core.specs.declared.event.Out.{Out}
@@ -19,19 +18,20 @@ use Rattle.vt_core.specs.declared.event.Out.TheVariants.{Said as SaidOut, NotYet
 use Rattle.vt_core.specs.Asking.{MayBeTold, says, shard_of, stop_for}
 use Rattle.vt_core.specs.Causes.{CountsSaid, IsUndamagedSaid, IsUndamagedWhy}
 use Rattle.vt_core.specs.Core.{CoreState, each_of, history_len, machine_of, stops_of}
-use Rattle.vt_core.specs.Events.{operation_in}
+use Rattle.vt_base.specs.Operations.{operation_of}
 use Rattle.vt_core.specs.Machine.{Machine, WaitsForNone}
 use Rattle.vt_core.specs.Sound.{IsSound}
 use Rattle.vt_core.specs.Steps.{Steps}
 use Rattle.vt_core.proofs.AskWork.{fails_in}
-use Rattle.vt_drive.specs.Answers.{IsServed, KeepsAll, KeepsStopped, Suits}
+use Rattle.vt_answer.specs.Serving.{Suits}
+use Rattle.vt_drive.specs.Answers.{IsServed, KeepsAll, KeepsStopped}
 use Rattle.vt_drive.specs.Requests.{WritesAgain, refused}
 use Rattle.vt_log.specs.declared.TheConstants.{QUEUE_MAX}
 use Rattle.vt_log.specs.Log.{queued}
 use Rattle.vt_shard.specs.Shard.{ShardState}
 use Rattle.vt_shard.specs.declared.TheConstants.{ROOM}
 use Rattle.vt_drive.specs.Working.{DoesWork, NeedsDurable, NeedsRoom}
-use Rattle.vt_drive.proofs.AskGives.{FindsNoRoom, Given, IsSaid, gives}
+use Rattle.vt_drive.proofs.AskGives.{FindsNoRoom, Given, IsSaid, gives, never_ping}
 use Rattle.vt_drive.proofs.Whys.{IsStoppedAt, IsWhy, log_fails, log_stop_same, nothing_stopped, shard_fails, stop_for_same, stopped_before}
 use Rattle.vt_drive.proofs.WorkDone.{AreOwn, Did, did, keeps_on, works_well}
 
@@ -58,11 +58,11 @@ pub said_at_once : {D : Type 0} (score : List ℕ → List ℕ) (session : ℕ) 
 said_at_once score session m a old new given = ⊎_elim (λ said. said)
     (λ rest. ⊎_elim (λ room. absurd (let no = room.out_is in cc)) (λ waits. absurd (let no = waits.out_is in cc)) rest) given
 
-pub told_at_once : {D : Type 0} (score : List ℕ → List ℕ) (disk : DiskOf D) (session now : ℕ) (r : Request) (a : Answer) (old new : CoreState D) → WaitsForNone old.waiting session
-    → operation_in (message_of r) ≢ ping → Steps score disk (Ask session r now) (SaidOut a) old new → Told score disk (operation_in (message_of r)) a old new
-told_at_once {D} score disk session now r a old new free other step =
-    let m : Operation = operation_in (message_of r) in
-    let it = said_at_once score session m a old new (gives score disk session now (SaidOut a) old new m other (step.does.serves free)) in
+pub told_at_once : {D : Type 0} (score : List ℕ → List ℕ) (disk : DiskOf D) (session now : ℕ) (r : Asked) (a : Answer) (old new : CoreState D) → WaitsForNone old.waiting session
+    → Steps score disk (Ask session r now) (SaidOut a) old new → Told score disk (operation_of r) a old new
+told_at_once {D} score disk session now r a old new free step =
+    let m : Operation = operation_of r in
+    let it = said_at_once score session m a old new (gives score disk session now (SaidOut a) old new m (never_ping r) (step.does.serves free)) in
     let is = answer_is old a it.said it.out_is in
     let said_is : a.said ≡ it.said = ap (λ (x : Answer). x.said) is in
     record {
@@ -94,8 +94,8 @@ pub behind_work : {D T : Type 0} (score : List ℕ → List ℕ) (disk : DiskOf 
 behind_work score disk m done old new it = record { keeps = it.worked.keeps; len = it.worked.len; counts = it.counts; stops = it.stops; quiet = it.worked.quiet }
 
 -- a block that found no room
-pub behind_test : {D : Type 0} (score : List ℕ → List ℕ) (disk : DiskOf D) (session now : ℕ) (r : Request) (old new : CoreState D) → Steps score disk (Ask session r now) NotYet old new
-    → FindsNoRoom score (operation_in (message_of r)) NotYet old new → Behind score disk (operation_in (message_of r)) old new
+pub behind_test : {D : Type 0} (score : List ℕ → List ℕ) (disk : DiskOf D) (session now : ℕ) (r : Asked) (old new : CoreState D) → Steps score disk (Ask session r now) NotYet old new
+    → FindsNoRoom score (operation_of r) NotYet old new → Behind score disk (operation_of r) old new
 behind_test {D} score disk session now r old new step it = record {
   keeps = record { store = step.goes_on.store; waiting = it.waiting };
   len = it.len;
@@ -241,13 +241,13 @@ room_failure {D} score disk shard why old new log_goes shard_goes it =
     by_event (EvictLump i) mid needed log_now shard_now step = absurd needed
     by_event (EvictIndex i) mid needed log_now shard_now step = absurd needed
 
-pub told_again : {D : Type 0} (score : List ℕ → List ℕ) (disk : DiskOf D) (session now : ℕ) (r : Request) (a : Answer) (old new : CoreState D) → WaitsForNone old.waiting session
-    → ReachesParts score (operation_in (message_of r)) → stop_for score old (operation_in (message_of r)) ≡ None
-    → WritesAgain score disk session r now a old new → Told score disk (operation_in (message_of r)) a old new
+pub told_again : {D : Type 0} (score : List ℕ → List ℕ) (disk : DiskOf D) (session now : ℕ) (r : Asked) (a : Answer) (old new : CoreState D) → WaitsForNone old.waiting session
+    → ReachesParts score (operation_of r) → stop_for score old (operation_of r) ≡ None
+    → WritesAgain score disk session r now a old new → Told score disk (operation_of r) a old new
 told_again {D} score disk session now r a old new free reaches goes it = by_made it.made it.works it.ends
   where
     m : Operation
-    m = operation_in (message_of r)
+    m = operation_of r
 
     none_stopped : (old.log.stopped ≡ None) × ((call : ℕ) → ¬ IsStoppedAt (shard_of old (score it.bytes)) old call)
     none_stopped = nothing_stopped score it.kind it.bytes old (subst (λ (x : Operation). stop_for score old x ≡ None) it.is_write goes)
@@ -258,7 +258,7 @@ told_again {D} score disk session now r a old new free reaches goes it = by_made
         let before = behind_work score disk m done old it.room (did score disk (NeedsRoom (shard_of old (score it.bytes))) (room_is_own (shard_of old (score it.bytes))) (Ok done) old it.room works) in
         told_behind score disk m a old it.room new before
         (told_at_once score disk session now r a it.room new (subst (λ (ws : List (Option ℕ)). WaitsForNone ws session) (sym before.keeps.waiting) free)
-        (λ e. let no = sym it.is_write ∙ e in cc) ends)
+        ends)
     by_made (Err why) works ends =
         subst (λ (k : CoreState D). Told score disk m a old k) (sym ends.1)
         (subst (λ (x : Answer). Told score disk m x old it.room) (sym ends.0)

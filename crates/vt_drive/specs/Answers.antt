@@ -4,17 +4,18 @@ use Rattle.vt_base.specs.declared.answer.Answer.{Answer}
 use Rattle.vt_base.specs.declared.answer.Said.{Said}
 use Rattle.vt_base.specs.declared.answer.Said.TheVariants.{Score, Block, Synced, Refused}
 use Rattle.vt_base.specs.declared.why.Why.{Why}
+use Rattle.vt_base.specs.declared.operation.Operation.{Operation as Asked}
 use Rattle.vt_base.specs.declared.why.Why.TheVariants.{DiskFault}
-use Rattle.vt_base.specs.Protocol.{Operation, read, write, sync}
+use Rattle.vt_base.specs.Operations.{operation_of}
+use Rattle.vt_base.specs.Protocol.{Operation, sync}
 use Rattle.vt_disk.specs.Members.{DiskOf}
 use Rattle.vt_model.specs.Answer.{answer}
 use Rattle.vt_model.specs.History.{History}
-use Rattle.vt_wire.specs.declared.message.Request.{Request}
-use Rattle.vt_wire.specs.Views.{message_of}
+use Rattle.vt_answer.specs.Serving.{Suits}
 use Rattle.vt_core.specs.Asking.{MayBeTold}
 use Rattle.vt_core.specs.Causes.{READS_MOST, CountsSaid, IsUndamagedSaid, OnlyReadFrom}
 use Rattle.vt_core.specs.Core.{CoreState, devices_of, each_of, history_len, machine_of, setup_of, stops_of}
-use Rattle.vt_core.specs.Events.{FailsIn, GivesAnswer, operation_in}
+use Rattle.vt_core.specs.Events.{FailsIn, GivesAnswer}
 use Rattle.vt_core.specs.Files.{all_of}
 use Rattle.vt_core.specs.Machine.{Machine}
 use Rattle.vt_core.specs.Sound.{IsSound}
@@ -37,14 +38,6 @@ pub record KeepsStopped {D : Type 0} (failed : Type 0) (old new : CoreState D) :
 
 -- ---- the answer
 
--- what may be said to an operation
-abbrev pub Suits : (List ℕ → List ℕ) → Operation → Said → Type 0
-Suits score m (Refused why) = ⊤
-Suits score (read s kind count) (Block bytes) = length bytes ≤ count
-Suits score (write kind bytes) (Score given) = given.0 ≡ score bytes
-Suits score sync Synced = ⊤
-Suits score m said = ⊥
-
 -- what it comes to for who asked for a sync
 abbrev pub done : Said → Result (Unit {0}) Why
 done (Refused why) = Err why
@@ -66,30 +59,30 @@ IsServed score m said old new =
 
 -- A request was driven to its answer.
 pub record DrivesRequest {D : Type 0} (score : List ℕ → List ℕ) (disk : DiskOf D) (session : ℕ)
-    (request : Request) (now : ℕ) (a : Answer) (old new : CoreState D) : Type 0 where
+    (operation : Asked) (now : ℕ) (a : Answer) (old new : CoreState D) : Type 0 where
   -- by which events, at every moment of which a crash leaves a prefix with all durable blocks
-  pub requested : IsRequested score disk session request now a old new
+  pub requested : IsRequested score disk session operation now a old new
   -- it is about all blocks that were accepted before, and what it adds is one block at most
   pub at : a.at ≡ history_len old
   pub one_more : history_len new ≤ history_len old + 1
-  pub suits : Suits score (operation_in (message_of request)) a.said
+  pub suits : Suits score (operation_of operation) a.said
   pub keeps : KeepsAll disk old new
   pub stops : KeepsStopped (a.said ≡ Refused DiskFault) old new
   -- each failure has its cause, whatever the devices hold: a fault is told where a count rose, and
   -- only there
   pub counts : CountsSaid a.said (each_of disk.faults old) (each_of disk.faults new)
   pub cause : (why : Why) → a.said ≡ Refused why
-      → MayBeTold score old (operation_in (message_of request)) why
+      → MayBeTold score old (operation_of operation) why
   -- what was accepted before a sync is durable when that is answered
   pub covered : a.said ≡ Synced → history_len old ≤ new.log.durable
   -- on sound devices
   pub serves : (h : History) → IsTrue disk.tells → IsSound score disk old h → (next : History)
-      × IsServed score (operation_in (message_of request)) a.said (machine_of old h)
+      × IsServed score (operation_of operation) a.said (machine_of old h)
       (machine_of new next) × IsSound score disk new next
   pub undamaged : (h : History) → IsTrue disk.tells → IsSound score disk old h
       → IsUndamagedSaid a.said
   -- there a request that adds no block only reads, but for a sync
   pub reads : (h : History) → IsTrue disk.tells → IsSound score disk old h
-      → operation_in (message_of request) ≢ sync
-      → (answer score (setup_of old) h (operation_in (message_of request))).added ≡ None
+      → operation_of operation ≢ sync
+      → (answer score (setup_of old) h (operation_of operation)).added ≡ None
       → OnlyReadFrom disk READS_MOST (all_of (devices_of old)) (all_of (devices_of new))

@@ -1,20 +1,17 @@
 -- A store on devices, as the store that a session asks.
-use Rattle.std.specs.Prelude.{◌≡◌, ℕ, ◌+◌, min, Bool, IsTrue, Option, Result, Ok, Err, List, [], ◌∷◌, ◌++◌, map}
+use Rattle.std.specs.Prelude.{◌≡◌, ℕ, ◌+◌, Bool, IsTrue, Option, Result, List, [], ◌∷◌, ◌++◌, map}
 use Rattle.std.specs.Option.{option_to_list}
-use Rattle.vt_base.specs.declared.TheConstants.{MAX_BLOCK}
+use Rattle.vt_base.specs.Operations.{operation_of, result_of}
+use Rattle.vt_base.specs.Protocol.{Operation, RMessage}
 use Rattle.vt_base.specs.declared.answer.Answer.{Answer}
-use Rattle.vt_base.specs.declared.answer.Said.{Said}
-use Rattle.vt_base.specs.declared.answer.Said.TheVariants.{Refused}
+use Rattle.vt_base.specs.declared.operation.Operation.{Operation as Asked}
 use Rattle.vt_base.specs.declared.why.Why.{Why}
-use Rattle.vt_base.specs.Protocol.{Operation, ping, read, write, sync, RMessage}
 use Rattle.vt_disk.specs.Members.{DiskOf}
 use Rattle.vt_model.specs.History.{History}
-use Rattle.vt_session.specs.Turns.{Part, log, section}
+use Rattle.vt_model.specs.Causes.{Part, log, section}
 use Rattle.vt_answer.specs.Condition.{Condition}
-use Rattle.vt_wire.specs.declared.message.Request.{Request}
-use Rattle.vt_wire.specs.Views.{message_of}
+use Rattle.vt_answer.specs.Serving.{asked_for}
 use Rattle.vt_core.specs.Core.{CoreState, setup_of, each_of}
-use Rattle.vt_core.specs.Events.{reply_of, operation_in}
 use Rattle.vt_core.specs.Sound.{IsSound}
 use Rattle.vt_drive.specs.Answers.{DrivesRequest}
 
@@ -51,24 +48,12 @@ abbrev pub HoldsOn : {D : Type 0} → (List ℕ → List ℕ) → DiskOf D → D
     → Type 0
 HoldsOn score disk d h = IsTrue disk.tells × IsSound score disk d.core h
 
--- what the store is asked for: no block has more bytes than a reader may ask for
-abbrev pub asked_for : Operation → Operation
-asked_for (read s kind count) = read s kind (min count MAX_BLOCK)
-asked_for (write kind bytes) = write kind bytes
-asked_for sync = sync
-asked_for ping = ping
-
--- what is said, as what an operation gives
-abbrev pub result_of : Said → Result RMessage Why
-result_of (Refused why) = Err why
-result_of said = Ok (reply_of said)
-
--- An operation is one request of the first session.
+-- An operation is one of the first session.
 pub record DoesRequest {D : Type 0} (score : List ℕ → List ℕ) (disk : DiskOf D) (m : Operation)
     (result : Result RMessage Why) (old new : DrivenState D) : Type 0 where
-  pub request : Request
+  pub asked : Asked
   pub answer : Answer
-  pub asks : operation_in (message_of request) ≡ asked_for m
+  pub asks : operation_of asked ≡ asked_for m
   pub says : result_of answer.said ≡ result
-  pub answers : DrivesRequest score disk 0 request old.now answer old.core new.core
+  pub answers : DrivesRequest score disk 0 asked old.now answer old.core new.core
   pub time : new.now ≡ old.now

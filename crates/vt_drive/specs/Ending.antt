@@ -8,7 +8,7 @@ use Rattle.vt_base.specs.declared.why.Why.TheVariants.{DiskFault, Stopped, Damag
 use Rattle.vt_disk.specs.Members.{DiskOf}
 use Rattle.vt_model.specs.History.{History}
 use Rattle.vt_bloom.specs.Bloom.{BloomState}
-use Rattle.vt_session.specs.Answered.{NoneFell, OneRose}
+use Rattle.vt_model.specs.Causes.{NoneFell, OneRose}
 use Rattle.vt_shard.specs.Shard.{ShardState}
 use Rattle.vt_core.specs.declared.event.Event.{Event}
 use Rattle.vt_core.specs.declared.event.Event.TheVariants.{LogAdvance, FileAdvance, BloomAdvance}

@@ -1,23 +1,23 @@
 //! A store on devices, as the store that one session asks.
 
 ghost use Rattle.std.specs.Prelude.{◌≡◌};
+ghost use Rattle.vt_answer.specs.Serving.{asked_for};
+ghost use Rattle.vt_base.specs.Operations.{operation_of};
 ghost use Rattle.vt_core.specs.Machine.{WaitsForNone};
 
 use crate::requests::ask;
 use std::alloc::Global;
 use std::marker::Model;
 use vt_answer::Store;
-use vt_base::{Bytes, MAX_BLOCK, Said, Score, Scorer, Why};
+use vt_base::{MAX_BLOCK, Operation, Said, Scorer};
 use vt_core::Core;
 use vt_disk::Disk;
-use vt_wire::Request;
 
-/// A store on devices, and the session that asks it: each operation is a request of session 0, and
-/// all clumps that it adds get one time.
+/// A store on devices, and the session that asks it: each operation is one of session 0, and all
+/// clumps that it adds get one time.
 #[derive(Drop)]
 pub struct Driven<D: Disk, S: Scorer> {
     core: Core<D, S>,
-    alloc: Global,
     now: u32,
 }
 
@@ -35,11 +35,11 @@ impl<D: Disk, S: Scorer> Model for Driven<D, S> {
 impl<D: Disk, S: Scorer> Driven<D, S> {
     /// The first session of a store, which waits for nothing. `now` is the second at which it
     /// began, the time of the clumps that it adds.
-    pub fn new(core: Core<D, S>, alloc: Global, now: u32) -> Self
+    pub fn new(core: Core<D, S>, now: u32) -> Self
         requires { WaitsForNone core.waiting 0 }
         ensures { result ≡ record { core = core; now = now } }
     {
-        Driven { core, alloc, now }
+        Driven { core, now }
     }
 
     /// The store, whose first session waits for nothing.
@@ -69,35 +69,22 @@ impl<D: Disk, S: Scorer> Store for Driven<D, S> {
     ghost durable_is_held = { λ d h hold. subst (λ n. d.core.log.durable ≤ n) hold.1.log.front
         (le-add_right d.core.log.durable (queued d.core.log)) };
 
-    fn write(&mut self, alloc: Global, kind: u8, bytes: &[u8]) -> Result<Score, Why> {
-        let request = Request::Write { kind, bytes };
-        match ask(&mut self.core, alloc, 0, request, self.now).said {
-            Said::Score(score) => Ok(score),
-            Said::Refused(why) => Err(why),
-            Said::Block(_) | Said::Synced => unreachable!(),
-        }
+    fn ask(&mut self, alloc: Global, operation: Operation<'_>) -> Said {
+        let operation = asked_for(operation);
+        ask(&mut self.core, alloc, 0, operation, self.now).said
     }
+}
 
-    fn read(&mut self, alloc: Global, score: &Score, kind: u8, count: u32) -> Result<Bytes, Why> {
-        // No block has more bytes than that.
-        let count = count.min(MAX_BLOCK as u32);
-        let request = Request::Read {
-            score: *score,
+/// The operation, of which a read takes no more than a block may have.
+fn asked_for(operation: Operation<'_>) -> Operation<'_>
+    ensures { operation_of result ≡ asked_for (operation_of operation.entry) }
+{
+    match operation {
+        Operation::Read { score, kind, count } => Operation::Read {
+            score,
             kind,
-            count,
-        };
-        match ask(&mut self.core, alloc, 0, request, self.now).said {
-            Said::Block(block) => Ok(block),
-            Said::Refused(why) => Err(why),
-            Said::Score(_) | Said::Synced => unreachable!(),
-        }
-    }
-
-    fn sync(&mut self) -> Result<(), Why> {
-        match ask(&mut self.core, self.alloc, 0, Request::Sync, self.now).said {
-            Said::Synced => Ok(()),
-            Said::Refused(why) => Err(why),
-            Said::Score(_) | Said::Block(_) => unreachable!(),
-        }
+            count: count.min(MAX_BLOCK as u32),
+        },
+        Operation::Write { .. } | Operation::Sync => operation,
     }
 }

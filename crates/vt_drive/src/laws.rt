@@ -4,6 +4,7 @@ ghost use Rattle.std.specs.Prelude.{◌≡◌, ◌↔◌, ℕ, List, Result};
 ghost use Rattle.std.specs.List.{All};
 ghost use Rattle.vt_base.specs.Protocol.{Operation, RMessage};
 ghost use Rattle.vt_base.specs.declared.answer.Answer.{Answer};
+ghost use Rattle.vt_base.specs.declared.operation.Operation.{Operation as Asked};
 ghost use Rattle.vt_base.specs.declared.why.Why.{Why};
 ghost use Rattle.vt_core.specs.Core.{CoreState};
 ghost use Rattle.vt_core.specs.Steps.{Runs};
@@ -12,7 +13,6 @@ ghost use Rattle.vt_core.specs.declared.event.Out.{Out};
 ghost use Rattle.vt_drive.specs.Driven.{DoesRequest, DrivenState, HoldsOn, condition_of};
 ghost use Rattle.vt_drive.specs.Requests.{IsForRequest, IsRequested};
 ghost use Rattle.vt_model.specs.History.{History};
-ghost use Rattle.vt_wire.specs.declared.message.Request.{Request};
 
 use crate::Driven;
 use vt_answer::Store;
@@ -24,9 +24,9 @@ use vt_disk::Disk;
 /// prefix of the history with every durable block. The request is asked with its own time, and no
 /// other one is.
 pub fn requests_are_runs<D: Disk>()
-    ensures { (score : List ℕ → List ℕ) (session : ℕ) (request : Request) (now : ℕ) (a : Answer)
-        (old new : CoreState D) → IsRequested score D.Disk session request now a old new
-        → (events : List Event) × (outs : List Out) × All (IsForRequest session request now) events
+    ensures { (score : List ℕ → List ℕ) (session : ℕ) (asked : Asked) (now : ℕ) (a : Answer)
+        (old new : CoreState D) → IsRequested score D.Disk session asked now a old new
+        → (events : List Event) × (outs : List Out) × All (IsForRequest session asked now) events
         × Runs score D.Disk events outs old new }
 {}
 

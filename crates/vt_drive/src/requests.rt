@@ -3,6 +3,7 @@
 ghost use Rattle.std.specs.Prelude.{◌≡◌, ◌<◌, Some, length, slice_get};
 ghost use Rattle.vt_base.specs.declared.answer.Answer.{Answer};
 ghost use Rattle.vt_base.specs.declared.answer.Said.{Said};
+ghost use Rattle.vt_base.specs.declared.operation.Operation.{Operation};
 ghost use Rattle.vt_log.specs.declared.TheConstants.{QUEUE_MAX};
 ghost use Rattle.vt_log.specs.Log.{queued};
 ghost use Rattle.vt_shard.specs.Shard.{ShardState};
@@ -12,21 +13,17 @@ ghost use Rattle.vt_core.specs.declared.event.Out.{Out};
 ghost use Rattle.vt_core.specs.Asking.{shard_of};
 ghost use Rattle.vt_core.specs.Core.{history_len};
 ghost use Rattle.vt_core.specs.Steps.{Steps};
-ghost use Rattle.vt_core.specs.Events.{IsForStore};
 ghost use Rattle.vt_core.specs.Machine.{WaitsAt, WaitsForNone};
 ghost use Rattle.vt_drive.specs.Answers.{DrivesRequest, done};
 ghost use Rattle.vt_drive.specs.Requests.{EndsWait, WritesAgain, refused};
-ghost use Rattle.vt_wire.specs.Views.{message_of};
-ghost use Rattle.vt_wire.specs.declared.message.Request.{Request};
 
 use crate::working::{commit, make_room};
 use std::alloc::Global;
-use vt_base::{Answer, Said, Scorer, Why};
+use vt_base::{Answer, Operation, Said, Scorer, Why};
 use vt_core::{Core, Event, Out};
 use vt_disk::Disk;
-use vt_wire::Request;
 
-/// Asks a store for a read, a write or a sync of a session that waits for none, and does the
+/// Asks a store for an operation of a session that waits for none, and does the
 /// store's own work until that is answered. `now` is the time of a clump that it adds.
 ///
 /// Where a block finds no room, since the queue is full or its shard has no spare, the log is
@@ -37,26 +34,25 @@ pub fn ask<D: Disk, S: Scorer>(
     core: &mut Core<D, S>,
     alloc: Global,
     session: u32,
-    request: Request<'_>,
+    operation: Operation<'_>,
     now: u32,
 ) -> Answer
-    requires free { WaitsForNone core.old.waiting session }
-    requires store { IsForStore (message_of request) }
-    ensures { DrivesRequest S.score_of D.Disk session request.entry now result
+    requires { WaitsForNone core.old.waiting session }
+    ensures { DrivesRequest S.score_of D.Disk session operation.entry now result
         core.old core.new }
 {
     match core.step(
         alloc,
         Event::Ask {
             session,
-            request,
+            operation,
             now,
         },
     ) {
         Out::Said(answer) => answer,
-        Out::NotYet => match request {
-            Request::Write { kind, bytes } => write_again(core, alloc, session, kind, bytes, now),
-            _ => unreachable!(),
+        Out::NotYet => match operation {
+            Operation::Write { kind, bytes } => write_again(core, alloc, session, kind, bytes, now),
+            Operation::Read { .. } | Operation::Sync => unreachable!(),
         },
         Out::Waits => end_wait(core, alloc, session),
         Out::Moved | Out::Nothing | Out::Failed(_) => unreachable!(),
@@ -71,9 +67,9 @@ pub fn sync<D: Disk, S: Scorer>(
 ) -> Result<(), Why>
     requires { WaitsForNone core.old.waiting session }
     ensures { (a : Answer) × (result ≡ done a.said)
-        × DrivesRequest S.score_of D.Disk session Request.Sync 0 a core.old core.new }
+        × DrivesRequest S.score_of D.Disk session Operation.Sync 0 a core.old core.new }
 {
-    match ask(core, alloc, session, Request::Sync, 0).said {
+    match ask(core, alloc, session, Operation::Sync, 0).said {
         Said::Refused(why) => Err(why),
         Said::Score(_) | Said::Block(_) | Said::Synced => Ok(()),
     }
@@ -89,7 +85,7 @@ fn write_again<D: Disk, S: Scorer>(
     now: u32,
 ) -> Answer
     requires { WaitsForNone core.old.waiting session }
-    ensures { WritesAgain S.score_of D.Disk session (Request.Write kind bytes.entry) now result
+    ensures { WritesAgain S.score_of D.Disk session (Operation.Write kind bytes.entry) now result
         core.old core.new }
 {
     let at = core.history_len();
@@ -114,15 +110,15 @@ fn write_in_room<D: Disk, S: Scorer>(
     requires spare { (s : ShardState D)
         → slice_get core.old.shards (shard_of core.old (S.score_of bytes.now)) ≡ Some s
         → length s.index.dirty < ROOM }
-    ensures { Steps S.score_of D.Disk (Event.Ask session (Request.Write kind bytes.entry) now)
+    ensures { Steps S.score_of D.Disk (Event.Ask session (Operation.Write kind bytes.entry) now)
         (Out.Said result) core.old core.new }
 {
-    let request = Request::Write { kind, bytes };
+    let operation = Operation::Write { kind, bytes };
     match core.step(
         alloc,
         Event::Ask {
             session,
-            request,
+            operation,
             now,
         },
     ) {

@@ -6,12 +6,12 @@ ghost use Rattle.vt_folder.specs.Items.{listing_of, inside_of, bytes_of, folder_
 ghost use Rattle.vt_folder.specs.Memory.{items_of};
 
 use crate::{Item, ItemKind, Listing, MemItem};
-use std::alloc::Global;
-use vt_base::{NoMemory, Text};
+use std::alloc::{AllocError, Global};
+use vt_base::Text;
 
 impl MemItem {
     /// The item as its folder lists it.
-    fn listed(&self, alloc: Global) -> Result<Item, NoMemory>
+    fn listed(&self, alloc: Global) -> Result<Item, AllocError>
         ensures { IfOk result (λ item. item ∷ [] ≡ listing_of (items_of (self.now ∷ []))) }
     {
         match self {
@@ -49,7 +49,7 @@ impl MemItem {
 
 /// The items as their folder lists them.
 #[tactic(auto, using(crate::proofs::Heads::last_listed))]
-pub(crate) fn listing(alloc: Global, items: &[MemItem]) -> Result<Listing, NoMemory>
+pub(crate) fn listing(alloc: Global, items: &[MemItem]) -> Result<Listing, AllocError>
     ensures { IfOk result (λ list. list ≡ listing_of (items_of items.now)) }
 {
     let mut listing = Vec::with_capacity(alloc, items.len())?;

@@ -1,8 +1,8 @@
 //! What a folder lists.
 
-use std::alloc::Global;
+use std::alloc::{AllocError, Global};
 use std::marker::Model;
-use vt_base::{NoMemory, Text};
+use vt_base::Text;
 
 /// What an item of a folder is.
 #[derive(Clone, Copy, Debug, PartialEq, Eq)]
@@ -43,7 +43,7 @@ impl Facts {
     ghost use Rattle.vt_folder.specs.Items.{item_of};
 
     /// An item of this kind, as a folder lists it.
-    pub fn listed(&self, alloc: Global, kind: ItemKind) -> Result<Item, NoMemory>
+    pub fn listed(&self, alloc: Global, kind: ItemKind) -> Result<Item, AllocError>
         ensures { IfOk result (λ item. item ≡ item_of self.now kind) }
     {
         Ok(Item {

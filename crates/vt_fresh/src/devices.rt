@@ -18,8 +18,8 @@ ghost use Rattle.vt_part.specs.Table.{IsArenaSize};
 use crate::laws::formatted_devices_hold_nothing;
 use crate::sections::fresh_sections;
 use crate::shape::Shape;
-use std::alloc::Global;
-use vt_base::{MountBad, NoMemory, Text};
+use std::alloc::{AllocError, Global};
+use vt_base::{MountBad, Text};
 use vt_disk::{BLOCK_LEN, Disk};
 use vt_format::{make_arenas, make_filter};
 use vt_memdisk::MemDisk;
@@ -27,7 +27,7 @@ use vt_part::Part;
 use vt_recover::Devices;
 
 /// The devices of a store of this shape without blocks, on disks in memory, of which no call fails.
-pub fn fresh_devices(alloc: Global, shape: &Shape) -> Result<Devices<MemDisk>, NoMemory>
+pub fn fresh_devices(alloc: Global, shape: &Shape) -> Result<Devices<MemDisk>, AllocError>
     requires { IsShape shape.now }
     ensures { IfOk result (AreFresh ⟦<MemDisk as Disk>⟧ shape.now) }
 {
@@ -62,7 +62,7 @@ fn parts_make_devices<D: Disk>()
 }
 
 /// The disk as a partition of arenas of one size, which have no blocks.
-fn fresh_part<D: Disk + Drop>(alloc: Global, disk: D, arena_len: u64) -> Result<Part<D>, NoMemory>
+fn fresh_part<D: Disk + Drop>(alloc: Global, disk: D, arena_len: u64) -> Result<Part<D>, AllocError>
     requires tells { IsTrue D.tells }
     requires never { (disk : D) → D.faults disk ≡ 0 }
     requires arena_len { IsArenaSize arena_len }
@@ -73,7 +73,7 @@ fn fresh_part<D: Disk + Drop>(alloc: Global, disk: D, arena_len: u64) -> Result<
     let (disk, done) = make_arenas(alloc, disk, &name, arena_len);
     match done {
         Ok(_) => {}
-        Err(MountBad::NoMemory) => return Err(NoMemory),
+        Err(MountBad::NoMemory) => return Err(AllocError),
         Err(_) => unreachable!(),
     }
     let Ok(part) = vt_part::mount(disk) else {
@@ -88,7 +88,7 @@ fn fresh_filter<D: Disk + Drop>(
     mut disk: D,
     size: u64,
     positions: u8,
-) -> Result<D, NoMemory>
+) -> Result<D, AllocError>
     requires tells { IsTrue D.tells }
     requires never { (disk : D) → D.faults disk ≡ 0 }
     requires size { (m : ℕ) × IsSize m size × IsLargest (D.size disk) m × AreCounts m positions }
@@ -97,7 +97,7 @@ fn fresh_filter<D: Disk + Drop>(
 {
     match make_filter(alloc, &mut disk, size, positions) {
         Ok(()) => Ok(disk),
-        Err(MountBad::NoMemory) => Err(NoMemory),
+        Err(MountBad::NoMemory) => Err(AllocError),
         Err(_) => unreachable!(),
     }
 }

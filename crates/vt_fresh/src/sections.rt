@@ -8,8 +8,8 @@ ghost use Rattle.vt_isect.specs.declared.TheConstants.{LEAST_LEN};
 ghost use Rattle.vt_isect.specs.Layout.{buckets_in};
 ghost use Rattle.vt_memdisk.specs.Memory.{memory_bytes};
 
-use std::alloc::Global;
-use vt_base::{NoMemory, Text};
+use std::alloc::{AllocError, Global};
+use vt_base::Text;
 use vt_disk::Disk;
 use vt_format::{MAX_BUCKETS, make_section, put_all_to_use};
 use vt_isect::{BUCKET_PLACE_LEN, HEAD_PLACE_LEN, SectBad, Section};
@@ -18,7 +18,7 @@ use vt_out::Silent;
 
 /// The disks of so many sections of so many buckets each. They are in use, one behind the other,
 /// and have no entries.
-pub fn fresh_sections(alloc: Global, count: u32, buckets: u32) -> Result<Vec<MemDisk>, NoMemory>
+pub fn fresh_sections(alloc: Global, count: u32, buckets: u32) -> Result<Vec<MemDisk>, AllocError>
     requires some { 0 < buckets }
     requires most { count * buckets ≤ MAX_BUCKETS }
     ensures unfilled { IfOk result
@@ -33,7 +33,7 @@ pub fn fresh_sections(alloc: Global, count: u32, buckets: u32) -> Result<Vec<Mem
 }
 
 /// So many disks of this length.
-fn make_disks(alloc: Global, count: u32, len: u64) -> Result<Vec<MemDisk>, NoMemory>
+fn make_disks(alloc: Global, count: u32, len: u64) -> Result<Vec<MemDisk>, AllocError>
     ensures many { IfOk result (λ disks. length disks.items ≡ count) }
     ensures len { IfOk result
         (λ disks. All (λ disk. length (memory_bytes disk) ≡ len) disks.items) }
@@ -51,7 +51,7 @@ fn put_sections<D: Disk + Drop>(
     alloc: Global,
     disks: Vec<D>,
     buckets: u32,
-) -> Result<Vec<D>, NoMemory>
+) -> Result<Vec<D>, AllocError>
     requires tells { IsTrue D.tells }
     requires never { (disk : D) → D.faults disk ≡ 0 }
     requires some { 0 < buckets }
@@ -74,7 +74,7 @@ fn make_sections<D: Disk + Drop>(
     alloc: Global,
     mut disks: Vec<D>,
     buckets: u32,
-) -> Result<Vec<Section<D>>, NoMemory>
+) -> Result<Vec<Section<D>>, AllocError>
     requires tells { IsTrue D.tells }
     requires never { (disk : D) → D.faults disk ≡ 0 }
     requires some { 0 < buckets }
@@ -90,7 +90,7 @@ fn make_sections<D: Disk + Drop>(
 }
 
 /// The disk as a section that isn't in use yet.
-fn fresh_section<D: Disk + Drop>(alloc: Global, mut disk: D) -> Result<Section<D>, NoMemory>
+fn fresh_section<D: Disk + Drop>(alloc: Global, mut disk: D) -> Result<Section<D>, AllocError>
     requires tells { IsTrue D.tells }
     requires never { (disk : D) → D.faults disk ≡ 0 }
     requires room { LEAST_LEN ≤ D.size disk }
@@ -103,7 +103,7 @@ fn fresh_section<D: Disk + Drop>(alloc: Global, mut disk: D) -> Result<Section<D
     match vt_isect::mount(alloc, disk) {
         Ok(section) => Ok(section),
         Err((bad, _)) => match bad {
-            SectBad::NoMemory => Err(NoMemory),
+            SectBad::NoMemory => Err(AllocError),
             _ => unreachable!(),
         },
     }
@@ -113,7 +113,7 @@ fn fresh_section<D: Disk + Drop>(alloc: Global, mut disk: D) -> Result<Section<D
 fn disks_of<D: Disk + Drop>(
     alloc: Global,
     mut sections: Vec<Section<D>>,
-) -> Result<Vec<D>, NoMemory>
+) -> Result<Vec<D>, AllocError>
     ensures { IfOk result (λ disks. disks.items ≡ map (λ section. section.disk) sections.items) }
 {
     let mut disks = Vec::with_capacity(alloc, sections.len())?;

@@ -8,8 +8,8 @@ ghost use Rattle.vt_fresh.specs.Store.{IsFreshStore};
 
 use crate::devices::fresh_devices;
 use crate::shape::Shape;
-use std::alloc::Global;
-use vt_base::{MountBad, NoMemory, Scorer};
+use std::alloc::{AllocError, Global};
+use vt_base::{MountBad, Scorer};
 use vt_bloom::{crash_gives_old_or_new, saved_filters_are_told_apart};
 use vt_core::Core;
 use vt_disk::Disk;
@@ -24,7 +24,7 @@ pub fn fresh_store<S: Scorer + Drop>(
     sizes: Sizes,
     sessions: u32,
     scorer: S,
-) -> Result<Core<MemDisk, S>, NoMemory>
+) -> Result<Core<MemDisk, S>, AllocError>
     requires shape { IsShape shape.now }
     requires lumps { 0 < sizes.lumps }
     requires clean { 0 < sizes.clean }
@@ -39,7 +39,7 @@ pub fn fresh_store<S: Scorer + Drop>(
     match Core::mount(alloc, devices, sizes, sessions, scorer) {
         Ok(core) => Ok(core),
         Err((bad, _)) => match bad {
-            MountBad::NoMemory => Err(NoMemory),
+            MountBad::NoMemory => Err(AllocError),
             _ => unreachable!(),
         },
     }

@@ -6,10 +6,10 @@ ghost use Rattle.vt_host.specs.Paths.{path_in};
 use crate::faults::Faults;
 use crate::owners::{Owners, cut};
 use crate::paths::{FolderCalls, Look, PieceCalls};
-use std::alloc::Global;
+use std::alloc::{AllocError, Global};
 use std::io::ErrorKind;
 use std::{io, str};
-use vt_base::{Failed, NoMemory, Text};
+use vt_base::{Failed, Text};
 use vt_folder::{Folder, Item, ItemKind, Listing};
 use vt_out::OutErr;
 
@@ -131,7 +131,7 @@ where
             .map_err(|_| OutErr::NoMemory)
     }
 
-    fn item_of(&self, alloc: Global, name: &[u8], found: &Look) -> Result<Item, NoMemory> {
+    fn item_of(&self, alloc: Global, name: &[u8], found: &Look) -> Result<Item, AllocError> {
         Ok(Item {
             name: Text::copy_of(alloc, name)?,
             kind: found.kind,

@@ -2,8 +2,8 @@
 
 ghost use Rattle.std.specs.Prelude.{◌≡◌, ◌<◌, ◌≤◌, [], length};
 
-use std::alloc::Global;
-use vt_base::{NoMemory, Text};
+use std::alloc::{AllocError, Global};
+use vt_base::Text;
 use vt_conf::parse_number;
 
 /// The name of a number.
@@ -22,7 +22,7 @@ pub struct Owners {
 
 impl Owners {
     /// What the lines of a file say. A line that is none of a number is skipped.
-    pub fn from_lines(alloc: Global, lines: &[u8]) -> Result<Self, NoMemory> {
+    pub fn from_lines(alloc: Global, lines: &[u8]) -> Result<Self, AllocError> {
         let mut owners = Vec::new(alloc);
         let mut rest = lines;
         while !rest.is_empty() {
@@ -37,7 +37,7 @@ impl Owners {
     }
 
     /// The name of a number, by the first line that has it; where none has, its digits.
-    pub fn name_of(&self, alloc: Global, id: u32) -> Result<Text, NoMemory> {
+    pub fn name_of(&self, alloc: Global, id: u32) -> Result<Text, AllocError> {
         for owner in &self.owners {
             if owner.id == id {
                 return Text::copy_of(alloc, owner.name.as_slice());

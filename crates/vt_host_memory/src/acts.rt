@@ -7,7 +7,7 @@ use crate::ran::Wanted;
 use crate::running::{Given, run};
 use crate::stores::{Commands, make};
 use crate::talk::Talk;
-use vt_base::NoMemory;
+use std::alloc::AllocError;
 use vt_rows::Rows;
 
 /// What a failed row of a table of runs tells: one text for each of what is compared.
@@ -45,7 +45,7 @@ pub enum Act {
 }
 
 /// Does these one behind another, where there is no partition yet, and notes what they come to.
-pub fn do_acts(rt: &impl Runtime, rows: &mut Rows, acts: &[Act]) -> Result<(), NoMemory> {
+pub fn do_acts(rt: &impl Runtime, rows: &mut Rows, acts: &[Act]) -> Result<(), AllocError> {
     let mut parts = Partitions::new(rt.alloc());
     for next in acts {
         act_next(rt, rows, &mut parts, next)?;
@@ -59,7 +59,7 @@ fn act_next(
     rows: &mut Rows,
     parts: &mut Partitions,
     act: &Act,
-) -> Result<(), NoMemory> {
+) -> Result<(), AllocError> {
     match act {
         Act::Make(commands) => make(rt, rows, parts, commands),
         Act::See(told, table) => see_rows(rt, rows, parts, told, table),
@@ -79,7 +79,7 @@ pub fn see_rows(
     parts: &mut Partitions,
     told: &Told,
     table: &[Row],
-) -> Result<(), NoMemory> {
+) -> Result<(), AllocError> {
     for (number, row) in table.iter().enumerate() {
         see_row(rt, rows, parts, told, number, row)?;
     }
@@ -94,7 +94,7 @@ pub fn see_row(
     told: &Told,
     number: usize,
     row: &Row,
-) -> Result<(), NoMemory> {
+) -> Result<(), AllocError> {
     let (words, input, status, output, complaint) = *row;
     let wanted = Wanted {
         status,
@@ -116,7 +116,7 @@ pub fn see_talk(
     number: usize,
     words: &[&str],
     talk: &Talk,
-) -> Result<(), NoMemory> {
+) -> Result<(), AllocError> {
     let ran = run(rt, parts, &Given::new(words, &[&talk.asked]))?;
     let wanted = Wanted {
         status: 0,

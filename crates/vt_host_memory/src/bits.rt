@@ -1,13 +1,12 @@
 //! Bytes in parts.
 
-use std::alloc::Global;
-use vt_base::NoMemory;
+use std::alloc::{AllocError, Global};
 
 /// Bytes, in parts.
 pub type Bits = &'static [&'static [u8]];
 
 /// These bytes, one part behind another.
-pub fn joined(alloc: Global, parts: &[&[u8]]) -> Result<Vec<u8>, NoMemory> {
+pub fn joined(alloc: Global, parts: &[&[u8]]) -> Result<Vec<u8>, AllocError> {
     let mut all = Vec::new(alloc);
     for part in parts {
         all.extend_from_slice(part)?;

@@ -2,10 +2,10 @@
 
 use crate::ran::Ran;
 use run_base::Outside;
-use std::alloc::Global;
+use std::alloc::{AllocError, Global};
 use std::thread::Threads;
 use vt_answer::Streams;
-use vt_base::{Bytes, NoMemory, Scorer, Text};
+use vt_base::{Bytes, Scorer, Text};
 use vt_commands::run_with;
 use vt_dial::MemDialer;
 use vt_folder::{MemFolder, MemItem};
@@ -20,11 +20,11 @@ impl<R: Threads + Sync + AllocGlobal> Runtime for R {}
 
 /// A sink that says what went to it.
 pub(crate) trait TestSink: Sink + Drop {
-    fn told(&self, alloc: Global) -> Result<Vec<u8>, NoMemory>;
+    fn told(&self, alloc: Global) -> Result<Vec<u8>, AllocError>;
 }
 
 impl TestSink for MemSink {
-    fn told(&self, alloc: Global) -> Result<Vec<u8>, NoMemory> {
+    fn told(&self, alloc: Global) -> Result<Vec<u8>, AllocError> {
         Ok(Vec::from_slice(alloc, self.written())?)
     }
 }
@@ -46,7 +46,7 @@ pub(crate) fn run_lent<C: Scorer + Sync, S: Source + Drop, K: TestSink, P: Parts
     lent: Lent<S, K>,
     parts: P,
     scorer: &C,
-) -> Result<(Ran, P), NoMemory> {
+) -> Result<(Ran, P), AllocError> {
     let alloc = rt.alloc();
     let fault_sink = MemSink::new(alloc, 200)?;
     let Lent {
@@ -91,7 +91,7 @@ fn ran_of<K: TestSink>(
     sink: K,
     fault_sink: MemSink,
     dialer: MemDialer,
-) -> Result<Ran, NoMemory> {
+) -> Result<Ran, AllocError> {
     let output = sink.told(alloc)?;
     let complaint = fault_sink.told(alloc)?;
     let heard = match dialer.into_link() {
@@ -130,7 +130,7 @@ const CONFS: [(&str, &str); 8] = [
 ];
 
 /// They are in files of these names.
-pub(crate) fn confs(alloc: Global) -> Result<MemFiles, NoMemory> {
+pub(crate) fn confs(alloc: Global) -> Result<MemFiles, AllocError> {
     let mut files = MemFiles::new(alloc);
     for (name, content) in CONFS {
         files = with_file(alloc, files, name, content.as_bytes())?;
@@ -144,7 +144,7 @@ pub(crate) fn with_file(
     files: MemFiles,
     name: &str,
     content: &[u8],
-) -> Result<MemFiles, NoMemory> {
+) -> Result<MemFiles, AllocError> {
     let name = Text::copy_of(alloc, name.as_bytes())?;
     let content = Bytes::copy_of(alloc, content)?;
     files.with(name, content)
@@ -157,7 +157,7 @@ pub(crate) fn source_of(
     bytes: Vec<u8>,
     pieces: &[usize],
     failing: &[u64],
-) -> Result<MemSource, NoMemory> {
+) -> Result<MemSource, AllocError> {
     let pieces = Vec::from_slice(alloc, pieces)?;
     let failing = Vec::from_slice(alloc, failing)?;
     Ok(
@@ -175,7 +175,7 @@ pub(crate) fn server_at(
     says: Vec<u8>,
     pieces: &[usize],
     failing: &[u64],
-) -> Result<MemDialer, NoMemory> {
+) -> Result<MemDialer, AllocError> {
     let host = Text::copy_of(alloc, host.as_bytes())?;
     let pieces = Vec::from_slice(alloc, pieces)?;
     let failing = Vec::from_slice(alloc, failing)?;
@@ -194,7 +194,7 @@ pub fn folder_named(
     items: Vec<MemItem>,
     most: usize,
     failing: &[u64],
-) -> Result<MemFolders, NoMemory> {
+) -> Result<MemFolders, AllocError> {
     let name = Text::copy_of(alloc, name.as_bytes())?;
     let failing = Vec::from_slice(alloc, failing)?;
     let folder = MemFolder::new(alloc, items)

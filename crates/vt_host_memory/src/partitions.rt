@@ -1,8 +1,8 @@
 //! Partitions in memory, which runs leave to each other.
 
-use std::alloc::Global;
+use std::alloc::{AllocError, Global};
 use std::mem;
-use vt_base::{NoMemory, Text};
+use vt_base::Text;
 use vt_disk::Disk;
 use vt_memdisk::{CrashMode, Listed, MemDisk};
 use vt_memparts::{Failing, MemParts};
@@ -30,7 +30,7 @@ impl Partitions {
 
     /// None yet. Of each disk that is made for them so many calls fail, from this one on: reads,
     /// writes and syncs are numbered together, from 0.
-    pub fn failing(alloc: Global, first: u64, span: u64) -> Result<Self, NoMemory> {
+    pub fn failing(alloc: Global, first: u64, span: u64) -> Result<Self, AllocError> {
         let mut calls = Vec::new(alloc);
         for behind in 0..span {
             calls.push(first.saturating_add(behind))?;
@@ -56,7 +56,7 @@ impl Partitions {
         alloc: Global,
         others: &mut Partitions,
         name: &str,
-    ) -> Result<bool, NoMemory> {
+    ) -> Result<bool, AllocError> {
         let name = Text::copy_of(alloc, name.as_bytes())?;
         let Ok(disk) = others.parts.part(alloc, &name, None) else {
             return Ok(false);
@@ -68,7 +68,7 @@ impl Partitions {
 
     /// A partition of this name and this length is made, and is handed out from now on. Says whether
     /// it is.
-    pub fn lend(&mut self, alloc: Global, name: &str, len: u64) -> Result<bool, NoMemory> {
+    pub fn lend(&mut self, alloc: Global, name: &str, len: u64) -> Result<bool, AllocError> {
         let name = Text::copy_of(alloc, name.as_bytes())?;
         Ok(self.parts.part(alloc, &name, Some(len)).is_ok())
     }
@@ -81,7 +81,7 @@ impl Partitions {
         name: &str,
         at: u64,
         bytes: &[u8],
-    ) -> Result<bool, NoMemory> {
+    ) -> Result<bool, AllocError> {
         let name = Text::copy_of(alloc, name.as_bytes())?;
         let Ok(mut disk) = self.parts.part(alloc, &name, None) else {
             return Ok(false);
@@ -92,7 +92,12 @@ impl Partitions {
     }
 
     /// The partition of this name is as a crash leaves it. Says whether there is one.
-    pub fn crash(&mut self, alloc: Global, name: &str, mode: CrashMode) -> Result<bool, NoMemory> {
+    pub fn crash(
+        &mut self,
+        alloc: Global,
+        name: &str,
+        mode: CrashMode,
+    ) -> Result<bool, AllocError> {
         let name = Text::copy_of(alloc, name.as_bytes())?;
         let Ok(disk) = self.parts.part(alloc, &name, None) else {
             return Ok(false);

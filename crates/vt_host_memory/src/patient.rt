@@ -7,9 +7,9 @@ use crate::messages::OUR_LINE;
 use crate::partitions::Partitions;
 use crate::ran::Ran;
 use crate::running::{dialer_of, no_folder};
-use std::alloc::Global;
+use std::alloc::{AllocError, Global};
 use std::cell::Cell;
-use vt_base::{Failed, NoMemory, Sha1Scorer};
+use vt_base::{Failed, Sha1Scorer};
 use vt_out::{Sink, Source};
 
 /// What is sent, and how many bytes are said to it.
@@ -102,7 +102,7 @@ impl Sink for PatientSink<'_> {
 }
 
 impl TestSink for PatientSink<'_> {
-    fn told(&self, alloc: Global) -> Result<Vec<u8>, NoMemory> {
+    fn told(&self, alloc: Global) -> Result<Vec<u8>, AllocError> {
         Ok(Vec::from_slice(alloc, &self.written)?)
     }
 }
@@ -115,7 +115,7 @@ pub fn run_patient(
     words: &[&str],
     sent: &[Part],
     cut: usize,
-) -> Result<Ran, NoMemory> {
+) -> Result<Ran, AllocError> {
     let alloc = rt.alloc();
     let files = confs(alloc)?;
     let dialer = dialer_of(alloc, None)?;

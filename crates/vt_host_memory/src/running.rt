@@ -4,8 +4,8 @@ use crate::bits::joined;
 use crate::host::{Lent, Runtime, confs, folder_named, run_lent, server_at, source_of, with_file};
 use crate::partitions::Partitions;
 use crate::ran::Ran;
-use std::alloc::Global;
-use vt_base::{NoMemory, Scorer, Sha1Scorer};
+use std::alloc::{AllocError, Global};
+use vt_base::{Scorer, Sha1Scorer};
 use vt_dial::MemDialer;
 use vt_folders::MemFolders;
 use vt_out::{MemFiles, MemSink};
@@ -54,7 +54,11 @@ impl<'a> Given<'a> {
 }
 
 /// Runs the program over these partitions.
-pub fn run(rt: &impl Runtime, parts: &mut Partitions, given: &Given<'_>) -> Result<Ran, NoMemory> {
+pub fn run(
+    rt: &impl Runtime,
+    parts: &mut Partitions,
+    given: &Given<'_>,
+) -> Result<Ran, AllocError> {
     run_scored(rt, parts, given, &Sha1Scorer)
 }
 
@@ -64,7 +68,7 @@ pub fn run_scored<C: Scorer + Sync>(
     parts: &mut Partitions,
     given: &Given<'_>,
     scorer: &C,
-) -> Result<Ran, NoMemory> {
+) -> Result<Ran, AllocError> {
     let folders = no_folder(rt.alloc())?;
     run_all(rt, parts, folders, given, scorer)
 }
@@ -75,12 +79,12 @@ pub fn run_with_folders(
     parts: &mut Partitions,
     folders: MemFolders,
     given: &Given<'_>,
-) -> Result<Ran, NoMemory> {
+) -> Result<Ran, AllocError> {
     run_all(rt, parts, folders, given, &Sha1Scorer)
 }
 
 /// A folder that nobody asks for.
-pub(crate) fn no_folder(alloc: Global) -> Result<MemFolders, NoMemory> {
+pub(crate) fn no_folder(alloc: Global) -> Result<MemFolders, AllocError> {
     folder_named(alloc, "nowhere", Vec::new(alloc), usize::MAX, &[])
 }
 
@@ -90,7 +94,7 @@ fn run_all<C: Scorer + Sync>(
     folders: MemFolders,
     given: &Given<'_>,
     scorer: &C,
-) -> Result<Ran, NoMemory> {
+) -> Result<Ran, AllocError> {
     let alloc = rt.alloc();
     let input = joined(alloc, given.input)?;
     let lent = Lent {
@@ -106,7 +110,7 @@ fn run_all<C: Scorer + Sync>(
 }
 
 /// The configurations of tests, and this file.
-fn files_of(alloc: Global, file: Option<(&str, &[u8])>) -> Result<MemFiles, NoMemory> {
+fn files_of(alloc: Global, file: Option<(&str, &[u8])>) -> Result<MemFiles, AllocError> {
     let files = confs(alloc)?;
     match file {
         Some((name, content)) => with_file(alloc, files, name, content),
@@ -115,7 +119,10 @@ fn files_of(alloc: Global, file: Option<(&str, &[u8])>) -> Result<MemFiles, NoMe
 }
 
 /// A dialer of this server, or of one that nobody asks for.
-pub(crate) fn dialer_of(alloc: Global, server: Option<Server<'_>>) -> Result<MemDialer, NoMemory> {
+pub(crate) fn dialer_of(
+    alloc: Global,
+    server: Option<Server<'_>>,
+) -> Result<MemDialer, AllocError> {
     match server {
         Some(
             Server {

@@ -3,7 +3,7 @@
 use crate::host::Runtime;
 use crate::partitions::Partitions;
 use crate::running::{Given, run};
-use vt_base::NoMemory;
+use std::alloc::AllocError;
 use vt_rows::Rows;
 
 /// The program's words, one command behind another.
@@ -56,7 +56,7 @@ pub fn make(
     rows: &mut Rows,
     parts: &mut Partitions,
     commands: &[&[&str]],
-) -> Result<(), NoMemory> {
+) -> Result<(), AllocError> {
     for (number, words) in commands.iter().enumerate() {
         let ends_well = status_of(rt, parts, words)? == 0;
         rows.nth(number, "a command that makes a store", ends_well);
@@ -65,7 +65,7 @@ pub fn make(
 }
 
 /// The status of this command over these partitions.
-fn status_of(rt: &impl Runtime, parts: &mut Partitions, words: &[&str]) -> Result<u8, NoMemory> {
+fn status_of(rt: &impl Runtime, parts: &mut Partitions, words: &[&str]) -> Result<u8, AllocError> {
     let ran = run(rt, parts, &Given::new(words, &[]))?;
     Ok(ran.status)
 }
@@ -75,14 +75,14 @@ pub fn made(
     rt: &impl Runtime,
     rows: &mut Rows,
     commands: &[&[&str]],
-) -> Result<Partitions, NoMemory> {
+) -> Result<Partitions, AllocError> {
     let mut parts = Partitions::new(rt.alloc());
     make(rt, rows, &mut parts, commands)?;
     Ok(parts)
 }
 
 /// A store of the configuration `v.conf`, without blocks.
-pub fn store(rt: &impl Runtime, rows: &mut Rows) -> Result<Partitions, NoMemory> {
+pub fn store(rt: &impl Runtime, rows: &mut Rows) -> Result<Partitions, AllocError> {
     let mut parts = made(rt, rows, PARTITIONS)?;
     make(rt, rows, &mut parts, &[INDEX])?;
     Ok(parts)
@@ -105,7 +105,7 @@ pub fn all_but(
     number: usize,
     first: u64,
     span: u64,
-) -> Result<Partitions, NoMemory> {
+) -> Result<Partitions, AllocError> {
     let mut parts = Partitions::failing(rt.alloc(), first, span)?;
     for (other, (name, words)) in FILTERED.iter().enumerate() {
         if other != number {
@@ -122,7 +122,7 @@ fn add_made(
     parts: &mut Partitions,
     name: &str,
     words: &[&str],
-) -> Result<(), NoMemory> {
+) -> Result<(), AllocError> {
     let mut alone = Partitions::new(rt.alloc());
     let status = status_of(rt, &mut alone, words)?;
     rows.is("a command that makes a partition", status == 0);
@@ -139,7 +139,7 @@ pub fn failing_store(
     number: usize,
     first: u64,
     span: u64,
-) -> Result<Option<Partitions>, NoMemory> {
+) -> Result<Option<Partitions>, AllocError> {
     let Some((_, words)) = FILTERED.get(number) else {
         return Ok(None);
     };

@@ -1,13 +1,13 @@
 //! Connections to hosts by their names.
 
 use crate::fakes::{FakeConnector, Notes};
-use std::alloc::Global;
+use std::alloc::{AllocError, Global};
 use std::io;
 use std::io::Write;
 use std::net::TcpListener;
 use std::process::Abort;
 use std::test::Fail;
-use vt_base::{NoMemory, Text};
+use vt_base::Text;
 use vt_conf::Address;
 use vt_dial::Dialer;
 use vt_host::StdDialer;
@@ -15,7 +15,7 @@ use vt_out::Link;
 use vt_rows::Rows;
 
 /// The address of a host, or of every host.
-fn address(alloc: Global, host: Option<&[u8]>, port: u16) -> Result<Address, NoMemory> {
+fn address(alloc: Global, host: Option<&[u8]>, port: u16) -> Result<Address, AllocError> {
     let host = match host {
         Some(name) => Some(Text::copy_of(alloc, name)?),
         None => None,

@@ -1,10 +1,10 @@
 //! Folders of the system, on a real one.
 
-use std::alloc::Global;
+use std::alloc::{AllocError, Global};
 use std::os::unix::fs::symlink;
 use std::test::Fail;
 use std::{env, fs, process};
-use vt_base::{Failed, NoMemory, Text};
+use vt_base::{Failed, Text};
 use vt_folder::{Folder, Item, ItemKind};
 use vt_folders::Folders;
 use vt_host::StdFolders;
@@ -30,7 +30,7 @@ fn read<F: Folder>(folder: &mut F, path: &[Text], at: u64) -> (Result<usize, Fai
 }
 
 /// The name of something in a folder.
-fn inside(alloc: Global, folder: &str, name: &str) -> Result<String, NoMemory> {
+fn inside(alloc: Global, folder: &str, name: &str) -> Result<String, AllocError> {
     Ok(format!(in alloc; "{folder}/{name}")?)
 }
 
@@ -87,7 +87,7 @@ fn see_read<F: Folder>(rows: &mut Rows, folder: &mut F, path: &[Text]) {
 /// Names of a link, a folder, nothing, and no text.
 const UNREAD: [&[u8]; 4] = [b"link", b"d", b"none", b"\xff"];
 
-fn see_unread<F: Folder>(rows: &mut Rows, alloc: Global, folder: &mut F) -> Result<(), NoMemory> {
+fn see_unread<F: Folder>(rows: &mut Rows, alloc: Global, folder: &mut F) -> Result<(), AllocError> {
     for (row, name) in UNREAD.into_iter().enumerate() {
         let path = [Text::copy_of(alloc, name)?];
         let (found, _) = read(folder, &path, 0);
@@ -102,7 +102,7 @@ fn see_folder<G: Folders>(
     alloc: Global,
     folders: &mut G,
     name: &str,
-) -> Result<(), NoMemory> {
+) -> Result<(), AllocError> {
     let name = Text::copy_of(alloc, name.as_bytes())?;
     let path = [Text::copy_of(alloc, b"d")?, Text::copy_of(alloc, b"f")?];
     let Ok(mut folder) = folders.folder(alloc, &name) else {
@@ -123,7 +123,7 @@ fn see_none<G: Folders>(
     folders: &mut G,
     row: usize,
     name: &[u8],
-) -> Result<(), NoMemory> {
+) -> Result<(), AllocError> {
     let name = Text::copy_of(alloc, name)?;
     let found = folders.folder(alloc, &name);
     rows.nth(
@@ -163,7 +163,7 @@ fn a_folder_of_the_system_is_listed_and_read(rt: HostRuntime) -> Result<(), Fail
 // ---- a folder of many files
 
 /// What is named so by its number.
-fn numbered(alloc: Global, folder: &str, n: u32) -> Result<String, NoMemory> {
+fn numbered(alloc: Global, folder: &str, n: u32) -> Result<String, AllocError> {
     Ok(format!(in alloc; "{folder}/a file that has a name of its own, number {n}")?)
 }
 
@@ -192,7 +192,7 @@ fn see_numbered(
     alloc: Global,
     items: &[Item],
     files: u32,
-) -> Result<(), NoMemory> {
+) -> Result<(), AllocError> {
     rows.is("how many items are listed", items.len() == files as usize);
     for n in 0..files {
         let name = numbered(alloc, "", n)?;
@@ -209,7 +209,7 @@ fn see_many<G: Folders>(
     folders: &mut G,
     name: &str,
     files: u32,
-) -> Result<(), NoMemory> {
+) -> Result<(), AllocError> {
     let name = Text::copy_of(alloc, name.as_bytes())?;
     let Ok(mut folder) = folders.folder(alloc, &name) else {
         rows.is("a folder is handed out", false);

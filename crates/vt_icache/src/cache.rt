@@ -13,11 +13,11 @@ ghost use Rattle.vt_icache.specs.Index.{IndexState, IsKept, Settles, dirty_info,
 
 use indexmap::IndexMap;
 use lru::LruCache;
-use std::alloc::Global;
+use std::alloc::{AllocError, Global};
 use std::marker::Model;
 use std::mem;
 use std::num::NonZeroUsize;
-use vt_base::{Entry, Info, Key, Kind, NoMemory, Score};
+use vt_base::{Entry, Info, Key, Kind, Score};
 
 /// The entries of the index that are kept in memory.
 #[derive(Drop)]
@@ -47,7 +47,7 @@ impl Model for IndexCache {
 
 impl IndexCache {
     /// No entries, and room for so many dirty and so many clean ones.
-    pub fn new(alloc: Global, dirty: u32, clean: u32) -> Result<Self, NoMemory>
+    pub fn new(alloc: Global, dirty: u32, clean: u32) -> Result<Self, AllocError>
         requires { 0 < clean }
         ensures { IfOk result (λ it. it ≡ record {
           dirty = [];

@@ -141,6 +141,44 @@ impl<D: Disk> Section<D> {
         if let Some(call) = self.stopped {
             return Err(ShardErr::Stopped(call));
         }
+        self.make_call()
+    }
+
+    /// Makes the next device call of what is under way.
+    fn make_call(&mut self) -> Result<Step, ShardErr>
+        requires under_way { ¬ IsAtRest self.old }
+        requires goes { self.old.stopped ≡ None }
+        ensures sound { IsTrue D.tells → Keeps D.Disk result self.old self.new }
+        ensures written { IsTrue D.tells → OnOk result (Writes self.old.phase self.old
+            (D.bytes self.old.disk) (D.bytes self.new.disk)) }
+        ensures settled { Syncs self.old.phase self.old
+            → OnOk result (IsSynced D.Disk self.new.disk) }
+        ensures steps { Advances result self.old self.new }
+        ensures merged { (s : ℕ) → OnOk result (self.old.phase ≡ ReadFrame s
+            → (read : List ℕ) × IsMerged self.old.bucket (entering self.old) read self.new.frame
+            × ((region : Region) → IsTrue D.tells
+            → IsPlaceOf (self.old.bucket - self.old.head.first) region
+            → read ≡ twin_frame region FRAME_LEN (s % 2) (D.bytes self.old.disk))) }
+        ensures differs { IfErr result NamesDamage }
+        ensures damaged { (s : ℕ) → IfErr result (λ bad. bad ≢ ShardErr.Fault
+            → self.old.stopped ≡ None → self.old.phase ≡ ReadFrame s
+            → (read : List ℕ) × IsDamage self.old.bucket (entering self.old) read bad
+            × ((region : Region) → IsTrue D.tells
+            → IsPlaceOf (self.old.bucket - self.old.head.first) region
+            → read ≡ twin_frame region FRAME_LEN (s % 2) (D.bytes self.old.disk))) }
+        ensures undamaged { (score : List ℕ → List ℕ) (c : Setup) (h : History) (known : Known)
+            → IsTrue D.tells
+            → DiskHolds D.Disk self.old known
+            → KnownAgrees score c h self.old known
+            → ((n : ℕ) → crowd score (bucket_count c) h n ≤ BUCKET_ROOM)
+            → IfErr result (λ bad. (bad ≡ ShardErr.Fault)
+            ⊎ ((n : ℕ) × (bad ≡ ShardErr.Stopped n))) }
+        ensures faults { CountsFault is_fault result
+            (D.faults self.old.disk) (D.faults self.new.disk) }
+        ensures calls { MadeCalls D.Disk 1 self.old.disk self.new.disk }
+        ensures writes { WritesAt D.Disk (MayWrite self.old.phase self.old) 1
+            self.old.disk self.new.disk }
+    {
         match self.phase {
             Phase::Rest => unreachable!(),
             Phase::ReadSelector => self.read_selector(),

@@ -23,8 +23,7 @@ use Rattle.vt_model.proofs.Added.{adds_when, added-refused}
 use Rattle.vt_model.proofs.Adding.{IsLegal-with_added}
 use Rattle.vt_model.proofs.Keys.{equal_bytes}
 use Rattle.vt_model.proofs.Numbers.{held-zero, held-by, held-first, collides-free}
-use Rattle.vt_session.specs.Answered.{IsCauseFor}
-use Rattle.vt_session.specs.Turns.{Cause, disk_fault, stopped, damaged, no_memory, why_of}
+use Rattle.vt_model.specs.Causes.{IsCauseFor, Cause, disk_fault, stopped, damaged, no_memory, why_of}
 use Rattle.vt_answer.specs.Condition.{Condition, GoesOn, IsNoDamage}
 use Rattle.vt_local.specs.Members.{StoreOf}
 use Rattle.vt_answer.specs.Serving.{Answers, Serves, IsCovered}

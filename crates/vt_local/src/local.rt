@@ -3,10 +3,10 @@
 ghost use Rattle.std.specs.Prelude.{◌≡◌, ℕ, List, None};
 ghost use Rattle.vt_local.specs.Local.{IsToldAs};
 
-use std::alloc::Global;
+use std::alloc::{AllocError, Global};
 use std::marker::Model;
-use vt_answer::Store;
-use vt_base::{Bytes, Kind, MAX_BLOCK, NoMemory, Score, Scorer, Text, Why, why_text};
+use vt_answer::{Store, read, sync, write};
+use vt_base::{Bytes, Kind, MAX_BLOCK, Score, Scorer, Text, Why, why_text};
 use vt_tree::{BlockErr, Blocks};
 
 /// A store, or one share of a store, as a store of blocks. It tells what it holds where nobody else
@@ -107,7 +107,7 @@ fn told(alloc: Global, why: &Why) -> BlockErr
         Why::Damaged { want, found, .. } => BlockErr::Damaged { want, found },
         _ => match Text::copy_of(alloc, why_text(why).as_bytes()) {
             Ok(text) => BlockErr::Refused(text),
-            Err(NoMemory) => BlockErr::NoMemory,
+            Err(AllocError) => BlockErr::NoMemory,
         },
     }
 }
@@ -146,21 +146,21 @@ impl<T: Store, S: Scorer> Blocks for Local<T, S> {
     ghost counting = { λ l l' call does. does.counts };
 
     fn get(&mut self, alloc: Global, kind: Kind, score: &Score) -> Result<Bytes, BlockErr> {
-        match self.store.read(alloc, score, kind.wire(), MAX_BLOCK as u32) {
+        match read(alloc, &mut self.store, score, kind.wire(), MAX_BLOCK as u32) {
             Ok(bytes) => Ok(bytes),
             Err(why) => Err(self.refuse(alloc, why)),
         }
     }
 
     fn put(&mut self, alloc: Global, kind: Kind, bytes: &[u8]) -> Result<Score, BlockErr> {
-        match self.store.write(alloc, kind.wire(), bytes) {
+        match write(alloc, &mut self.store, kind.wire(), bytes) {
             Ok(score) => Ok(score),
             Err(why) => Err(self.refuse(alloc, why)),
         }
     }
 
     fn sync(&mut self, alloc: Global) -> Result<(), BlockErr> {
-        match self.store.sync() {
+        match sync(alloc, &mut self.store) {
             Ok(()) => Ok(()),
             Err(why) => Err(self.refuse(alloc, why)),
         }

@@ -1,6 +1,6 @@
 //! A log in memory: which arena it commits in, what is queued, and how full the arenas are.
 
-ghost use Rattle.std.specs.Prelude.{Bool, ◌≡◌, ◌↔◌, ◌+◌, ◌<◌, ◌≤◌, ◌^◌, Some, Err, Result, IsTrue, IsFalse, OnOk, IfSome, is_some, length, map, slice_get};
+ghost use Rattle.std.specs.Prelude.{Bool, ◌≡◌, ◌↔◌, ◌+◌, ◌<◌, ◌≤◌, ◌^◌, Some, Err, Result, IsTrue, IsFalse, OnOk, IfSome, is_some, [], length, map, slice_get};
 ghost use Rattle.vt_disk.specs.Disk.{part as part_of};
 ghost use Rattle.vt_clump.specs.Clumps.{IsPacked};
 ghost use Rattle.vt_model.specs.declared.TheConstants.{CLUMP_HEADER_LEN};
@@ -146,6 +146,13 @@ impl<D: Disk, S: Scorer> Log<D, S> {
         ensures { result.0 ≡ S.score_of block.now }
     {
         self.scorer.score(block)
+    }
+
+    /// The zero score, that of no bytes.
+    pub fn zero_score(&self) -> Score
+        ensures { result.0 ≡ S.score_of [] }
+    {
+        self.scorer.zero_score()
     }
 
     /// Whether 64 blocks are queued.

@@ -27,9 +27,9 @@ use crate::bad::LogBad;
 use crate::filling::Filling;
 use crate::log::Log;
 use crate::queue::Queue;
-use std::alloc::Global;
+use std::alloc::{AllocError, Global};
 use vt_arena::{Arena, ArenaBad, ArenaHead, Field, Found, find};
-use vt_base::{Failed, NoMemory, Score, Scorer};
+use vt_base::{Failed, Score, Scorer};
 use vt_disk::{Disk, LEAST_ARENA};
 use vt_part::{ArenaRegion, Layout, Part, PartBad};
 
@@ -414,7 +414,7 @@ fn room_for(
     layout: &Layout,
     heads: &[Found],
     arena: usize,
-) -> Result<Arena, NoMemory>
+) -> Result<Arena, AllocError>
     requires many { length heads.now ≡ length layout.now }
     requires heads { (r : ArenaRegion) (found : Found) → slice_get layout.now arena ≡ Some r
         → slice_get heads.now arena ≡ Some found

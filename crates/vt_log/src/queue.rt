@@ -4,10 +4,10 @@ ghost use Rattle.std.specs.Prelude.{◌≡◌, ◌+◌, ◌<◌, ◌≤◌, ◌=
 ghost use Rattle.vt_log.specs.declared.TheConstants.{QUEUE_MAX};
 
 use crate::QUEUE_MAX;
-use std::alloc::Global;
+use std::alloc::{AllocError, Global};
 use std::collections::VecDeque;
 use std::marker::Model;
-use vt_base::{NoMemory, Place};
+use vt_base::Place;
 use vt_clump::Packed;
 
 /// A queued block that isn't staged yet.
@@ -44,7 +44,7 @@ impl Queue {
     ghost use Rattle.vt_log.specs.Queue.{no_queue, with_block, TakesFor, IsArenaOfFirst, IsFirstAt, IsNowhere};
 
     /// No blocks, and room for 64.
-    pub fn new(alloc: Global) -> Result<Queue, NoMemory>
+    pub fn new(alloc: Global) -> Result<Queue, AllocError>
         ensures { IfOk result (λ q. q ≡ no_queue) }
     {
         Ok(Queue {

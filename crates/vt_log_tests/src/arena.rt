@@ -6,13 +6,13 @@
 ghost use Rattle.std.specs.Prelude.{◌≡◌};
 
 use crate::cases::note;
-use std::alloc::Global;
+use std::alloc::{AllocError, Global};
 use std::test::Fail;
 use vt_arena::{
     Arena, ArenaBad, At, BackBad, Field, Found, ReadBad, STAGED_MAX, find, format, has_room, info,
     mount, read,
 };
-use vt_base::{Failed, FieldValue, Info, Key, Kind, NoMemory, Place, Score, Scorer, Sha1Scorer};
+use vt_base::{Failed, FieldValue, Info, Key, Kind, Place, Score, Scorer, Sha1Scorer};
 use vt_clump::{Clump, pack};
 use vt_disk::{Disk, Region};
 use vt_memdisk::{CrashMode, Listed, MemDisk};
@@ -236,7 +236,7 @@ impl<D: Disk + Drop> Rig<D> {
     }
 
     /// Stages a block of type 13, where that may be done.
-    fn stage(&mut self, alloc: Global, block: &[u8]) -> Result<bool, NoMemory> {
+    fn stage(&mut self, alloc: Global, block: &[u8]) -> Result<bool, AllocError> {
         let kind = Kind::DATA;
         if block.is_empty() || block.len() > 57_344 {
             return Ok(false);
@@ -252,7 +252,7 @@ impl<D: Disk + Drop> Rig<D> {
     }
 
     /// Stages a block as often as that may be done, up to `n` times.
-    fn stage_many(&mut self, alloc: Global, block: &[u8], n: u32) -> Result<u32, NoMemory> {
+    fn stage_many(&mut self, alloc: Global, block: &[u8], n: u32) -> Result<u32, AllocError> {
         for i in 0..n {
             if !self.stage(alloc, block)? {
                 return Ok(i);

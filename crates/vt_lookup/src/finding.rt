@@ -18,10 +18,10 @@ ghost use Rattle.vt_lookup.specs.Finding.{AreSound, IsRight, LooksFor, MayKeepFr
 ghost use Rattle.vt_lookup.specs.Seeking.{ComparesBlock, ComparesOther, Fetches, IsOwn, StaySound, fetched, sought};
 ghost use Rattle.vt_lookup.specs.Finding.{why_of_shard};
 
-use std::alloc::Global;
+use std::alloc::{AllocError, Global};
 use std::sync::ledger::Ledger;
 use vt_arena::ReadBad;
-use vt_base::{Bytes, Entry, Key, NoMemory, Place, Score, Scorer, Site, Why};
+use vt_base::{Bytes, Entry, Key, Place, Score, Scorer, Site, Why};
 use vt_disk::Disk;
 use vt_isect::ShardErr;
 use vt_log::Log;
@@ -249,7 +249,7 @@ fn copy_of_lump<D: Disk>(alloc: Global, shard: &Shard<D>, key: &Key) -> Result<B
     match shard.lump(key) {
         Some(bytes) => match Bytes::copy_of(alloc, bytes.as_slice()) {
             Ok(copy) => Ok(copy),
-            Err(NoMemory) => Err(Why::NoMemory),
+            Err(AllocError) => Err(Why::NoMemory),
         },
         None => unreachable!(),
     }

@@ -5,10 +5,10 @@ ghost use Rattle.lru.specs.LruCache.{lru_cache};
 ghost use Rattle.vt_lumps.specs.Lumps.{bytes_of, used, kept, without_last};
 
 use lru::LruCache;
-use std::alloc::Global;
+use std::alloc::{AllocError, Global};
 use std::marker::Model;
 use std::num::NonZeroUsize;
-use vt_base::{Bytes, Key, NoMemory};
+use vt_base::{Bytes, Key};
 
 /// A cache of blocks, which contracts see as the pairs of a key and its block's bytes, the most
 /// recently used first.
@@ -27,7 +27,7 @@ impl Model for Lumps {
 
 impl Lumps {
     /// An empty cache that keeps so many blocks at most.
-    pub fn new(alloc: Global, capacity: u32) -> Result<Self, NoMemory>
+    pub fn new(alloc: Global, capacity: u32) -> Result<Self, AllocError>
         requires { 0 < capacity }
         ensures { IfOk result (λ it. it ≡ lru_cache [] capacity) }
     {

@@ -3,8 +3,8 @@
 use crate::cells::Cells;
 use crate::crash::CrashMode;
 use crate::plan::{Listed, Never, Plan};
-use std::alloc::Global;
-use vt_base::{Failed, NoMemory};
+use std::alloc::{AllocError, Global};
+use vt_base::Failed;
 use vt_disk::Disk;
 
 /// A disk in memory, of which a crash can be tried: it leaves any combination of the bytes that
@@ -24,7 +24,7 @@ impl MemDisk<Never> {
     ghost use Rattle.vt_memdisk.specs.Memory.{memory_bytes, memory_pending, memory_plan};
 
     /// A disk of so many zero bytes, of which no call fails.
-    pub fn new(alloc: Global, len: u64) -> Result<Self, NoMemory>
+    pub fn new(alloc: Global, len: u64) -> Result<Self, AllocError>
         ensures length { IfOk result (λ disk. length (memory_bytes disk) ≡ len) }
         ensures zero { IfOk result (λ disk. (i : ℕ) → slice_index (memory_bytes disk) i ≡ 0) }
         ensures pending { IfOk result (λ disk. NonePending (memory_pending disk)) }
@@ -45,7 +45,7 @@ impl MemDisk<Listed> {
 
     /// A disk of so many zero bytes, of which the calls with these numbers fail. Reads, writes and
     /// syncs are numbered together, from 0.
-    pub fn failing(alloc: Global, len: u64, calls: Vec<u64>) -> Result<Self, NoMemory>
+    pub fn failing(alloc: Global, len: u64, calls: Vec<u64>) -> Result<Self, AllocError>
         ensures length { IfOk result (λ disk. length (memory_bytes disk) ≡ len) }
         ensures zero { IfOk result (λ disk. (i : ℕ) → slice_index (memory_bytes disk) i ≡ 0) }
         ensures pending { IfOk result (λ disk. NonePending (memory_pending disk)) }
@@ -67,7 +67,7 @@ impl<P: Plan> MemDisk<P> {
     ghost use Rattle.vt_memdisk.specs.Crashes.{IsLeftBy};
     ghost use Rattle.vt_memdisk.specs.Memory.{memory_bytes, memory_synced, memory_pending, memory_plan};
 
-    fn with_plan(alloc: Global, len: u64, plan: P) -> Result<Self, NoMemory>
+    fn with_plan(alloc: Global, len: u64, plan: P) -> Result<Self, AllocError>
         ensures length { IfOk result (λ disk. length (memory_bytes disk) ≡ len) }
         ensures zero { IfOk result (λ disk. (i : ℕ) → slice_index (memory_bytes disk) i ≡ 0) }
         ensures pending { IfOk result (λ disk. NonePending (memory_pending disk)) }

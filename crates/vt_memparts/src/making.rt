@@ -3,15 +3,14 @@
 ghost use Rattle.std.specs.Prelude.{◌≡◌, [], IfOk};
 ghost use Rattle.vt_parts.specs.Parts.{IsMade};
 
-use std::alloc::{Allocator, Global};
-use vt_base::NoMemory;
+use std::alloc::{AllocError, Allocator, Global};
 use vt_disk::Disk;
 use vt_memdisk::{Listed, MemDisk, Plan};
 
 /// Makes disks.
 pub trait MakesDisks<D: Disk> {
     /// A disk of so many zero bytes, of which a crash leaves nothing else.
-    fn make(&self, alloc: Global, len: u64) -> Result<D, NoMemory>
+    fn make(&self, alloc: Global, len: u64) -> Result<D, AllocError>
         ensures { IfOk result (IsMade D.Disk [] len) };
 }
 
@@ -33,7 +32,7 @@ impl<A: Allocator> Failing<A> {
     }
 
     /// A disk of so many zero bytes.
-    pub fn disk(&self, alloc: Global, len: u64) -> Result<MemDisk<Listed>, NoMemory>
+    pub fn disk(&self, alloc: Global, len: u64) -> Result<MemDisk<Listed>, AllocError>
         ensures made { IfOk result (IsMade ⟦<MemDisk<Listed> as Disk>⟧ [] len) }
         ensures listed { IfOk result (λ disk.
             ⟦<Listed as Plan>⟧.listed (memory_plan disk) ≡ failing_calls self.now) }
@@ -44,7 +43,7 @@ impl<A: Allocator> Failing<A> {
 }
 
 impl<A: Allocator> MakesDisks<MemDisk<Listed>> for Failing<A> {
-    fn make(&self, alloc: Global, len: u64) -> Result<MemDisk<Listed>, NoMemory> {
+    fn make(&self, alloc: Global, len: u64) -> Result<MemDisk<Listed>, AllocError> {
         self.disk(alloc, len)
     }
 }

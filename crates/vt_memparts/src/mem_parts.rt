@@ -3,8 +3,8 @@
 use crate::faults::Faults;
 use crate::lending::{MemPart, lend, take_back};
 use crate::making::MakesDisks;
-use std::alloc::Global;
-use vt_base::{Failed, NoMemory, Text};
+use std::alloc::{AllocError, Global};
+use vt_base::{Failed, Text};
 use vt_disk::Disk;
 use vt_parts::Parts;
 
@@ -34,7 +34,7 @@ impl<D: Drop, M: Drop> MemParts<D, M> {
     }
 
     /// One partition more. Of two of one name, the first is handed out.
-    pub fn with(self, name: Text, disk: D) -> Result<Self, NoMemory>
+    pub fn with(self, name: Text, disk: D) -> Result<Self, AllocError>
         ensures held { IfOk result (λ parts. parts_held parts
             ≡ parts_held self ++ record { name = name; disk = Some disk } ∷ []) }
         ensures maker { IfOk result (λ parts. parts_maker parts ≡ parts_maker self) }

@@ -12,9 +12,9 @@ ghost use Rattle.vt_model.specs.Verdict.{outcome_of};
 use crate::BUCKET_ROOM;
 use crate::layout::{Layout, bucket_of, room_after};
 use crate::stored::{Stored, crowd, find_key, has_other_bytes, last_arena, room_left};
-use std::alloc::Global;
+use std::alloc::{AllocError, Global};
 use std::marker::Model;
-use vt_base::{Bytes, Key, Kind, MAX_BLOCK, NoMemory, Score, Scorer, Why};
+use vt_base::{Bytes, Key, Kind, MAX_BLOCK, Score, Scorer, Why};
 
 // A write that is answered with its score: that, and where its block is to be added, if it is.
 #[derive(Clone, Copy)]
@@ -192,7 +192,7 @@ impl<S: Scorer> PlainStore<S> {
     }
 
     // Puts a new block at the end; on want of memory nothing changes.
-    fn add(&mut self, alloc: Global, key: Key, bytes: &[u8], arena: usize) -> Result<(), NoMemory>
+    fn add(&mut self, alloc: Global, key: Key, bytes: &[u8], arena: usize) -> Result<(), AllocError>
         requires { key.score.0 ≡ S.score_of bytes.now }
         ensures ok { OnOk result (self.new.history ≡ self.old.history ++ record {
           block = record { kind = key.kind; bytes = bytes.now };

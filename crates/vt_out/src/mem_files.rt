@@ -5,8 +5,8 @@ ghost use Rattle.vt_out.specs.Held.{content_of};
 
 use crate::plan::Plan;
 use crate::{Files, OutErr};
-use std::alloc::Global;
-use vt_base::{Bytes, NoMemory, Text};
+use std::alloc::{AllocError, Global};
+use vt_base::{Bytes, Text};
 
 /// A file in memory.
 #[derive(Drop)]
@@ -40,7 +40,7 @@ impl MemFiles {
     }
 
     /// One file more. Of two of one name, the first is read.
-    pub fn with(self, name: Text, content: Bytes) -> Result<Self, NoMemory>
+    pub fn with(self, name: Text, content: Bytes) -> Result<Self, AllocError>
         ensures held { IfOk result (λ files. files_held files
             ≡ files_held self ++ record { name = name; content = content } ∷ []) }
         ensures failing { IfOk result (λ files. files_failing files ≡ files_failing self) }

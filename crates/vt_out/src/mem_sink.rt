@@ -4,8 +4,8 @@ ghost use Rattle.std.specs.Prelude.{◌≡◌, ◌≤◌, ◌+◌, ◌++◌, len
 
 use crate::Sink;
 use crate::plan::Plan;
-use std::alloc::Global;
-use vt_base::{Failed, NoMemory};
+use std::alloc::{AllocError, Global};
+use vt_base::Failed;
 
 /// Keeps what is written, up to a stated number of bytes. Its calls are counted from 0.
 #[derive(Drop)]
@@ -34,7 +34,7 @@ impl MemSink {
     ghost use Rattle.vt_out.specs.Memory.{sink_calls, sink_faults};
 
     /// Has room for so many bytes. A call fails only where its piece doesn't fit.
-    pub fn new(alloc: Global, room: usize) -> Result<Self, NoMemory>
+    pub fn new(alloc: Global, room: usize) -> Result<Self, AllocError>
         ensures written { IfOk result (λ sink. sink_written sink ≡ []) }
         ensures room { IfOk result (λ sink. sink_room sink ≡ room) }
         ensures failing { IfOk result (λ sink. sink_failing sink ≡ []) }

@@ -12,8 +12,8 @@ ghost use Rattle.vt_recover.specs.Refusals.{FilterIsRefused, SectionIsRefused};
 ghost use Rattle.vt_recover.specs.Opening.{HasRoom};
 
 use crate::devices::close_shards;
-use std::alloc::Global;
-use vt_base::{MountBad, NoMemory};
+use std::alloc::{AllocError, Global};
+use vt_base::MountBad;
 use vt_bloom::{Bits, Bloom};
 use vt_disk::Disk;
 use vt_isect::Section;
@@ -108,7 +108,7 @@ fn open_shards<D: Disk>(
     while let Some(section) = sections.pop() {
         match vt_shard::mount(alloc, section, sizes) {
             Ok(shard) => shards.push_reserved(shard),
-            Err((NoMemory, section)) => {
+            Err((AllocError, section)) => {
                 sections.push_reserved(section);
                 sections.reverse();
                 return Err(close_shards(shards, unpack(sections, room)));
@@ -166,7 +166,7 @@ pub fn open_filter<D: Disk>(
     let Some(device) = device else {
         return match Bits::new(alloc, M, K) {
             Ok(bits) => Ok((None, bits)),
-            Err(NoMemory) => Err((MountBad::NoMemory, None)),
+            Err(AllocError) => Err((MountBad::NoMemory, None)),
         };
     };
     match vt_bloom::mount(alloc, device) {

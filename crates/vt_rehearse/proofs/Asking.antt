@@ -38,10 +38,8 @@ use Rattle.vt_log.specs.Logs.{accepted as accepted_in}
 use Rattle.vt_log.specs.Owed.{calls_left, owed, seal_calls}
 use Rattle.vt_log.specs.Queue.{waiting_block}
 use Rattle.vt_shard.specs.Shard.{ShardState}
-use Rattle.vt_session.specs.Answered.{MayFail, ReachesParts}
-use Rattle.vt_session.specs.Turns.{Cause, disk_fault, stopped, damaged, no_memory, why_of}
-use Rattle.vt_wire.specs.Views.{message_of}
-use Rattle.vt_wire.specs.declared.message.Request.{Request}
+use Rattle.vt_model.specs.Causes.{MayFail, ReachesParts, Cause, disk_fault, stopped, damaged, no_memory, why_of}
+use Rattle.vt_base.specs.declared.operation.Operation.{Operation as Asked}
 use Rattle.vt_core.specs.declared.event.Event.TheVariants.{Answer as AskAnswer, LogAdvance}
 use Rattle.vt_core.specs.declared.event.Out.{Out}
 use Rattle.vt_core.specs.declared.event.Out.TheVariants.{Said as SaidOut, Waits, NotYet, Moved, Nothing, Failed}
@@ -53,7 +51,8 @@ use Rattle.vt_drive.proofs.TestKeeps.{KeepsRoom, test_keeps}
 use Rattle.vt_base.specs.declared.key.Key.{Key}
 use Rattle.std.specs.Str.{bytes_eq}
 use Rattle.vt_core.specs.Core.{CoreState, history_len, machine_of, setup_of}
-use Rattle.vt_core.specs.Events.{EndsWaiting, FailsIn, GivesAnswer, IsAsked, IsAwaited, operation_in}
+use Rattle.vt_base.specs.Operations.{operation_of}
+use Rattle.vt_core.specs.Events.{EndsWaiting, FailsIn, GivesAnswer, IsAsked, IsAwaited}
 use Rattle.vt_core.specs.Machine.{Machine}
 use Rattle.vt_core.specs.Steps.{Steps}
 use Rattle.vt_core.specs.Work.{out_of_progress}
@@ -182,11 +181,11 @@ module _ (score : List ℕ → List ℕ) (c : Setup) (h : History) where
 
 module _ {D : Type 0} (score : List ℕ → List ℕ) (disk : DiskOf D) (memory : IsMemory disk) where
   -- the machine's step of a request for an operation
-  asked : (session : ℕ) (request : Request) (m : Operation) (out : Out) (old new : Machine) → AsksFor m request
-      → IsAsked score session (operation_in (message_of request)) out old new → IsAsked score session m out old new
-  asked session request m out old new is_for it = subst (λ (x : Operation). IsAsked score session x out old new) (ap operation_in is_for) it
+  asked : (session : ℕ) (request : Asked) (m : Operation) (out : Out) (old new : Machine) → AsksFor m request
+      → IsAsked score session (operation_of request) out old new → IsAsked score session m out old new
+  asked session request m out old new is_for it = subst (λ (x : Operation). IsAsked score session x out old new) is_for it
 
-  pub may_give : (session : ℕ) (request : Request) (m : Operation) (out : Out) (h : History) (old new : CoreState D) → m ≢ sync → AsksFor m request → IsSteady score disk old h
+  pub may_give : (session : ℕ) (request : Asked) (m : Operation) (out : Out) (h : History) (old new : CoreState D) → m ≢ sync → AsksFor m request → IsSteady score disk old h
       → old.waiting ≡ none_waits → Steps score disk (asked_by session request) out old new → MayGive out
   may_give session request m out h old new other is_for steady free step =
       let it = stepped score disk memory (asked_by session request) out h old new steady step in
@@ -200,7 +199,7 @@ module _ {D : Type 0} (score : List ℕ → List ℕ) (disk : DiskOf D) (memory 
       by after Nothing is = absurd (none_at 3 session is.0.0 (subst (λ (ws : List (Option ℕ)). slice_get ws session ≡ Some (Some is.0.0)) free is.0.1))
       by after (Failed why) is = absurd is
 
-  module _ (apart : AreApart score) (w : ℕ) (below : w < 64) (session : ℕ) (request : Request) (a : Answer) (h : History) (listed : List ℕ) (has : HasWords h listed)
+  module _ (apart : AreApart score) (w : ℕ) (below : w < 64) (session : ℕ) (request : Asked) (a : Answer) (h : History) (listed : List ℕ) (has : HasWords h listed)
       (old new : CoreState D) (steady : IsSteady score disk old h) (step : Steps score disk (asked_by session request) (SaidOut a) old new) where
     it : Stepped score disk memory (asked_by session request) (SaidOut a) h old new
     it = stepped score disk memory (asked_by session request) (SaidOut a) h old new steady step
@@ -261,7 +260,7 @@ module _ {D : Type 0} (score : List ℕ → List ℕ) (disk : DiskOf D) (memory 
           (λ has_it. wrote_held has_it gives.1)
           (λ lacks. wrote_new lacks (next_arena (setup_of old) h (length (word_of w))) refl gives.1)
           (has_or_lacks listed w)))
-          (λ fails. inl (only_memory score disk memory session request (write 13 (word_of w)) a h old new (machine_of new it.next) (ap operation_in is_for) steady
+          (λ fails. inl (only_memory score disk memory session request (write 13 (word_of w)) a h old new (machine_of new it.next) is_for steady
           (λ call is. no_stop score disk old h 13 (word_of w) call steady is) makes.1 step fails))
           makes.2
 
@@ -293,7 +292,7 @@ module _ {D : Type 0} (score : List ℕ → List ℕ) (disk : DiskOf D) (memory 
           stays = stays score disk memory h it.next old new steady it.steady g.1;
         })
         (has_or_lacks listed w)))
-        (λ fails. inl (only_memory score disk memory session request m a h old new (machine_of new it.next) (ap operation_in is_for) steady (λ call is. absurd (cc)) makes.1 step fails))
+        (λ fails. inl (only_memory score disk memory session request m a h old new (machine_of new it.next) is_for steady (λ call is. absurd (cc)) makes.1 step fails))
         makes.2
 
     pub read_stays : AsksFor (read (score (word_of w)) 13 MAX_BLOCK) request → Stays score disk memory h old new
@@ -309,7 +308,7 @@ module _ {D : Type 0} (score : List ℕ → List ℕ) (disk : DiskOf D) (memory 
         makes.2)
 
   -- a read is answered at once
-  pub read_at_once : (apart : AreApart score) (w : ℕ) (below : w < 64) (session : ℕ) (request : Request) (h : History) (listed : List ℕ) (has : HasWords h listed) (old new : CoreState D) → IsSteady score disk old h
+  pub read_at_once : (apart : AreApart score) (w : ℕ) (below : w < 64) (session : ℕ) (request : Asked) (h : History) (listed : List ℕ) (has : HasWords h listed) (old new : CoreState D) → IsSteady score disk old h
       → AsksFor (read (score (word_of w)) 13 MAX_BLOCK) request → Steps score disk (asked_by session request) NotYet old new → ⊥
   read_at_once apart w below session request h listed has old new steady is_for step =
       let m = read (score (word_of w)) 13 MAX_BLOCK in
@@ -321,7 +320,7 @@ module _ {D : Type 0} (score : List ℕ → List ℕ) (disk : DiskOf D) (memory 
       (has_or_lacks listed w)
 
   -- and so is a write: the queue and the shard have room for all words
-  module _ (apart : AreApart score) (w : ℕ) (below : w < 64) (session : ℕ) (within : session < 3) (request : Request) (h : History) (listed : List ℕ) (has : HasWords h listed)
+  module _ (apart : AreApart score) (w : ℕ) (below : w < 64) (session : ℕ) (within : session < 3) (request : Asked) (h : History) (listed : List ℕ) (has : HasWords h listed)
       (old new : CoreState D) (steady : IsSteady score disk old h) (free : old.waiting ≡ none_waits)
       (differ : (i : ℕ) (s : ShardState D) → slice_get old.shards i ≡ Some s → AllPairs (λ a b. a.key ≢ b.key) s.index.dirty) (is_for : AsksFor (write 13 (word_of w)) request)
       (step : Steps score disk (asked_by session request) NotYet old new) where
@@ -356,7 +355,7 @@ module _ {D : Type 0} (score : List ℕ → List ℕ) (disk : DiskOf D) (memory 
     pub write_at_once : ⊥
     write_at_once =
         let serves : Serves score disk session (write 13 (word_of w)) 0 NotYet old new =
-        subst (λ (m : Operation). Serves score disk session m 0 NotYet old new) (ap operation_in is_for)
+        subst (λ (m : Operation). Serves score disk session m 0 NotYet old new) is_for
         (step.does.serves (ap (λ (ws : List (Option ℕ)). slice_get ws session) free ∙ at_none 3 session within)) in
         let short = word_short w in
         let reaches : ReachesParts score (write 13 (word_of w)) = record { kind = refl; some = word_some w; most = omega (arith, short) } in
@@ -416,10 +415,10 @@ module _ {D : Type 0} (score : List ℕ → List ℕ) (disk : DiskOf D) (memory 
     pub steady : IsSteady score disk new h
     pub waiting : new.waiting ≡ slice_set none_waits session (Some (length h))
 
-  sync_fails : (session : ℕ) (request : Request) (a : Answer) (h : History) (old new : CoreState D) (after : Machine) → AsksFor sync request → IsSteady score disk old h → a.at ≡ length h
+  sync_fails : (session : ℕ) (request : Asked) (a : Answer) (h : History) (old new : CoreState D) (after : Machine) → AsksFor sync request → IsSteady score disk old h → a.at ≡ length h
       → Steps score disk (asked_by session request) (SaidOut a) old new → FailsIn score sync a.said (machine_of old h) after → ⊥
   sync_fails session request a h old new after is_for steady at step fails =
-      by fails.0 (sym fails.1 ∙ only_memory score disk memory session request sync a h old new after (ap operation_in is_for) steady
+      by fails.0 (sym fails.1 ∙ only_memory score disk memory session request sync a h old new after is_for steady
       (λ call is. let no : None ≡ Some call = sym (log_goes score disk old h steady) ∙ is in absurd (cc)) at step fails) fails.2
     where
       by : (cause : Cause) → Refused (why_of cause) ≡ Refused NoMemory → MayFail score (setup_of old) sync cause → ⊥
@@ -428,7 +427,7 @@ module _ {D : Type 0} (score : List ℕ → List ℕ) (disk : DiskOf D) (memory 
       by (damaged site want found) is may = absurd (cc)
       by no_memory is may = may.1
 
-  pub sync_waits : (session : ℕ) (request : Request) (out : Out) (h : History) (old new : CoreState D) → AsksFor sync request → IsSteady score disk old h → old.waiting ≡ none_waits
+  pub sync_waits : (session : ℕ) (request : Asked) (out : Out) (h : History) (old new : CoreState D) → AsksFor sync request → IsSteady score disk old h → old.waiting ≡ none_waits
       → Steps score disk (asked_by session request) out old new → WaitsFor session h out new
   sync_waits session request out h old new is_for steady free step =
       let it = stepped score disk memory (asked_by session request) out h old new steady step in

@@ -16,7 +16,8 @@ use Rattle.vt_model.specs.Answer.{Outcome, adds, answer, collides, lends, refuse
 use Rattle.vt_model.specs.History.{Accepted, History, held}
 use Rattle.vt_model.specs.Places.{Setup, bucket_count, bucket_of, crowd, next_arena}
 use Rattle.vt_model.specs.declared.TheConstants.{BUCKET_ROOM}
-use Rattle.vt_core.specs.Events.{GivesAnswer, reply_of}
+use Rattle.vt_base.specs.Operations.{reply_of}
+use Rattle.vt_core.specs.Events.{GivesAnswer}
 use Rattle.vt_core.specs.Machine.{Machine}
 use Rattle.vt_rehearse.specs.Stage.{HasWords}
 use Rattle.vt_rehearse.specs.Words.{AreApart, word_of}

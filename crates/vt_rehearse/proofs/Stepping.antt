@@ -20,10 +20,9 @@ use Rattle.vt_log.specs.Logs.{arena_count}
 use Rattle.vt_model.specs.History.{History}
 use Rattle.vt_model.specs.Places.{Setup}
 use Rattle.vt_part.specs.Table.{Table}
-use Rattle.vt_session.specs.Turns.{Cause, disk_fault, stopped, damaged, no_memory, why_of}
+use Rattle.vt_model.specs.Causes.{Cause, disk_fault, stopped, damaged, no_memory, why_of}
 use Rattle.vt_shard.specs.Shard.{ShardState}
-use Rattle.vt_wire.specs.Views.{message_of}
-use Rattle.vt_wire.specs.declared.message.Request.{Request}
+use Rattle.vt_base.specs.declared.operation.Operation.{Operation as Asked}
 use Rattle.vt_core.specs.declared.event.Event.{Event}
 use Rattle.vt_core.specs.declared.event.Event.TheVariants.{Ask, Answer as AskAnswer, LogAdvance, FileBegin, FileAdvance, BloomAdvance, EvictLump, EvictIndex}
 use Rattle.vt_core.specs.declared.event.Out.{Out}
@@ -31,7 +30,8 @@ use Rattle.vt_core.specs.declared.event.Out.TheVariants.{Said as SaidOut, Waits,
 use Rattle.vt_core.specs.Asking.{MayBeTold, shard_of, stop_for}
 use Rattle.vt_core.specs.Causes.{CountsOut, CountsSaid, IsUndamagedSaid}
 use Rattle.vt_core.specs.Core.{CoreState, devices_of, each_of, history_len, machine_of, setup_of, stops_of}
-use Rattle.vt_core.specs.Events.{FailsIn, IsWork, MakesStep, operation_in}
+use Rattle.vt_base.specs.Operations.{operation_of}
+use Rattle.vt_core.specs.Events.{FailsIn, IsWork, MakesStep}
 use Rattle.vt_core.specs.Files.{all_of}
 use Rattle.vt_core.specs.Machine.{Machine}
 use Rattle.vt_core.specs.Mounting.{KeepsLimits}
@@ -94,7 +94,7 @@ own_work score (FileAdvance shard) out old new own makes = makes
 own_work score BloomAdvance out old new own makes = makes
 own_work score (EvictLump shard) out old new own makes = makes
 own_work score (EvictIndex shard) out old new own makes = makes
-own_work score (Ask session request now) out old new own makes = absurd own
+own_work score (Ask session operation now) out old new own makes = absurd own
 own_work score (AskAnswer session) out old new own makes = absurd own
 
 quiet_work : (out : Out) (old new : Machine) → IsWork out old new → new ≡ old
@@ -190,7 +190,7 @@ module _ {D : Type 0} (score : List ℕ → List ℕ) (disk : DiskOf D) where
     -- ---- what fails
 
     -- where no part has stopped to which it writes, a request fails for want of memory alone
-    pub only_memory : (session : ℕ) (request : Request) (m : Operation) (a : Answer) (h : History) (old new : CoreState D) (after : Machine) → operation_in (message_of request) ≡ m
+    pub only_memory : (session : ℕ) (request : Asked) (m : Operation) (a : Answer) (h : History) (old new : CoreState D) (after : Machine) → operation_of request ≡ m
         → IsSteady score disk old h → ((call : ℕ) → stop_for score old m ≡ Some call → ⊥) → a.at ≡ length h → Steps score disk (asked_by session request) (SaidOut a) old new
         → FailsIn score m a.said (machine_of old h) after → a.said ≡ Refused NoMemory
     only_memory session request m a h old new after m_is steady goes at step (cause, said, may, quiet) = by cause said

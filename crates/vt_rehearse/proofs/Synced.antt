@@ -9,7 +9,7 @@ use Rattle.vt_disk.specs.Members.{DiskOf}
 use Rattle.vt_model.specs.History.{History}
 use Rattle.vt_model.specs.Places.{Setup}
 use Rattle.vt_log.specs.Owed.{owed}
-use Rattle.vt_wire.specs.declared.message.Request.{Request}
+use Rattle.vt_base.specs.declared.operation.Operation.{Operation as Asked}
 use Rattle.vt_core.specs.declared.event.Event.TheVariants.{Answer as AskAnswer}
 use Rattle.vt_core.specs.declared.event.Out.{Out}
 use Rattle.vt_core.specs.declared.event.Out.TheVariants.{Said as SaidOut, Waits, NotYet, Moved, Nothing, Failed}
@@ -44,7 +44,7 @@ commits_keep : {D : Type 0} (score : List ℕ → List ℕ) (disk : DiskOf D) (c
 commits_keep {D} score disk zero old new is = ap (λ (k : CoreState D). setup_of k) is
 commits_keep score disk (suc calls) old new (moved, less, step, rest) = commits_keep score disk calls moved new rest ∙ step.goes_on.store.setup
 
-module _ {D : Type 0} (score : List ℕ → List ℕ) (disk : DiskOf D) (memory : IsMemory disk) (session : ℕ) (within : session < 3) (request : Request) (is_for : AsksFor sync request)
+module _ {D : Type 0} (score : List ℕ → List ℕ) (disk : DiskOf D) (memory : IsMemory disk) (session : ℕ) (within : session < 3) (request : Asked) (is_for : AsksFor sync request)
     (old asked : StageState D) (alike : AreAlike score disk old) (out : Out) (asks : Steps score disk (asked_by session request) out old.core asked.core)
     (asked_is : asked ≡ record old { core = asked.core; summary = with_events 1 old.summary }) where
   pub steady_asked : IsSteady score disk asked.core alike.history

@@ -4,12 +4,12 @@ use Rattle.std.specs.List.{Contains}
 use Rattle.vt_base.specs.declared.answer.Said.{Said}
 use Rattle.vt_base.specs.declared.answer.Said.TheVariants.{Score, Block, Synced, Refused}
 use Rattle.vt_base.specs.declared.why.Why.TheVariants.{Absent}
-use Rattle.vt_base.specs.Protocol.{Operation, read, write, sync, t_ask}
+use Rattle.vt_base.specs.declared.operation.Operation.{Operation as Asked}
+use Rattle.vt_base.specs.Operations.{operation_of}
+use Rattle.vt_base.specs.Protocol.{Operation, read, write, sync}
 use Rattle.vt_base.specs.declared.TheConstants.{MAX_BLOCK}
 use Rattle.vt_disk.specs.Members.{DiskOf}
 use Rattle.vt_memdisk.specs.declared.crash.CrashMode.{CrashMode}
-use Rattle.vt_wire.specs.Views.{message_of}
-use Rattle.vt_wire.specs.declared.message.Request.{Request}
 use Rattle.vt_core.specs.declared.event.Event.{Event}
 use Rattle.vt_core.specs.declared.event.Event.TheVariants.{Ask, Answer as AskAnswer, LogAdvance, FileBegin, FileAdvance, EvictLump, EvictIndex}
 use Rattle.vt_core.specs.declared.event.Out.{Out}
@@ -26,11 +26,11 @@ use Rattle.vt_rehearse.specs.Words.{word_of}
 -- ---- requests
 
 -- a request for this operation
-abbrev pub AsksFor : Operation → Request → Type 0
-AsksFor m request = message_of request ≡ t_ask m
+abbrev pub AsksFor : Operation → Asked → Type 0
+AsksFor m request = operation_of request ≡ m
 
 -- a session asks for something, at time 0
-abbrev pub asked_by : (session : ℕ) → Request → Event
+abbrev pub asked_by : (session : ℕ) → Asked → Event
 asked_by session request = Ask session request 0
 
 -- it is compared whether this is so, and nothing else changes
@@ -57,7 +57,7 @@ IsWritten own word listed is_held said before after = (said ≡ Score (record { 
 -- A session writes a word, and is answered at once: there is room for all words.
 pub record AsksToWrite {D : Type 0} (score : List ℕ → List ℕ) (disk : DiskOf D)
     (session word : ℕ) (listed : List ℕ) (is_held : Bool) (old new : CoreState D) : Type 0 where
-  pub request : Request
+  pub request : Asked
   pub is_for : AsksFor (write 13 (word_of word)) request
   pub said : Said
   pub tells : Tells score disk (asked_by session request) said old new
@@ -89,7 +89,7 @@ IsRead word listed is_found said =
 
 pub record ReadsWord {D : Type 0} (score : List ℕ → List ℕ) (disk : DiskOf D)
     (session word : ℕ) (listed : List ℕ) (is_found : Bool) (old new : CoreState D) : Type 0 where
-  pub request : Request
+  pub request : Asked
   pub is_for : AsksFor (read (score (word_of word)) 13 MAX_BLOCK) request
   pub said : Said
   pub tells : Tells score disk (asked_by session request) said old new
@@ -124,7 +124,7 @@ CommitsAll {D} score disk (suc calls) old new = (moved : CoreState D)
 -- a session waits, the log makes all blocks durable, and the session is told so
 pub record SyncsAll {D : Type 0} (score : List ℕ → List ℕ) (disk : DiskOf D) (session : ℕ)
     (old new : StageState D) : Type 0 where
-  pub request : Request
+  pub request : Asked
   pub is_for : AsksFor sync request
   pub waiting : CoreState D
   pub waits : Steps score disk (asked_by session request) Waits old.core waiting

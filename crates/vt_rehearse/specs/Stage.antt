@@ -58,7 +58,7 @@ pub record IsFilled (c : Setup) (h : History) : Type 0 where
 
 -- an event that is neither asked for by a session nor its answer
 abbrev pub IsNoRequest : Event → Type 0
-IsNoRequest (Ask session request now) = ⊥
+IsNoRequest (Ask session operation now) = ⊥
 IsNoRequest (AskAnswer session) = ⊥
 IsNoRequest event = ⊤
 

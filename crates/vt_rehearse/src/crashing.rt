@@ -15,8 +15,8 @@ ghost use Rattle.vt_rehearse.specs.Stage.{AreAlike, IsMemory, IsSteady, none_wai
 
 use crate::opening::open;
 use crate::stage::Stage;
-use std::alloc::Global;
-use vt_base::{NoMemory, Scorer};
+use std::alloc::{AllocError, Global};
+use vt_base::Scorer;
 use vt_core::{Core, crash_gives_a_prefix, recovery_is_a_crash, stores_can_be_mounted};
 use vt_disk::Disk;
 use vt_memdisk::{CrashMode, MemDisk, Plan};
@@ -57,7 +57,7 @@ pub(crate) fn crash<D: Crashable, S: Scorer + Copy + Drop>(
     alloc: Global,
     scorer: S,
     mode: CrashMode,
-) -> Result<Stage<D, S>, NoMemory>
+) -> Result<Stage<D, S>, AllocError>
     requires memory { IsMemory D.Disk }
     requires alike { AreAlike S.score_of D.Disk stage }
     requires most { AreAtMost MOST stage.summary }
@@ -89,7 +89,7 @@ fn restart<D: Crashable, S: Scorer + Drop>(
     core: Core<D, S>,
     mode: CrashMode,
     scorer: S,
-) -> Result<Core<D, S>, NoMemory>
+) -> Result<Core<D, S>, AllocError>
     requires memory { IsMemory D.Disk }
     requires steady { (h : History) × IsSteady S.score_of D.Disk core h }
     ensures restarts { IfOk result (Restarts S.score_of D.Disk D.leaves mode core) }
@@ -122,7 +122,7 @@ fn crash_parts<D: Crashable>(
     alloc: Global,
     mut parts: Vec<Part<D>>,
     mode: CrashMode,
-) -> Result<Vec<Part<D>>, NoMemory>
+) -> Result<Vec<Part<D>>, AllocError>
     requires memory { IsMemory D.Disk }
     requires tables { All (λ part. (c : List ℕ) → D.images (disk_of part) c
         → IsPartition (table_of part) c) parts.items }
@@ -164,7 +164,7 @@ fn crash_all<D: Crashable>(
     alloc: Global,
     disks: Vec<D>,
     mode: CrashMode,
-) -> Result<Vec<D>, NoMemory>
+) -> Result<Vec<D>, AllocError>
     ensures { IfOk result (λ left. AllZip (IsLeft D.Disk D.leaves mode) disks.items left.items) }
 {
     let mut left = Vec::with_capacity(alloc, disks.len())?;

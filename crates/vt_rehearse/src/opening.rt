@@ -12,8 +12,8 @@ ghost use Rattle.vt_rehearse.specs.Stage.{IsMemory};
 ghost use Rattle.vt_rehearse.specs.declared.TheConstants.{SESSIONS};
 
 use crate::SESSIONS;
-use std::alloc::Global;
-use vt_base::{MountBad, NoMemory, Scorer};
+use std::alloc::{AllocError, Global};
+use vt_base::{MountBad, Scorer};
 use vt_core::Core;
 use vt_disk::Disk;
 use vt_fresh::Shape;
@@ -41,7 +41,7 @@ pub(crate) fn open<D: Disk + Drop, S: Scorer + Drop>(
     alloc: Global,
     devices: Devices<D>,
     scorer: S,
-) -> Result<Core<D, S>, NoMemory>
+) -> Result<Core<D, S>, AllocError>
     requires memory { IsMemory D.Disk }
     requires many { length devices.parts.items + length devices.sections.items + 1 < 2 ^ 32 }
     requires rooms { All (λ part. end_of (table_of part) ≤ D.size (disk_of part))
@@ -55,7 +55,7 @@ pub(crate) fn open<D: Disk + Drop, S: Scorer + Drop>(
     match Core::mount(alloc, devices, SIZES, SESSIONS, scorer) {
         Ok(core) => Ok(core),
         Err((bad, _)) => match bad {
-            MountBad::NoMemory => Err(NoMemory),
+            MountBad::NoMemory => Err(AllocError),
             _ => unreachable!(),
         },
     }

@@ -13,11 +13,10 @@ ghost use Rattle.vt_rehearse.specs.declared.words.TheConstants.{WORDS};
 use crate::stage::Stage;
 use crate::verdicts::{is_block, ran_out};
 use crate::words::{DATA, WORDS, Word};
-use std::alloc::Global;
-use vt_base::{MAX_BLOCK, NoMemory, Said, Scorer};
+use std::alloc::{AllocError, Global};
+use vt_base::{MAX_BLOCK, Operation, Said, Scorer};
 use vt_core::{Event, Out};
 use vt_disk::Disk;
-use vt_wire::Request;
 
 /// A session reads a word, and what the store says is compared with the list.
 pub(crate) fn read<D: Disk, S: Scorer>(
@@ -25,7 +24,7 @@ pub(crate) fn read<D: Disk, S: Scorer>(
     alloc: Global,
     session: u32,
     word: u32,
-) -> Result<(), NoMemory>
+) -> Result<(), AllocError>
     requires memory { IsMemory D.Disk }
     requires apart { AreApart S.score_of }
     requires session { session < SESSIONS }
@@ -46,7 +45,7 @@ pub(crate) fn read<D: Disk, S: Scorer>(
 pub(crate) fn look_up_all<D: Disk, S: Scorer>(
     stage: &mut Stage<D, S>,
     alloc: Global,
-) -> Result<(), NoMemory>
+) -> Result<(), AllocError>
     requires memory { IsMemory D.Disk }
     requires apart { AreApart S.score_of }
     requires alike { AreAlike S.score_of D.Disk stage.old }
@@ -66,7 +65,7 @@ fn look_up<D: Disk, S: Scorer>(
     alloc: Global,
     session: u32,
     word: u32,
-) -> Result<bool, NoMemory>
+) -> Result<bool, AllocError>
     requires memory { IsMemory D.Disk }
     requires apart { AreApart S.score_of }
     requires session { session < SESSIONS }
@@ -79,7 +78,7 @@ fn look_up<D: Disk, S: Scorer>(
 {
     let said = ask_to_read(stage, alloc, session, word);
     if ran_out(&said) {
-        return Err(NoMemory);
+        return Err(AllocError);
     }
     stage.judge_read(word, &said);
     Ok(is_block(&said))
@@ -106,7 +105,7 @@ fn ask_to_read<D: Disk, S: Scorer>(
     let block = Word::new(word);
     let event = Event::Ask {
         session,
-        request: Request::Read {
+        operation: Operation::Read {
             score: stage.score(block.as_slice()),
             kind: DATA,
             count: MAX_BLOCK as u32,

@@ -22,8 +22,8 @@ use crate::summary::Summary;
 use crate::words::WORDS;
 use crate::working::{sync, work};
 use crate::writing::write;
-use std::alloc::Global;
-use vt_base::{NoMemory, Scorer, Sha1Scorer};
+use std::alloc::{AllocError, Global};
+use vt_base::{Scorer, Sha1Scorer};
 use vt_core::Event;
 use vt_fresh::fresh_devices;
 use vt_out::Progress;
@@ -46,7 +46,7 @@ pub fn rehearse<P: Progress>(
     progress: &mut P,
     seed: u64,
     count: u32,
-) -> Result<Summary, NoMemory>
+) -> Result<Summary, AllocError>
     ensures rehearsal { IfOk result (IsRehearsalOf seed count) }
     ensures adds_up { IfOk result (AddsUp (rounds_from seed count)) }
 {
@@ -62,7 +62,7 @@ fn rehearse_on<D: Crashable, S: Scorer + Copy + Drop, P: Progress>(
     progress: &mut P,
     seed: u64,
     count: u32,
-) -> Result<Summary, NoMemory>
+) -> Result<Summary, AllocError>
     requires memory { IsMemory D.Disk }
     requires apart { AreApart S.score_of }
     requires fresh { AreFresh D.Disk the_shape devices }
@@ -90,7 +90,7 @@ fn make_rounds<D: Crashable, S: Scorer + Copy + Drop, P: Progress>(
     progress: &mut P,
     seed: u64,
     count: u32,
-) -> Result<Stage<D, S>, NoMemory>
+) -> Result<Stage<D, S>, AllocError>
     requires memory { IsMemory D.Disk }
     requires apart { AreApart S.score_of }
     requires alike { AreAlike S.score_of D.Disk stage }
@@ -114,7 +114,7 @@ fn make<D: Crashable, S: Scorer + Copy + Drop>(
     alloc: Global,
     scorer: S,
     round: Round,
-) -> Result<Stage<D, S>, NoMemory>
+) -> Result<Stage<D, S>, AllocError>
     requires memory { IsMemory D.Disk }
     requires apart { AreApart S.score_of }
     requires round { IsDrawn round }

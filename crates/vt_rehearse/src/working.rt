@@ -13,10 +13,9 @@ ghost use Rattle.vt_rehearse.specs.declared.TheConstants.{SESSIONS, SHARDS};
 
 use crate::stage::Stage;
 use std::alloc::Global;
-use vt_base::Scorer;
+use vt_base::{Operation, Scorer};
 use vt_core::{Event, Out};
 use vt_disk::Disk;
-use vt_wire::Request;
 
 /// A session asks for a sync, the log makes all blocks durable, and the session is told so.
 pub(crate) fn sync<D: Disk, S: Scorer>(stage: &mut Stage<D, S>, alloc: Global, session: u32)
@@ -28,10 +27,10 @@ pub(crate) fn sync<D: Disk, S: Scorer>(stage: &mut Stage<D, S>, alloc: Global, s
     ensures alike { AreAlike S.score_of D.Disk stage.new }
     ensures grows { Grows stage.old.summary stage.new.summary }
 {
-    let request = Request::Sync;
+    let operation = Operation::Sync;
     let event = Event::Ask {
         session,
-        request,
+        operation,
         now: 0,
     };
     stage.step(alloc, event);

@@ -13,11 +13,10 @@ ghost use Rattle.vt_rehearse.specs.declared.words.TheConstants.{WORDS};
 use crate::stage::Stage;
 use crate::verdicts::ran_out;
 use crate::words::{DATA, Word};
-use std::alloc::Global;
-use vt_base::{NoMemory, Said, Scorer};
+use std::alloc::{AllocError, Global};
+use vt_base::{Operation, Said, Scorer};
 use vt_core::{Event, Out};
 use vt_disk::Disk;
-use vt_wire::Request;
 
 /// A session writes a word. What the store says is compared with the list, and a word that it takes
 /// in is listed.
@@ -26,7 +25,7 @@ pub(crate) fn write<D: Disk, S: Scorer>(
     alloc: Global,
     session: u32,
     word: u32,
-) -> Result<(), NoMemory>
+) -> Result<(), AllocError>
     requires memory { IsMemory D.Disk }
     requires apart { AreApart S.score_of }
     requires session { session < SESSIONS }
@@ -41,7 +40,7 @@ pub(crate) fn write<D: Disk, S: Scorer>(
     let before = stage.history_len();
     let said = ask_to_write(stage, alloc, session, word);
     if ran_out(&said) {
-        return Err(NoMemory);
+        return Err(AllocError);
     }
     stage.judge_write(word, &said, before);
     let is_held = stage.history_len() == before;
@@ -72,7 +71,7 @@ fn ask_to_write<D: Disk, S: Scorer>(
     let block = Word::new(word);
     let event = Event::Ask {
         session,
-        request: Request::Write {
+        operation: Operation::Write {
             kind: DATA,
             bytes: block.as_slice(),
         },

@@ -4,8 +4,8 @@ use Rattle.std.specs.Prelude.{slice_index}
 use Rattle.std.specs.List.{AllByRecursion}
 use Rattle.std.proofs.lemmas.Bool.{cases_eq, cases_lt}
 use Rattle.vt_base.specs.Faults.{HasRisen}
-use Rattle.vt_session.specs.Turns.{Cause, disk_fault, stopped, damaged, no_memory}
-use Rattle.vt_session.specs.Answered.{NoneFell, OneRose, CountsRise, Faults, IsKnownStop, AreToldBy}
+use Rattle.vt_model.specs.Causes.{Cause, disk_fault, stopped, damaged, no_memory, NoneFell, OneRose}
+use Rattle.vt_session.specs.Answered.{CountsRise, Faults, IsKnownStop, AreToldBy}
 use Rattle.vt_session.specs.Talk.{ComesBehind, over_both}
 
 fell_on : (a b c : List ℕ) → NoneFell a b → NoneFell b c → NoneFell a c

@@ -5,20 +5,19 @@ use Rattle.std.proofs.Math.Seq.{drop-append_seam}
 use Rattle.std.proofs.lemmas.List.{take-append-drop, length-take-le}
 use Rattle.std.proofs.lemmas.List.Elements.{All-nil, All-cons}
 use Rattle.vt_base.specs.Bytes.{AreBytes}
-use Rattle.vt_base.specs.Protocol.{TMessage, t_hello, t_goodbye, t_ask, r_error}
+use Rattle.vt_base.specs.Protocol.{TMessage, r_error}
 use Rattle.vt_wire.specs.Frames.{size_width, framed, IsBody, IsFrame, IsPartial, Splits}
 use Rattle.vt_wire.specs.Messages.{Spells}
 use Rattle.vt_wire.specs.Rules.{rule_words}
-use Rattle.vt_wire.specs.Views.{message_of}
 use Rattle.vt_wire.specs.declared.rule.Rule.{Rule}
 use Rattle.vt_wire.proofs.Frames.{one_body, splits}
 use Rattle.vt_session.specs.declared.Ended.{Ended}
 use Rattle.vt_session.specs.declared.Ended.TheVariants.{Goodbye, Malformed}
 use Rattle.vt_session.specs.declared.parsed.Next.{Next}
-use Rattle.vt_session.specs.declared.parsed.Next.TheVariants.{Message, Refused, End}
+use Rattle.vt_session.specs.declared.parsed.Next.TheVariants.{Hello, Ping, Ask, Refused, End}
 use Rattle.vt_session.specs.Heard.{Item, settled, item_of, Means, spelled, greets, end_of, Unheard, HearsRest}
-use Rattle.vt_session.specs.Hearing.{going_on, behind_frame, MatchMessage, MatchNext, Gives}
-use Rattle.vt_session.specs.Parsed.{is_hello_message, is_hello, RulesGive, HearsFrame, EndsAtFrame, FrameGives, IsFront}
+use Rattle.vt_session.specs.Hearing.{going_on, behind_frame, MatchNext, Gives}
+use Rattle.vt_session.specs.Parsed.{is_hello, RulesGive, HearsFrame, EndsAtFrame, FrameGives, IsFront}
 
 -- ---- a frame
 
@@ -65,13 +64,10 @@ rule_frame left frame type tag parameters rule whole first means =
 
 module _ {P Q : Item → Type 0} {R S : Ended → Type 0} (f : (item : Item) → P item
     → Q item) (g : (ended : Ended) → R ended → S ended) where
-  message_weaker : (tag : ℕ) (m : TMessage) → MatchMessage tag m P → MatchMessage tag m Q
-  message_weaker tag (t_hello version) x = f _ x
-  message_weaker tag t_goodbye x = x
-  message_weaker tag (t_ask operation) x = f _ x
-
-  next_weaker : (next : Next) → MatchNext next P R → MatchNext next Q S
-  next_weaker (Message tag request) x = message_weaker tag (message_of request) x
+  pub next_weaker : (next : Next) → MatchNext next P R → MatchNext next Q S
+  next_weaker (Hello tag) x = f _ x
+  next_weaker (Ping tag) x = f _ x
+  next_weaker (Ask tag operation) x = f _ x
   next_weaker (Refused rule tag) x = f _ x
   next_weaker (End ended) x = g ended x
 
@@ -157,19 +153,12 @@ module _ (left : Unheard) (frame behind body : List ℕ) (first : IsFrame frame 
         let same : new ≡ behind_frame left body item behind = cc in
         rest_item item hears items ended (subst (λ l. HearsRest l items ended) same x)
 
-    message_given : (tag : ℕ) (m : TMessage) → greeted ≡ (left.greeted || is_hello_message m)
-        → MatchMessage tag m (HearsFrame left body)
-        → MatchMessage tag m (λ item. (items : List Item) (ended : Ended)
-        → HearsRest new items ended → HearsRest left (item ∷ items) ended)
-    message_given tag (t_hello version) kept hears = item_given _ kept hears
-    message_given tag t_goodbye kept hears = hears
-    message_given tag (t_ask operation) kept hears = item_given _ kept hears
-
     pub next_given : (next : Next) → ((ended : Ended) → next ≡ End ended → ⊥)
         → greeted ≡ (left.greeted || is_hello next) → FrameGives left body next
         → Gives next (going_on left) (going_on new)
-    next_given (Message tag request) item kept gives =
-        message_given tag (message_of request) kept gives
+    next_given (Hello tag) item kept gives = item_given _ kept gives
+    next_given (Ping tag) item kept gives = item_given _ kept gives
+    next_given (Ask tag operation) item kept gives = item_given _ kept gives
     next_given (Refused rule tag) item kept gives = item_given _ kept gives
     next_given (End ended) item kept gives = absurd (item ended refl)
 

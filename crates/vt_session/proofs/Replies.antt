@@ -20,7 +20,8 @@ use Rattle.vt_model.specs.Answer.{Outcome, answer, with_added, replies, refuses,
 use Rattle.vt_model.specs.Legal.{IsLegal}
 use Rattle.vt_session.specs.declared.Ended.{Ended}
 use Rattle.vt_session.specs.declared.Ended.TheVariants.{Goodbye, Closed, Cut, Malformed, Spent, ReadFault, WriteFault, NoMemory}
-use Rattle.vt_session.specs.Turns.{Turn, told, served, failed, Cause, disk_fault, stopped, damaged, no_memory, why_of, spelled_turn, items_of, server_line}
+use Rattle.vt_model.specs.Causes.{Cause, disk_fault, stopped, damaged, no_memory, why_of}
+use Rattle.vt_session.specs.Turns.{Turn, told, served, failed, spelled_turn, items_of, server_line}
 use Rattle.vt_session.specs.Answered.{AnsweredAlone, Faults}
 use Rattle.vt_session.specs.Talk.{Carries, Alone, HasScores}
 use Rattle.vt_session.proofs.Talks.{IsAnswered, is_answered, same_items}

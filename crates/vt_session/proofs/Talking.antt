@@ -6,10 +6,8 @@ use Rattle.std.proofs.lemmas.Bool.{le-ltb}
 use Rattle.std.proofs.lemmas.Bool.Decides.{Decides-ltb}
 use Rattle.byteorder.specs.Numbers.{big_from-lt}
 use Rattle.vt_base.specs.Bytes.{AreBytes, AreBytes-append}
-use Rattle.vt_base.specs.Protocol.{TMessage, t_hello, t_goodbye, t_ask}
 use Rattle.vt_wire.specs.Frames.{framed, frame_len, IsPartial}
 use Rattle.vt_wire.specs.Lines.{line_of}
-use Rattle.vt_wire.specs.Views.{message_of}
 use Rattle.vt_wire.specs.declared.line.Line.{Line}
 use Rattle.vt_wire.specs.declared.line.Line.TheVariants.{Whole, More, Bad}
 use Rattle.vt_wire.proofs.Frames.{bytes-drop, same_framed, frame_len-framed, length-framed}
@@ -18,17 +16,17 @@ use Rattle.vt_wire.proofs.WholeLines.{line_stays, more_is}
 use Rattle.vt_session.specs.declared.Ended.{Ended}
 use Rattle.vt_session.specs.declared.Ended.TheVariants.{Closed, Cut}
 use Rattle.vt_session.specs.declared.parsed.Next.{Next}
-use Rattle.vt_session.specs.declared.parsed.Next.TheVariants.{Message, Refused, End}
+use Rattle.vt_session.specs.declared.parsed.Next.TheVariants.{Hello, Ping, Ask, Refused, End}
 use Rattle.vt_session.specs.declared.talker.Phase.{Phase}
 use Rattle.vt_session.specs.declared.talker.Phase.TheVariants.{AtLine, BehindLine, Over}
 use Rattle.vt_session.specs.Heard.{Item, greets, end_of, Hears, Unheard, HearsRest, HearsBehind, Heard}
-use Rattle.vt_session.specs.Hearing.{going_on, over, MatchMessage, MatchNext}
-use Rattle.vt_session.specs.Parsed.{is_hello_message, is_hello, HearsFrame, EndsAtFrame, FrameGives, IsFront}
+use Rattle.vt_session.specs.Hearing.{going_on, over, MatchNext}
+use Rattle.vt_session.specs.Parsed.{is_hello, HearsFrame, EndsAtFrame, FrameGives, IsFront}
 use Rattle.vt_session.specs.Talker.{stage_of, HoldsIn, IsBehind}
 use Rattle.vt_session.specs.Talk.{spent_len}
 use Rattle.vt_session.specs.Talking.{Stage, at_line, behind_line, Talking, fed, room, HearsStage, IsHeardStage, stage_with, line_heard, fed_stage, needs_more, IsOpen, ended_at, EndsAnyhow, IsNext, PassesItem, PassesEnd, Passes}
 use Rattle.vt_session.proofs.Hearings.{HearsBehindFrame, hears_one, going_on_heard, heard_some, line_more}
-use Rattle.vt_session.proofs.Parsing.{front_frame, front_behind, rest_end, rest_partial, item_given}
+use Rattle.vt_session.proofs.Parsing.{front_frame, front_behind, rest_end, rest_partial, next_weaker, item_given}
 
 -- ---- what was fed
 
@@ -125,27 +123,12 @@ some_room (Over ended) place bytes are front needs = absurd (cc)
 
 -- ---- what comes next is one
 
-module _ {P Q : Item → Type 0} {R S : Ended → Type 0} (f : (item : Item) → P item
-    → Q item) (g : (ended : Ended) → R ended → S ended) where
-  message_weaker : (tag : ℕ) (m : TMessage) → MatchMessage tag m P → MatchMessage tag m Q
-  message_weaker tag (t_hello version) x = f _ x
-  message_weaker tag t_goodbye x = x
-  message_weaker tag (t_ask operation) x = f _ x
-
-  next_weaker : (next : Next) → MatchNext next P R → MatchNext next Q S
-  next_weaker (Message tag request) x = message_weaker tag (message_of request) x
-  next_weaker (Refused rule tag) x = f _ x
-  next_weaker (End ended) x = g ended x
-
 module _ {P : Item → Type 0} {R : Ended → Type 0} {X : Type 0} (f : (item : Item) → P item → X)
     (g : (ended : Ended) → R ended → X) where
-  by_message : (tag : ℕ) (m : TMessage) → MatchMessage tag m P → X
-  by_message tag (t_hello version) x = f _ x
-  by_message tag t_goodbye x = absurd x
-  by_message tag (t_ask operation) x = f _ x
-
   by_next : (next : Next) → MatchNext next P R → X
-  by_next (Message tag request) x = by_message tag (message_of request) x
+  by_next (Hello tag) x = f _ x
+  by_next (Ping tag) x = f _ x
+  by_next (Ask tag operation) x = f _ x
   by_next (Refused rule tag) x = f _ x
   by_next (End ended) x = g ended x
 
@@ -263,19 +246,13 @@ module _ (left : Unheard) (next : Next) (len : ℕ) (x : IsFront left next len) 
       ),
     )
 
-    message_passes : (tag : ℕ) (m : TMessage)
-        → greeted ≡ (left.greeted || is_hello_message m)
-        → MatchMessage tag m (HearsFrame left x.body) → MatchMessage tag m PassesIt
-    message_passes tag (t_hello version) kept hears = item_passes _ kept hears
-    message_passes tag t_goodbye kept hears = hears
-    message_passes tag (t_ask operation) kept hears = item_passes _ kept hears
-
     next_passes : (n : Next) → ((ended : Ended) → n ≡ End ended → ⊥)
         → greeted ≡ (left.greeted || is_hello n) → FrameGives left x.body n
         → MatchNext n PassesIt (λ ended. EndsAtFrame left x.body ended
         × PassesEnd (behind_line (going_on left)) (behind_line (going_on now)) ended)
-    next_passes (Message tag request) item kept gives =
-        message_passes tag (message_of request) kept gives
+    next_passes (Hello tag) item kept gives = item_passes _ kept gives
+    next_passes (Ping tag) item kept gives = item_passes _ kept gives
+    next_passes (Ask tag operation) item kept gives = item_passes _ kept gives
     next_passes (Refused rule tag) item kept gives = item_passes _ kept gives
     next_passes (End ended) item kept gives = absurd (item ended refl)
 

@@ -9,7 +9,8 @@ use Rattle.vt_session.specs.declared.Ended.{Ended}
 use Rattle.vt_session.specs.declared.Ended.TheVariants.{Goodbye, Closed, Cut, Malformed, Spent, ReadFault, WriteFault, NoMemory}
 use Rattle.vt_session.specs.Heard.{Item, settled, asked, Heard}
 use Rattle.vt_session.specs.Turns.{Turn, told, served, failed, items_of, output_of, added_of, cause_of, causes_of}
-use Rattle.vt_session.specs.Answered.{AnsweredAlone, NoneFell, Faults, no_faults, AreToldBy}
+use Rattle.vt_model.specs.Causes.{NoneFell}
+use Rattle.vt_session.specs.Answered.{AnsweredAlone, Faults, no_faults, AreToldBy}
 use Rattle.vt_session.specs.Talk.{spent_len, HearsAll, Carries, Talk, TalkSoFar, ComesBehind, over_both, Alone, AnswersAll, EndsByInput}
 use Rattle.vt_session.proofs.Hearings.{heard_one, heard_some}
 use Rattle.vt_session.proofs.Turns.{turns_add, turns_alone, turns_longer, turns_join_later}

@@ -1,66 +1,14 @@
 -- Which turns a history of blocks gives, when others may add to it as well, and when nobody else
 -- does. Blocks are only ever added (Quinlan and Dorward 2002), so a reply is about a prefix.
-use Rattle.std.specs.Prelude.{ℕ, ◌≡◌, ◌≢◌, ◌+◌, ◌-◌, ◌^◌, ◌<◌, ◌≤◌, ◌⊎◌, ⊤, Option, Some, None, List, [], ◌∷◌, length, take, slice_get, slice_index, Contains}
+use Rattle.std.specs.Prelude.{ℕ, ◌≡◌, ◌+◌, ◌≤◌, ⊤, Option, Some, None, List, [], ◌∷◌, length, take, slice_get, Contains}
 use Rattle.std.specs.List.{AllByRecursion}
-use Rattle.vt_base.specs.Damage.{SameForm}
-use Rattle.vt_base.specs.Kind.{IsKind}
-use Rattle.vt_base.specs.Protocol.{Operation, ping, read, write, sync}
-use Rattle.vt_model.specs.History.{History, Accepted, IsBlock}
-use Rattle.vt_model.specs.Places.{Setup, section_of_score}
+use Rattle.vt_model.specs.History.{History, Accepted}
+use Rattle.vt_model.specs.Places.{Setup}
 use Rattle.vt_model.specs.Answer.{answer, with_added}
-use Rattle.vt_session.specs.Turns.{Part, log, section, Cause, disk_fault, stopped, damaged, no_memory, Turn, told, served, failed}
+use Rattle.vt_model.specs.Causes.{Part, Cause, disk_fault, stopped, damaged, no_memory, NoneFell, MayFail}
+use Rattle.vt_session.specs.Turns.{Turn, told, served, failed}
 
--- ---- where the store may fail
-
--- the operation comes as far as the store's parts: a write of a block, a read that isn't of the
--- zero score, a sync
-abbrev pub ReachesParts : (List ℕ → List ℕ) → Operation → Type 0
-ReachesParts score ping = ⊥
-ReachesParts score (read s kind count) = IsKind kind × (s ≢ score [])
-ReachesParts score (write kind bytes) = IsBlock (record { kind = kind; bytes = bytes })
-ReachesParts score sync = ⊤
-
--- the parts that it has to write to: the log at a sync; at a write the log and the section of its
--- score's bucket
-abbrev pub WritesTo : (List ℕ → List ℕ) → Setup → Operation → Part → Type 0
-WritesTo score c ping part = ⊥
-WritesTo score c (read s kind count) part = ⊥
-WritesTo score c (write kind bytes) part =
-    (part ≡ log) ⊎ (part ≡ section (section_of_score c (score bytes)))
-WritesTo score c sync part = part ≡ log
-
--- it reads what was stored, and it takes memory
-abbrev pub MayFindDamage : Operation → Type 0
-MayFindDamage ping = ⊥
-MayFindDamage (read s kind count) = ⊤
-MayFindDamage (write kind bytes) = ⊤
-MayFindDamage sync = ⊥
-
-abbrev pub TakesMemory : Operation → Type 0
-TakesMemory ping = ⊥
-TakesMemory (read s kind count) = ⊤
-TakesMemory (write kind bytes) = ⊤
-TakesMemory sync = ⊥
-
--- no count fell
-abbrev pub NoneFell : List ℕ → List ℕ → Type 0
-NoneFell before after = (k : ℕ) → slice_index before k ≤ slice_index after k
-
--- a count rose, or stands at the end of its type, where it can't
-abbrev pub OneRose : List ℕ → List ℕ → Type 0
-OneRose before after = (k : ℕ)
-    × ((slice_index before k < slice_index after k) ⊎ (slice_index after k ≡ 2 ^ 64 - 1))
-
--- the operation may fail for this cause
-abbrev pub IsCauseFor : (List ℕ → List ℕ) → Setup → Operation → Cause → Type 0
-IsCauseFor score c operation (disk_fault before after) = OneRose before after
-IsCauseFor score c operation (stopped part first) = WritesTo score c operation part
-IsCauseFor score c operation (damaged site want found) =
-    MayFindDamage operation × SameForm want found × (want ≢ found)
-IsCauseFor score c operation no_memory = TakesMemory operation
-
-abbrev pub MayFail : (List ℕ → List ℕ) → Setup → Operation → Cause → Type 0
-MayFail score c operation cause = ReachesParts score operation × IsCauseFor score c operation cause
+-- ---- the causes of failures
 
 -- along the causes no count falls, from the first counts to the last
 abbrev pub CountsRise : List ℕ → List Cause → List ℕ → Type 0

@@ -1,12 +1,12 @@
 -- An input that is heard item by item, to the same effect as all at once.
 use Rattle.std.specs.Prelude.{ℕ, ◌≡◌, ◌+◌, ◌||◌, ◌<◌, ⊤, List, [], ◌∷◌, length}
-use Rattle.vt_base.specs.Protocol.{TMessage, t_hello, t_goodbye, t_ask, r_hello, r_error}
+use Rattle.vt_base.specs.Operations.{operation_of}
+use Rattle.vt_base.specs.Protocol.{ping, r_hello, r_error}
 use Rattle.vt_wire.specs.Frames.{framed}
 use Rattle.vt_wire.specs.Rules.{rule_words}
-use Rattle.vt_wire.specs.Views.{message_of}
 use Rattle.vt_session.specs.declared.Ended.{Ended}
 use Rattle.vt_session.specs.declared.parsed.Next.{Next}
-use Rattle.vt_session.specs.declared.parsed.Next.TheVariants.{Message, Refused, End}
+use Rattle.vt_session.specs.declared.parsed.Next.TheVariants.{Hello, Ping, Ask, Refused, End}
 use Rattle.vt_session.specs.Heard.{Item, settled, asked, greets, Unheard, HearsRest}
 
 -- an input of which a part was heard: some of it is left, or it came to its end
@@ -23,15 +23,11 @@ HearsOn (over end) items ended = (items ≡ []) × (ended ≡ end)
 abbrev pub IsHeard : Hearing → Type 0
 IsHeard hearing = (items : List Item) × (ended : Ended) × HearsOn hearing items ended
 
--- The message is a hello, which is accepted, or an operation, and P holds of its item.
-abbrev pub MatchMessage : ℕ → TMessage → (Item → Type 0) → Type 0
-MatchMessage tag (t_hello version) P = P (settled tag r_hello)
-MatchMessage tag t_goodbye P = ⊥
-MatchMessage tag (t_ask operation) P = P (asked tag operation)
-
 -- P holds of the item that comes next, or Q of the end
 abbrev pub MatchNext : Next → (Item → Type 0) → (Ended → Type 0) → Type 0
-MatchNext (Message tag request) P Q = MatchMessage tag (message_of request) P
+MatchNext (Hello tag) P Q = P (settled tag r_hello)
+MatchNext (Ping tag) P Q = P (asked tag ping)
+MatchNext (Ask tag operation) P Q = P (asked tag (operation_of operation))
 MatchNext (Refused rule tag) P Q = P (settled tag (r_error (rule_words rule)))
 MatchNext (End ended) P Q = Q ended
 

@@ -1,12 +1,11 @@
 -- What is left of an input, and what is read of a frame.
 use Rattle.std.specs.Prelude.{ℕ, ◌≡◌, ◌+◌, ◌||◌, Bool, true, false, Some, None, Result, Ok, Err, List, [], ◌∷◌, ◌++◌, length}
-use Rattle.vt_base.specs.Protocol.{TMessage, t_hello}
+use Rattle.vt_base.specs.Protocol.{TMessage}
 use Rattle.vt_wire.specs.Frames.{framed, IsBody}
-use Rattle.vt_wire.specs.Views.{message_of}
 use Rattle.vt_session.specs.declared.Ended.{Ended}
 use Rattle.vt_session.specs.declared.Ended.TheVariants.{Goodbye}
 use Rattle.vt_session.specs.declared.parsed.Next.{Next}
-use Rattle.vt_session.specs.declared.parsed.Next.TheVariants.{Message, Refused, End}
+use Rattle.vt_session.specs.declared.parsed.Next.TheVariants.{Hello, Ping, Ask, Refused, End}
 use Rattle.vt_session.specs.declared.parsed.Left.{Left}
 use Rattle.vt_session.specs.Heard.{Item, item_of, greets, Unheard, Hears}
 use Rattle.vt_session.specs.Hearing.{Hearing, going_on, over, MatchNext}
@@ -25,14 +24,9 @@ hearing_of (Ok left) = going_on (unheard left)
 hearing_of (Err ended) = over ended
 
 -- a hello that is accepted
-abbrev pub is_hello_message : TMessage → Bool
-is_hello_message (t_hello version) = true
-is_hello_message m = false
-
 abbrev pub is_hello : Next → Bool
-is_hello (Message tag request) = is_hello_message (message_of request)
-is_hello (Refused rule tag) = false
-is_hello (End ended) = false
+is_hello (Hello tag) = true
+is_hello next = false
 
 -- what a message comes to by the rules of a session
 abbrev pub RulesGive : Unheard → ℕ → TMessage → Next → Type 0

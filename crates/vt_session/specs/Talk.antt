@@ -5,8 +5,9 @@ use Rattle.vt_model.specs.Places.{Setup}
 use Rattle.vt_session.specs.declared.Ended.{Ended}
 use Rattle.vt_session.specs.declared.Ended.TheVariants.{Goodbye, Closed, Cut, Malformed, Spent, ReadFault, WriteFault, NoMemory}
 use Rattle.vt_session.specs.Heard.{Item, Heard}
-use Rattle.vt_session.specs.Turns.{Part, Turn, items_of, output_of, pieces_of, causes_of}
-use Rattle.vt_session.specs.Answered.{AnsweredBy, AnsweredAlone, NoneFell, Faults, AreToldBy}
+use Rattle.vt_model.specs.Causes.{Part, NoneFell}
+use Rattle.vt_session.specs.Turns.{Turn, items_of, output_of, pieces_of, causes_of}
+use Rattle.vt_session.specs.Answered.{AnsweredBy, AnsweredAlone, Faults, AreToldBy}
 
 -- how many bytes a link takes at most
 abbrev pub spent_len : ℕ

@@ -4,34 +4,12 @@ use Rattle.std.specs.Prelude.{ℕ, Option, Some, None, List, [], ◌∷◌, ◌+
 use Rattle.std.specs.List.{flat_map}
 use Rattle.std.specs.Option.{option_to_list}
 use Rattle.vt_base.specs.declared.why.Why.{Why}
-use Rattle.vt_base.specs.declared.why.Why.TheVariants.{DiskFault, Stopped, Damaged, NoMemory}
-use Rattle.vt_base.specs.declared.why.Site.{Site}
-use Rattle.vt_base.specs.declared.why.FieldValue.{FieldValue}
 use Rattle.vt_base.specs.Protocol.{Operation, sync, RMessage, r_refused}
 use Rattle.vt_model.specs.History.{Accepted}
 use Rattle.vt_model.specs.Answer.{Outcome}
+use Rattle.vt_model.specs.Causes.{Cause, why_of}
 use Rattle.vt_wire.specs.Messages.{spelled}
 use Rattle.vt_session.specs.Heard.{Item, settled, asked}
-
--- a part of the store that makes writes of its own: the log, or an index section by its number
-pub data Part : Type 0 where
-  log : Part
-  section : (number : ℕ) → Part
-
--- Why the store failed in an operation: a count of faults rose, from these counts before it to
--- those behind it; a part makes no more writes since its device call of this number failed; what
--- was read differs from what was wanted; or memory ran out.
-pub data Cause : Type 0 where
-  disk_fault : (before after : List ℕ) → Cause
-  stopped : (part : Part) (first : ℕ) → Cause
-  damaged : (site : Site) (want found : FieldValue) → Cause
-  no_memory : Cause
-
-abbrev pub why_of : Cause → Why
-why_of (disk_fault before after) = DiskFault
-why_of (stopped part first) = Stopped first
-why_of (damaged site want found) = Damaged site want found
-why_of no_memory = NoMemory
 
 -- An item and what was said to it: a settled reply; or what the store answered, of which the first
 -- so many blocks of the history tell; or that the store failed.

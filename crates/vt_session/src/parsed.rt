@@ -7,6 +7,7 @@ ghost use Rattle.vt_wire.specs.Views.{message_of};
 ghost use Rattle.vt_session.specs.Heard.{end_of};
 
 use crate::Ended;
+use vt_base::Operation;
 use vt_wire::{Request, Rule, WireBad, decode, frame_len};
 
 /// The version that a session is held in.
@@ -18,9 +19,12 @@ const TAG_AT: usize = 3;
 /// What comes next of an input.
 #[derive(Clone, Copy, Debug, PartialEq, Eq)]
 pub enum Next<'a> {
-    /// A message that is not refused, and its tag: the hello that begins the session, or an
-    /// operation behind it.
-    Message(u8, Request<'a>),
+    /// The hello that begins the session, and its tag.
+    Hello(u8),
+    /// A ping behind it, and its tag.
+    Ping(u8),
+    /// An operation behind it, and its tag.
+    Ask(u8, Operation<'a>),
     /// The rule that a message breaks, and its tag.
     Refused(Rule, u8),
     /// The end.
@@ -34,7 +38,7 @@ impl Next<'_> {
     pub(crate) fn is_hello(&self) -> bool
         ensures { result ≡ is_hello self.now }
     {
-        matches!(self, Next::Message(_, Request::Hello { .. }))
+        matches!(self, Next::Hello(_))
     }
 }
 
@@ -86,12 +90,15 @@ impl<'a> Left<'a> {
         match request {
             Request::Goodbye => Next::End(Ended::Goodbye),
             Request::Hello { .. } if self.greeted => Next::Refused(Rule::HelloRepeated, tag),
-            Request::Hello { version } if self.offered && version == VERSION => {
-                Next::Message(tag, request)
-            }
+            Request::Hello { version } if self.offered && version == VERSION => Next::Hello(tag),
             Request::Hello { .. } => Next::Refused(Rule::VersionNotAgreed, tag),
-            _ if self.greeted => Next::Message(tag, request),
-            _ => Next::Refused(Rule::HelloExpected, tag),
+            _ if !self.greeted => Next::Refused(Rule::HelloExpected, tag),
+            Request::Ping => Next::Ping(tag),
+            Request::Read { score, kind, count } => {
+                Next::Ask(tag, Operation::Read { score, kind, count })
+            }
+            Request::Write { kind, bytes } => Next::Ask(tag, Operation::Write { kind, bytes }),
+            Request::Sync => Next::Ask(tag, Operation::Sync),
         }
     }
 }

@@ -12,9 +12,8 @@ ghost use Rattle.vt_session.specs.declared.parsed.Next.{Next as NextOf};
 use crate::parsed::{Left, end_of};
 use crate::waiting::{LONGEST, Waiting};
 use crate::{Ended, Next};
-use std::alloc::Global;
+use std::alloc::{AllocError, Global};
 use std::marker::Model;
-use vt_base::NoMemory;
 use vt_wire::{Line, decode_line, frame_len};
 
 /// The most bytes that one link takes.
@@ -56,7 +55,7 @@ impl Model for Talker {
 
 impl Talker {
     /// Nothing came yet.
-    pub fn new(alloc: Global) -> Result<Self, NoMemory>
+    pub fn new(alloc: Global) -> Result<Self, AllocError>
         ensures { IfOk result (λ talker. talker ≡ record { stage = at_line []; taken = 0 }) }
     {
         let waiting = Waiting::new(alloc)?;

@@ -2,9 +2,8 @@
 
 ghost use Rattle.std.specs.Prelude.{◌≡◌, ◌+◌, ◌≤◌, [], ◌++◌, length, drop, IfOk};
 
-use std::alloc::Global;
+use std::alloc::{AllocError, Global};
 use std::marker::Model;
-use vt_base::NoMemory;
 use vt_fields::put;
 
 /// How many bytes the longest frame has, its size field with it.
@@ -35,7 +34,7 @@ impl Model for Waiting {
 
 impl Waiting {
     /// None wait. The buffer's memory is taken here, and no other.
-    pub fn new(alloc: Global) -> Result<Self, NoMemory>
+    pub fn new(alloc: Global) -> Result<Self, AllocError>
         ensures { IfOk result (λ waiting. waiting ≡ []) }
     {
         let buffer = vec![in alloc; 0; LONGEST]?;

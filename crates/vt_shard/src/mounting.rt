@@ -12,8 +12,8 @@ ghost use Rattle.vt_shard.specs.Sound.{IsSoundFrom};
 
 use crate::ROOM;
 use crate::shard::Shard;
-use std::alloc::Global;
-use vt_base::{Entry, NoMemory};
+use std::alloc::{AllocError, Global};
+use vt_base::Entry;
 use vt_disk::Disk;
 use vt_icache::IndexCache;
 use vt_isect::Section;
@@ -33,7 +33,7 @@ pub fn mount<D: Disk>(
     alloc: Global,
     mut section: Section<D>,
     sizes: Sizes,
-) -> Result<Shard<D>, (NoMemory, Section<D>)>
+) -> Result<Shard<D>, (AllocError, Section<D>)>
     requires rest { IsAtRest section }
     requires lumps { 0 < sizes.lumps }
     requires clean { 0 < sizes.clean }
@@ -78,7 +78,7 @@ struct Memory {
     list: Vec<Entry>,
 }
 
-fn make(alloc: Global, buckets: u32, sizes: Sizes) -> Result<Memory, NoMemory>
+fn make(alloc: Global, buckets: u32, sizes: Sizes) -> Result<Memory, AllocError>
     requires lumps { 0 < sizes.lumps }
     requires clean { 0 < sizes.clean }
     ensures index { IfOk result (λ it. it.index ≡ record {

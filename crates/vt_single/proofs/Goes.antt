@@ -7,16 +7,18 @@ use Rattle.vt_base.specs.declared.why.Why.{Why}
 use Rattle.vt_disk.specs.Members.{DiskOf}
 use Rattle.vt_model.specs.Answer.{Outcome, answer, replies, with_added}
 use Rattle.vt_model.specs.History.{Accepted, History}
-use Rattle.vt_session.specs.Turns.{Cause, disk_fault, stopped, damaged, no_memory, why_of}
+use Rattle.vt_model.specs.Causes.{Cause, disk_fault, stopped, damaged, no_memory, why_of}
 use Rattle.vt_answer.specs.Serving.{reply_in, tells_failure}
-use Rattle.vt_wire.specs.Views.{message_of}
 use Rattle.vt_core.specs.Causes.{IsUndamagedSaid, IsUndamagedWhy}
 use Rattle.vt_core.specs.Core.{CoreState, machine_of, setup_of}
-use Rattle.vt_core.specs.Events.{FailsIn, GivesAnswer, operation_in, reply_of}
+use Rattle.vt_base.specs.Operations.{operation_of, reply_of}
+use Rattle.vt_core.specs.Events.{FailsIn, GivesAnswer}
 use Rattle.vt_core.specs.Machine.{Machine}
 use Rattle.vt_core.specs.Sound.{IsSound}
 use Rattle.vt_drive.specs.Answers.{IsServed, SyncsAll}
-use Rattle.vt_drive.specs.Driven.{DoesRequest, DrivenState, asked_for, result_of}
+use Rattle.vt_base.specs.Operations.{result_of}
+use Rattle.vt_answer.specs.Serving.{asked_for}
+use Rattle.vt_drive.specs.Driven.{DoesRequest, DrivenState}
 use Rattle.vt_single.specs.Single.{HasFailed}
 
 said_so : (said : Said) → reply_in (result_of said) ≡ reply_of said

@@ -14,14 +14,14 @@ use Rattle.vt_model.specs.Places.{Setup}
 use Rattle.vt_part.specs.Table.{Table}
 use Rattle.vt_answer.specs.Serving.{answered, tells_failure}
 use Rattle.vt_answer.specs.Taking.{DoesCalls}
-use Rattle.vt_wire.specs.Views.{message_of}
 use Rattle.vt_core.specs.Causes.{IsUndamagedWhy}
 use Rattle.vt_core.specs.Core.{CoreState, devices_of, setup_of}
-use Rattle.vt_core.specs.Events.{operation_in}
+use Rattle.vt_base.specs.Operations.{operation_of}
 use Rattle.vt_core.specs.Mounting.{AllStandFor, EachStands}
 use Rattle.vt_core.specs.Sound.{IsSound}
 use Rattle.vt_drive.specs.Answers.{KeepsAll}
-use Rattle.vt_drive.specs.Driven.{DoesRequest, DrivenState, asked_for}
+use Rattle.vt_answer.specs.Serving.{asked_for}
+use Rattle.vt_drive.specs.Driven.{DoesRequest, DrivenState}
 use Rattle.vt_drive.specs.Ending.{EndsFor}
 use Rattle.vt_alone.specs.Sessions.{at_time, store_on}
 use Rattle.vt_single.specs.Single.{ArePut, Asked, HasFailed, IsAnswer, KeepsBlock, ReadsBlock, ReadsTrue, WritesBlock, closed_behind, written_to}
@@ -96,7 +96,7 @@ module _ {D : Type 0} (score : List ℕ → List ℕ) (disk : DiskOf D)
         (read_none score (setup_of old) h s kind MAX_BLOCK))
         (λ failed. failed.1) went.how
 
-    is_asked : operation_in (message_of request.request) ≡ wanted
+    is_asked : operation_of request.asked ≡ wanted
     is_asked = request.asks ∙ asked_whole s kind
 
     pub reads_true : ReadsTrue score disk kind s result h old new

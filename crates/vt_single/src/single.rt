@@ -6,7 +6,7 @@ ghost use Rattle.vt_core.specs.Machine.{WaitsForNone};
 ghost use Rattle.vt_single.specs.Single.{Puts, ReadsBlock, WritesBlock, closed_behind};
 
 use std::alloc::Global;
-use vt_answer::Store;
+use vt_answer::{Store, read, sync, write};
 use vt_base::{Bytes, Kind, MAX_BLOCK, Score, Scorer, Why};
 use vt_core::Core;
 use vt_disk::Disk;
@@ -24,8 +24,8 @@ pub fn read_block<D: Disk, S: Scorer>(
     ensures reads { ReadsBlock S.score_of D.Disk kind score.now.0 result.0 core result.1 }
     ensures most { IfOk result.0 (λ bytes. length bytes ≤ MAX_BLOCK) }
 {
-    let mut store = Driven::new(core, alloc, 0);
-    let block = store.read(alloc, score, kind.wire(), MAX_BLOCK as u32);
+    let mut store = Driven::new(core, 0);
+    let block = read(alloc, &mut store, score, kind.wire(), MAX_BLOCK as u32);
     (block, store.into_core())
 }
 
@@ -43,7 +43,7 @@ pub fn write_block<D: Disk, S: Scorer>(
     ensures writes { WritesBlock S.score_of D.Disk now kind bytes.now result.0 core result.1 }
     ensures scored { IfOk result.0 (λ score. score.0 ≡ S.score_of bytes.now) }
 {
-    let mut store = Driven::new(core, alloc, now);
+    let mut store = Driven::new(core, now);
     let put = put(alloc, &mut store, kind, bytes);
     let mut core = store.into_core();
     let closed = end(&mut core, alloc);
@@ -55,8 +55,8 @@ fn put<T: Store>(alloc: Global, store: &mut T, kind: Kind, bytes: &[u8]) -> Resu
     ensures puts { Puts T.Store kind bytes.now result store.old store.new }
     ensures scored { IfOk result (λ score. score.0 ≡ T.score_of bytes.now) }
 {
-    let score = store.write(alloc, kind.wire(), bytes)?;
-    store.sync()?;
+    let score = write(alloc, store, kind.wire(), bytes)?;
+    sync(alloc, store)?;
     Ok(score)
 }
 

@@ -1,18 +1,15 @@
 //! Stores of two shapes, made in memory and used.
 
-ghost use Rattle.vt_core.specs.Events.{IsForStore};
 ghost use Rattle.vt_fresh.specs.Shape.{IsShape};
-ghost use Rattle.vt_wire.specs.Views.{message_of};
 
 use std::alloc::Global;
 use std::test::Fail;
-use vt_base::{Said, Score, Scorer, Sha1Scorer};
+use vt_base::{Operation, Said, Score, Scorer, Sha1Scorer};
 use vt_core::{Core, Event, Out};
 use vt_disk::Disk;
 use vt_fresh::{Shape, fresh_store};
 use vt_rows::Rows;
 use vt_shard::Sizes;
-use vt_wire::Request;
 
 const SIZES: Sizes = Sizes {
     lumps: 4,
@@ -43,16 +40,14 @@ const SEVERAL: Shape = Shape {
 fn ask<D: Disk, S: Scorer>(
     alloc: Global,
     core: &mut Core<D, S>,
-    request: Request<'_>,
-) -> Option<Said>
-    requires { IsForStore (message_of request) }
-{
+    operation: Operation<'_>,
+) -> Option<Said> {
     if core.sessions() == 0 {
         return None;
     }
     let event = Event::Ask {
         session: 0,
-        request,
+        operation,
         now: 0,
     };
     match core.step(alloc, event) {
@@ -63,23 +58,23 @@ fn ask<D: Disk, S: Scorer>(
 
 /// A block is written: its score, where it is taken.
 fn write<D: Disk, S: Scorer>(alloc: Global, core: &mut Core<D, S>) -> Option<Score> {
-    let request = Request::Write {
+    let operation = Operation::Write {
         kind: 13,
         bytes: b"block",
     };
-    match ask(alloc, core, request) {
+    match ask(alloc, core, operation) {
         Some(Said::Score(score)) => Some(score),
         _ => None,
     }
 }
 
 fn is_held<D: Disk, S: Scorer>(alloc: Global, core: &mut Core<D, S>, score: Score) -> bool {
-    let request = Request::Read {
+    let operation = Operation::Read {
         score,
         kind: 13,
         count: 5,
     };
-    match ask(alloc, core, request) {
+    match ask(alloc, core, operation) {
         Some(Said::Block(block)) => block.as_slice() == b"block".as_slice(),
         _ => false,
     }

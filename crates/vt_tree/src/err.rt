@@ -2,7 +2,7 @@
 
 use crate::BadEntry;
 use std::alloc::{AllocError, AllocFailed};
-use vt_base::{FieldValue, NoMemory, Score, Text};
+use vt_base::{FieldValue, Score, Text};
 
 /// Why a store of blocks didn't do what it was asked.
 #[derive(Drop)]
@@ -18,13 +18,13 @@ pub enum BlockErr {
     NoMemory,
 }
 
-impl From<NoMemory> for BlockErr {
+impl From<AllocError> for BlockErr {
     ghost use Rattle.std.specs.Prelude.{◌≡◌};
     ghost use Rattle.vt_tree.specs.declared.err.BlockErr.TheVariants.{NoMemory};
 
     ghost from_gives = { λ _ err. err ≡ NoMemory };
 
-    fn from(_error: NoMemory) -> Self {
+    fn from(_error: AllocError) -> Self {
         BlockErr::NoMemory
     }
 }
@@ -44,17 +44,6 @@ pub enum TreeErr {
     /// The file has more than 2^40 bytes.
     TooLong,
     NoMemory,
-}
-
-impl From<NoMemory> for TreeErr {
-    ghost use Rattle.std.specs.Prelude.{◌≡◌};
-    ghost use Rattle.vt_tree.specs.declared.err.TreeErr.TheVariants.{NoMemory};
-
-    ghost from_gives = { λ _ err. err ≡ NoMemory };
-
-    fn from(_error: NoMemory) -> Self {
-        TreeErr::NoMemory
-    }
 }
 
 impl From<AllocError> for TreeErr {

@@ -6,9 +6,9 @@ ghost use Rattle.std.specs.Option.{option_copied};
 ghost use Rattle.std.specs.Str.{bytes_eq};
 
 use crate::{BlockErr, Blocks};
-use std::alloc::Global;
+use std::alloc::{AllocError, Global};
 use std::marker::Model;
-use vt_base::{Bytes, Key, Kind, NoMemory, Score, Scorer, Text};
+use vt_base::{Bytes, Key, Kind, Score, Scorer, Text};
 
 /// A block, and what it is found by.
 #[derive(Drop)]
@@ -244,7 +244,7 @@ impl<S: Scorer> MemBlocks<S> {
                 self.refusals = self.refusals.saturating_add(1);
                 BlockErr::Refused(text)
             }
-            Err(NoMemory) => BlockErr::NoMemory,
+            Err(AllocError) => BlockErr::NoMemory,
         }
     }
 
@@ -263,7 +263,7 @@ impl<S: Scorer> MemBlocks<S> {
     }
 
     /// A copy of the bytes of a key.
-    fn copy_held(&self, alloc: Global, key: &Key) -> Result<Option<Bytes>, NoMemory>
+    fn copy_held(&self, alloc: Global, key: &Key) -> Result<Option<Bytes>, AllocError>
         ensures found { IfOk result (λ found.
             found ≡ held_in S.score_of self.now key.now.score.0 key.now.kind) }
         ensures most { IfOk result (λ found. IfSome found (λ bytes. length bytes ≤ MAX_BLOCK)) }
@@ -286,7 +286,7 @@ impl<S: Scorer> MemBlocks<S> {
         }
         match self.add(alloc, Key { score, kind }, bytes) {
             Ok(()) => Ok(score),
-            Err(NoMemory) => Err(BlockErr::NoMemory),
+            Err(AllocError) => Err(BlockErr::NoMemory),
         }
     }
 
@@ -305,7 +305,7 @@ impl<S: Scorer> MemBlocks<S> {
     }
 
     /// Adds a block, unless it is there, and notes its key; or, where memory is short, nothing.
-    fn add(&mut self, alloc: Global, key: Key, bytes: &[u8]) -> Result<(), NoMemory>
+    fn add(&mut self, alloc: Global, key: Key, bytes: &[u8]) -> Result<(), AllocError>
         requires own { key.score.0 ≡ S.score_of bytes.now }
         requires most { length bytes.now ≤ MAX_BLOCK }
         ensures ok { OnOk result (self.new ≡ record self.old {

@@ -11,8 +11,8 @@ ghost use Rattle.vt_tree.specs.Entries.{FitsEntry};
 ghost use Rattle.vt_tree.specs.Memory.{held_in};
 
 use crate::{Entry, MemBlocks};
-use std::alloc::Global;
-use vt_base::{Bytes, Kind, NoMemory, Score, Scorer};
+use std::alloc::{AllocError, Global};
+use vt_base::{Bytes, Kind, Score, Scorer};
 
 /// How many bytes a score has.
 pub(crate) const SCORE_LEN: usize = 20;
@@ -174,7 +174,7 @@ pub fn content<S: Scorer>(
     alloc: Global,
     blocks: &MemBlocks<S>,
     entry: &Entry,
-) -> Result<Result<Bytes, Trouble>, NoMemory>
+) -> Result<Result<Bytes, Trouble>, AllocError>
     requires fits { FitsEntry entry.now }
     requires size { 0 < entry.now.dsize }
     ensures ok { IfOk result (λ found. IfOk found

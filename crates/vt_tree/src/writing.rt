@@ -17,8 +17,8 @@ ghost use Rattle.vt_tree.specs.Writing.{is_source_fault};
 use crate::plain::{SCORE_LEN, leaf_kind, pointer_kind};
 use crate::reading::MAX_FILE;
 use crate::{Blocks, Entry, TreeErr};
-use std::alloc::Global;
-use vt_base::{Kind, MAX_BLOCK, NoMemory, Score, Scorer};
+use std::alloc::{AllocError, Global};
+use vt_base::{Kind, MAX_BLOCK, Score, Scorer};
 use vt_out::Source;
 
 /// Writes what a source has left as a tree of blocks (venti(6)), with leaves of dsize bytes and
@@ -90,7 +90,7 @@ struct Ahead {
 
 impl Ahead {
     /// No leaf was taken yet.
-    fn new(alloc: Global, dsize: u16) -> Result<Self, NoMemory>
+    fn new(alloc: Global, dsize: u16) -> Result<Self, AllocError>
         ensures { IfOk result (λ ahead. (length ahead.leaf.items ≡ dsize)
             × (next_of ahead ≡ record { leaf = []; ended = false; size = 0 })) }
     {
@@ -380,7 +380,7 @@ fn len_without_score(scores: &[Score], score: &Score) -> usize
 }
 
 /// The scores one behind another.
-fn joined(alloc: Global, scores: &[Score]) -> Result<Vec<u8>, NoMemory>
+fn joined(alloc: Global, scores: &[Score]) -> Result<Vec<u8>, AllocError>
     ensures bytes { IfOk result (λ bytes. bytes.items ≡ flat_map (λ s. s.0) scores.now) }
     ensures len { IfOk result (λ bytes. length bytes.items ≡ 20 * length scores.now) }
 {

@@ -2,10 +2,10 @@
 
 ghost use Rattle.vac_meta.specs.Records.{IsName};
 
-use std::alloc::Global;
+use std::alloc::{AllocError, Global};
 use std::test::Fail;
 use vac_meta::{Flaw, MetaErr, Record, RecordKind, decode, encode};
-use vt_base::{NoMemory, Text};
+use vt_base::Text;
 use vt_rows::Rows;
 
 /// The records of the empty file `a` and the folder `d`.
@@ -22,7 +22,7 @@ fn add(
     name: &[u8],
     kind: RecordKind,
     numbers: [u32; 4],
-) -> Result<(), NoMemory>
+) -> Result<(), AllocError>
     requires { IsName name.now }
 {
     let [entry, mode, mtime, qid] = numbers;

@@ -6,11 +6,11 @@ ghost use Rattle.vac_read.specs.Nodes.{AreEntries, IsDirectory};
 ghost use Rattle.vac_read.specs.declared.node.Stored.{Stored};
 
 use crate::blocks::{put, stream};
-use std::alloc::Global;
+use std::alloc::{AllocError, Global};
 use std::test::Fail;
 use vac_meta::RecordKind;
 use vac_read::{Archive, Node, RootField, Stored, VacBad, list, read, walk};
-use vt_base::{Kind, NoMemory, Score, Sha1Scorer, Text};
+use vt_base::{Kind, Score, Sha1Scorer, Text};
 use vt_folder::{Item, ItemKind};
 use vt_rows::Rows;
 use vt_tree::{BlockErr, Blocks, Entry, MemBlocks, Root, TreeErr};
@@ -200,7 +200,7 @@ fn top_entries_are_tested(rt: HostRuntime) -> Result<(), Fail> {
 }
 
 /// The bytes of entries, one behind another.
-fn joined(alloc: Global, entries: &[[u8; 40]]) -> Result<Vec<u8>, NoMemory> {
+fn joined(alloc: Global, entries: &[[u8; 40]]) -> Result<Vec<u8>, AllocError> {
     let mut bytes = Vec::new(alloc);
     for entry in entries {
         bytes.extend_from_slice(entry)?;
@@ -228,7 +228,7 @@ fn two_records(first: &[u8; 28], second: &[u8; 28]) -> [u8; 56] {
 }
 
 /// A folder of these two streams.
-fn node(alloc: Global, entries: Entry, metadata: Entry) -> Result<Node, NoMemory>
+fn node(alloc: Global, entries: Entry, metadata: Entry) -> Result<Node, AllocError>
     requires { AreEntries (Stored.Folder entries metadata) }
     ensures { IfOk result (λ node. AreEntries node.stored) }
 {
@@ -334,7 +334,7 @@ fn broken_records_are_placed(rt: HostRuntime) -> Result<(), Fail> {
 }
 
 /// These names as texts.
-fn texts(alloc: Global, names: &[&[u8]]) -> Result<Vec<Text>, NoMemory> {
+fn texts(alloc: Global, names: &[&[u8]]) -> Result<Vec<Text>, AllocError> {
     let mut texts = Vec::new(alloc);
     for name in names {
         texts.push(Text::copy_of(alloc, name)?)?;

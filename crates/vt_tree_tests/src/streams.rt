@@ -1,8 +1,8 @@
 //! Streams written as trees of blocks and read back, with entries and scores from outside.
 
-use std::alloc::Global;
+use std::alloc::{AllocError, Global};
 use std::test::Fail;
-use vt_base::{Failed, Key, NoMemory, Score, Sha1Scorer};
+use vt_base::{Failed, Key, Score, Sha1Scorer};
 use vt_out::{MemSource, Source};
 use vt_rows::Rows;
 use vt_tree::{BlockErr, Blocks, Entry, MemBlocks, TreeErr, read_range, write_stream};
@@ -221,7 +221,7 @@ fn short_files_and_zeros(rt: HostRuntime) -> Result<(), Fail> {
 }
 
 /// A store of which call 2 fails, and call 4 is refused.
-fn failing_store(alloc: Global) -> Result<MemBlocks<Sha1Scorer>, NoMemory> {
+fn failing_store(alloc: Global) -> Result<MemBlocks<Sha1Scorer>, AllocError> {
     let failing = vec![in alloc; 2]?;
     let refusing = vec![in alloc; 4]?;
     let blocks = MemBlocks::new(alloc, Sha1Scorer).failing(failing);

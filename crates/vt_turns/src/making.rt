@@ -13,7 +13,6 @@ use crate::view::{Opening, Pass};
 use atomic_table::{Closed, Seat, Table};
 use std::alloc::{AllocError, Global};
 use std::snapshot::Snapshot;
-use vt_base::NoMemory;
 
 /// The front, a word for each part, and the words of the bits.
 fn first_words(
@@ -111,7 +110,7 @@ impl<P: Held<B> + Drop, B> Turns<P, B> {
         parts: Vec<P>,
         front: u64,
         bits: &[u64],
-    ) -> Result<(Turns<P, B>, Pass<P, B>), (NoMemory, Vec<P>)>
+    ) -> Result<(Turns<P, B>, Pass<P, B>), (AllocError, Vec<P>)>
         requires parts { J.opening.parts ≡ parts.items }
         requires bits { J.opening.bits ≡ bits.now }
         requires opens { CanOpen P.means J.opening }
@@ -125,7 +124,7 @@ impl<P: Held<B> + Drop, B> Turns<P, B> {
     {
         let count = parts.len();
         let Ok(prepared) = prepare::<P, B, J>(alloc, count, front, bits) else {
-            return Err((NoMemory, parts));
+            return Err((AllocError, parts));
         };
         let Prepared {
             opening,
@@ -145,7 +144,7 @@ impl<P: Held<B> + Drop, B> Turns<P, B> {
                 },
                 pass,
             )),
-            Err(refused) => Err((NoMemory, unwrapped(refused.slots, back))),
+            Err(refused) => Err((AllocError, unwrapped(refused.slots, back))),
         }
     }
 }

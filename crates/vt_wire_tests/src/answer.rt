@@ -5,12 +5,14 @@ ghost use Rattle.std.specs.Prelude.{◌≡◌, ◌≤◌, ⊤, Bool, [], replica
 use crate::tables::each;
 use std::alloc::{AllocError, Global};
 use std::test::Fail;
-use vt_answer::{Answering, Client, LinkClient, Output, Served, Store, Streams, ask, reply};
-use vt_base::{Bytes, Failed, FieldValue, NoMemory, Score, Site, Why};
+use vt_answer::{
+    Answering, Client, LinkClient, Output, Served, Store, Streams, read, reply, sync, write,
+};
+use vt_base::{Bytes, Failed, FieldValue, Operation, Said, Score, Site, Why};
 use vt_out::{MemLink, MemSink, MemSource};
 use vt_rows::Rows;
 use vt_session::Ended;
-use vt_wire::{Reply, Request};
+use vt_wire::Reply;
 
 const OUR_LINE: &[u8] = b"venti-02-rattle\n";
 
@@ -27,8 +29,10 @@ const WRITES: &[u8] = b"\x00\x07\x0e\x01\x0d\x00\x00\x00x\x00\x07\x0e\x02\x01\x0
 const WROTE: &[u8] = b"\x00\x16\x0f\x01ssssssssssssssssssss\x00\x11\x01\x02\x00\x0dblock damaged\
 \x00\x0d\x01\x03\x00\x09no memory";
 
-/// A read of type 13 under tag 4.
+/// A read of type 13 under tag 4, of three bytes at most, and of as many as a block may have.
 const READ: &[u8] = b"\x00\x1a\x0c\x04ssssssssssssssssssss\x0d\x00\x00\x03";
+
+const LONGEST: &[u8] = b"\x00\x1a\x0c\x04ssssssssssssssssssss\x0d\x00\xe0\x00";
 
 /// A sync, a ping and a goodbye.
 const REST: &[u8] = b"\x00\x02\x10\x05\x00\x02\x02\x06\x00\x02\x06\x07";
@@ -70,32 +74,29 @@ impl Store for Scripted {
 
     ghost durable_is_held = { λ s h hold. absurd hold };
 
-    fn write(&mut self, _alloc: Global, kind: u8, _bytes: &[u8]) -> Result<Score, Why> {
-        self.writes = self.writes.wrapping_add(1);
-        match kind {
-            13 => Ok(SCORE),
-            1 => Err(DAMAGE),
-            _ => Err(Why::NoMemory),
+    fn ask(&mut self, alloc: Global, operation: Operation<'_>) -> Said {
+        match operation {
+            Operation::Write { kind, .. } => {
+                self.writes = self.writes.wrapping_add(1);
+                match kind {
+                    13 => Said::Score(SCORE),
+                    1 => Said::Refused(DAMAGE),
+                    _ => Said::Refused(Why::NoMemory),
+                }
+            }
+            Operation::Read { count, .. } => {
+                self.reads = self.reads.wrapping_add(1);
+                let length = self.length.min(count as usize);
+                match vec![in alloc; b'b'; length] {
+                    Ok(block) => Said::Block(Bytes::from_vec(block)),
+                    Err(_) => Said::Refused(Why::NoMemory),
+                }
+            }
+            Operation::Sync => {
+                self.syncs = self.syncs.wrapping_add(1);
+                Said::Synced
+            }
         }
-    }
-
-    fn read(
-        &mut self,
-        alloc: Global,
-        _score: &Score,
-        _kind: u8,
-        _count: u32,
-    ) -> Result<Bytes, Why> {
-        self.reads = self.reads.wrapping_add(1);
-        let Ok(block) = vec![in alloc; b'b'; self.length] else {
-            return Err(Why::NoMemory);
-        };
-        Ok(Bytes::from_vec(block))
-    }
-
-    fn sync(&mut self) -> Result<(), Why> {
-        self.syncs = self.syncs.wrapping_add(1);
-        Ok(())
     }
 }
 
@@ -133,8 +134,11 @@ fn ends(found: Option<(Served, Option<Why>)>, ended: Ended) -> bool {
 }
 
 /// A client that asks for three blocks, and of whose writes those with these numbers fail.
-fn asking_thrice(alloc: Global, failing: &[u64]) -> Result<Streams<MemSource, MemSink>, NoMemory> {
-    let input = [GREETING, READ, READ, READ].concat(alloc)?;
+fn asking_thrice(
+    alloc: Global,
+    failing: &[u64],
+) -> Result<Streams<MemSource, MemSink>, AllocError> {
+    let input = [GREETING, LONGEST, LONGEST, LONGEST].concat(alloc)?;
     let failing = Vec::from_slice(alloc, failing)?;
     let sink = MemSink::new(alloc, 1 << 18)?.failing(failing);
     Ok(Streams {
@@ -187,9 +191,18 @@ fn long_replies(rt: HostRuntime) -> Result<(), Fail> {
 fn asked_alone(rt: HostRuntime) -> Result<(), Fail> {
     let alloc = rt.alloc();
     let mut store = answering_reads(3);
-    let answer = ask(alloc, &mut store, &Request::Sync);
+    let said = store.ask(alloc, Operation::Sync);
+    let written = write(alloc, &mut store, 13, b"x");
+    let block = read(alloc, &mut store, &SCORE, 13, 2);
+    let synced = sync(alloc, &mut store);
     let mut rows = Rows::new();
-    rows.is("the reply to a sync", reply(&answer) == Reply::Sync);
+    rows.is("the reply to a sync", reply(&said) == Reply::Sync);
+    rows.is("the score of a block", written == Ok(SCORE));
+    rows.is(
+        "what a block has",
+        matches!(&block, Ok(block) if block.as_slice() == b"bb".as_slice()),
+    );
+    rows.is("a sync is done", synced == Ok(()));
     rows.all()?;
     Ok(())
 }

@@ -1,13 +1,13 @@
 //! A store that answers what it is told to, as a store of blocks.
 
-ghost use Rattle.std.specs.Prelude.{⊤, Bool, [], replicate};
+ghost use Rattle.std.specs.Prelude.{◌≡◌, ⊤, Bool, [], IfOk, length, replicate};
 
 use crate::blocks::{Told, gets, puts, syncs};
 use crate::tables::in_turn;
-use std::alloc::Global;
+use std::alloc::{AllocError, Global};
 use std::test::Fail;
 use vt_answer::Store;
-use vt_base::{Bytes, FieldValue, Kind, Score, Scorer, Site, Why};
+use vt_base::{Bytes, FieldValue, Kind, Operation, Said, Score, Scorer, Site, Why};
 use vt_local::Local;
 use vt_rows::Rows;
 
@@ -56,35 +56,38 @@ impl Store for Scripted {
 
     ghost durable_is_held = { λ s h hold. absurd hold };
 
-    fn write(&mut self, _alloc: Global, kind: u8, _bytes: &[u8]) -> Result<Score, Why> {
+    fn ask(&mut self, alloc: Global, operation: Operation<'_>) -> Said {
         self.calls = self.calls.wrapping_add(1);
-        match kind {
-            13 => Ok(SCORE),
-            1 => Err(Why::Collision),
-            2 => Err(Why::Damaged {
-                site: Site::Bucket(1),
-                want: FieldValue::Number(2),
-                found: FieldValue::Number(3),
-            }),
-            _ => Err(Why::NoMemory),
+        match operation {
+            Operation::Write { kind: 13, .. } => Said::Score(SCORE),
+            Operation::Write { kind: 1, .. } => Said::Refused(Why::Collision),
+            Operation::Write { kind: 2, .. } => Said::Refused(DAMAGE),
+            Operation::Write { .. } => Said::Refused(Why::NoMemory),
+            Operation::Read { score, count, .. } => {
+                if score != SCORE || count < 3 {
+                    return Said::Refused(Why::Absent);
+                }
+                match block(alloc) {
+                    Ok(bytes) => Said::Block(bytes),
+                    Err(AllocError) => Said::Refused(Why::NoMemory),
+                }
+            }
+            Operation::Sync => Said::Synced,
         }
     }
+}
 
-    fn read(&mut self, alloc: Global, score: &Score, _kind: u8, _count: u32) -> Result<Bytes, Why> {
-        self.calls = self.calls.wrapping_add(1);
-        if *score != SCORE {
-            return Err(Why::Absent);
-        }
-        match Bytes::copy_of(alloc, b"abc") {
-            Ok(bytes) => Ok(bytes),
-            Err(_) => Err(Why::NoMemory),
-        }
-    }
+const DAMAGE: Why = Why::Damaged {
+    site: Site::Bucket(1),
+    want: FieldValue::Number(2),
+    found: FieldValue::Number(3),
+};
 
-    fn sync(&mut self) -> Result<(), Why> {
-        self.calls = self.calls.wrapping_add(1);
-        Ok(())
-    }
+/// The one block.
+fn block(alloc: Global) -> Result<Bytes, AllocError>
+    ensures { IfOk result (λ bytes. length bytes ≡ 3) }
+{
+    Bytes::copy_of(alloc, b"abc")
 }
 
 /// What is asked of a store of blocks, and what it answers.

@@ -3,10 +3,10 @@
 use crate::tables::{each, in_turn};
 use std::alloc::Global;
 use std::test::Fail;
-use vt_base::Score;
+use vt_base::{Operation, Score};
 use vt_rows::Rows;
 use vt_session::{Ended, Next, Talker};
-use vt_wire::{Request, Rule};
+use vt_wire::Rule;
 
 const LINE: &[u8] = b"venti-02-test\n";
 
@@ -52,11 +52,11 @@ const PING: &[u8] = b"\x00\x02\x02\x05";
 const GOODBYE: &[u8] = b"\x00\x02\x06\x04";
 
 /// What is heard of them.
-const HEARD_HELLO: Next = Next::Message(0, Request::Hello { version: b"02" });
+const HEARD_HELLO: Next = Next::Hello(0);
 
-const HEARD_READ: Next = Next::Message(
+const HEARD_READ: Next = Next::Ask(
     2,
-    Request::Read {
+    Operation::Read {
         score: Score(
             *b"\xa9\x99\x3e\x36\x47\x06\x81\x6a\xba\x3e\x25\x71\x78\x50\xc2\x6c\x9c\xd0\xd8\x9d",
         ),
@@ -65,25 +65,25 @@ const HEARD_READ: Next = Next::Message(
     },
 );
 
-const HEARD_WRITE: Next = Next::Message(
+const HEARD_WRITE: Next = Next::Ask(
     1,
-    Request::Write {
+    Operation::Write {
         kind: 13,
         bytes: b"abc",
     },
 );
 
-const HEARD_EMPTY: Next = Next::Message(
+const HEARD_EMPTY: Next = Next::Ask(
     3,
-    Request::Write {
+    Operation::Write {
         kind: 13,
         bytes: b"",
     },
 );
 
-const HEARD_SYNC: Next = Next::Message(3, Request::Sync);
+const HEARD_SYNC: Next = Next::Ask(3, Operation::Sync);
 
-const HEARD_PING: Next = Next::Message(5, Request::Ping);
+const HEARD_PING: Next = Next::Ping(5);
 
 /// What is heard of a ping before the hello, and of a hello of version 03 or of the other line.
 const EARLY: Next = Next::Refused(Rule::HelloExpected, 5);
@@ -432,7 +432,7 @@ fn longest_are_heard(with: (Global, &[u8]), row: usize, cut: &Cut) -> Result<(),
     let (alloc, body) = with;
     let head: &[u8] = b"\xff\xff\x0e\x01";
     let bytes = body.get(4..).unwrap_or(&[]);
-    let longest = Next::Message(1, Request::Write { kind: b'x', bytes });
+    let longest = Next::Ask(1, Operation::Write { kind: b'x', bytes });
     let input: &[&[u8]] = &[
         LINE, HELLO, head, body, READ, head, body, UNKNOWN, head, body, b"\x00",
     ];

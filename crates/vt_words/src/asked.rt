@@ -9,9 +9,8 @@ use crate::command::{Command, command_of};
 use crate::venti::venti;
 use clap::error::ErrorKind;
 use clap::{ArgMatches, Error};
-use std::alloc::Global;
+use std::alloc::{AllocError, Global};
 use std::convert::AsStr;
-use vt_base::NoMemory;
 
 /// What the words of a command line ask for.
 #[derive(Debug, Drop)]
@@ -28,7 +27,7 @@ pub enum Asked {
 }
 
 /// What these words ask for, which stand behind the program's name.
-pub fn ask<'a, S: AsStr>(alloc: Global, words: &'a [S]) -> Result<Asked, NoMemory>
+pub fn ask<'a, S: AsStr>(alloc: Global, words: &'a [S]) -> Result<Asked, AllocError>
     ensures { IfOk result (Asks (map S.text words.entry.now)) }
 {
     match venti(alloc)?.try_get_matches_from(words) {
@@ -38,7 +37,7 @@ pub fn ask<'a, S: AsStr>(alloc: Global, words: &'a [S]) -> Result<Asked, NoMemor
 }
 
 /// What was said where clap takes the words: a command, if it is one and has all its values.
-fn spoken(alloc: Global, found: &ArgMatches<'_>) -> Result<Asked, NoMemory>
+fn spoken(alloc: Global, found: &ArgMatches<'_>) -> Result<Asked, AllocError>
     ensures { IfOk result (IsSpoken (said_by (subcommand_rows_of found.now))) }
 {
     let command = match found.subcommand() {
@@ -52,11 +51,11 @@ fn spoken(alloc: Global, found: &ArgMatches<'_>) -> Result<Asked, NoMemory>
 }
 
 /// What was asked where clap doesn't take the words.
-fn unspoken(alloc: Global, error: &Error) -> Result<Asked, NoMemory>
+fn unspoken(alloc: Global, error: &Error) -> Result<Asked, AllocError>
     ensures { IfOk result (IsUnspoken (kind_of error.now)) }
 {
     match error.kind() {
-        ErrorKind::OutOfMemory => Err(NoMemory),
+        ErrorKind::OutOfMemory => Err(AllocError),
         ErrorKind::DisplayHelp => Ok(Asked::Help(text_of(alloc, error)?)),
         ErrorKind::DisplayVersion => Ok(Asked::Version(text_of(alloc, error)?)),
         ErrorKind::DisplayHelpOnMissingArgumentOrSubcommand => {
@@ -66,6 +65,6 @@ fn unspoken(alloc: Global, error: &Error) -> Result<Asked, NoMemory>
     }
 }
 
-fn text_of(alloc: Global, error: &Error) -> Result<String, NoMemory> {
+fn text_of(alloc: Global, error: &Error) -> Result<String, AllocError> {
     Ok(format!(in alloc; "{error}")?)
 }

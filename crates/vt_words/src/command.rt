@@ -7,8 +7,8 @@ ghost use Rattle.vt_words.specs.Words.{command_of, session_of, arenas_of, sectio
 ghost use Rattle.vt_words.specs.Words.{rebuild_of, check_of, read_of, write_of, vac_of, view_of};
 
 use clap::ArgMatches;
-use std::alloc::Global;
-use vt_base::{NoMemory, Text};
+use std::alloc::{AllocError, Global};
+use vt_base::Text;
 
 /// A command, with the words behind its name, which aren't read yet.
 #[derive(Debug, Drop)]
@@ -82,7 +82,7 @@ pub(crate) fn command_of(
     alloc: Global,
     name: &str,
     found: &ArgMatches<'_>,
-) -> Result<Option<Command>, NoMemory>
+) -> Result<Option<Command>, AllocError>
     ensures { IfOk result (λ it. it ≡ command_of name.now (rows_of (found_of found.now))) }
 {
     if name == "session" {
@@ -114,7 +114,7 @@ pub(crate) fn command_of(
     }
 }
 
-fn session_of(alloc: Global, found: &ArgMatches<'_>) -> Result<Option<Command>, NoMemory>
+fn session_of(alloc: Global, found: &ArgMatches<'_>) -> Result<Option<Command>, AllocError>
     ensures { IfOk result (λ it. it ≡ session_of (rows_of (found_of found.now))) }
 {
     let Some(store) = value_of(alloc, found, "STORE")? else {
@@ -123,7 +123,7 @@ fn session_of(alloc: Global, found: &ArgMatches<'_>) -> Result<Option<Command>, 
     Ok(Some(Command::Session { store }))
 }
 
-fn arenas_of(alloc: Global, found: &ArgMatches<'_>) -> Result<Option<Command>, NoMemory>
+fn arenas_of(alloc: Global, found: &ArgMatches<'_>) -> Result<Option<Command>, AllocError>
     ensures { IfOk result (λ it. it ≡ arenas_of (rows_of (found_of found.now))) }
 {
     let Some(file) = value_of(alloc, found, "FILE")? else {
@@ -146,7 +146,7 @@ fn arenas_of(alloc: Global, found: &ArgMatches<'_>) -> Result<Option<Command>, N
     }))
 }
 
-fn section_of(alloc: Global, found: &ArgMatches<'_>) -> Result<Option<Command>, NoMemory>
+fn section_of(alloc: Global, found: &ArgMatches<'_>) -> Result<Option<Command>, AllocError>
     ensures { IfOk result (λ it. it ≡ section_of (rows_of (found_of found.now))) }
 {
     let Some(file) = value_of(alloc, found, "FILE")? else {
@@ -161,7 +161,7 @@ fn section_of(alloc: Global, found: &ArgMatches<'_>) -> Result<Option<Command>, 
     Ok(Some(Command::FormatSection { file, name, length }))
 }
 
-fn filter_of(alloc: Global, found: &ArgMatches<'_>) -> Result<Option<Command>, NoMemory>
+fn filter_of(alloc: Global, found: &ArgMatches<'_>) -> Result<Option<Command>, AllocError>
     ensures { IfOk result (λ it. it ≡ filter_of (rows_of (found_of found.now))) }
 {
     let Some(file) = value_of(alloc, found, "FILE")? else {
@@ -180,7 +180,7 @@ fn filter_of(alloc: Global, found: &ArgMatches<'_>) -> Result<Option<Command>, N
     }))
 }
 
-fn index_of(alloc: Global, found: &ArgMatches<'_>) -> Result<Option<Command>, NoMemory>
+fn index_of(alloc: Global, found: &ArgMatches<'_>) -> Result<Option<Command>, AllocError>
     ensures { IfOk result (λ it. it ≡ index_of (rows_of (found_of found.now))) }
 {
     let Some(file) = value_of(alloc, found, "CONF")? else {
@@ -189,7 +189,7 @@ fn index_of(alloc: Global, found: &ArgMatches<'_>) -> Result<Option<Command>, No
     Ok(Some(Command::FormatIndex { file }))
 }
 
-fn rebuild_of(alloc: Global, found: &ArgMatches<'_>) -> Result<Option<Command>, NoMemory>
+fn rebuild_of(alloc: Global, found: &ArgMatches<'_>) -> Result<Option<Command>, AllocError>
     ensures { IfOk result (λ it. it ≡ rebuild_of (rows_of (found_of found.now))) }
 {
     let Some(file) = value_of(alloc, found, "CONF")? else {
@@ -198,7 +198,7 @@ fn rebuild_of(alloc: Global, found: &ArgMatches<'_>) -> Result<Option<Command>, 
     Ok(Some(Command::RebuildIndex { file }))
 }
 
-fn check_of(alloc: Global, found: &ArgMatches<'_>) -> Result<Option<Command>, NoMemory>
+fn check_of(alloc: Global, found: &ArgMatches<'_>) -> Result<Option<Command>, AllocError>
     ensures { IfOk result (λ it. it ≡ check_of (rows_of (found_of found.now))) }
 {
     let Some(file) = value_of(alloc, found, "CONF")? else {
@@ -207,7 +207,7 @@ fn check_of(alloc: Global, found: &ArgMatches<'_>) -> Result<Option<Command>, No
     Ok(Some(Command::CheckArenas { file }))
 }
 
-fn read_of(alloc: Global, found: &ArgMatches<'_>) -> Result<Option<Command>, NoMemory>
+fn read_of(alloc: Global, found: &ArgMatches<'_>) -> Result<Option<Command>, AllocError>
     ensures { IfOk result (λ it. it ≡ read_of (rows_of (found_of found.now))) }
 {
     let Some(store) = value_of(alloc, found, "STORE")? else {
@@ -222,7 +222,7 @@ fn read_of(alloc: Global, found: &ArgMatches<'_>) -> Result<Option<Command>, NoM
     Ok(Some(Command::Read { store, score, kind }))
 }
 
-fn write_of(alloc: Global, found: &ArgMatches<'_>) -> Result<Option<Command>, NoMemory>
+fn write_of(alloc: Global, found: &ArgMatches<'_>) -> Result<Option<Command>, AllocError>
     ensures { IfOk result (λ it. it ≡ write_of (rows_of (found_of found.now))) }
 {
     let Some(store) = value_of(alloc, found, "STORE")? else {
@@ -234,7 +234,7 @@ fn write_of(alloc: Global, found: &ArgMatches<'_>) -> Result<Option<Command>, No
     Ok(Some(Command::Write { store, kind }))
 }
 
-fn rehearsal_of(alloc: Global, found: &ArgMatches<'_>) -> Result<Option<Command>, NoMemory>
+fn rehearsal_of(alloc: Global, found: &ArgMatches<'_>) -> Result<Option<Command>, AllocError>
     ensures { IfOk result (λ it. it ≡ rehearsal_of (rows_of (found_of found.now))) }
 {
     let Some(seed) = value_of(alloc, found, "SEED")? else {
@@ -246,7 +246,7 @@ fn rehearsal_of(alloc: Global, found: &ArgMatches<'_>) -> Result<Option<Command>
     Ok(Some(Command::Rehearse { seed, count }))
 }
 
-fn vac_of(alloc: Global, found: &ArgMatches<'_>) -> Result<Option<Command>, NoMemory>
+fn vac_of(alloc: Global, found: &ArgMatches<'_>) -> Result<Option<Command>, AllocError>
     ensures { IfOk result (λ it. it ≡ vac_of (rows_of (found_of found.now))) }
 {
     let Some(store) = value_of(alloc, found, "STORE")? else {
@@ -263,7 +263,7 @@ fn vac_of(alloc: Global, found: &ArgMatches<'_>) -> Result<Option<Command>, NoMe
     }))
 }
 
-fn view_of(alloc: Global, found: &ArgMatches<'_>) -> Result<Option<Command>, NoMemory>
+fn view_of(alloc: Global, found: &ArgMatches<'_>) -> Result<Option<Command>, AllocError>
     ensures { IfOk result (λ it. it ≡ view_of (rows_of (found_of found.now))) }
 {
     let Some(store) = value_of(alloc, found, "STORE")? else {
@@ -276,7 +276,7 @@ fn view_of(alloc: Global, found: &ArgMatches<'_>) -> Result<Option<Command>, NoM
 }
 
 /// The first value of this name, if there is one.
-fn value_of(alloc: Global, found: &ArgMatches<'_>, id: &str) -> Result<Option<Text>, NoMemory>
+fn value_of(alloc: Global, found: &ArgMatches<'_>, id: &str) -> Result<Option<Text>, AllocError>
     ensures { IfOk result (λ it. it ≡ first_of id.now (rows_of (found_of found.now))) }
 {
     let Some(value) = found.get_str(id) else {

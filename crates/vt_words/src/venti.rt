@@ -2,7 +2,7 @@
 
 ghost use Rattle.std.specs.Prelude.{◌≡◌, false, codes, IfOk};
 ghost use Rattle.clap.specs.Simple.{on_top};
-ghost use Rattle.clap.specs.Words.{app_of, new_app, shape_of, with_subcommand};
+ghost use Rattle.clap.specs.Words.{App, app_of, new_app, shape_of, with_subcommand};
 ghost use Rattle.clap.specs.declared.builder.command.Command.TheViews.{out-Command as fields_of};
 ghost use Rattle.vt_words.specs.Words.{with_settings, with_word, venti};
 ghost use Rattle.vt_words.specs.Words.{session, fmtarenas, fmtisect, fmtbloom, fmtindex, read, write, rehearse};
@@ -47,19 +47,19 @@ A session in memory, which is spoken on the standard streams:
 pub(crate) fn venti<'a>(alloc: Global) -> Result<Command<'a>, AllocError>
     ensures { IfOk result (λ it. app_of it ≡ venti) }
 {
-    let program = program(alloc).bin_name("venti")?;
-    let program = with_command(program, session(alloc)?)?;
-    let program = with_command(program, fmtarenas(alloc)?)?;
-    let program = with_command(program, fmtisect(alloc)?)?;
-    let program = with_command(program, fmtbloom(alloc)?)?;
-    let program = with_command(program, fmtindex(alloc)?)?;
-    let program = with_command(program, buildindex(alloc)?)?;
-    let program = with_command(program, checkarenas(alloc)?)?;
-    let program = with_command(program, read(alloc)?)?;
-    let program = with_command(program, write(alloc)?)?;
-    let program = with_command(program, rehearse(alloc)?)?;
-    let program = with_command(program, vac(alloc)?)?;
-    with_command(program, vacfs(alloc)?)
+    let program = program(alloc).bin_name("venti");
+    let program = with_command(program, session(alloc));
+    let program = with_command(program, fmtarenas(alloc));
+    let program = with_command(program, fmtisect(alloc));
+    let program = with_command(program, fmtbloom(alloc));
+    let program = with_command(program, fmtindex(alloc));
+    let program = with_command(program, buildindex(alloc));
+    let program = with_command(program, checkarenas(alloc));
+    let program = with_command(program, read(alloc));
+    let program = with_command(program, write(alloc));
+    let program = with_command(program, rehearse(alloc));
+    let program = with_command(program, vac(alloc));
+    with_command(program, vacfs(alloc))
 }
 
 /// The program without its commands.
@@ -76,8 +76,27 @@ fn program<'a>(alloc: Global) -> Command<'a>
         .arg_required_else_help(true)
 }
 
+/// The program with one more command, where there was memory for both.
+fn with_command<'a>(
+    program: Result<Command<'a>, AllocError>,
+    command: Result<Command<'a>, AllocError>,
+) -> Result<Command<'a>, AllocError>
+    requires local { IfOk command (λ it. (fields_of it).has_globals ≡ false) }
+    ensures { (app sub : App) → IfOk program.entry (λ it. app_of it ≡ app)
+        → IfOk command.entry (λ it. app_of it ≡ sub)
+        → IfOk result (λ it. app_of it ≡ with_subcommand app sub.top) }
+{
+    let Ok(program) = program else {
+        return Err(AllocError);
+    };
+    let Ok(command) = command else {
+        return Err(AllocError);
+    };
+    add(program, command)
+}
+
 /// The program with one more command.
-fn with_command<'a>(program: Command<'a>, command: Command<'a>) -> Result<Command<'a>, AllocError>
+fn add<'a>(program: Command<'a>, command: Command<'a>) -> Result<Command<'a>, AllocError>
     requires local { (fields_of command).has_globals ≡ false }
     ensures { IfOk result (λ it. app_of it ≡ with_subcommand (app_of program.entry)
         (shape_of command.entry)) }

@@ -9,8 +9,8 @@ ghost use Rattle.run_base.specs.Formatting.{Prints};
 
 use itoa::Buffer;
 use run_base::{Failure, Host, Shown, Unit, name_at, print, read_conf, refusal_among};
-use std::alloc::Global;
-use vt_base::{NoMemory, Scorer, Text};
+use std::alloc::{AllocError, Global};
+use vt_base::{Scorer, Text};
 use vt_conf::Conf;
 use vt_format::laws::configurations_number_their_files;
 use vt_format::{Index, IndexBad, format_index};
@@ -103,7 +103,7 @@ fn told<T: Sink>(
         IndexBad::Fault { part: None } => Failure::DiskFault,
         IndexBad::Refused(bad) => match refusal_among(alloc, file, conf, bad) {
             Ok(failure) => failure,
-            Err(NoMemory) => Failure::NoMemory,
+            Err(AllocError) => Failure::NoMemory,
         },
     }
 }

@@ -9,8 +9,8 @@ ghost use Rattle.run_base.specs.Formatting.{Prints};
 
 use itoa::Buffer;
 use run_base::{Failure, Host, Shown, Unit, print};
-use std::alloc::Global;
-use vt_base::{NoMemory, Text};
+use std::alloc::{AllocError, Global};
+use vt_base::Text;
 use vt_conf::parse_number;
 use vt_out::Sink;
 use vt_rehearse::Summary;
@@ -36,7 +36,7 @@ pub fn rehearse<H: Host>(
     let mut shown = Shown::new(host.terminal(), Unit::Rounds);
     match vt_rehearse::rehearse(alloc, &mut shown, seed, rounds) {
         Ok(summary) => print_summary(host.sink(), &summary),
-        Err(NoMemory) => Err(Failure::NoMemory),
+        Err(AllocError) => Err(Failure::NoMemory),
     }
 }
 

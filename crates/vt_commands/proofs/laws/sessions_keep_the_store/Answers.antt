@@ -3,7 +3,7 @@ use Rattle.std.proofs.Common.{◌≡◌, List, ℕ, ap, length, map, subst, ◌�
 use Rattle.std.specs.Prelude.{◌&&◌}
 use Rattle.vt_model.specs.Places.{Setup}
 use Rattle.vt_part.specs.Table.{Table}
-use Rattle.vt_session.specs.Answered.{OneRose}
+use Rattle.vt_model.specs.Causes.{OneRose}
 use Rattle.vt_session.specs.Talk.{Alone}
 use Rattle.vt_core.specs.Core.{devices_of, each_of}
 use Rattle.vt_core.specs.Files.{PerDevice, all_of}

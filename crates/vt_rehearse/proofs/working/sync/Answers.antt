@@ -1,6 +1,6 @@
 -- the session waits, and is told of all blocks
 use Rattle.std.proofs.Common.{refl, arith}
-use Rattle.vt_wire.specs.declared.message.Request.TheVariants.{Sync}
+use Rattle.vt_base.specs.declared.operation.Operation.TheVariants.{Sync}
 use Rattle.vt_core.specs.declared.event.Out.TheVariants.{Said as SaidOut}
 use Rattle.vt_rehearse.proofs.Synced.{alike_synced, noted_is, owes_asked, said_is, steady_asked, syncs_all}
 use Rattle.vt_rehearse.proofs.working.sync.Goals as goal

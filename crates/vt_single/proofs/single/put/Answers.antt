@@ -12,11 +12,11 @@ returns-in_err-score-clause-puts g c =
     let is : c.from_residual.result ≡ Err why = search rules in
     let kind = c.args.kind in
     let bytes = c.args.bytes.now in
-    subst (λ (r : Result Score Why). Puts g.T.Store kind bytes r c.args.store.now c.write.new.self)
+    subst (λ (r : Result Score Why). Puts g.T.Store kind bytes r c.args.store.now c.write.new.store)
     (sym is) (
       (write kind bytes, Err why) ∷ [],
       inl refl,
-      (c.write.new.self, rw c.wire.ensures.number at c.in_err-score.ensures.once, refl),
+      (c.write.new.store, rw c.wire.ensures.number at c.in_err-score.ensures.once, refl),
     )
 
 pub returns-in_err-sync-clause-puts : goal.returns-in_err-sync-clause-puts
@@ -26,13 +26,13 @@ returns-in_err-sync-clause-puts g c =
     let kind = c.args.kind in
     let bytes = c.args.bytes.now in
     let given = c.in_ok-score.score.0 in
-    subst (λ (r : Result Score Why). Puts g.T.Store kind bytes r c.args.store.now c.sync.new.self)
+    subst (λ (r : Result Score Why). Puts g.T.Store kind bytes r c.args.store.now c.sync.new.store)
     (sym is) (
       (write kind bytes, Ok (r_write given)) ∷ (sync, Err why) ∷ [],
       inr (given, refl),
       (
-        c.write.new.self,
+        c.write.new.store,
         rw c.wire.ensures.number at c.in_ok-score.ensures.once,
-        (c.sync.new.self, c.in_err-sync.ensures.once, refl),
+        (c.sync.new.store, c.in_err-sync.ensures.once, refl),
       ),
     )

@@ -4,7 +4,7 @@ use Rattle.std.proofs.lemmas.Bool.{eqb-true}
 use Rattle.vt_base.specs.Kind.{IsKind, is_kind}
 use Rattle.vt_base.specs.declared.answer.Said.TheVariants.{Score, Refused}
 use Rattle.vt_base.specs.declared.why.Why.TheVariants.{BadType, TooBig}
-use Rattle.vt_wire.specs.declared.message.Request.TheVariants as requests
+use Rattle.vt_base.specs.declared.operation.Operation.TheVariants as asks
 use Rattle.vt_core.specs.declared.event.Event.TheVariants.{Ask}
 use Rattle.vt_core.specs.declared.event.Out.{Out}
 use Rattle.vt_core.specs.declared.event.Out.TheVariants.{Said as SaidOut}
@@ -23,7 +23,7 @@ returns-in_default g c = λ session none.
     let at : c.front-at.result ≡ history_len k = c.front-at.ensures.front ∙ ap (λ (m : CoreState g.row.D.Denot). history_len m) c.self.view_is in
     let bad : is_kind c.args.kind ≡ false = sym c.from_wire.ensures.variant ∙ ap (λ (o : Option ℕ). is_some o) c.in_default.is in
     let said : c.say.result ≡ says (Refused BadType) k = c.say.ensures ∙ ap (λ (n : ℕ). SaidOut (record { said = Refused BadType; at = n })) at in
-    subst (λ (o : Out). Steps score g.D.Disk (Ask session (requests.Write c.args.kind c.args.block) c.args.now) o k k) (sym said)
+    subst (λ (o : Out). Steps score g.D.Disk (Ask session (asks.Write c.args.kind c.args.block) c.args.now) o k k) (sym said)
     (bad_write score g.D.Disk k c.crash_gives_a_prefix.ensures.prefix w session c.args.now none c.args.kind c.args.block bad)
 
 pub returns-then-block-gt-MAX_BLOCK : goal.returns-then-block-gt-MAX_BLOCK
@@ -35,7 +35,7 @@ returns-then-block-gt-MAX_BLOCK g c = λ session none.
     let at : c.front-at.result ≡ history_len k = c.front-at.ensures.front ∙ ap (λ (m : CoreState g.row.D.Denot). history_len m) c.self.view_is in
     let own : is_kind c.args.kind ≡ true = sym c.in-Some.ensures.variant in
     let said : c.say-then-block-gt-MAX_BLOCK.result ≡ says (Refused TooBig) k = c.say-then-block-gt-MAX_BLOCK.ensures ∙ ap (λ (n : ℕ). SaidOut (record { said = Refused TooBig; at = n })) at in
-    subst (λ (o : Out). Steps score g.D.Disk (Ask session (requests.Write c.args.kind c.args.block) c.args.now) o k k) (sym said)
+    subst (λ (o : Out). Steps score g.D.Disk (Ask session (asks.Write c.args.kind c.args.block) c.args.now) o k k) (sym said)
     (big_write score g.D.Disk k gives w session c.args.now none c.args.kind c.args.block own (omega (arith, c.if-block-gt-MAX_BLOCK.true)))
 
 pub returns-then-is_empty : goal.returns-then-is_empty
@@ -48,7 +48,7 @@ returns-then-is_empty g c = λ session none.
     let own : is_kind c.args.kind ≡ true = sym c.in-Some.ensures.variant in
     let empty : length c.args.block.now ≡ 0 = eqb-true (length c.args.block.now) 0 (sym c.is_empty.ensures ∙ c.if-is_empty.true) in
     let said : c.say-then-is_empty.result ≡ says (Score c.score-score.result) k = c.say-then-is_empty.ensures ∙ ap (λ (n : ℕ). SaidOut (record { said = Score c.score-score.result; at = n })) at in
-    subst (λ (o : Out). Steps score g.D.Disk (Ask session (requests.Write c.args.kind c.args.block) c.args.now) o k k) (sym said)
+    subst (λ (o : Out). Steps score g.D.Disk (Ask session (asks.Write c.args.kind c.args.block) c.args.now) o k k) (sym said)
     (empty_write score g.D.Disk k gives w session c.args.now none c.args.kind c.args.block c.score-score.result own empty c.score-score.ensures)
 
 pub write-requires-clause-block : goal.write-requires-clause-block
@@ -58,4 +58,4 @@ write-requires-clause-block g c =
 
 pub returns : goal.returns
 returns g c = λ session none.
-    subst (λ (n : ℕ). Steps g.S.Scorer.score_of g.D.Disk (Ask session (requests.Write n c.args.block) c.args.now) c.write.result c.args.self.now c.write.new.self) c.in-Some.ensures.found (c.write.ensures session none)
+    subst (λ (n : ℕ). Steps g.S.Scorer.score_of g.D.Disk (Ask session (asks.Write n c.args.block) c.args.now) c.write.result c.args.self.now c.write.new.self) c.in-Some.ensures.found (c.write.ensures session none)

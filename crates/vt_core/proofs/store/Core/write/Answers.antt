@@ -7,7 +7,7 @@ use Rattle.vt_base.specs.declared.answer.Said.TheVariants.{Score, Refused}
 use Rattle.vt_base.specs.declared.key.Key.{Key}
 use Rattle.vt_base.specs.declared.why.Why.{Why}
 use Rattle.vt_base.specs.declared.why.Why.TheVariants.{Collision, Stopped}
-use Rattle.vt_wire.specs.declared.message.Request.TheVariants as requests
+use Rattle.vt_base.specs.declared.operation.Operation.TheVariants as asks
 use Rattle.vt_core.specs.declared.event.Event.TheVariants.{Ask}
 use Rattle.vt_core.specs.declared.event.Out.{Out}
 use Rattle.vt_core.specs.declared.event.Out.TheVariants.{Said as SaidOut}
@@ -34,7 +34,7 @@ returns-in-Some g c = λ session none.
     stop_is score k key.kind c.args.block.now key.score.0 c.shard_of-shard.result c.stop_for.result c.shard_of-shard.ensures.shard c.requires.scored c.shard_of-shard.ensures.within c.stop_for.ensures in
     let call : ℕ = c.in-Some.call in
     let said : c.say.result ≡ says (Refused (Stopped call)) k = c.say.ensures ∙ ap (λ (n : ℕ). SaidOut (record { said = Refused (Stopped call); at = n })) at in
-    subst (λ (o : Out). Steps score g.D.Disk (Ask session (requests.Write key.kind c.args.block) c.args.now) o k k) (sym said)
+    subst (λ (o : Out). Steps score g.D.Disk (Ask session (asks.Write key.kind c.args.block) c.args.now) o k k) (sym said)
     (stops_write score g.D.Disk k gives w session c.args.now none key.kind c.args.block c.requires.block call (stop ∙ c.in-Some.is))
 
 pub returns-then-eq : goal.returns-then-eq
@@ -49,9 +49,9 @@ returns-then-eq g c = λ session none.
     stop_is score k key.kind c.args.block.now key.score.0 c.shard_of-shard.result c.stop_for.result c.shard_of-shard.ensures.shard c.requires.scored c.shard_of-shard.ensures.within c.stop_for.ensures in
     let goes : stop_for score k (write key.kind c.args.block.now) ≡ None = stop ∙ c.in_default.is in
     let zero : score c.args.block.now ≡ score [] =
-    sym c.requires.scored ∙ (bytes_eq-Decides key.score.0 (score [])).0 (sym (c.if-eq.ensures ∙ ap (bytes_eq key.score.0) c.score.ensures)) in
+    sym c.requires.scored ∙ (bytes_eq-Decides key.score.0 (score [])).0 (sym (c.if-eq.ensures ∙ ap (bytes_eq key.score.0) c.zero_score.ensures)) in
     let said : c.say-then-eq.result ≡ says (Refused Collision) k = c.say-then-eq.ensures ∙ ap (λ (n : ℕ). SaidOut (record { said = Refused Collision; at = n })) at in
-    subst (λ (o : Out). Steps score g.D.Disk (Ask session (requests.Write key.kind c.args.block) c.args.now) o k k) (sym said)
+    subst (λ (o : Out). Steps score g.D.Disk (Ask session (asks.Write key.kind c.args.block) c.args.now) o k k) (sym said)
     (zero_write score g.D.Disk k gives w session c.args.now none key.kind c.args.block c.requires.block goes zero (λ h. c.collides_by_number.ensures.zero score h c.args.block.now zero))
 
 pub returns-in-Ok-Held : goal.returns-in-Ok-Held
@@ -66,7 +66,7 @@ returns-in-Ok-Held g c = λ session none.
     stop_is score k key.kind c.args.block.now key.score.0 c.shard_of-shard.result c.stop_for.result c.shard_of-shard.ensures.shard c.requires.scored c.shard_of-shard.ensures.within c.stop_for.ensures in
     let goes : stop_for score k (write key.kind c.args.block.now) ≡ None = stop ∙ c.in_default.is in
     let nonzero : score c.args.block.now ≢ score [] = λ e.
-    let both : false ≡ true = c.if-eq.ensures ∙ ap (bytes_eq key.score.0) c.score.ensures ∙ (bytes_eq-Decides key.score.0 (score [])).1 (c.requires.scored ∙ e) in absurd (cc) in
+    let both : false ≡ true = c.if-eq.ensures ∙ ap (bytes_eq key.score.0) c.zero_score.ensures ∙ (bytes_eq-Decides key.score.0 (score [])).1 (c.requires.scored ∙ e) in absurd (cc) in
     let own : key ≡ record { score = record { 0 = score c.args.block.now }; kind = key.kind } = ap (λ (x : List ℕ). record { score = record { 0 = x }; kind = key.kind }) c.requires.scored in
     let mid : CoreState g.row.D.Denot = c.test.new.self in
     let it : TestsBlock score g.D.Disk (record { score = record { 0 = score c.args.block.now }; kind = key.kind }) c.args.block.now (Ok Held) k mid =
@@ -74,7 +74,7 @@ returns-in-Ok-Held g c = λ session none.
     (subst (λ (r : Result Verdict Why). TestsBlock score g.D.Disk key c.args.block.now r k mid) (c.in-Ok-Held.is ∙ ap (λ (v : Verdict). Ok v) c.in-Ok-Held.field-0-is) c.test.ensures.tests) in
     let said : c.say-in-Ok-Held.result ≡ says (Score (record { 0 = score c.args.block.now })) k = c.say-in-Ok-Held.ensures ∙ ap (λ (n : ℕ). SaidOut (record { said = Score key.score; at = n })) at
     ∙ ap (λ (x : Key). says (Score x.score) k) own in
-    subst (λ (o : Out). Steps score g.D.Disk (Ask session (requests.Write key.kind c.args.block) c.args.now) o k mid) (sym said)
+    subst (λ (o : Out). Steps score g.D.Disk (Ask session (asks.Write key.kind c.args.block) c.args.now) o k mid) (sym said)
     (tested_steps score g.D.Disk k mid gives w session c.args.now none key.kind c.args.block c.requires.block goes nonzero (Ok Held) it (λ e. cc))
 
 pub returns-in-Err : goal.returns-in-Err
@@ -89,14 +89,14 @@ returns-in-Err g c = λ session none.
     stop_is score k key.kind c.args.block.now key.score.0 c.shard_of-shard.result c.stop_for.result c.shard_of-shard.ensures.shard c.requires.scored c.shard_of-shard.ensures.within c.stop_for.ensures in
     let goes : stop_for score k (write key.kind c.args.block.now) ≡ None = stop ∙ c.in_default.is in
     let nonzero : score c.args.block.now ≢ score [] = λ e.
-    let both : false ≡ true = c.if-eq.ensures ∙ ap (bytes_eq key.score.0) c.score.ensures ∙ (bytes_eq-Decides key.score.0 (score [])).1 (c.requires.scored ∙ e) in absurd (cc) in
+    let both : false ≡ true = c.if-eq.ensures ∙ ap (bytes_eq key.score.0) c.zero_score.ensures ∙ (bytes_eq-Decides key.score.0 (score [])).1 (c.requires.scored ∙ e) in absurd (cc) in
     let own : key ≡ record { score = record { 0 = score c.args.block.now }; kind = key.kind } = ap (λ (x : List ℕ). record { score = record { 0 = x }; kind = key.kind }) c.requires.scored in
     let mid : CoreState g.row.D.Denot = c.test.new.self in
     let it : TestsBlock score g.D.Disk (record { score = record { 0 = score c.args.block.now }; kind = key.kind }) c.args.block.now (Err c.in-Err.why) k mid =
     subst (λ (x : Key). TestsBlock score g.D.Disk x c.args.block.now (Err c.in-Err.why) k mid) own
     (subst (λ (r : Result Verdict Why). TestsBlock score g.D.Disk key c.args.block.now r k mid) c.in-Err.is c.test.ensures.tests) in
     let said : c.say-in-Err.result ≡ says (Refused c.in-Err.why) k = c.say-in-Err.ensures ∙ ap (λ (n : ℕ). SaidOut (record { said = Refused c.in-Err.why; at = n })) at in
-    subst (λ (o : Out). Steps score g.D.Disk (Ask session (requests.Write key.kind c.args.block) c.args.now) o k mid) (sym said)
+    subst (λ (o : Out). Steps score g.D.Disk (Ask session (asks.Write key.kind c.args.block) c.args.now) o k mid) (sym said)
     (tested_steps score g.D.Disk k mid gives w session c.args.now none key.kind c.args.block c.requires.block goes nonzero (Err c.in-Err.why) it (λ e. cc))
 
 pub test-requires-clause-most : goal.test-requires-clause-most
@@ -135,7 +135,7 @@ returns-in-Ok-New g c = λ session none.
     stop_is score k key.kind c.args.block.now key.score.0 c.shard_of-shard.result c.stop_for.result c.shard_of-shard.ensures.shard c.requires.scored c.shard_of-shard.ensures.within c.stop_for.ensures in
     let goes : stop_for score k (write key.kind c.args.block.now) ≡ None = stop ∙ c.in_default.is in
     let nonzero : score c.args.block.now ≢ score [] = λ e.
-    let both : false ≡ true = c.if-eq.ensures ∙ ap (bytes_eq key.score.0) c.score.ensures ∙ (bytes_eq-Decides key.score.0 (score [])).1 (c.requires.scored ∙ e) in absurd (cc) in
+    let both : false ≡ true = c.if-eq.ensures ∙ ap (bytes_eq key.score.0) c.zero_score.ensures ∙ (bytes_eq-Decides key.score.0 (score [])).1 (c.requires.scored ∙ e) in absurd (cc) in
     let own : key ≡ record { score = record { 0 = score c.args.block.now }; kind = key.kind } = ap (λ (x : List ℕ). record { score = record { 0 = x }; kind = key.kind }) c.requires.scored in
     let mid : CoreState g.row.D.Denot = c.test.new.self in
     let it : TestsBlock score g.D.Disk (record { score = record { 0 = score c.args.block.now }; kind = key.kind }) c.args.block.now (Ok New) k mid =

@@ -13,7 +13,7 @@ returns-in-Ok-clause-done g c =
     let old : LocalState g.row.T.Denot =
     record { store = c.self.inside.store; counts = counts; refused = c.self.inside.refused } in
     let new : LocalState g.row.T.Denot =
-    record { store = c.read.new.self; counts = counts; refused = c.self.inside.refused } in
+    record { store = c.read.new.store; counts = counts; refused = c.self.inside.refused } in
     subst (λ (x : LocalState g.row.T.Denot). DoesLocal g.T.Store x (get c.args.kind
     c.args.score.now.0 (Ok c.in-Ok.bytes)) new)
     c.self.view_is
@@ -31,9 +31,9 @@ returns-in-Err-clause-done g c =
     let old : LocalState g.row.T.Denot =
     record { store = c.self.inside.store; counts = counts; refused = c.self.inside.refused } in
     let new : LocalState g.row.T.Denot =
-    record { store = c.read.new.self; counts = counts; refused = c.self.inside.refused } in
+    record { store = c.read.new.store; counts = counts; refused = c.self.inside.refused } in
     let after : LocalState g.row.T.Denot = record {
-      store = c.read.new.self;
+      store = c.read.new.store;
       counts = counted (Some c.refuse.result) counts;
       refused = Some c.in-Err.why;
     } in

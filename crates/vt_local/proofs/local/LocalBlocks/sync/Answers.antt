@@ -13,7 +13,7 @@ returns-in-Ok g c =
     let old : LocalState g.row.T.Denot =
     record { store = c.self.inside.store; counts = counts; refused = c.self.inside.refused } in
     let new : LocalState g.row.T.Denot =
-    record { store = c.sync.new.self; counts = counts; refused = c.self.inside.refused } in
+    record { store = c.sync.new.store; counts = counts; refused = c.self.inside.refused } in
     subst (λ (x : LocalState g.row.T.Denot). DoesLocal g.T.Store x (sync (Ok tt)) new)
     c.self.view_is
     (synced g.T.Store old new c.in-Ok.ensures.goes_on
@@ -28,9 +28,9 @@ returns-in-Err g c =
     let old : LocalState g.row.T.Denot =
     record { store = c.self.inside.store; counts = counts; refused = c.self.inside.refused } in
     let new : LocalState g.row.T.Denot =
-    record { store = c.sync.new.self; counts = counts; refused = c.self.inside.refused } in
+    record { store = c.sync.new.store; counts = counts; refused = c.self.inside.refused } in
     let after : LocalState g.row.T.Denot = record {
-      store = c.sync.new.self;
+      store = c.sync.new.store;
       counts = counted (Some c.refuse.result) counts;
       refused = Some c.in-Err.why;
     } in
