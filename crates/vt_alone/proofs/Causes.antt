@@ -51,7 +51,7 @@ module _ {D : Type 0} (score : List ℕ → List ℕ) where
       let no : None ≡ Some call = sym none ∙ is in cc
   never_stopped k all (write kind bytes) call is =
       let none : k.log.stopped ≡ None = all 0 None (omega arith) in
-      shards_none k.shards (map (λ (b : BloomState D). b.twin.stopped) (option_to_list k.bloom))
+      shards_none k.shards (map (λ (b : BloomState D). b.calls.stopped) (option_to_list k.bloom))
       (shard_of k (score bytes)) call (λ i d less. all (suc i) d (omega arith))
       (subst (λ (o : Option ℕ). option_or o (option_and_then
       (λ (s : ShardState D). s.section.stopped) (slice_get k.shards (shard_of k (score bytes))))

@@ -32,7 +32,7 @@ pub stops_none : {D : Type 0} (k : CoreState D) → All (λ stop. stop ≡ None)
     → stops_in k ≡ []
 stops_none {D} k all =
     let shards = map (λ (s : ShardState D). s.section.stopped) k.shards in
-    let filter = map (λ (b : BloomState D). b.twin.stopped) (option_to_list k.bloom) in
+    let filter = map (λ (b : BloomState D). b.calls.stopped) (option_to_list k.bloom) in
     let log_none : k.log.stopped ≡ None = all 0 None (omega arith) in
     let rest : section_stops 0 shards ≡ [] =
     section_none 0 shards filter (λ i d less. all (suc i) d (omega arith)) in

@@ -1,15 +1,18 @@
 -- The head's change of a commit, call by call, and what a crash leaves.
-use Rattle.std.proofs.Common.{◌≡◌, ◌⊎◌, inl, inr, ⊎_elim, ℕ, ◌+◌, ◌-◌, ◌≤◌, false, is_some, List, [], ◌∷◌, ◌++◌, length, take, map, Option, Some, None, Ok, Err, Result, refl, sym, ◌∙◌, ap, subst, arith, length-append, append-nil}
-use Rattle.std.specs.Prelude.{IsSome, MatchResult, replicate}
+use Rattle.std.proofs.Common.{◌≡◌, ◌⊎◌, inl, inr, ⊎_elim, ℕ, ◌+◌, ◌-◌, ◌≤◌, Bool, true, false, is_some, List, [], ◌∷◌, ◌++◌, length, take, map, Option, Some, None, Ok, Err, Result, refl, sym, ◌∙◌, ap, subst, arith, length-append, append-nil}
+use Rattle.std.specs.Prelude.{IsSome, IfOk, OnOk, ◌↔◌, replicate}
+use Rattle.std.proofs.lemmas.Bool.{cases_eq}
 use Rattle.std.proofs.lemmas.List.{take_all, take_at, length-map}
 use Rattle.vt_disk.specs.declared.region.Region.{Region}
 use Rattle.vt_disk.specs.Disk.{SameBut, ChangesAt, Only, part}
 use Rattle.vt_twin.specs.declared.step.Step.{Step}
 use Rattle.vt_twin.specs.declared.step.Step.TheVariants.{More, Done}
-use Rattle.vt_twin.specs.declared.step.TwinErr.{TwinErr}
 use Rattle.vt_twin.specs.Frames.{current_frame}
-use Rattle.vt_twin.specs.Twin.{TwinState, calls_made, next_frame, with_change, without_spare, after_last as twin_after_last}
-use Rattle.vt_twin.specs.Sound.{IsSound as IsSoundTwin}
+use Rattle.vt_disk.specs.DeviceCalls.DeviceCall.{sync}
+use Rattle.vt_twin.specs.Calls.{call_at}
+use Rattle.vt_twin.specs.Twin.{TwinState, Advances as TwinAdvances, calls_made, next_call, next_frame, with_change, without_spare, after_last as twin_after_last}
+use Rattle.vt_twin.specs.Sound.{IsSound as IsSoundTwin, frame_after}
+use Rattle.vt_twin.proofs.Sound.{sound_moved}
 use Rattle.vt_twin.proofs.Changes.{none_made, begun_made, is_changing}
 use Rattle.vt_twin.proofs.Steps.{sound_gives}
 use Rattle.vt_clump.specs.declared.packed.Packed.{Packed}
@@ -18,9 +21,9 @@ use Rattle.vt_clump.specs.Clumps.{stored_of}
 use Rattle.vt_model.specs.declared.TheConstants.{ARENA_HEAD_LEN}
 use Rattle.vt_arena.specs.declared.TheConstants.{FRAME_LEN, FIELDS_LEN}
 use Rattle.vt_arena.specs.declared.head.ArenaHead.{ArenaHead}
-use Rattle.vt_arena.specs.Arena.{ArenaState, added_by, next_content, pieces, after_last, content_after}
+use Rattle.vt_arena.specs.Arena.{ArenaState, added_by, next_content, pieces, after_last, content_after, HeadAdvances, PieceAdvances}
 use Rattle.vt_arena.specs.Heads.{fields_of, frame_of}
-use Rattle.vt_arena.specs.Layout.{Content, IsContent, IsArena, HasBlocks, StandsAt, InHead, clumps_of, directory_of, clumps_place, directory_place, used_of, head_of}
+use Rattle.vt_arena.specs.Layout.{Content, IsContent, IsArena, HasBlocks, StandsAt, InHead, clumps_of, directory_of, clumps_place, directory_place, head_place, used_of, head_of}
 use Rattle.vt_arena.specs.Places.{directory_room, arena_room}
 use Rattle.vt_arena.specs.Sound.{IsSound, HasPieces, GivesOldOrNext, HasBegunSelector, clumps_made}
 use Rattle.vt_arena.proofs.Layouts.{stands-sum, stands_same, flat_map-append, directory-append, length-clumps, length-directory, content_fits, All-stored}
@@ -162,11 +165,11 @@ module _ (score_of : List ℕ → List ℕ) (a : ArenaState) (region : Region) (
   synced_after made c left = let from = changes c left in pieces_after from.0 c from.2 (sound.synced made from.0 from.1)
 
   -- one that isn't the last, or fails
-  pub head_sound : (later : TwinState) (k : ℕ) (o : Option ℕ) → IsSoundTwin later region sound.frame reads after → later.frame_len ≡ a.twin.frame_len
+  pub head_sound : (later : TwinState) (b : Bool) → IsSoundTwin later region sound.frame reads after → later.frame_len ≡ a.twin.frame_len
       → IsSome a.twin.change → next_frame later ≡ next_frame a.twin
       → (2 ≤ calls_made later → (2 ≤ calls_made a.twin) ⊎ Only reads after)
-      → IsSound score_of (record a { twin = later; calls = k; stopped = o }) region old reads after
-  head_sound later k o twin frame_len some next_is sync = record {
+      → IsSound score_of (record a { twin = later; failed = b }) region old reads after
+  head_sound later b twin frame_len some next_is settles = record {
     len = sound.len;
     frame_len = frame_len ∙ sound.frame_len;
     head = sound.head;
@@ -188,13 +191,13 @@ module _ (score_of : List ℕ → List ℕ) (a : ArenaState) (region : Region) (
           directory = λ written.
               ap (λ (l : List ℕ). part (directory_place region (length old.stored + length a.staged)) (length (directory_of (added_by a))) l) is ∙ read_after.directory written;
         })
-        (sync made);
+        (settles made);
   }
 
   -- the last one: what was staged is committed
-  pub done_sound : (k : ℕ) → IsSoundTwin (without_spare (twin_after_last a.twin)) region (next_frame a.twin) reads after → 2 ≤ calls_made a.twin
-      → IsSound score_of (record (after_last a) { calls = k }) region (next_content a old) reads after
-  done_sound k twin made =
+  pub done_sound : IsSoundTwin (without_spare (twin_after_last a.twin)) region (next_frame a.twin) reads after → 2 ≤ calls_made a.twin
+      → IsSound score_of (after_last a) region (next_content a old) reads after
+  done_sound twin made =
       let begun = sound.begun (is_changing a.twin (omega (arith, made))) in
       let all : (next_content a old).stored ++ [] ≡ (next_content a old).stored = append-nil (next_content a old).stored in record {
         len = sound.len;
@@ -216,20 +219,65 @@ module _ (score_of : List ℕ → List ℕ) (a : ArenaState) (region : Region) (
       }
 
   -- what the last one leaves is the next arena
-  pub done_gives : (k : ℕ) → IsSound score_of (record (after_last a) { calls = k }) region (next_content a old) reads after
+  pub done_gives : IsSound score_of (after_last a) region (next_content a old) reads after
       → (c : List ℕ) → after c → IsArena score_of region a.number (next_content a old) c
-  done_gives k later c left = rest_gives score_of (record (after_last a) { calls = k }) region (next_content a old) reads after later c left refl
+  done_gives later c left = rest_gives score_of (after_last a) region (next_content a old) reads after later c left refl
+
+-- a call of the head's change, whatever came of it
+module _ {E : Type 0} (score_of : List ℕ → List ℕ) (a : ArenaState) (region : Region) (old : Content) (read reads : List ℕ) (before after : List ℕ → Type 0)
+    (least : 32768 ≤ region.len) (changes : ChangesAt (InHead region) before after) (same : SameBut (InHead region) read reads)
+    (sound : IsSound score_of a region old read before) (some : IsSome a.twin.change) (t : TwinState) (len : t.frame_len ≡ a.twin.frame_len) where
+  moved : (result : Result Step E)
+      → ((frame : List ℕ) → IsSoundTwin a.twin (head_place region) frame read before
+      → IsSoundTwin t (head_place region) (frame_after result a.twin frame) reads after)
+      → IsSoundTwin t region (frame_after result a.twin sound.frame) reads after
+  moved result twin =
+      sound_moved t (head_place region) region _ _ _ refl
+      (twin sound.frame (sound_moved a.twin region (head_place region) sound.frame _ _ refl sound.twin))
+
+  pub head_step : (result : Result Step E) (new : ArenaState) → HeadAdvances result a new → TwinAdvances result a.twin t
+      → IfOk result (λ step. (step ≡ Done) ↔ (calls_made a.twin ≡ 3))
+      → OnOk result (next_call a.twin (head_place region) ≡ sync → Only reads after)
+      → ((frame : List ℕ) → IsSoundTwin a.twin (head_place region) frame read before
+      → IsSoundTwin t (head_place region) (frame_after result a.twin frame) reads after)
+      → IsSound score_of new region (content_after result a old) reads after
+  head_step (Err e) new steps twin_steps done settled twin =
+      subst (λ (s : ArenaState). IsSound score_of s region old reads after) (sym steps)
+      (subst (λ (u : TwinState). IsSound score_of (record a { twin = u; failed = true }) region old reads after) twin_steps
+      (head_sound score_of a region old read reads before after least changes same sound t true (moved (Err e) twin) len some
+      (ap (λ (u : TwinState). next_frame u) twin_steps)
+      (λ made. inl (subst (λ (u : TwinState). 2 ≤ calls_made u) twin_steps made))))
+  head_step (Ok More) new steps twin_steps done settled twin =
+      subst (λ (s : ArenaState). IsSound score_of s region old reads after) (sym steps)
+      (subst (λ (u : TwinState). IsSound score_of (record a { twin = u }) region old reads after) twin_steps
+      (head_sound score_of a region old read reads before after least changes same sound t a.failed (moved (Ok More) twin) len some
+      (ap (λ (u : TwinState). next_frame u) twin_steps)
+      (λ made. second (subst (λ (u : TwinState). 2 ≤ calls_made u) twin_steps made))))
+    where
+      second : 2 ≤ calls_made a.twin + 1 → (2 ≤ calls_made a.twin) ⊎ Only reads after
+      second made = ⊎_elim
+          (λ (first : calls_made a.twin ≡ 1). inr (settled (ap (λ (n : ℕ). call_at n (head_place region) a.twin.frame_len a.twin.current (next_frame a.twin)) first)))
+          (λ (other : calls_made a.twin ≡ 1 → ⊥). inl (omega (arith, made, other)))
+          (cases_eq (calls_made a.twin) 1)
+  head_step (Ok Done) new steps twin_steps done settled twin =
+      subst (λ (s : ArenaState). IsSound score_of s region (next_content a old) reads after) (sym steps)
+      (done_sound score_of a region old read reads before after least changes same sound
+      (record { number = ends.number; kept = ends.kept; named = ends.named; written = ends.written; synced = ends.synced; selected = ends.selected })
+      (omega (arith, done.0 refl)))
+    where
+      ends : IsSoundTwin (twin_after_last a.twin) region (next_frame a.twin) reads after
+      ends = subst (λ (u : TwinState). IsSoundTwin u region (next_frame a.twin) reads after) twin_steps (moved (Ok Done) twin)
 
 -- what a step makes of the content doesn't depend on the twin, and a piece makes nothing of it
-pub content_twin : (r : Result Step TwinErr) (a : ArenaState) (t : TwinState) (old : Content) → content_after r (record a { twin = t }) old ≡ content_after r a old
+pub content_twin : {E : Type 0} (r : Result Step E) (a : ArenaState) (t : TwinState) (old : Content) → content_after r (record a { twin = t }) old ≡ content_after r a old
 content_twin (Ok Done) a t old = refl
 content_twin (Ok More) a t old = refl
 content_twin (Err e) a t old = refl
 
-pub content_piece : (r : Result Step TwinErr) (A : Type 0) (B : TwinErr → Type 0) (a : ArenaState) (old : Content) → MatchResult r (λ step. (step ≡ More) × A) B → content_after r a old ≡ old
-content_piece (Ok Done) A B a old is = let wrong : Done ≡ More = is.0 in absurd (cc)
-content_piece (Ok More) A B a old is = refl
-content_piece (Err e) A B a old is = refl
+pub content_piece : {E : Type 0} (r : Result Step E) (a new : ArenaState) (old : Content) → PieceAdvances r a new → content_after r a old ≡ old
+content_piece (Ok Done) a new old is = let wrong : Done ≡ More = is.0 in absurd (cc)
+content_piece (Ok More) a new old is = refl
+content_piece (Err e) a new old is = refl
 
 pub none_is : {T : Type 0} (o : Option T) → is_some o ≡ false → o ≡ None
 none_is None off = refl

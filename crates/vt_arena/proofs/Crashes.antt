@@ -1,13 +1,11 @@
 -- What a crash within a call of a commit leaves.
-use Rattle.std.proofs.Common.{◌≡◌, inl, inr, ⊎_elim, ℕ, ◌+◌, ◌≤◌, Bool, true, false, if◌then◌else◌, is_some, List, Option, None, Ok, Err, Result, ◌↔◌, refl, ◌∙◌, subst, arith}
-use Rattle.std.specs.Prelude.{IfOk, IfErr, nat_lt}
+use Rattle.std.proofs.Common.{◌≡◌, inl, inr, ⊎_elim, ℕ, ◌+◌, ◌≤◌, Bool, true, false, if◌then◌else◌, is_some, List, Ok, Err, Result, ◌↔◌, refl, ◌∙◌, subst, arith}
+use Rattle.std.specs.Prelude.{IfOk, nat_lt}
 use Rattle.vt_disk.specs.declared.region.Region.{Region}
 use Rattle.vt_twin.specs.declared.step.Step.{Step}
 use Rattle.vt_twin.specs.declared.step.Step.TheVariants.{More, Done}
-use Rattle.vt_twin.specs.declared.step.TwinErr.{TwinErr}
-use Rattle.vt_twin.specs.declared.step.TwinErr.TheVariants.{Fault, Stopped}
 use Rattle.vt_twin.specs.Twin.{TwinState, calls_made as twin_calls_made, calls_begun, with_change, after_call, after_fault as twin_after_fault}
-use Rattle.vt_arena.specs.Arena.{ArenaState, pieces, commit_calls, calls_made, changing, next_content, after_piece, after_head, after_last, stopped_at_call, Advances, content_after}
+use Rattle.vt_arena.specs.Arena.{ArenaState, pieces, commit_calls, calls_made, changing, next_content, after_piece, after_head, after_last, with_failure, Advances, content_after}
 use Rattle.vt_arena.specs.Heads.{frame_of}
 use Rattle.vt_arena.specs.Layout.{Content, IsArena}
 use Rattle.vt_arena.specs.Sound.{IsSound, HasBegunSelector, GivesOldOrNext}
@@ -15,7 +13,7 @@ use Rattle.vt_twin.proofs.Changes.{begun_made, is_changing}
 use Rattle.vt_arena.proofs.Commits.{arena_gives, rest_gives}
 
 -- the head's twin, its change begun
-runs_on : (b : Bool) (frame : List ℕ) (t : TwinState) → (if b then t else with_change frame t).stopped ≡ t.stopped
+runs_on : (b : Bool) (frame : List ℕ) (t : TwinState) → (if b then t else with_change frame t).failed ≡ t.failed
 runs_on true frame t = refl
 runs_on false frame t = refl
 
@@ -23,8 +21,8 @@ made_before : (b : Bool) (frame : List ℕ) (t : TwinState) → 2 ≤ twin_calls
 made_before true frame t made = made
 made_before false frame t made = absurd (omega (arith, made))
 
-begun_running : (t : TwinState) → t.stopped ≡ None → 3 ≤ calls_begun (after_call t) → 2 ≤ twin_calls_made t
-begun_running t is begun = let more : 3 ≤ twin_calls_made t + 1 + 0 = subst (λ (o : Option ℕ). 3 ≤ twin_calls_made t + 1 + (if is_some o then 1 else 0)) is begun in omega (arith, more)
+begun_running : (t : TwinState) → t.failed ≡ false → 3 ≤ calls_begun (after_call t) → 2 ≤ twin_calls_made t
+begun_running t is begun = let more : 3 ≤ twin_calls_made t + 1 + 0 = subst (λ (b : Bool). 3 ≤ twin_calls_made t + 1 + (if b then 1 else 0)) is begun in omega (arith, more)
 
 module _ (score_of : List ℕ → List ℕ) (a : ArenaState) (region : Region) (old : Content) (read reads : List ℕ) (before after : List ℕ → Type 0)
     (sound : IsSound score_of a region old read before) (c : List ℕ) where
@@ -38,7 +36,7 @@ module _ (score_of : List ℕ → List ℕ) (a : ArenaState) (region : Region) (
   pub gives_before : before c → Gives
   gives_before left = ⊎_elim inl (λ gives. inr (reached (begun_made a.twin gives.0), gives.1)) (arena_gives score_of a region old read before sound c left)
 
-  module _ (runs : a.twin.stopped ≡ None) (left : after c) where
+  module _ (runs : a.twin.failed ≡ false) (left : after c) where
     later_gives : (later : ArenaState) → later.number ≡ a.number → next_content later old ≡ next_content a old → (HasBegunSelector later → 2 ≤ twin_calls_made a.twin)
         → IsSound score_of later region old reads after → Gives
     later_gives later number next begun kept = ⊎_elim
@@ -55,32 +53,28 @@ module _ (score_of : List ℕ → List ℕ) (a : ArenaState) (region : Region) (
         (λ begun. made_before (is_some a.twin.change) (frame_of a.next) a.twin
         (begun_running (changing a) (runs_on (is_some a.twin.change) (frame_of a.next) a.twin ∙ runs) begun)) kept
 
-    fault_gives : (b : Bool) → IsSound score_of (if b then stopped_at_call a else record (stopped_at_call a) { twin = twin_after_fault (changing a) }) region old reads after → Gives
-    fault_gives true kept = later_gives (stopped_at_call a) refl refl (begun_made a.twin) kept
-    fault_gives false kept = later_gives (record (stopped_at_call a) { twin = twin_after_fault (changing a) }) refl refl
+    fault_gives : (b : Bool) → IsSound score_of (if b then with_failure a else record (with_failure a) { twin = twin_after_fault (changing a) }) region old reads after → Gives
+    fault_gives true kept = later_gives (with_failure a) refl refl (begun_made a.twin) kept
+    fault_gives false kept = later_gives (record (with_failure a) { twin = twin_after_fault (changing a) }) refl refl
         (λ begun. made_before (is_some a.twin.change) (frame_of a.next) a.twin (omega (arith, begun))) kept
 
     -- and at its end
-    pub gives_after : (r : Result Step TwinErr) (later : ArenaState) → Advances r a later → IfErr r (λ bad. bad ≡ Fault)
+    pub gives_after : {E : Type 0} (r : Result Step E) (later : ArenaState) → Advances r a later
         → IfOk r (λ step. (step ≡ Done) ↔ (calls_made a + 1 ≡ commit_calls a)) → IsSound score_of later region (content_after r a old) reads after → Gives
-    gives_after (Ok More) later steps fault done kept =
+    gives_after (Ok More) later steps done kept =
         step_gives (nat_lt a.written (pieces a)) (subst (λ (s : ArenaState). IsSound score_of s region old reads after) steps kept)
-    gives_after (Ok Done) later steps fault done kept =
+    gives_after (Ok Done) later steps done kept =
         inr (
           omega (arith, done.0 refl),
           rest_gives score_of (after_last a) region (next_content a old) reads after (subst (λ (s : ArenaState). IsSound score_of s region (next_content a old) reads after) steps kept) c left refl,
         )
-    gives_after (Err Fault) later steps fault done kept =
+    gives_after (Err e) later steps done kept =
         fault_gives (nat_lt a.written (pieces a)) (subst (λ (s : ArenaState). IsSound score_of s region old reads after) steps kept)
-    gives_after (Err (Stopped n)) later steps fault done kept = absurd (other fault)
-      where
-        other : Stopped n ≡ Fault → ⊥
-        other is = cc
 
 -- after the last call
-pub gives_last : (score_of : List ℕ → List ℕ) (a later : ArenaState) (region : Region) (old : Content) (reads : List ℕ) (after : List ℕ → Type 0) (r : Result Step TwinErr) → r ≡ Ok Done
+pub gives_last : {E : Type 0} (score_of : List ℕ → List ℕ) (a later : ArenaState) (region : Region) (old : Content) (reads : List ℕ) (after : List ℕ → Type 0) (r : Result Step E) → r ≡ Ok Done
     → Advances r a later → IsSound score_of later region (content_after r a old) reads after → (c : List ℕ) → after c → IsArena score_of region a.number (next_content a old) c
-gives_last score_of a later region old reads after r is steps kept c left =
-    let last : Advances (Ok Done) a later = subst (λ (q : Result Step TwinErr). Advances q a later) is steps in
-    let ends : IsSound score_of later region (next_content a old) reads after = subst (λ (q : Result Step TwinErr). IsSound score_of later region (content_after q a old) reads after) is kept in
+gives_last {E} score_of a later region old reads after r is steps kept c left =
+    let last : Advances {E = E} (Ok Done) a later = subst (λ (q : Result Step E). Advances q a later) is steps in
+    let ends : IsSound score_of later region (next_content a old) reads after = subst (λ (q : Result Step E). IsSound score_of later region (content_after q a old) reads after) is kept in
     rest_gives score_of (after_last a) region (next_content a old) reads after (subst (λ (s : ArenaState). IsSound score_of s region (next_content a old) reads after) last ends) c left refl

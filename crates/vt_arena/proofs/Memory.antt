@@ -1,5 +1,5 @@
 -- What an arena in memory keeps, as the calls of a commit use it.
-use Rattle.std.proofs.Common.{◌≡◌, ℕ, ◌+◌, ◌-◌, ◌*◌, ◌<◌, ◌≤◌, List, [], ◌∷◌, ◌++◌, length, take, drop, get_or, Option, Some, None, refl, sym, ◌∙◌, ap, subst, arith, append_assoc, length-append, length-drop, length-take, take-append-drop}
+use Rattle.std.proofs.Common.{◌≡◌, ℕ, ◌+◌, ◌-◌, ◌*◌, ◌<◌, ◌≤◌, List, [], ◌∷◌, ◌++◌, length, take, drop, get_or, Option, Some, None, true, false, refl, sym, ◌∙◌, ap, subst, arith, append_assoc, length-append, length-drop, length-take, take-append-drop}
 use Rattle.std.specs.Prelude.{IsSome, IsTrue, IsFalse, Vec, replicate, vec_len, vec_capacity}
 use Rattle.std.specs.declared.alloc.Global.{Global}
 use Rattle.std.proofs.lemmas.List.{drop_at, take_all, length-replicate, drop-replicate}
@@ -7,7 +7,7 @@ use Rattle.std.proofs.lemmas.Bool.Decides.{nat_tests}
 use Rattle.std.proofs.lemmas.List.Sums.{sum_by_more_le, sum_by_push}
 use Rattle.std.specs.Option.{ForSome, option_map_or}
 use Rattle.vt_base.specs.declared.score.Score.{Score}
-use Rattle.vt_twin.specs.Twin.{TwinState, Change, fresh, after_call, calls_made}
+use Rattle.vt_twin.specs.Twin.{TwinState, Change, fresh, after_call, after_fault, calls_made}
 use Rattle.vt_clump.specs.declared.packed.Packed.{Packed}
 use Rattle.vt_model.specs.declared.TheConstants.{ARENA_HEAD_LEN}
 use Rattle.vt_arena.specs.declared.TheConstants.{FRAME_LEN, FIELDS_LEN, STAGED_MAX}
@@ -39,6 +39,15 @@ clump_room a whole p below is =
 -- the entries of what is staged fit below those that stand
 pub entry_room : (a : Inside) → IsWhole a → directory_room (a.head.clumps + length a.staged.items) + a.head.used + staged_room a.staged.items + ARENA_HEAD_LEN ≤ a.len
 entry_room a whole = omega (arith, whole.room, whole.used, whole.clumps, whole.len_is.0)
+
+-- as the next write of a piece needs it, in a region of that length
+pub piece_room : (a : Inside) → IsWhole a → (len : ℕ) → len ≡ a.len → (p : Packed) → a.written < length a.staged.items → p ≡ get_or a.staged.items a.written p
+    → a.head.used + staged_room (take a.written a.staged.items) + length p.bytes + directory_room a.head.clumps + ARENA_HEAD_LEN ≤ len
+piece_room a whole len same p below is = omega (arith, clump_room a whole p below is, whole.end_is, same)
+
+pub entries_room : (a : Inside) → IsWhole a → (len : ℕ) → len ≡ a.len
+    → directory_room (a.head.clumps + length a.staged.items) + a.head.used + staged_room a.staged.items + ARENA_HEAD_LEN ≤ len
+entries_room a whole len same = omega (arith, entry_room a whole, same)
 
 -- the entry of one more stands before those of what was staged
 pub directory_more : (staged : List Packed) (p : Packed) (entry old new : List ℕ) (place : ℕ) → HasDirectory staged old → length staged < STAGED_MAX
@@ -110,16 +119,21 @@ module _ (a : Inside) (whole : IsWhole a) (n : ℕ) (buffer : List ℕ) (n_is : 
       ap (λ (l : List ℕ). length l) (end_is n buffer)
       ∙ omega (arith, length-drop (1600 - n * 25) buffer, ap (λ (l : List ℕ). length l) is, whole.directory.0, n_is, whole.few)
 
+pub entries_length : (a : Inside) → IsWhole a → length (staged_directory a.staged.items) ≡ directory_room (length a.staged.items)
+entries_length a whole =
+    ap (λ (l : List ℕ). length l) (sym (directory_is a whole (vec_len a.staged) a.directory.items refl refl))
+    ∙ directory_len a whole (vec_len a.staged) a.directory.items refl refl
+
 -- the buffer is the frame of the change under way
 next_buffer : (change : Option Change) → IsSome change → ForSome change (λ it. IsBuffer it.frame) → IsBuffer (option_map_or (λ it. it.frame) change [])
 next_buffer None some is = cc
 next_buffer (Some it) some is = is it refl
 
 -- after a call of the head's change that isn't the last
-pub more_whole : (a : Inside) (t : TwinState) (k : ℕ) → t ≡ after_call a.twin → IsSome a.twin.change → ¬ (calls_made a.twin ≡ 3) → IsWhole a
-    → IsWhole (record a { twin = t; head_calls = a.head_calls + 1; calls = k })
-more_whole a t k is some going whole =
-    subst (λ (t : TwinState). IsWhole (record a { twin = t; head_calls = a.head_calls + 1; calls = k })) (sym is) record {
+pub more_whole : (a : Inside) (t : TwinState) → t ≡ after_call a.twin → IsSome a.twin.change → ¬ (calls_made a.twin ≡ 3) → IsWhole a
+    → IsWhole (record a { twin = t; head_calls = a.head_calls + 1 })
+more_whole a t is some going whole =
+    subst (λ (t : TwinState). IsWhole (record a { twin = t; head_calls = a.head_calls + 1 })) (sym is) record {
       frame_len = whole.frame_len;
       runs = whole.runs;
       len_is = whole.len_is;
@@ -139,12 +153,34 @@ more_whole a t k is some going whole =
       directory = whole.directory;
     }
 
+-- and after one that failed
+pub failed_whole : (a : Inside) (t : TwinState) → t ≡ after_fault a.twin → IsWhole a → IsWhole (record a { twin = t; failed = true })
+failed_whole a t is whole =
+    subst (λ (t : TwinState). IsWhole (record a { twin = t; failed = true })) (sym is) record {
+      frame_len = whole.frame_len;
+      runs = λ runs. cc;
+      len_is = whole.len_is;
+      room = whole.room;
+      used = whole.used;
+      clumps = whole.clumps;
+      few = whole.few;
+      capacity = whole.capacity;
+      written_most = whole.written_most;
+      end_is = whole.end_is;
+      buffer = whole.buffer;
+      frame = whole.frame;
+      head_calls_is = whole.head_calls_is;
+      head_calls_most = whole.head_calls_most;
+      begun = whole.begun;
+      directory = whole.directory;
+    }
+
 -- before the first commit
 pub fresh_whole : (number len current : ℕ) (twin : TwinState) (head : ArenaHead) (staged : Vec Packed Global) (directory : Vec ℕ Global) (buffer : List ℕ) → twin ≡ fresh FRAME_LEN current → IsArenaLen len
     → head.used + directory_room head.clumps ≤ arena_room len → staged.items ≡ [] → STAGED_MAX ≤ vec_capacity staged → directory.items ≡ replicate 1600 0 → buffer ≡ replicate FRAME_LEN 0
-    → IsWhole (record { number = number; len = len; twin = twin; head = head; next = head; staged = staged; directory = directory; written = 0; end = head.used; buffer = Some buffer; head_calls = 0; calls = 0; stopped = None })
+    → IsWhole (record { number = number; len = len; twin = twin; head = head; next = head; staged = staged; directory = directory; written = 0; end = head.used; buffer = Some buffer; head_calls = 0; failed = false })
 fresh_whole number len current twin head staged directory buffer is len_is fit none capacity blank zeros =
-    subst (λ (t : TwinState). IsWhole (record { number = number; len = len; twin = t; head = head; next = head; staged = staged; directory = directory; written = 0; end = head.used; buffer = Some buffer; head_calls = 0; calls = 0; stopped = None })) (sym is) record {
+    subst (λ (t : TwinState). IsWhole (record { number = number; len = len; twin = t; head = head; next = head; staged = staged; directory = directory; written = 0; end = head.used; buffer = Some buffer; head_calls = 0; failed = false })) (sym is) record {
       frame_len = refl;
       runs = λ runs. refl;
       len_is = len_is;

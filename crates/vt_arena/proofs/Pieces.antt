@@ -18,7 +18,7 @@ use Rattle.vt_clump.specs.Spelling.{Stored, IsStored, spelled}
 use Rattle.vt_clump.specs.Clumps.{IsPacked, stored_of}
 use Rattle.vt_model.specs.declared.TheConstants.{ARENA_HEAD_LEN}
 use Rattle.vt_arena.specs.declared.TheConstants.{FRAME_LEN}
-use Rattle.vt_arena.specs.Arena.{ArenaState, added_by}
+use Rattle.vt_arena.specs.Arena.{ArenaState, added_by, after_piece, with_failure}
 use Rattle.vt_arena.specs.Layout.{Content, HasBlocks, StandsAt, clumps_of, directory_of, clumps_place, directory_place, head_place, used_of}
 use Rattle.vt_arena.specs.Places.{directory_room}
 use Rattle.vt_arena.specs.Sound.{IsRegion, IsSound, HasPieces, clumps_made}
@@ -75,8 +75,8 @@ module _ (score_of : List ℕ → List ℕ) (s : ArenaState) (region : Region) (
       (λ i over under touched. omega (arith, under, (touched_within place n i touched).0, low)) sound.written.clumps
 
   -- a write that failed
-  pub write_failed : (k : ℕ) (o : Option ℕ) → IsSound score_of (record s { calls = k; stopped = o }) region old reads after
-  write_failed k o = record {
+  pub write_failed : IsSound score_of (with_failure s) region old reads after
+  write_failed = record {
     len = sound.len;
     frame_len = sound.frame_len;
     head = sound.head;
@@ -95,8 +95,8 @@ module _ (score_of : List ℕ → List ℕ) (s : ArenaState) (region : Region) (
   }
 
   -- one that wrote the next piece
-  pub write_made : (w k : ℕ) → HasPieces (record s { written = w; calls = k }) region old reads → IsSound score_of (record s { written = w; calls = k }) region old reads after
-  write_made w k made = record {
+  pub write_made : (w : ℕ) → HasPieces (record s { written = w }) region old reads → IsSound score_of (record s { written = w }) region old reads after
+  write_made w made = record {
     len = sound.len;
     frame_len = sound.frame_len;
     head = sound.head;
@@ -153,11 +153,11 @@ module _ (score_of : List ℕ → List ℕ) (s : ArenaState) (region : Region) (
   clump_high : place + n ≤ directory_place region (length old.stored)
   clump_high = omega (arith, (head_used score_of s region old read before sound).1, place_is, n_is, fits)
 
-  pub clump_failed : (k : ℕ) (o : Option ℕ) → IsSound score_of (record s { calls = k; stopped = o }) region old reads after
+  pub clump_failed : IsSound score_of (with_failure s) region old reads after
   clump_failed = write_failed score_of s region size old read reads before after is_region rest place n changes same (omega (arith, below)) clump_low clump_high sound
 
-  pub clump_made : (k : ℕ) → part place n reads ≡ p.bytes → IsSound score_of (record s { written = s.written + 1; calls = k }) region old reads after
-  clump_made k new =
+  pub clump_made : part place n reads ≡ p.bytes → IsSound score_of (after_piece s) region old reads after
+  clump_made new =
       let is_packed : IsPacked score_of p = subst (λ (q : Packed). IsPacked score_of q) (sym is) (sound.packed s.written p below) in
       let low : length (clumps_of (clumps_made s)) ≡ staged_room (take s.written s.staged) = made_len score_of s.staged s.written sound.packed in
       let used = (head_used score_of s region old read before sound).0 in
@@ -168,7 +168,7 @@ module _ (score_of : List ℕ → List ℕ) (s : ArenaState) (region : Region) (
       let both : clumps_of (take (s.written + 1) (added_by s)) ≡ clumps_of (clumps_made s) ++ spelled (stored_of p) =
       ap clumps_of (added_more s.staged s.written p below is) ∙ clumps-push (clumps_made s) (stored_of p) in
       let stays = clumps_stay score_of s region size old read reads before after is_region rest place n changes same (omega (arith, below)) clump_low clump_high sound in
-      write_made score_of s region size old read reads before after is_region rest place n changes same (omega (arith, below)) clump_low clump_high sound (s.written + 1) k (record {
+      write_made score_of s region size old read reads before after is_region rest place n changes same (omega (arith, below)) clump_low clump_high sound (s.written + 1) (record {
         clumps = subst (λ (l : List ℕ). StandsAt (clumps_place region old.stored) l reads) (sym both)
             (stands-sum (clumps_place region old.stored) (clumps_of (clumps_made s)) (spelled (stored_of p)) reads stays further);
         directory = λ more. absurd (omega (arith, below, more));
@@ -189,18 +189,18 @@ module _ (score_of : List ℕ → List ℕ) (s : ArenaState) (region : Region) (
   directory_high : place + n ≤ directory_place region (length old.stored)
   directory_high = omega (arith, (head_used score_of s region old read before sound).1, place_is, n_is, fits)
 
-  pub directory_failed : (k : ℕ) (o : Option ℕ) → IsSound score_of (record s { calls = k; stopped = o }) region old reads after
+  pub directory_failed : IsSound score_of (with_failure s) region old reads after
   directory_failed = write_failed score_of s region size old read reads before after is_region rest place n changes same (omega (arith, written)) directory_low directory_high sound
 
-  pub directory_made : (k : ℕ) → part place n reads ≡ staged_directory s.staged → IsSound score_of (record s { written = s.written + 1; calls = k }) region old reads after
-  directory_made k new =
+  pub directory_made : part place n reads ≡ staged_directory s.staged → IsSound score_of (after_piece s) region old reads after
+  directory_made new =
       let count : length (added_by s) ≡ length s.staged = length-map s.staged stored_of in
       let numbers = head_used score_of s region old read before sound in
       let is : staged_directory s.staged ≡ directory_of (added_by s) = directory-packed score_of s.staged sound.packed in
       let len : length (directory_of (added_by s)) ≡ n = omega (arith, length-directory score_of (added_by s) (All-stored score_of s.staged sound.packed), count, n_is) in
       let same_clumps : clumps_made s ≡ take (s.written + 1) (added_by s) =
       take_all s.written (added_by s) (omega (arith, count, written)) ∙ sym (take_all (s.written + 1) (added_by s) (omega (arith, count, written))) in
-      write_made score_of s region size old read reads before after is_region rest place n changes same (omega (arith, written)) directory_low directory_high sound (s.written + 1) k (record {
+      write_made score_of s region size old read reads before after is_region rest place n changes same (omega (arith, written)) directory_low directory_high sound (s.written + 1) (record {
         clumps = subst (λ (l : List Stored). StandsAt (clumps_place region old.stored) (clumps_of l) reads) same_clumps
             (clumps_stay score_of s region size old read reads before after is_region rest place n changes same (omega (arith, written)) directory_low directory_high sound);
         directory = λ made. subst (λ (at : ℕ). StandsAt at (directory_of (added_by s)) reads) (omega (arith, place_is, numbers.1, fits))

@@ -1,5 +1,5 @@
 -- What is done to the rest of the disk leaves an arena sound.
-use Rattle.std.proofs.Common.{◌≡◌, ℕ, ◌+◌, ◌-◌, List, length, arith}
+use Rattle.std.proofs.Common.{◌≡◌, ℕ, ◌+◌, List, length, arith}
 use Rattle.vt_disk.specs.declared.region.Region.{Region}
 use Rattle.vt_disk.specs.Disk.{SameBut}
 use Rattle.vt_disk.specs.Region.{Inside, ChangesWithin, region_bytes}

@@ -1,5 +1,5 @@
 -- Staging a block keeps an arena sound.
-use Rattle.std.proofs.Common.{◌≡◌, ℕ, zero, suc, ◌+◌, ◌-◌, ◌≤◌, Bool, true, false, List, [], ◌∷◌, ◌++◌, length, take, map, Option, Some, None, refl, sym, ◌∙◌, ap, subst, arith, append_assoc, length-append}
+use Rattle.std.proofs.Common.{◌≡◌, ℕ, zero, suc, ◌+◌, ◌≤◌, Bool, true, false, List, [], ◌∷◌, ◌++◌, length, take, map, Option, Some, None, refl, sym, ◌∙◌, ap, subst, arith, append_assoc, length-append}
 use Rattle.std.specs.Prelude.{All, IsTrue, IsFalse, IsSome, is_some, ◌||◌, nat_lt, nat_le, fold, replicate}
 use Rattle.std.proofs.lemmas.List.{map-append}
 use Rattle.std.proofs.lemmas.List.Elements.{All-append}
@@ -21,13 +21,13 @@ use Rattle.vt_twin.proofs.Changes.{none_made}
 pub record IsResting (a : ArenaState) : Type 0 where
   pub written : a.written ≡ 0
   pub change : a.twin.change ≡ None
-  pub stopped : a.stopped ≡ None
+  pub failed : a.failed ≡ false
 
 pub resting : (a : ArenaState) → IsFalse (is_committing a) → IsResting a
 resting a is = record {
-  written = zeroth a.written (first (nat_lt 0 a.written) (is_some a.twin.change) (is_some a.stopped) is);
-  change = none a.twin.change (second (nat_lt 0 a.written) (is_some a.twin.change) (is_some a.stopped) is);
-  stopped = none a.stopped (third (nat_lt 0 a.written) (is_some a.twin.change) (is_some a.stopped) is);
+  written = zeroth a.written (first (nat_lt 0 a.written) (is_some a.twin.change) a.failed is);
+  change = none a.twin.change (second (nat_lt 0 a.written) (is_some a.twin.change) a.failed is);
+  failed = third (nat_lt 0 a.written) (is_some a.twin.change) a.failed is;
 }
   where
     first : (x y z : Bool) → IsFalse (x || y || z) → x ≡ false

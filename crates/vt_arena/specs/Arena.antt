@@ -1,10 +1,8 @@
 -- An arena as its calls see it.
-use Rattle.std.specs.Prelude.{◌≡◌, ℕ, ◌+◌, min, nat_lt, Bool, ◌||◌, is_some, if◌then◌else◌, List, [], ◌∷◌, ◌++◌, length, map, Option, Some, None, Result, Ok, Err}
+use Rattle.std.specs.Prelude.{◌≡◌, ℕ, ◌+◌, min, nat_lt, Bool, ◌||◌, true, false, is_some, if◌then◌else◌, List, [], ◌∷◌, ◌++◌, length, map, Result, Ok, Err}
 use Rattle.vt_twin.specs.declared.step.Step.{Step}
 use Rattle.vt_twin.specs.declared.step.Step.TheVariants.{More, Done}
-use Rattle.vt_twin.specs.declared.step.TwinErr.{TwinErr}
-use Rattle.vt_twin.specs.declared.step.TwinErr.TheVariants.{Fault, Stopped}
-use Rattle.vt_twin.specs.Twin.{TwinState, fresh, with_change, without_spare, one_more, after_call, after_last as twin_after_last, after_fault as twin_after_fault, calls_made as twin_calls_made}
+use Rattle.vt_twin.specs.Twin.{TwinState, fresh, with_change, without_spare, after_call, after_last as twin_after_last, after_fault as twin_after_fault, calls_made as twin_calls_made}
 use Rattle.vt_clump.specs.declared.packed.Packed.{Packed}
 use Rattle.vt_clump.specs.Spelling.{Stored}
 use Rattle.vt_clump.specs.Clumps.{stored_of}
@@ -16,8 +14,7 @@ use Rattle.vt_arena.specs.Places.{block_room, has_room}
 
 -- An arena: its number in its partition, its region's length, the twin of its head, the head that
 -- is committed, the head that the next commit brings, the clumps that are staged for it, how many
--- pieces of the commit under way were written, how many device calls this value has made, and the
--- number of the one that failed.
+-- pieces of the commit under way were written, and whether one of its device calls failed.
 pub record ArenaState : Type 0 where
   pub number : ℕ
   pub len : ℕ
@@ -26,11 +23,10 @@ pub record ArenaState : Type 0 where
   pub next : ArenaHead
   pub staged : List Packed
   pub written : ℕ
-  pub calls : ℕ
-  pub stopped : Option ℕ
+  pub failed : Bool
 
--- an arena of this length that has made no call, whose head is this one, in the frame of this
--- number
+-- an arena of this length with nothing staged, none of whose calls failed, and whose head is this
+-- one, in the frame of this number
 abbrev pub fresh_arena : (len current : ℕ) → ArenaHead → ArenaState
 fresh_arena len current head = record {
   number = head.number;
@@ -40,8 +36,7 @@ fresh_arena len current head = record {
   next = head;
   staged = [];
   written = 0;
-  calls = 0;
-  stopped = None;
+  failed = false;
 }
 
 -- a block of n bytes fits behind what is committed and what is staged
@@ -50,7 +45,7 @@ fits a n = has_room a.len a.next.used a.next.clumps n
 
 -- a call of a commit was made, and the commit isn't done
 abbrev pub is_committing : ArenaState → Bool
-is_committing a = nat_lt 0 a.written || is_some a.twin.change || is_some a.stopped
+is_committing a = nat_lt 0 a.written || is_some a.twin.change || a.failed
 
 -- the arena with one more clump staged: the next head counts it, and its entry is chained
 abbrev pub with_staged : (score_of : List ℕ → List ℕ) → Packed → ArenaState → ArenaState
@@ -97,10 +92,10 @@ changing a = if is_some a.twin.change then a.twin else with_change (frame_of a.n
 -- the arena after a call that succeeded and wasn't the last of its commit: after a piece, or after
 -- a call of the head's change
 abbrev pub after_piece : ArenaState → ArenaState
-after_piece a = record a { written = a.written + 1; calls = one_more a.calls }
+after_piece a = record a { written = a.written + 1 }
 
 abbrev pub after_head : ArenaState → ArenaState
-after_head a = record a { twin = after_call (changing a); calls = one_more a.calls }
+after_head a = record a { twin = after_call (changing a) }
 
 abbrev pub after_step : ArenaState → ArenaState
 after_step a = if nat_lt a.written (pieces a) then after_piece a else after_head a
@@ -112,35 +107,36 @@ after_last a = record a {
   head = a.next;
   staged = [];
   written = 0;
-  calls = one_more a.calls;
 }
 
--- after one that failed: the arena is stopped at that call's number
-abbrev pub stopped_at_call : ArenaState → ArenaState
-stopped_at_call a = record a { calls = one_more a.calls; stopped = Some a.calls }
+-- after one that failed
+abbrev pub with_failure : ArenaState → ArenaState
+with_failure a = record a { failed = true }
 
 abbrev pub after_fault : ArenaState → ArenaState
 after_fault a =
-    if nat_lt a.written (pieces a) then stopped_at_call a
-    else record (stopped_at_call a) { twin = twin_after_fault (changing a) }
+    if nat_lt a.written (pieces a) then with_failure a
+    else record (with_failure a) { twin = twin_after_fault (changing a) }
 
 -- what `advance` makes of an arena
-abbrev pub Advances : Result Step TwinErr → (old new : ArenaState) → Type 0
+abbrev pub Advances : {E : Type 0} → Result Step E → (old new : ArenaState) → Type 0
 Advances (Ok More) old new = new ≡ after_step old
 Advances (Ok Done) old new = new ≡ after_last old
-Advances (Err Fault) old new = new ≡ after_fault old
-Advances (Err (Stopped n)) old new = new ≡ old
+Advances (Err e) old new = new ≡ after_fault old
+
+-- what a call that writes a piece makes of one
+abbrev pub PieceAdvances : {E : Type 0} → Result Step E → (old new : ArenaState) → Type 0
+PieceAdvances (Ok step) old new = (step ≡ More) × (new ≡ after_piece old)
+PieceAdvances (Err e) old new = new ≡ with_failure old
 
 -- what a call of the head's change makes of one
-abbrev pub HeadAdvances : Result Step TwinErr → (old new : ArenaState) → Type 0
-HeadAdvances (Ok More) old new =
-    new ≡ record old { twin = after_call old.twin; calls = one_more old.calls }
+abbrev pub HeadAdvances : {E : Type 0} → Result Step E → (old new : ArenaState) → Type 0
+HeadAdvances (Ok More) old new = new ≡ record old { twin = after_call old.twin }
 HeadAdvances (Ok Done) old new = new ≡ after_last old
-HeadAdvances (Err e) old new =
-    new ≡ record (stopped_at_call old) { twin = twin_after_fault old.twin }
+HeadAdvances (Err e) old new = new ≡ record (with_failure old) { twin = twin_after_fault old.twin }
 
 -- what the arena holds after a step of a commit: what is staged, too, after the last
-abbrev pub content_after : Result Step TwinErr → ArenaState → (old : Content) → Content
+abbrev pub content_after : {E : Type 0} → Result Step E → ArenaState → (old : Content) → Content
 content_after (Ok Done) a old = next_content a old
 content_after (Ok More) a old = old
 content_after (Err e) a old = old

@@ -1,5 +1,5 @@
 -- What an arena in memory keeps, whatever the disk holds.
-use Rattle.std.specs.Prelude.{◌≡◌, ℕ, ◌+◌, ◌-◌, ◌*◌, ◌≤◌, IsSome, None, List, length, take, drop, reverse, replicate, MatchOption, sum_by, vec_capacity}
+use Rattle.std.specs.Prelude.{◌≡◌, ℕ, ◌+◌, ◌-◌, ◌*◌, ◌≤◌, IsSome, false, None, List, length, take, drop, reverse, replicate, MatchOption, sum_by, vec_capacity}
 use Rattle.std.specs.List.{flat_map}
 use Rattle.std.specs.Option.{ForSome}
 use Rattle.vt_twin.specs.Twin.{calls_made}
@@ -21,8 +21,7 @@ state_of a = record {
   next = a.next;
   staged = a.staged.items;
   written = a.written;
-  calls = a.calls;
-  stopped = a.stopped;
+  failed = a.failed;
 }
 
 -- what staged clumps take
@@ -48,7 +47,7 @@ IsBuffer frame =
 
 pub record IsWhole (a : Inside) : Type 0 where
   pub frame_len : a.twin.frame_len ≡ FRAME_LEN
-  pub runs : a.stopped ≡ None → a.twin.stopped ≡ None
+  pub runs : a.failed ≡ false → a.twin.failed ≡ false
   pub len_is : IsArenaLen a.len
   -- the next head counts what is committed and what is staged, and there is room for it
   pub room : a.next.used + directory_room a.next.clumps ≤ arena_room a.len

@@ -1,28 +1,34 @@
--- What a step of a commit writes, whatever the disk holds.
-use Rattle.std.specs.Prelude.{◌≡◌, ℕ, ◌+◌, ◌<◌, List, ◌∷◌, ◌++◌, length}
+-- The device calls of a commit.
+use Rattle.std.specs.Prelude.{ℕ, ◌+◌, nat_lt, if◌then◌else◌, List, [], length, take}
+use Rattle.std.specs.Option.{option_map_or}
+use Rattle.std.specs.Prelude.{slice_get}
 use Rattle.vt_disk.specs.declared.region.Region.{Region}
-use Rattle.vt_disk.specs.Disk.{with_bytes}
-use Rattle.vt_twin.specs.Calls.{bytes_after}
-use Rattle.vt_twin.specs.Twin.{next_frame, calls_made as twin_calls_made}
+use Rattle.vt_disk.specs.DeviceCalls.{DeviceCall}
+use Rattle.vt_disk.specs.DeviceCalls.DeviceCall.{write}
+use Rattle.vt_twin.specs.Twin.{next_call as next_head_call}
 use Rattle.vt_clump.specs.declared.packed.Packed.{Packed}
 use Rattle.vt_model.specs.declared.TheConstants.{ARENA_HEAD_LEN}
-use Rattle.vt_arena.specs.declared.TheConstants.{FRAME_LEN}
 use Rattle.vt_arena.specs.Arena.{ArenaState, pieces, changing}
 use Rattle.vt_arena.specs.Layout.{directory_place, head_place}
 use Rattle.vt_arena.specs.Whole.{staged_room, staged_directory}
 
--- After a step that succeeds a read gives `new`, where it gave `old` before. The step writes the
--- next clump behind those before it or, once all clumps are written, their directory below the one
--- that is there or, once that is written too, what the next call of the head's change writes. All
--- other bytes are as they were.
-pub record Writes (a : ArenaState) (region : Region) (old new : List ℕ) : Type 0 where
-  pub clump : (p : Packed) (before behind : List Packed) → a.staged ≡ before ++ p ∷ behind
-      → a.written ≡ length before
-      → new ≡ with_bytes (region.start + ARENA_HEAD_LEN + a.head.used + staged_room before)
-      p.bytes old
-  pub directory : 0 < length a.staged → a.written ≡ length a.staged
-      → new ≡ with_bytes (directory_place region (a.head.clumps + length a.staged))
-      (staged_directory a.staged) old
-  pub head : a.written ≡ pieces a
-      → new ≡ bytes_after (twin_calls_made (changing a)) (head_place region) FRAME_LEN
-      a.twin.current (next_frame (changing a)) old
+-- the bytes of the clump that is staged at this place
+abbrev pub clump_at : (staged : List Packed) → (n : ℕ) → List ℕ
+clump_at staged n = option_map_or (λ p. p.bytes) (slice_get staged n) []
+
+-- The write of the next piece: the next clump behind those before it or, once all clumps are
+-- written, their directory below the one that is there.
+abbrev pub next_piece : ArenaState → Region → DeviceCall
+next_piece a region =
+    if nat_lt a.written (length a.staged) then
+    write (region.start + ARENA_HEAD_LEN + a.head.used + staged_room (take a.written a.staged))
+    (clump_at a.staged a.written)
+    else write (directory_place region (a.head.clumps + length a.staged))
+    (staged_directory a.staged)
+
+-- the next call of a commit: that write or, once all pieces are written, the next call of the
+-- head's change
+abbrev pub next_call : ArenaState → Region → DeviceCall
+next_call a region =
+    if nat_lt a.written (pieces a) then next_piece a region
+    else next_head_call (changing a) (head_place region)

@@ -1,6 +1,6 @@
 //! An arena in memory: what is committed, what is staged, and how far a commit has come.
 
-ghost use Rattle.std.specs.Prelude.{◌≡◌, ◌⊎◌, ◌↔◌, ◌+◌, ◌%◌, ◌<◌, ◌≤◌, ℕ, List, [], length, IsTrue, IsFalse, IsSome, IfOk, OnOk, None, Some, Ok, Err};
+ghost use Rattle.std.specs.Prelude.{◌≡◌, ◌↔◌, ◌+◌, ◌%◌, ◌<◌, ◌≤◌, ℕ, List, [], length, IsTrue, IsFalse, IsSome, true, IfOk, None, Some, Ok, Err};
 
 use crate::committing::entry_bytes;
 use crate::head::{ArenaHead, Found};
@@ -9,7 +9,7 @@ use std::alloc::{AllocError, Global};
 use std::marker::Model;
 use vt_base::{Bytes, Scorer};
 use vt_clump::Packed;
-use vt_disk::{Disk, Region};
+use vt_disk::{CallCount, CallErr, Disk, Region};
 use vt_fields::put;
 use vt_model::DIRECTORY_ENTRY_LEN;
 use vt_twin::{Step, Twin, TwinErr};
@@ -40,8 +40,7 @@ pub struct Arena {
     pub(crate) buffer: Option<Bytes>,
     /// How many calls of the head's change under way succeeded.
     pub(crate) head_calls: u8,
-    pub(crate) calls: u64,
-    pub(crate) stopped: Option<u64>,
+    pub(crate) failed: bool,
 }
 
 impl Model for Arena {
@@ -57,15 +56,15 @@ impl Model for Arena {
 }
 
 impl Arena {
+    ghost use Rattle.vt_disk.specs.Calls.{WritesWithin, IsSynced};
     ghost use Rattle.vt_base.specs.Faults.{CountsFault};
-    ghost use Rattle.vt_disk.specs.Calls.{WritesWithin, MadeCalls, IsSynced};
+    ghost use Rattle.vt_disk.specs.DeviceCalls.{CallMade, is_fault};
     ghost use Rattle.vt_disk.specs.Disk.{WithinCall};
-    ghost use Rattle.vt_twin.specs.Twin.{is_fault};
     ghost use Rattle.vt_arena.specs.Layout.{Content, IsArena};
     ghost use Rattle.vt_arena.specs.Arena.{fresh_arena, fits, is_committing, with_staged, with_seal, next_content, pieces, commit_calls, calls_made, Advances, content_after};
     ghost use Rattle.vt_arena.specs.Places.{IsArenaLen, directory_room, arena_room};
     ghost use Rattle.vt_arena.specs.Sound.{IsRegion, IsSound, GivesOldOrNext};
-    ghost use Rattle.vt_arena.specs.Written.{Writes};
+    ghost use Rattle.vt_arena.specs.Written.{next_call};
 
     /// The arena of this length that was found. It makes room for commits, and no device call.
     pub fn resume(alloc: Global, len: u64, found: Found) -> Result<Arena, AllocError>
@@ -88,13 +87,12 @@ impl Arena {
             end: found.head.used,
             buffer: Some(buffer),
             head_calls: 0,
-            calls: 0,
-            stopped: None,
+            failed: false,
         })
     }
 
-    /// Turns to the arena of this length that was found, with the room for commits as it is. Its
-    /// calls are counted from 0. It makes no device call.
+    /// Turns to the arena of this length that was found, with the room for commits as it is. It
+    /// makes no device call.
     pub fn move_to(&mut self, len: u64, found: Found)
         requires rest { IsFalse (is_committing self.old) }
         requires none { self.old.staged ≡ [] }
@@ -108,7 +106,6 @@ impl Arena {
         self.head = found.head;
         self.next = found.head;
         self.end = found.head.used;
-        self.calls = 0;
     }
 
     /// The head, as mounted or last committed.
@@ -135,11 +132,11 @@ impl Arena {
         has_room(self.len, self.next.used, self.next.clumps, n)
     }
 
-    /// Whether a call of a commit was made that isn't done. One that was stopped stays so.
+    /// Whether a call of a commit was made that isn't done. One of which a call failed stays so.
     pub fn is_committing(&self) -> bool
         ensures { result ≡ is_committing self.now }
     {
-        self.written > 0 || self.twin.is_changing() || self.stopped.is_some()
+        self.written > 0 || self.twin.is_changing() || self.failed
     }
 
     /// Whether the next commit leaves the arena sealed.
@@ -166,14 +163,6 @@ impl Arena {
     {
         let blocks = self.staged.len();
         blocks + blocks.min(1)
-    }
-
-    /// The number of the device call that stopped it, if one did. The calls are those that
-    /// `advance` made, counted from 0.
-    pub fn stopped(&self) -> Option<u64>
-        ensures { result ≡ self.now.stopped }
-    {
-        self.stopped
     }
 
     /// Takes in a clump for the next commit. It makes no device call.
@@ -209,11 +198,18 @@ impl Arena {
     /// directory entries, all by one call, then the idle frame of the head, syncs, writes the
     /// head's selector, syncs. Where nothing is staged, it makes the last four alone.
     ///
-    /// Done is the answer to the last of them, and Fault to one that fails. From then on the answer
-    /// is Stopped with the number of that call, and nothing is done.
-    pub fn advance<D: Disk>(&mut self, disk: &mut D, region: Region) -> Result<Step, TwinErr>
+    /// Done is the answer to the last of them, and Fault to one that fails. The count is lent by
+    /// whoever owns the arena, the same one in each call. Once a call that it counts has failed the
+    /// answer is Stopped with that call's number, and nothing is done.
+    pub fn advance<D: Disk>(
+        &mut self,
+        calls: &mut CallCount,
+        disk: &mut D,
+        region: Region,
+    ) -> Result<Step, TwinErr>
         requires region { IsRegion region (D.size disk.old) }
         requires same { region.len ≡ self.old.len }
+        requires lent { self.old.failed ≡ true → IsSome calls.old.stopped }
 
         // A sound disk stays so, for what the arena held or, after the last call, for that with all
         // that was staged behind it.
@@ -236,32 +232,34 @@ impl Arena {
             → result ≡ Ok Step.Done → (c : List ℕ) → D.images disk.new c
             → IsArena score_of region self.old.number (next_content self.old old) c }
 
-        // After the last call a read gives what every image is.
-        ensures settled { result ≡ Ok Step.Done → IsSynced D.Disk disk.new }
-
-        // It writes one piece of the commit, or what the head's change writes, and nothing else.
-        ensures written { IsTrue D.tells
-            → OnOk result (Writes self.old region (D.bytes disk.old) (D.bytes disk.new)) }
-
-        ensures steps { Advances result self.old self.new }
+        // Where the count isn't stopped it makes this call, and no other.
+        ensures makes { calls.old.stopped ≡ None
+            → CallMade D.Disk (next_call self.old region) result
+            calls.old calls.new disk.old disk.new }
+        ensures frame { self.old.twin.frame_len ≡ FRAME_LEN }
+        ensures steps { calls.old.stopped ≡ None → Advances result self.old self.new }
         ensures left { calls_made self.old < commit_calls self.old }
         ensures len { self.new.len ≡ self.old.len }
         ensures done { IfOk result (λ step. (step ≡ Step.Done)
             ↔ (calls_made self.old + 1 ≡ commit_calls self.old)) }
-        ensures stopped { (n : ℕ)
-            → (result ≡ Err (TwinErr.Stopped n)) ↔ (self.old.stopped ≡ Some n) }
-        ensures faults { CountsFault is_fault result (D.faults disk.old) (D.faults disk.new) }
 
-        // It makes one call or, where it is stopped, none.
-        ensures calls { self.old.stopped ≡ None → MadeCalls D.Disk 1 disk.old disk.new }
-        ensures untouched { IsSome self.old.stopped → disk.new ≡ disk.old }
+        // After the last call a read gives what every image is.
+        ensures settled { result ≡ Ok Step.Done → IsSynced D.Disk disk.new }
+
+        ensures stopped { (n : ℕ)
+            → (result ≡ Err (CallErr.Stopped n)) ↔ (calls.old.stopped ≡ Some n) }
+        ensures faults { CountsFault is_fault result (D.faults disk.old) (D.faults disk.new) }
+        ensures untouched { IsSome calls.old.stopped
+            → (self.new ≡ self.old) × (calls.new ≡ calls.old) × (disk.new ≡ disk.old) }
 
         // Nothing outside the region changes.
         ensures writes { WritesWithin D.Disk region 1 disk.old disk.new }
     {
-        if let Some(call) = self.stopped {
+        // (so that what the arena keeps is known here)
+        let _ = &self.staged;
+        if let Some(call) = calls.stopped {
             return Err(TwinErr::Stopped(call));
         }
-        self.make_call(disk, region)
+        self.make_call(calls, disk, region)
     }
 }

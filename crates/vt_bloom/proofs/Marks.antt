@@ -71,11 +71,6 @@ module _ (words : List ℕ) (p : ℕ) (within : p / 64 < length words) (q : ℕ)
 abbrev pub IsAmong : (m : ℕ) → (score : List ℕ) → (n p : ℕ) → Type 0
 IsAmong m score n p = (i : ℕ) × (i < n) × (p ≡ position_of m score i)
 
-pub none_yet : (old score : List ℕ) (m q : ℕ)
-    → IsSetIn old q ↔ (IsSetIn old q ⊎ IsAmong m score 0 q)
-none_yet old score m q =
-    (λ on. inl on, λ either. ⊎_elim (λ on. on) (λ among. absurd (omega (arith, among.1))) either)
-
 -- one position more
 pub one_more : (old mid new score : List ℕ) (m i p : ℕ)
     → ((q : ℕ) → IsSetIn mid q ↔ (IsSetIn old q ⊎ IsAmong m score i q))

@@ -1,33 +1,21 @@
 -- What the device keeps of a filter.
-use Rattle.std.proofs.Common.{◌≡◌, ◌↔◌, inl, inr, ⊎_elim, ℕ, List, length, None, Some, Err, refl, sym, ap, ◌∙◌, subst, arith}
-use Rattle.std.specs.Prelude.{IsSome, is_some, Result}
-use Rattle.vt_disk.specs.Disk.{ChangesAt}
+use Rattle.std.proofs.Common.{◌≡◌, ◌≤◌, inl, inr, ⊎_elim, ℕ, List, length, None, Some, Ok, Err, refl, sym, ap, ◌∙◌, subst, arith}
+use Rattle.std.specs.Prelude.{◌↔◌, IsSome, Result, MatchResult}
+use Rattle.vt_disk.specs.declared.call.CallCount.{CallCount}
+use Rattle.vt_disk.specs.declared.call.CallErr.{CallErr}
+use Rattle.vt_disk.specs.declared.call.CallErr.TheVariants.{Fault, Stopped}
+use Rattle.vt_disk.specs.DeviceCalls.{counted, stopped_at}
+use Rattle.vt_disk.specs.Disk.{ChangesAt, WithinCall}
 use Rattle.vt_twin.specs.Frames.{current_frame}
-use Rattle.vt_twin.specs.Sound.{HasBegunSelector, GivesOldOrNew, IsSound as IsTwinSound}
-use Rattle.vt_twin.specs.Twin.{TwinState, next_frame, without_spare, Advances as TwinAdvances}
+use Rattle.vt_twin.specs.Sound.{HasBegunSelector, GivesOldOrNew, IsSound as IsTwinSound, frame_after}
+use Rattle.vt_twin.specs.Twin.{TwinState, calls_made, next_frame, without_spare, Advances as TwinAdvances}
 use Rattle.vt_twin.specs.declared.step.Step.{Step}
-use Rattle.vt_twin.specs.declared.step.TwinErr.{TwinErr}
-use Rattle.vt_twin.specs.declared.step.TwinErr.TheVariants.{Fault, Stopped}
-use Rattle.vt_twin.proofs.Changes.{begun_some, some_none}
+use Rattle.vt_twin.specs.declared.step.Step.TheVariants.{More, Done}
+use Rattle.vt_twin.proofs.Changes.{begun_made, begun_some, some_none}
 use Rattle.vt_twin.proofs.Steps.{sound_gives}
-use Rattle.vt_bloom.specs.Bloom.{BloomState, Advances, IsSound, HasCounts, HasOldOrNew, with_save}
+use Rattle.vt_bloom.specs.Bloom.{BloomState, Advances, IsSound, HasCounts, HasOldOrNew, with_save, at_end, saved_after}
 use Rattle.vt_bloom.specs.Frame.{Saved, Covers, IsFrame, HasSaved, spelled, current_of}
 use Rattle.vt_bloom.specs.Size.{frame_len, region_of, IsLargest}
-
-abbrev refused : TwinErr → Result Step TwinErr
-refused e = Err e
-
--- and what `advance` makes of a filter where the twin refuses
-pub refusal_steps : {D : Type 0} (e : TwinErr) (b : BloomState D) (disk : D) (t : TwinState)
-    → TwinAdvances (Err e) b.twin t
-    → ((n : ℕ) → (refused e ≡ refused (Stopped n)) ↔ (b.twin.stopped ≡ Some n))
-    → (IsSome b.twin.stopped → disk ≡ b.disk)
-    → Advances (Err e) b (record b { disk = disk; twin = t })
-refusal_steps Fault b disk t steps stopped same = λ i. record b { disk = disk; twin = steps i }
-refusal_steps (Stopped n) b disk t steps stopped same =
-    let is : b.twin.stopped ≡ Some n = (stopped n).0 refl in
-    let untouched : disk ≡ b.disk = same (ap is_some is) in
-    λ i. record b { disk = untouched i; twin = steps i }
 
 -- a file whose current frame is that of a filter
 has_saved : (m n : ℕ) (s : Saved) (frame file : List ℕ) → s.filter.m ≡ m → n ≡ frame_len m
@@ -82,6 +70,14 @@ module _ {D : Type 0} (b : BloomState D) (saved coming : Saved) (read : List ℕ
       has_either (HasBegunSelector b.twin) begun_save c (sound.largest c left)
       (sound_gives b.twin (region_of b.m) sound.old read images sound.twin c left)
 
+  -- where no call is made
+  pub crash_stays : (c : List ℕ) → WithinCall images images c
+      → HasOldOrNew (2 ≤ calls_made b.twin) saved coming c
+  crash_stays c left = ⊎_elim
+      inl
+      (λ new. inr (begun_made b.twin new.0, new.1))
+      (crash_leaves c (⊎_elim (λ was. was) (λ is. is) left))
+
   pub rest_leaves : b.twin.change ≡ None → (c : List ℕ) → images c → HasSaved saved c
   rest_leaves rest c left = ⊎_elim
       (λ has. has)
@@ -129,14 +125,14 @@ module _ {D : Type 0} (b : BloomState D) (saved coming : Saved) (read : List ℕ
       none_begun : IsSome b.twin.change → ⊥
       none_begun some = cc
 
-  module _ (some : IsSome b.twin.change) (disk : D) (t : TwinState) (reads : List ℕ)
-      (after : List ℕ → Type 0) (len : t.frame_len ≡ b.twin.frame_len)
+  module _ (some : IsSome b.twin.change) (disk : D) (t : TwinState) (calls : CallCount)
+      (reads : List ℕ) (after : List ℕ → Type 0) (len : t.frame_len ≡ b.twin.frame_len)
       (largest : (c : List ℕ) → after c → IsLargest (length c) b.m) where
     -- a call that wasn't the last, or failed
-    pub step_sound : next_frame t ≡ next_frame b.twin
+    goes_sound : next_frame t ≡ next_frame b.twin
         → IsTwinSound t (region_of b.m) sound.old reads after
-        → IsSound (record b { disk = disk; twin = t }) saved coming reads after
-    step_sound same twin = record {
+        → IsSound (record b { disk = disk; twin = t; calls = calls }) saved coming reads after
+    goes_sound same twin = record {
       largest = largest;
       old = sound.old;
       twin = twin;
@@ -150,11 +146,15 @@ module _ {D : Type 0} (b : BloomState D) (saved coming : Saved) (read : List ℕ
     }
 
     -- the last call
-    pub last_sound : t.change ≡ None
+    ended_sound : t.change ≡ None
         → IsTwinSound t (region_of b.m) (next_frame b.twin) reads after
-        → IsSound (record b { disk = disk; mark = b.next; twin = without_spare t })
-        coming coming reads after
-    last_sound rest twin = record {
+        → IsSound (record b {
+          disk = disk;
+          mark = b.next;
+          twin = without_spare t;
+          calls = calls;
+        }) coming coming reads after
+    ended_sound rest twin = record {
       largest = largest;
       old = next_frame b.twin;
       twin = record {
@@ -176,3 +176,47 @@ module _ {D : Type 0} (b : BloomState D) (saved coming : Saved) (read : List ℕ
       where
         none : IsSome t.change → ⊥
         none changing = cc
+
+    -- a call, whatever came of it
+    pub step_sound : (outcome : Result Step CallErr) → TwinAdvances outcome b.twin t
+        → IsTwinSound t (region_of b.m) (frame_after outcome b.twin sound.old) reads after
+        → IsSound (record b {
+          disk = disk;
+          mark = at_end outcome b.next b.mark;
+          twin = at_end outcome (without_spare t) t;
+          calls = calls;
+        }) (saved_after outcome saved coming) coming reads after
+    step_sound (Ok Done) steps = ended_sound (ap (λ (u : TwinState). u.change) steps)
+    step_sound (Ok More) steps = goes_sound (ap (λ (u : TwinState). next_frame u) steps)
+    step_sound (Err e) steps = goes_sound (ap (λ (u : TwinState). next_frame u) steps)
+
+-- what a call makes of a filter that isn't stopped
+pub advances : {D : Type 0} (b : BloomState D) (disk : D) (t : TwinState) (calls : CallCount)
+    (outcome : Result Step CallErr) → b.calls.stopped ≡ None
+    → ((n : ℕ) → outcome ≡ Err (Stopped n) ↔ (b.calls.stopped ≡ Some n))
+    → TwinAdvances outcome b.twin t
+    → MatchResult outcome (λ _. calls ≡ counted b.calls) (λ _. calls ≡ stopped_at b.calls)
+    → Advances outcome b (record b {
+      disk = disk;
+      mark = at_end outcome b.next b.mark;
+      twin = at_end outcome (without_spare t) t;
+      calls = calls;
+    })
+advances b disk t calls (Ok More) runs stops steps counts = λ i. record b {
+  disk = disk;
+  twin = steps i;
+  calls = counts i;
+}
+advances b disk t calls (Ok Done) runs stops steps counts = λ i. record b {
+  disk = disk;
+  mark = b.next;
+  twin = without_spare (steps i);
+  calls = counts i;
+}
+advances b disk t calls (Err Fault) runs stops steps counts = λ i. record b {
+  disk = disk;
+  twin = steps i;
+  calls = counts i;
+}
+advances b disk t calls (Err (Stopped n)) runs stops steps counts =
+    absurd (let is : None ≡ Some n = sym runs ∙ (stops n).0 refl in cc)

@@ -1,9 +1,11 @@
 -- A filter's device, and what it has to do with what is saved on it.
 use Rattle.std.specs.Prelude.{◌≡◌, ◌⊎◌, ℕ, List, length, IsSome, Result, Ok, Err}
+use Rattle.vt_disk.specs.declared.call.CallCount.{CallCount}
+use Rattle.vt_disk.specs.declared.call.CallErr.{CallErr}
+use Rattle.vt_disk.specs.declared.call.CallErr.TheVariants.{Fault, Stopped}
+use Rattle.vt_disk.specs.DeviceCalls.{counted, stopped_at}
 use Rattle.vt_twin.specs.declared.step.Step.{Step}
 use Rattle.vt_twin.specs.declared.step.Step.TheVariants.{More, Done}
-use Rattle.vt_twin.specs.declared.step.TwinErr.{TwinErr}
-use Rattle.vt_twin.specs.declared.step.TwinErr.TheVariants.{Fault, Stopped}
 use Rattle.vt_twin.specs.Sound.{IsSound as IsTwinSound}
 use Rattle.vt_twin.specs.Twin.{TwinState, with_change, without_spare, next_frame, after_call, after_last, after_fault}
 use Rattle.vt_bloom.specs.declared.bad.BloomBad.{BloomBad}
@@ -13,7 +15,8 @@ use Rattle.vt_bloom.specs.Frame.{Saved, IsFrame, HasSaved, spelled}
 use Rattle.vt_bloom.specs.Size.{frame_len, region_of, IsLargest}
 
 -- The device, how many bits its filter has and each score, the mark that is saved, the one of the
--- save under way or, with none under way, of the last, and the pair of frames that a save changes.
+-- save under way or, with none under way, of the last, the pair of frames that a save changes, and
+-- the count of the saves' device calls.
 pub record BloomState (D : Type 0) : Type 0 where
   pub disk : D
   pub m : ℕ
@@ -21,6 +24,7 @@ pub record BloomState (D : Type 0) : Type 0 where
   pub mark : ℕ
   pub next : ℕ
   pub twin : TwinState
+  pub calls : CallCount
 
 -- a filter has the counts of this one
 abbrev pub HasCounts : {D : Type 0} → BloomState D → Filter → Type 0
@@ -49,21 +53,34 @@ HasOldOrNew began old new file = HasSaved old file ⊎ (began × HasSaved new fi
 abbrev pub with_save : {D : Type 0} → Saved → BloomState D → BloomState D
 with_save saved b = record b { next = saved.mark; twin = with_change (spelled saved) b.twin }
 
+-- of two, the first behind a save's last call, and else the second
+abbrev pub at_end : {A E : Type 0} → Result Step E → (ended goes : A) → A
+at_end (Ok Done) ended goes = ended
+at_end (Ok More) ended goes = goes
+at_end (Err e) ended goes = goes
+
 -- the filter that is saved after a step of a save: the new one after the last, else the old
-abbrev pub saved_after : Result Step TwinErr → (old new : Saved) → Saved
-saved_after (Ok Done) old new = new
-saved_after (Ok More) old new = old
-saved_after (Err e) old new = old
+abbrev pub saved_after : Result Step CallErr → (old new : Saved) → Saved
+saved_after result old new = at_end result new old
 
 -- what `advance` makes of a filter
-abbrev pub Advances : {D : Type 0} → Result Step TwinErr → (old new : BloomState D) → Type 0
-Advances (Ok More) old new = new ≡ record old { disk = new.disk; twin = after_call old.twin }
+abbrev pub Advances : {D : Type 0} → Result Step CallErr → (old new : BloomState D) → Type 0
+Advances (Ok More) old new = new ≡ record old {
+  disk = new.disk;
+  twin = after_call old.twin;
+  calls = counted old.calls;
+}
 Advances (Ok Done) old new = new ≡ record old {
   disk = new.disk;
   mark = old.next;
   twin = without_spare (after_last old.twin);
+  calls = counted old.calls;
 }
-Advances (Err Fault) old new = new ≡ record old { disk = new.disk; twin = after_fault old.twin }
+Advances (Err Fault) old new = new ≡ record old {
+  disk = new.disk;
+  twin = after_fault old.twin;
+  calls = stopped_at old.calls;
+}
 Advances (Err (Stopped n)) old new = new ≡ old
 
 -- the device after mounting, whatever the answer

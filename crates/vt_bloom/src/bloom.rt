@@ -1,14 +1,16 @@
 //! The filter that is saved on a device, and its saves step by step.
 
-ghost use Rattle.std.specs.Prelude.{◌≡◌, ◌⊎◌, ◌↔◌, ◌-◌, ◌<◌, ◌≤◌, ℕ, List, IsTrue, IsSome, is_some, IfOk, OnOk, None, Some, Ok, Err};
+ghost use Rattle.std.specs.Prelude.{◌≡◌, ◌⊎◌, ◌↔◌, ◌≤◌, ℕ, List, length, IsTrue, IsSome, is_some, IfOk, None, Some, Ok, Err};
+ghost use Rattle.vt_twin.specs.Twin.{without_spare};
+ghost use Rattle.vt_bloom.specs.Bloom.{at_end};
 
 use crate::bits::Bits;
-use crate::frame::encode;
+use crate::frame::encoded;
 use crate::size::region;
 use std::marker::Model;
 use vt_base::Bytes;
-use vt_disk::{Disk, Region};
-use vt_twin::{Step, Twin, TwinErr};
+use vt_disk::{CallCount, CallErr, Disk};
+use vt_twin::{Step, Twin};
 
 /// The filter that is saved on a device: its counts and its mark, which says for how many of the
 /// log's first blocks its bits are set. The bits are elsewhere in memory, and are handed to each
@@ -22,12 +24,13 @@ pub struct Bloom<D: Disk> {
     pub(crate) mark: u64,
     pub(crate) next: u64,
     pub(crate) twin: Twin,
+    pub(crate) calls: CallCount,
     /// What the next save is written into. The twin has it while a save is under way.
-    pub(crate) frame: Option<Vec<u8>>,
+    pub(crate) frame: Option<Bytes>,
 }
 
 impl<D: Disk> Model for Bloom<D> {
-    ghost use Rattle.std.specs.Prelude.{◌≡◌, ◌≤◌, length, None, IsSome};
+    ghost use Rattle.std.specs.Prelude.{◌≡◌, ◌≤◌, length, false, None, IsSome};
     ghost use Rattle.std.specs.Option.{ForSome};
     ghost use Rattle.vt_bloom.specs.Bits.{AreCounts};
     ghost use Rattle.vt_bloom.specs.Bloom.{BloomState};
@@ -42,24 +45,26 @@ impl<D: Disk> Model for Bloom<D> {
       mark = b.mark;
       next = b.next;
       twin = b.twin;
+      calls = b.calls;
     } };
 
     ghost invariant = { λ b. record {
       counts : AreCounts b.m b.k;
       room : filter_len b.m ≤ D.size b.disk;
       twin : b.twin.frame_len ≡ frame_len b.m;
-      buffer : ForSome b.frame (λ it. length it.items ≡ frame_len b.m);
+      buffer : ForSome b.frame (λ it. length it ≡ frame_len b.m);
       coming : ForSome b.twin.change (λ it. length it.frame ≡ frame_len b.m);
       rest : b.twin.change ≡ None → IsSome b.frame;
+      runs : b.calls.stopped ≡ None → b.twin.failed ≡ false;
     } };
 }
 
 impl<D: Disk> Bloom<D> {
     ghost use Rattle.vt_base.specs.Faults.{CountsFault};
-    ghost use Rattle.vt_disk.specs.Calls.{WritesAt, WritesWithin, MadeCalls, IsSynced};
+    ghost use Rattle.vt_disk.specs.Calls.{WritesWithin};
+    ghost use Rattle.vt_disk.specs.DeviceCalls.{CallMade, is_fault};
     ghost use Rattle.vt_disk.specs.Disk.{WithinCall};
-    ghost use Rattle.vt_twin.specs.Calls.{bytes_after, IsSync, TouchedBy};
-    ghost use Rattle.vt_twin.specs.Twin.{calls_made, next_frame, is_fault};
+    ghost use Rattle.vt_twin.specs.Twin.{calls_made, next_call, next_frame};
     ghost use Rattle.vt_bloom.specs.Bits.{AreCounts};
     ghost use Rattle.vt_bloom.specs.Bloom.{IsSound, HasOldOrNew, with_save, saved_after, Advances};
     ghost use Rattle.vt_bloom.specs.Frame.{Saved, Covers, HasSaved};
@@ -97,9 +102,9 @@ impl<D: Disk> Bloom<D> {
 
     /// The number of the device call that stopped it, if one did.
     pub fn stopped(&self) -> Option<u64>
-        ensures { result ≡ self.now.twin.stopped }
+        ensures { result ≡ self.now.calls.stopped }
     {
-        self.twin.stopped()
+        self.calls.stopped
     }
 
     /// Gives the device back. It makes no device call.
@@ -113,6 +118,7 @@ impl<D: Disk> Bloom<D> {
             mark: _,
             next: _,
             twin: _,
+            calls: _,
             frame: _,
         } = self;
         disk
@@ -132,11 +138,10 @@ impl<D: Disk> Bloom<D> {
             → IsSound self.new saved (record { filter = bits.now; mark = mark })
             (D.bytes self.new.disk) (D.images self.new.disk) }
     {
-        let Some(mut frame) = self.frame.take() else {
+        let Some(frame) = self.frame.take() else {
             unreachable!()
         };
-        encode(bits, mark, &mut frame);
-        self.twin.begin(Bytes::from_vec(frame));
+        self.twin.begin(encoded(bits, mark, frame));
         self.next = mark;
     }
 
@@ -145,7 +150,7 @@ impl<D: Disk> Bloom<D> {
     ///
     /// Done is the answer to the last of them, and Fault to one that fails. From then on the answer
     /// is Stopped with the number of that call, and nothing is done.
-    pub fn advance(&mut self) -> Result<Step, TwinErr>
+    pub fn advance(&mut self) -> Result<Step, CallErr>
         requires { IsSome self.old.twin.change }
 
         // A sound device stays so, for the old filter or, after the last call, for the new one.
@@ -174,46 +179,64 @@ impl<D: Disk> Bloom<D> {
             → result ≡ Ok Step.Done → (c : List ℕ) → D.images self.new.disk c
             → HasSaved coming c }
 
-        // What it writes, and that it syncs.
-        ensures writes { WritesAt D.Disk (TouchedBy (calls_made self.old.twin)
-            (region_of self.old.m) self.old.twin.frame_len self.old.twin.current) 1
-            self.old.disk self.new.disk }
-        ensures written { IsTrue D.tells → OnOk result (D.bytes self.new.disk
-            ≡ bytes_after (calls_made self.old.twin) (region_of self.old.m)
-            self.old.twin.frame_len self.old.twin.current
-            (next_frame self.old.twin) (D.bytes self.old.disk)) }
-        ensures settled { IsSync (calls_made self.old.twin)
-            → OnOk result (IsSynced D.Disk self.new.disk) }
+        // Where it isn't stopped it makes the next call of its frames, and no other.
+        ensures makes { self.old.calls.stopped ≡ None
+            → CallMade D.Disk (next_call self.old.twin (region_of self.old.m)) result
+            self.old.calls self.new.calls self.old.disk self.new.disk }
 
+        ensures whole { self.old.calls.stopped ≡ None
+            → length (next_frame self.old.twin) ≡ self.old.twin.frame_len }
         ensures steps { Advances result self.old self.new }
         ensures done { IfOk result
             (λ step. (step ≡ Step.Done) ↔ (calls_made self.old.twin ≡ 3)) }
         ensures goes_on { (result ≡ Ok Step.Done) ⊎ IsSome self.new.twin.change }
         ensures stopped { (n : ℕ)
-            → (result ≡ Err (TwinErr.Stopped n)) ↔ (self.old.twin.stopped ≡ Some n) }
+            → (result ≡ Err (CallErr.Stopped n)) ↔ (self.old.calls.stopped ≡ Some n) }
         ensures faults { CountsFault is_fault result
             (D.faults self.old.disk) (D.faults self.new.disk) }
 
-        // It makes one call or, where it is stopped, none.
-        ensures calls { self.old.twin.stopped ≡ None
-            → MadeCalls D.Disk 1 self.old.disk self.new.disk }
-        ensures untouched { IsSome self.old.twin.stopped → self.new.disk ≡ self.old.disk }
+        ensures untouched { IsSome self.old.calls.stopped → self.new.disk ≡ self.old.disk }
 
         // Nothing behind the filter changes.
         ensures within { WritesWithin D.Disk (region_of self.old.m) 1
             self.old.disk self.new.disk }
     {
-        match self.twin.advance(&mut self.disk, region(self.m)) {
-            Ok(Step::More) => Ok(Step::More),
-            Ok(Step::Done) => {
-                let Some(frame) = self.twin.idle() else {
-                    unreachable!()
-                };
-                self.frame = Some(frame.into_vec());
-                self.mark = self.next;
-                Ok(Step::Done)
-            }
-            Err(bad) => Err(bad),
+        if let Some(call) = self.calls.stopped {
+            return Err(CallErr::Stopped(call));
         }
+        let region = region(self.m);
+        let outcome = self.twin.advance(&mut self.calls, &mut self.disk, region);
+        end_save(
+            outcome,
+            &mut self.twin,
+            &mut self.frame,
+            &mut self.mark,
+            self.next,
+        )
+    }
+}
+
+/// Behind a call of a save: the last one ends it. The twin gives the frame back then, and the mark
+/// of the save is the one that is saved.
+fn end_save(
+    outcome: Result<Step, CallErr>,
+    twin: &mut Twin,
+    frame: &mut Option<Bytes>,
+    mark: &mut u64,
+    next: u64,
+) -> Result<Step, CallErr>
+    ensures told { result ≡ outcome }
+    ensures twin { twin.new ≡ at_end outcome (without_spare twin.old) twin.old }
+    ensures frame { frame.new ≡ at_end outcome twin.old.spare frame.old }
+    ensures mark { mark.new ≡ at_end outcome next mark.old }
+{
+    match outcome {
+        Ok(Step::Done) => {
+            *frame = twin.idle();
+            *mark = next;
+            Ok(Step::Done)
+        }
+        Ok(Step::More) => Ok(Step::More),
+        Err(err) => Err(err),
     }
 }

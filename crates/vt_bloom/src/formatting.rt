@@ -14,10 +14,10 @@ ghost use Rattle.vt_bloom.specs.Size.{IsSize, IsLargest, frame_len, region_of};
 use crate::LEAST_LEN;
 use crate::bad::{BloomBad, Field};
 use crate::bits::Bits;
-use crate::frame::encode;
+use crate::frame::encoded;
 use crate::size::{exponent, frame_len, largest, region};
 use std::alloc::Global;
-use vt_base::Failed;
+use vt_base::{Bytes, Failed};
 use vt_disk::Disk;
 
 /// Makes the device one with a filter of this many bytes, of which each score has k bits. None is
@@ -71,9 +71,9 @@ pub fn format<D: Disk>(alloc: Global, disk: &mut D, size: u64, k: u8) -> Result<
         });
     }
     let bits = Bits::new(alloc, m, k)?;
-    let mut frame = vec![in alloc; 0; frame_len(m)]?;
-    encode(&bits, 0, &mut frame);
-    match vt_twin::format(disk, region(m), &frame) {
+    let memory = vec![in alloc; 0; frame_len(m)]?;
+    let frame = encoded(&bits, 0, Bytes::from_vec(memory));
+    match vt_twin::format(disk, region(m), frame.as_slice()) {
         Ok(()) => Ok(()),
         Err(Failed) => Err(BloomBad::Fault),
     }

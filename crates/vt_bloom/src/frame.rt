@@ -11,11 +11,12 @@ ghost use Rattle.vt_bloom.specs.Size.{frame_len};
 use crate::bad::{BloomBad, Field};
 use crate::bits::Bits;
 use byteorder::{BigEndian, ByteOrder};
+use vt_base::Bytes;
 use vt_disk::BLOCK_LEN;
 use vt_fields::{put, put_u8, put_u16, put_u64, u16_at, u64_at};
 
 /// Writes the frame of a filter with this mark.
-pub fn encode(bits: &Bits, mark: u64, frame: &mut [u8])
+fn encode(bits: &Bits, mark: u64, frame: &mut [u8])
     requires { length frame.old ≡ frame_len bits.now.m }
     ensures written { frame.new ≡ spelled (record { filter = bits.now; mark = mark }) }
     ensures is { IsFrame (record { filter = bits.now; mark = mark }) frame.new }
@@ -23,6 +24,18 @@ pub fn encode(bits: &Bits, mark: u64, frame: &mut [u8])
     let (head, words) = frame.split_at_mut(BLOCK_LEN);
     encode_head(bits.m, bits.k, mark, head);
     write_words(&bits.words, words);
+}
+
+/// The frame of a filter with this mark, in the memory of one that is as long.
+pub fn encoded(bits: &Bits, mark: u64, memory: Bytes) -> Bytes
+    requires { length memory ≡ frame_len bits.now.m }
+    ensures written { result ≡ spelled (record { filter = bits.now; mark = mark }) }
+    ensures is { IsFrame (record { filter = bits.now; mark = mark }) result }
+    ensures whole { length result ≡ frame_len bits.now.m }
+{
+    let mut frame = memory.into_vec();
+    encode(bits, mark, &mut frame);
+    Bytes::from_vec(frame)
 }
 
 /// Writes the block before the words.

@@ -1,6 +1,6 @@
 //! Finding the filter that is saved on a device.
 
-ghost use Rattle.std.specs.Prelude.{◌≡◌, ◌⊎◌, ◌<◌, None, IsTrue, IfOk, IfErr, MatchResult, length, ⊤};
+ghost use Rattle.std.specs.Prelude.{◌≡◌, ◌⊎◌, ◌<◌, None, IsTrue, IfOk, IfErr, MatchResult, length, ⊤, false};
 ghost use Rattle.vt_base.specs.Faults.{CountsFault};
 ghost use Rattle.vt_disk.specs.Calls.{OnlyReads, MadeCalls, IsSynced};
 ghost use Rattle.vt_twin.specs.Sound.{IsSound as IsTwinSound};
@@ -19,7 +19,8 @@ use crate::bloom::Bloom;
 use crate::frame::{decode_head, read_words};
 use crate::size::{frame_len, largest, region};
 use std::alloc::Global;
-use vt_disk::{BLOCK_LEN, Disk};
+use vt_base::Bytes;
+use vt_disk::{BLOCK_LEN, CallCount, Disk};
 use vt_twin::Twin;
 
 /// Syncs the device, and finds the filter that is saved there. Its bits come back beside it. A
@@ -42,7 +43,8 @@ pub fn mount<D: Disk>(alloc: Global, disk: D) -> Result<(Bloom<D>, Bits), (Bloom
     // So much is known of a device that doesn't tell what it holds, too.
     ensures rest { IfOk result (λ it. it.0.twin.change ≡ None) }
     ensures next { IfOk result (λ it. it.0.next ≡ it.0.mark) }
-    ensures stopped { IfOk result (λ it. it.0.twin.stopped ≡ None) }
+    ensures runs { IfOk result (λ it. (it.0.calls.stopped ≡ None)
+        × (it.0.twin.failed ≡ false)) }
     ensures largest { IfOk result (λ it. IsLargest (D.size disk) it.0.m) }
     ensures filter { IfOk result (λ it. IsFilter it.1) }
     ensures counts { IfOk result (λ it. (it.1.m ≡ it.0.m) × (it.1.k ≡ it.0.k)) }
@@ -77,7 +79,8 @@ pub fn mount<D: Disk>(alloc: Global, disk: D) -> Result<(Bloom<D>, Bits), (Bloom
                 mark,
                 next: mark,
                 twin,
-                frame: Some(frame),
+                calls: CallCount::new(),
+                frame: Some(Bytes::from_vec(frame)),
             };
             Ok((bloom, bits))
         }

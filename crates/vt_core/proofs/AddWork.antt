@@ -200,7 +200,7 @@ module _ {D : Type 0} (score : List ℕ → List ℕ) (disk : DiskOf D) (k : Cor
   add_devices = ap (λ (ds : List D). record { partitions = k.log.disks; sections = ds; filter = map (λ b. b.disk) (option_to_list k.bloom) }) (map_set (λ t. t.section.disk) k.shards i new_shard s at refl)
 
   pub add_stops : stops_of after_adding ≡ stops_of k
-  add_stops = ap (λ (ss : List (Option ℕ)). with_ends k.log.stopped ss (map (λ b. b.twin.stopped) (option_to_list k.bloom))) (map_set (λ t. t.section.stopped) k.shards i new_shard s at refl)
+  add_stops = ap (λ (ss : List (Option ℕ)). with_ends k.log.stopped ss (map (λ b. b.calls.stopped) (option_to_list k.bloom))) (map_set (λ t. t.section.stopped) k.shards i new_shard s at refl)
 
   pub add_goes_on : IsWhole disk k → GoesOn disk k after_adding
   add_goes_on w = record {

@@ -5,20 +5,21 @@ use Rattle.std.specs.Option.{option_map, option_to_list}
 use Rattle.std.proofs.lemmas.List.{length-map, length-take}
 use Rattle.std.proofs.lemmas.Option.{same_Some}
 use Rattle.std.proofs.lemmas.Bool.{cases_lt}
-use Rattle.vt_twin.specs.Twin.{calls_made, is_fault}
+use Rattle.vt_twin.specs.Twin.{calls_made}
 use Rattle.vt_base.specs.declared.answer.Said.{Said}
 use Rattle.vt_base.specs.declared.answer.Said.TheVariants.{Score, Block, Synced, Refused}
 use Rattle.vt_base.specs.declared.why.Why.{Why}
 use Rattle.vt_base.specs.declared.why.Why.TheVariants.{BadType, TooBig, TooSmall, Absent, Collision, IndexFull, ArenasFull, DiskFault, Stopped, Damaged, NoMemory}
 use Rattle.vt_base.specs.Faults.{HasRisen, CountsFault}
 use Rattle.vt_disk.specs.Calls.{MadeCalls}
+use Rattle.vt_disk.specs.DeviceCalls.{is_fault}
 use Rattle.vt_disk.specs.Disk.{WithinCall}
 use Rattle.vt_disk.specs.Members.{DiskOf}
 use Rattle.vt_model.specs.History.{History, Accepted}
 use Rattle.vt_twin.specs.declared.step.Step.{Step}
 use Rattle.vt_twin.specs.declared.step.Step.TheVariants.{More, Done}
-use Rattle.vt_twin.specs.declared.step.TwinErr.{TwinErr}
-use Rattle.vt_twin.specs.declared.step.TwinErr.TheVariants as twin_err
+use Rattle.vt_disk.specs.declared.call.CallErr.{CallErr}
+use Rattle.vt_disk.specs.declared.call.CallErr.TheVariants as call_err
 use Rattle.vt_bloom.specs.Bits.{Filter, HasBitsOf}
 use Rattle.vt_bloom.specs.Bloom.{BloomState, IsSound as IsSoundBloom, saved_after, Advances as BloomAdvances}
 use Rattle.vt_bloom.specs.Frame.{Saved, Covers, HasSaved}
@@ -52,7 +53,7 @@ use Rattle.vt_core.proofs.ShardCall.{none_of}
 begun_disk : {D : Type 0} (bits : Filter) (durable : ℕ) (old begun : BloomState D) → IsBegun bits durable old begun → begun.disk ≡ old.disk
 begun_disk {D} bits durable old begun it = ⊎_elim (λ was. ap (λ (b : BloomState D). b.disk) was.1) (λ new. ap (λ (b : BloomState D). b.disk) new.2) it
 
-covers_after : (r : Result Step TwinErr) (saved coming : Saved) (scores : List (List ℕ)) → Covers scores saved → Covers scores coming → Covers scores (saved_after r saved coming)
+covers_after : (r : Result Step CallErr) (saved coming : Saved) (scores : List (List ℕ)) → Covers scores saved → Covers scores coming → Covers scores (saved_after r saved coming)
 covers_after (Ok More) saved coming scores old new = old
 covers_after (Ok Done) saved coming scores old new = new
 covers_after (Err e) saved coming scores old new = old
@@ -63,7 +64,7 @@ module _ {D : Type 0} (disk : DiskOf D) (bits : Filter) (durable : ℕ) (old : B
   StaysSound new = (score : List ℕ → List ℕ) (g : History) → IsTrue disk.tells → Covers (scores_of score g) (record { filter = bits; mark = durable })
       → IsSoundFilter score disk old g → IsSoundFilter score disk new g
 
-  pub save_soundly : (begun new : BloomState D) (r : Result Step TwinErr) → IsBegun bits durable old begun → IsSome begun.twin.change → StaysSound begun
+  pub save_soundly : (begun new : BloomState D) (r : Result Step CallErr) → IsBegun bits durable old begun → IsSome begun.twin.change → StaysSound begun
       → ((saved coming : Saved) → IsTrue disk.tells → IsSoundBloom begun saved coming (disk.bytes begun.disk) (disk.images begun.disk)
       → IsSoundBloom new (saved_after r saved coming) coming (disk.bytes new.disk) (disk.images new.disk))
       → ((saved coming : Saved) (scores : List (List ℕ)) → IsTrue disk.tells → IsSoundBloom begun saved coming (disk.bytes begun.disk) (disk.images begun.disk)
@@ -105,11 +106,11 @@ one_risen : (old new : ℕ) → HasRisen old new → OneHasRisen (old ∷ []) (n
 one_risen old new rose = risen_set (old ∷ []) 0 new (omega arith) rose
 
 module _ {D : Type 0} (disk : DiskOf D) (begun new : BloomState D) where
-  runs_on : (r : Result Step TwinErr) → ((n : ℕ) → (r ≡ Err (twin_err.Stopped n)) ↔ (begun.twin.stopped ≡ Some n)) → ((n : ℕ) → r ≢ Err (twin_err.Stopped n)) → begun.twin.stopped ≡ None
-  runs_on r stopped goes = none_of begun.twin.stopped (λ n is. goes n ((stopped n).1 is))
+  runs_on : (r : Result Step CallErr) → ((n : ℕ) → (r ≡ Err (call_err.Stopped n)) ↔ (begun.calls.stopped ≡ Some n)) → ((n : ℕ) → r ≢ Err (call_err.Stopped n)) → begun.calls.stopped ≡ None
+  runs_on r stopped goes = none_of begun.calls.stopped (λ n is. goes n ((stopped n).1 is))
 
-  pub save_calls : (r : Result Step TwinErr) → ((n : ℕ) → (r ≡ Err (twin_err.Stopped n)) ↔ (begun.twin.stopped ≡ Some n))
-      → (begun.twin.stopped ≡ None → MadeCalls disk 1 begun.disk new.disk) → (IsSome begun.twin.stopped → new.disk ≡ begun.disk)
+  pub save_calls : (r : Result Step CallErr) → ((n : ℕ) → (r ≡ Err (call_err.Stopped n)) ↔ (begun.calls.stopped ≡ Some n))
+      → (begun.calls.stopped ≡ None → MadeCalls disk 1 begun.disk new.disk) → (IsSome begun.calls.stopped → new.disk ≡ begun.disk)
       → CountsFault is_fault r (disk.faults begun.disk) (disk.faults new.disk) → disk.size new.disk ≡ disk.size begun.disk
       → CallsDevice disk (out_of_save r) (begun.disk ∷ []) (new.disk ∷ [])
   save_calls (Ok step) stopped made untouched faults size = record {
@@ -117,12 +118,12 @@ module _ {D : Type 0} (disk : DiskOf D) (begun new : BloomState D) where
     faults = ap (λ (n : ℕ). n ∷ []) faults;
     sizes = ap (λ (n : ℕ). n ∷ []) size;
   }
-  save_calls (Err twin_err.Fault) stopped made untouched faults size = record {
-    calls = one_called disk begun.disk new.disk (made (runs_on (Err twin_err.Fault) stopped (λ n e. cc)));
+  save_calls (Err call_err.Fault) stopped made untouched faults size = record {
+    calls = one_called disk begun.disk new.disk (made (runs_on (Err call_err.Fault) stopped (λ n e. cc)));
     faults = one_risen (disk.faults begun.disk) (disk.faults new.disk) faults;
     sizes = ap (λ (n : ℕ). n ∷ []) size;
   }
-  save_calls (Err (twin_err.Stopped n)) stopped made untouched faults size = record {
+  save_calls (Err (call_err.Stopped n)) stopped made untouched faults size = record {
     calls = ap (λ (d : D). d ∷ []) (untouched (subst (λ (o : Option ℕ). IsSome o) (sym ((stopped n).0 refl)) refl));
     faults = ap (λ (n : ℕ). n ∷ []) faults;
     sizes = ap (λ (n : ℕ). n ∷ []) size;
@@ -140,8 +141,8 @@ pub record KeepsSave {D : Type 0} (durable : ℕ) (out : Out) (old new : BloomSt
   pub mark : new.mark ≤ durable
   pub next : new.next ≤ durable
   pub made : calls_made new.twin ≤ 3
-  pub stay : (call : ℕ) → old.twin.stopped ≡ Some call → new.twin.stopped ≡ Some call
-  pub cause : out ≢ Failed DiskFault → new.twin.stopped ≡ old.twin.stopped
+  pub stay : (call : ℕ) → old.calls.stopped ≡ Some call → new.calls.stopped ≡ Some call
+  pub cause : out ≢ Failed DiskFault → new.calls.stopped ≡ old.calls.stopped
 
 one_call_more : (m : ℕ) → m ≤ 3 → (m ≡ 3 → ⊥) → m + 1 ≤ 3
 one_call_more m most other = ⊎_elim (λ low. omega (arith, low)) (λ high. absurd (other (omega (arith, most, high)))) (cases_lt m 3)
@@ -158,23 +159,23 @@ begun_made {D} bits durable old begun it made = ⊎_elim
     (λ new. subst (λ (b : BloomState D). calls_made b.twin ≤ 3) (sym new.2) (omega arith))
     it
 
-call_keeps : {D : Type 0} (durable : ℕ) (old new : BloomState D) (r : Result Step TwinErr) → old.mark ≤ durable → old.next ≤ durable → calls_made old.twin ≤ 3
-    → IfOk r (λ step. (step ≡ Done) ↔ (calls_made old.twin ≡ 3)) → ((n : ℕ) → (r ≡ Err (twin_err.Stopped n)) ↔ (old.twin.stopped ≡ Some n)) → BloomAdvances r old new → KeepsSave durable (out_of_save r) old new
+call_keeps : {D : Type 0} (durable : ℕ) (old new : BloomState D) (r : Result Step CallErr) → old.mark ≤ durable → old.next ≤ durable → calls_made old.twin ≤ 3
+    → IfOk r (λ step. (step ≡ Done) ↔ (calls_made old.twin ≡ 3)) → ((n : ℕ) → (r ≡ Err (call_err.Stopped n)) ↔ (old.calls.stopped ≡ Some n)) → BloomAdvances r old new → KeepsSave durable (out_of_save r) old new
 call_keeps {D} durable old new (Ok More) mark next made last stopped it =
     subst (λ (b : BloomState D). KeepsSave durable Moved old b) (sym it) (record { m = refl; k = refl; mark = mark; next = next; made = one_call_more (calls_made old.twin) made (λ e. let no : More ≡ Done = last.1 e in cc); stay = λ call is. is; cause = λ _. refl })
 call_keeps {D} durable old new (Ok Done) mark next made last stopped it =
     subst (λ (b : BloomState D). KeepsSave durable Moved old b) (sym it) (record { m = refl; k = refl; mark = next; next = next; made = omega arith; stay = λ call is. is; cause = λ _. refl })
-call_keeps {D} durable old new (Err twin_err.Fault) mark next made last stopped it =
+call_keeps {D} durable old new (Err call_err.Fault) mark next made last stopped it =
     subst (λ (b : BloomState D). KeepsSave durable (Failed DiskFault) old b) (sym it) (record {
       m = refl;
       k = refl;
       mark = mark;
       next = next;
       made = made;
-      stay = λ call is. let no : Err twin_err.Fault ≡ Err (twin_err.Stopped call) = (stopped call).1 is in absurd (cc);
+      stay = λ call is. let no : Err call_err.Fault ≡ Err (call_err.Stopped call) = (stopped call).1 is in absurd (cc);
       cause = λ other. absurd (other refl);
     })
-call_keeps {D} durable old new (Err (twin_err.Stopped n)) mark next made last stopped it =
+call_keeps {D} durable old new (Err (call_err.Stopped n)) mark next made last stopped it =
     subst (λ (b : BloomState D). KeepsSave durable (Failed (Stopped n)) old b) (sym it) (record { m = refl; k = refl; mark = mark; next = next; made = made; stay = λ call is. is; cause = λ _. refl })
 
 one_keeps : {D : Type 0} (bits : Filter) (durable : ℕ) (out : Out) (old new : BloomState D) → old.mark ≤ durable → old.next ≤ durable → calls_made old.twin ≤ 3 → SavesOne bits durable out old new → KeepsSave durable out old new
@@ -194,10 +195,10 @@ one_keeps {D} bits durable out old new mark next made it = ⊎_elim
     }))
     it
 
-save_is_work : (r : Result Step TwinErr) (old new : Machine) → new ≡ old → IsWork (out_of_save r) old new × IsUndamaged (out_of_save r)
+save_is_work : (r : Result Step CallErr) (old new : Machine) → new ≡ old → IsWork (out_of_save r) old new × IsUndamaged (out_of_save r)
 save_is_work (Ok step) old new same = (same, tt)
-save_is_work (Err twin_err.Fault) old new same = (same, tt)
-save_is_work (Err (twin_err.Stopped n)) old new same = (same, tt)
+save_is_work (Err call_err.Fault) old new same = (same, tt)
+save_is_work (Err (call_err.Stopped n)) old new same = (same, tt)
 
 one_is_work : {D : Type 0} (bits : Filter) (durable : ℕ) (out : Out) (before after : BloomState D) → SavesOne bits durable out before after → (old new : Machine) → new ≡ old → IsWork out old new × IsUndamaged out
 one_is_work bits durable out before after it old new same = ⊎_elim
@@ -339,17 +340,17 @@ module _ {D : Type 0} (score : List ℕ → List ℕ) (disk : DiskOf D) (k : Cor
       (none_or_one k.bits k.log.durable out k.bloom bloom saves)
 
   -- the stops of the filter, if there is one
-  filter_stay : (j call : ℕ) → slice_get (map (λ b. b.twin.stopped) (option_to_list k.bloom)) j ≡ Some (Some call) → slice_get (map (λ b. b.twin.stopped) (option_to_list bloom)) j ≡ Some (Some call)
+  filter_stay : (j call : ℕ) → slice_get (map (λ b. b.calls.stopped) (option_to_list k.bloom)) j ≡ Some (Some call) → slice_get (map (λ b. b.calls.stopped) (option_to_list bloom)) j ≡ Some (Some call)
   filter_stay j call = ⊎_elim
       (λ none.
-      subst (λ (o : Option (BloomState D)). slice_get (map (λ b. b.twin.stopped) (option_to_list o)) j ≡ Some (Some call) → slice_get (map (λ b. b.twin.stopped) (option_to_list bloom)) j ≡ Some (Some call)) (sym none.1)
+      subst (λ (o : Option (BloomState D)). slice_get (map (λ b. b.calls.stopped) (option_to_list o)) j ≡ Some (Some call) → slice_get (map (λ b. b.calls.stopped) (option_to_list bloom)) j ≡ Some (Some call)) (sym none.1)
       (λ at. absurd (cc)))
       (λ it.
       let was = w.filter it.0 it.2 in
       let keeps = one_keeps k.bits k.log.durable out it.0 it.1 was.mark was.next was.made it.4 in
-      subst (λ (o : Option (BloomState D)). slice_get (map (λ b. b.twin.stopped) (option_to_list o)) j ≡ Some (Some call) → slice_get (map (λ b. b.twin.stopped) (option_to_list bloom)) j ≡ Some (Some call)) (sym it.2)
-      (subst (λ (o : Option (BloomState D)). slice_get (it.0.twin.stopped ∷ []) j ≡ Some (Some call) → slice_get (map (λ b. b.twin.stopped) (option_to_list o)) j ≡ Some (Some call)) (sym it.3)
-      (single_stays it.0.twin.stopped it.1.twin.stopped keeps.stay j call)))
+      subst (λ (o : Option (BloomState D)). slice_get (map (λ b. b.calls.stopped) (option_to_list o)) j ≡ Some (Some call) → slice_get (map (λ b. b.calls.stopped) (option_to_list bloom)) j ≡ Some (Some call)) (sym it.2)
+      (subst (λ (o : Option (BloomState D)). slice_get (it.0.calls.stopped ∷ []) j ≡ Some (Some call) → slice_get (map (λ b. b.calls.stopped) (option_to_list o)) j ≡ Some (Some call)) (sym it.3)
+      (single_stays it.0.calls.stopped it.1.calls.stopped keeps.stay j call)))
       (none_or_one k.bits k.log.durable out k.bloom bloom saves)
 
   -- something of the filter that a save leaves, if there is one
@@ -369,10 +370,10 @@ module _ {D : Type 0} (score : List ℕ → List ℕ) (disk : DiskOf D) (k : Cor
 
   filter_stops : KeepsStops out k (record k { bloom = bloom })
   filter_stops = record {
-    stay = λ j call at. stays_behind (k.log.stopped ∷ map (λ s. s.section.stopped) k.shards) (map (λ b. b.twin.stopped) (option_to_list k.bloom)) (map (λ b. b.twin.stopped) (option_to_list bloom)) call
+    stay = λ j call at. stays_behind (k.log.stopped ∷ map (λ s. s.section.stopped) k.shards) (map (λ b. b.calls.stopped) (option_to_list k.bloom)) (map (λ b. b.calls.stopped) (option_to_list bloom)) call
         (λ n. filter_stay n call) j at;
     cause = λ other.
-        let f : BloomState D → Option ℕ = λ b. b.twin.stopped in
+        let f : BloomState D → Option ℕ = λ b. b.calls.stopped in
         let same : map f (option_to_list bloom) ≡ map f (option_to_list k.bloom) =
         list_of f bloom ∙ ap option_to_list (filter_same f (λ before after keeps. keeps.cause other)) ∙ sym (list_of f k.bloom) in
         ap (λ (ss : List (Option ℕ)). k.log.stopped ∷ (map (λ s. s.section.stopped) k.shards ++ ss)) same;

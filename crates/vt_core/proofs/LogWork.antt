@@ -291,7 +291,7 @@ module _ {D : Type 0} (disk : DiskOf D) (k : CoreState D) (l : LogState D) where
   log_undamaged (Err (Stopped n)) = tt
 
   stops_same : l.stopped ≡ k.log.stopped → stops_of (record k { log = l }) ≡ stops_of k
-  stops_same same = ap (λ (s : Option ℕ). s ∷ (map (λ t. t.section.stopped) k.shards ++ map (λ b. b.twin.stopped) (option_to_list k.bloom))) same
+  stops_same same = ap (λ (s : Option ℕ). s ∷ (map (λ t. t.section.stopped) k.shards ++ map (λ b. b.calls.stopped) (option_to_list k.bloom))) same
 
   kept_stops : (out : Out) → l.stopped ≡ k.log.stopped → KeepsStops out k (record k { log = l })
   kept_stops out same = let e = stops_same same in record { stay = λ i call at. ap (λ (ss : List (Option ℕ)). slice_get ss i) e ∙ at; cause = λ _. e }

@@ -234,13 +234,13 @@ module _ {D : Type 0} (score : List ℕ → List ℕ) (disk : DiskOf D) (devices
   none_stopped : All (λ stop. stop ≡ None) (stops_of k)
   none_stopped = All-from_recursion (λ stop. stop ≡ None) (stops_of k) (
     still_mounted.stopped,
-    recursion_append (λ stop. stop ≡ None) (map (λ s. s.section.stopped) shards) (map (λ b. b.twin.stopped) (option_to_list bloom))
+    recursion_append (λ stop. stop ≡ None) (map (λ s. s.section.stopped) shards) (map (λ b. b.calls.stopped) (option_to_list bloom))
         (by_recursion (λ stop. stop ≡ None) (map (λ s. s.section.stopped) shards) (λ i o at.
         let s = slice_get_other shards (map (λ s. s.section.stopped) shards) i o (length-map shards (λ s. s.section.stopped)) at in
         same_Some o s.0.section.stopped (sym at ∙ at_map (λ s. s.section.stopped) shards i s.0 s.1) ∙ (all.rest i s.0 s.1).quiet.stopped))
-        (by_recursion (λ stop. stop ≡ None) (map (λ b. b.twin.stopped) (option_to_list bloom)) (λ i o at.
-        let b = slice_get_other (option_to_list bloom) (map (λ b. b.twin.stopped) (option_to_list bloom)) i o (length-map (option_to_list bloom) (λ b. b.twin.stopped)) at in
-        same_Some o b.0.twin.stopped (sym at ∙ at_map (λ b. b.twin.stopped) (option_to_list bloom) i b.0 b.1) ∙ (opened_filter b.0 (only_one bloom i b.0 b.1)).2.goes)),
+        (by_recursion (λ stop. stop ≡ None) (map (λ b. b.calls.stopped) (option_to_list bloom)) (λ i o at.
+        let b = slice_get_other (option_to_list bloom) (map (λ b. b.calls.stopped) (option_to_list bloom)) i o (length-map (option_to_list bloom) (λ b. b.calls.stopped)) at in
+        same_Some o b.0.calls.stopped (sym at ∙ at_map (λ b. b.calls.stopped) (option_to_list bloom) i b.0 b.1) ∙ (opened_filter b.0 (only_one bloom i b.0 b.1)).2.goes)),
   )
 
   room_at : (i : ℕ) (s : ShardState D) → slice_get shards i ≡ Some s → HasRoomOf sizes s

@@ -198,7 +198,7 @@ module _ {D : Type 0} (score : List ℕ → List ℕ) (disk : DiskOf D) (k : Cor
   }
 
   pub same_stops : stops_of after_reads ≡ stops_of k
-  same_stops = ap (λ (ss : List (Option ℕ)). with_ends k.log.stopped ss (map (λ b. b.twin.stopped) (option_to_list k.bloom)))
+  same_stops = ap (λ (ss : List (Option ℕ)). with_ends k.log.stopped ss (map (λ b. b.calls.stopped) (option_to_list k.bloom)))
       (map_set (λ t. t.section.stopped) k.shards i new s at (ap (λ (t : SectionState D). t.stopped) reads.section))
 
   pub reads_stops : (out : Out) → KeepsStops out k after_reads

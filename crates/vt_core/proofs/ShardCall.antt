@@ -185,11 +185,11 @@ module _ {D : Type 0} (score : List ℕ → List ℕ) (disk : DiskOf D) (k : Cor
   shard_counts (Err (Stopped n)) same = counts_same disk.faults same
 
   -- a stop
-  stops_are : stops_of (record k { shards = slice_set k.shards i after }) ≡ with_ends k.log.stopped (slice_set (map (λ s. s.section.stopped) k.shards) i after.section.stopped) (map (λ b. b.twin.stopped) (option_to_list k.bloom))
-  stops_are = ap (λ (ss : List (Option ℕ)). with_ends k.log.stopped ss (map (λ b. b.twin.stopped) (option_to_list k.bloom))) (map_over_set (λ s. s.section.stopped) k.shards i after)
+  stops_are : stops_of (record k { shards = slice_set k.shards i after }) ≡ with_ends k.log.stopped (slice_set (map (λ s. s.section.stopped) k.shards) i after.section.stopped) (map (λ b. b.calls.stopped) (option_to_list k.bloom))
+  stops_are = ap (λ (ss : List (Option ℕ)). with_ends k.log.stopped ss (map (λ b. b.calls.stopped) (option_to_list k.bloom))) (map_over_set (λ s. s.section.stopped) k.shards i after)
 
   same_stops : after.section.stopped ≡ before.section.stopped → stops_of (record k { shards = slice_set k.shards i after }) ≡ stops_of k
-  same_stops same = ap (λ (ss : List (Option ℕ)). with_ends k.log.stopped ss (map (λ b. b.twin.stopped) (option_to_list k.bloom)))
+  same_stops same = ap (λ (ss : List (Option ℕ)). with_ends k.log.stopped ss (map (λ b. b.calls.stopped) (option_to_list k.bloom)))
       (map_set (λ s. s.section.stopped) k.shards i after before at same)
 
   kept_stops : (out : Out) → after.section.stopped ≡ before.section.stopped → KeepsStops out k (record k { shards = slice_set k.shards i after })
@@ -200,7 +200,7 @@ module _ {D : Type 0} (score : List ℕ → List ℕ) (disk : DiskOf D) (k : Cor
   others_stay none (suc j) call here =
       let there : slice_get (map (λ s. s.section.stopped) k.shards) i ≡ Some None = at_map (λ s. s.section.stopped) k.shards i before at ∙ ap Some none in
       ap (λ (ss : List (Option ℕ)). slice_get ss (suc j)) stops_are
-      ∙ stays_front (map (λ s. s.section.stopped) k.shards) (slice_set (map (λ s. s.section.stopped) k.shards) i after.section.stopped) (map (λ b. b.twin.stopped) (option_to_list k.bloom)) call
+      ∙ stays_front (map (λ s. s.section.stopped) k.shards) (slice_set (map (λ s. s.section.stopped) k.shards) i after.section.stopped) (map (λ b. b.calls.stopped) (option_to_list k.bloom)) call
       (length-set (map (λ s. s.section.stopped) k.shards) i after.section.stopped)
       (λ n is. stays_set (map (λ s. s.section.stopped) k.shards) i n call after.section.stopped there is) j here
 

@@ -165,7 +165,7 @@ module _ {D : Type 0} (score : List ℕ → List ℕ) (disk : DiskOf D) (k : Cor
         (map_set (λ s. s.section.disk) k.shards i after before at same_disk)
 
     same_stops : stops_of (record k { shards = slice_set k.shards i after }) ≡ stops_of k
-    same_stops = ap (λ (ss : List (Option ℕ)). with_ends k.log.stopped ss (map (λ b. b.twin.stopped) (option_to_list k.bloom)))
+    same_stops = ap (λ (ss : List (Option ℕ)). with_ends k.log.stopped ss (map (λ b. b.calls.stopped) (option_to_list k.bloom)))
         (map_set (λ s. s.section.stopped) k.shards i after before at same_stop)
 
     pub quiet_steps : GivesPrefix disk → IsWhole disk k → (IsTrue disk.tells → (h : History) → IsSoundShard score (setup_of k) disk before h k.log.durable → IsSoundShard score (setup_of k) disk after h k.log.durable) → (event : Event) (out : Out)

@@ -58,4 +58,4 @@ each_of member k = map member (all_of (devices_of k))
 -- and the filter
 abbrev pub stops_of : {D : Type 0} → CoreState D → List (Option ℕ)
 stops_of k = k.log.stopped ∷ (map (λ s. s.section.stopped) k.shards
-    ++ map (λ b. b.twin.stopped) (option_to_list k.bloom))
+    ++ map (λ b. b.calls.stopped) (option_to_list k.bloom))

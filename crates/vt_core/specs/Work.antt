@@ -6,8 +6,8 @@ use Rattle.vt_base.specs.declared.why.Why.TheVariants.{DiskFault, Stopped}
 use Rattle.vt_disk.specs.Members.{DiskOf}
 use Rattle.vt_twin.specs.declared.step.Step.{Step}
 use Rattle.vt_twin.specs.declared.step.Step.TheVariants.{Done}
-use Rattle.vt_twin.specs.declared.step.TwinErr.{TwinErr}
-use Rattle.vt_twin.specs.declared.step.TwinErr.TheVariants as twin_err
+use Rattle.vt_disk.specs.declared.call.CallErr.{CallErr}
+use Rattle.vt_disk.specs.declared.call.CallErr.TheVariants as call_err
 use Rattle.vt_twin.specs.Twin.{calls_made}
 use Rattle.vt_log.specs.Committing.{TakesStep as LogTakesStep}
 use Rattle.vt_log.specs.declared.bad.Progress.{Progress}
@@ -47,10 +47,10 @@ pub record AdvancesLog {D : Type 0} (disk : DiskOf D) (out : Out) (old new : Cor
 
 -- ---- the saved filter
 
-abbrev pub out_of_save : Result Step TwinErr → Out
+abbrev pub out_of_save : Result Step CallErr → Out
 out_of_save (Ok step) = Moved
-out_of_save (Err twin_err.Fault) = Failed DiskFault
-out_of_save (Err (twin_err.Stopped call)) = Failed (Stopped call)
+out_of_save (Err call_err.Fault) = Failed DiskFault
+out_of_save (Err (call_err.Stopped call)) = Failed (Stopped call)
 
 -- the filter as a call finds it: where no save is under way, one of all durable blocks begins
 abbrev pub IsBegun : {D : Type 0} → (bits : Filter) → (durable : ℕ) → (old begun : BloomState D)
@@ -68,13 +68,13 @@ IsSaved durable b = (b.twin.change ≡ None) × (b.mark ≡ durable)
 pub record Saves {D : Type 0} (bits : Filter) (durable : ℕ) (out : Out) (old new : BloomState D)
     : Type 0 where
   pub begun : BloomState D
-  pub answer : Result Step TwinErr
+  pub answer : Result Step CallErr
   pub begins : IsBegun bits durable old begun
   pub made : calls_made begun.twin ≤ 3
   pub advances : BloomAdvances answer begun new
   pub done : IfOk answer (λ step. (step ≡ Done) ↔ (calls_made begun.twin ≡ 3))
   pub stopped : (call : ℕ)
-      → (answer ≡ Err (twin_err.Stopped call)) ↔ (begun.twin.stopped ≡ Some call)
+      → (answer ≡ Err (call_err.Stopped call)) ↔ (begun.calls.stopped ≡ Some call)
   pub out_is : out ≡ out_of_save answer
 
 abbrev pub SavesOne : {D : Type 0} → (bits : Filter) → (durable : ℕ) → Out

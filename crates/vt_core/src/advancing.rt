@@ -16,9 +16,9 @@ use crate::laws::crash_gives_a_prefix;
 use crate::store::Core;
 use vt_base::{Scorer, Why};
 use vt_bloom::{Bits, Bloom};
-use vt_disk::Disk;
+use vt_disk::{CallErr, Disk};
 use vt_log::{LogErr, Progress};
-use vt_twin::{Step, TwinErr};
+use vt_twin::Step;
 
 impl<D: Disk, S: Scorer> Core<D, S> {
     ghost use Rattle.vt_core.specs.Steps.{Steps};
@@ -114,12 +114,12 @@ fn begin_save<D: Disk>(bloom: &mut Bloom<D>, bits: &Bits, durable: u64) -> bool
 }
 
 /// What a call of a save gives.
-fn out_of_save(answer: Result<Step, TwinErr>) -> Out
+fn out_of_save(answer: Result<Step, CallErr>) -> Out
     ensures { result ≡ out_of_save answer }
 {
     match answer {
         Ok(_) => Out::Moved,
-        Err(TwinErr::Fault) => Out::Failed(Why::DiskFault),
-        Err(TwinErr::Stopped(call)) => Out::Failed(Why::Stopped(call)),
+        Err(CallErr::Fault) => Out::Failed(Why::DiskFault),
+        Err(CallErr::Stopped(call)) => Out::Failed(Why::Stopped(call)),
     }
 }

@@ -1,7 +1,7 @@
 -- What one call after another did to a disk.
 use Rattle.std.specs.Prelude.{Result, Ok, Err, OnErr}
-use Rattle.std.proofs.Common.{◌≡◌, ℕ, ◌+◌, ◌-◌, ◌^◌, ◌≤◌, IsTrue, List, sym, ◌∙◌, arith}
-use Rattle.vt_disk.specs.Disk.{SameBut, ChangesAt, AreAmong}
+use Rattle.std.proofs.Common.{ℕ, ◌+◌, ◌≤◌, IsTrue, List, ◌∙◌, arith}
+use Rattle.vt_disk.specs.Disk.{ChangesAt, AreAmong}
 use Rattle.vt_disk.specs.Calls.{OnlyReads, WritesAt, MadeCalls}
 use Rattle.vt_disk.specs.Members.{DiskOf}
 use Rattle.vt_disk.proofs.Bytes.{same_refl, same_then, same_wider}

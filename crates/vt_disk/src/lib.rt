@@ -1,10 +1,12 @@
 //! A disk: what a read gives, and what a crash may leave.
 #![tactic(auto)]
 
+mod call;
 mod disk;
 mod laws;
 mod region;
 
+pub use call::{Call, CallCount, CallErr};
 pub use disk::Disk;
 pub use laws::moments_within_calls;
 pub use region::Region;

@@ -1,12 +1,14 @@
 //! A bounded part of a disk.
 
-ghost use Rattle.std.specs.Prelude.{◌≡◌, ◌+◌, ◌≤◌, length, IsTrue, OnOk};
+ghost use Rattle.std.specs.Prelude.{◌≡◌, ◌+◌, ◌^◌, ◌<◌, ◌≤◌, length, IsTrue, OnOk};
 ghost use Rattle.vt_base.specs.Faults.{HasCause};
 ghost use Rattle.vt_disk.specs.Calls.{OnlyReads, WritesAt, MadeCalls};
+ghost use Rattle.vt_disk.specs.DeviceCalls.{call_of};
+ghost use Rattle.vt_disk.specs.DeviceCalls.DeviceCall.{write};
 ghost use Rattle.vt_disk.specs.Disk.{Touches, part, with_bytes, AreAmong};
 ghost use Rattle.vt_disk.specs.Region.{FitsDisk};
 
-use crate::Disk;
+use crate::{Call, Disk};
 use vt_base::Failed;
 
 /// A bounded part of a disk, as two numbers. What works on it is handed the disk beside it, so that
@@ -20,6 +22,17 @@ pub struct Region {
 }
 
 impl Region {
+    /// The call that writes from a place in the region on, counted from its start.
+    pub fn write_call<'a>(self, at: u64, chunk: &'a [u8]) -> Call<'a>
+        requires { self.start + at < 2 ^ 64 }
+        ensures { call_of result ≡ write (self.start + at) chunk.now }
+    {
+        Call::Write {
+            start: self.start + at,
+            chunk,
+        }
+    }
+
     /// Reads from a place in the region, counted from its start.
     pub fn read_at<D: Disk>(self, disk: &mut D, at: u64, buf: &mut [u8]) -> Result<(), Failed>
         requires region { FitsDisk self (D.size disk.old) }

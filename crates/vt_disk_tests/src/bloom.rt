@@ -7,10 +7,10 @@ use std::alloc::Global;
 use std::test::Fail;
 use vt_base::Score;
 use vt_bloom::{Bits, Bloom, BloomBad, Field, exponent, format, mount, positions};
-use vt_disk::Disk;
+use vt_disk::{CallErr, Disk};
 use vt_memdisk::CrashMode;
 use vt_rows::Rows;
-use vt_twin::{Step, TwinErr};
+use vt_twin::Step;
 
 /// Two frames of 16,384 bytes and a selector of 8,192.
 const LEN: u64 = 40_960;
@@ -60,14 +60,14 @@ fn mounted<D: Disk + Drop>(alloc: Global, disk: D) -> Result<Told, BloomBad> {
 /// is much less work than for one on a device.
 trait Saves {
     /// Makes one device call of the save: None where none is under way.
-    fn step(&mut self) -> Option<Result<Step, TwinErr>>;
+    fn step(&mut self) -> Option<Result<Step, CallErr>>;
 
     /// Whether a save is under way, the number of the call that stopped it, and the mark.
     fn standing(&self) -> (bool, Option<u64>, u64);
 }
 
 impl<D: Disk> Saves for Bloom<D> {
-    fn step(&mut self) -> Option<Result<Step, TwinErr>> {
+    fn step(&mut self) -> Option<Result<Step, CallErr>> {
         if !self.saving() {
             return None;
         }
@@ -80,7 +80,7 @@ impl<D: Disk> Saves for Bloom<D> {
 }
 
 /// Makes so many device calls and one further. None where one before that doesn't give More.
-fn step_after<F: Saves>(filter: &mut F, calls: u64) -> Option<Result<Step, TwinErr>> {
+fn step_after<F: Saves>(filter: &mut F, calls: u64) -> Option<Result<Step, CallErr>> {
     for _ in 0..calls {
         if filter.step() != Some(Ok(Step::More)) {
             return None;
@@ -90,9 +90,9 @@ fn step_after<F: Saves>(filter: &mut F, calls: u64) -> Option<Result<Step, TwinE
 }
 
 /// What comes of a save that ends with this call: the answer to it, and how the save stands then.
-fn end(call: u64, fails: bool) -> (Option<Result<Step, TwinErr>>, (bool, Option<u64>, u64)) {
+fn end(call: u64, fails: bool) -> (Option<Result<Step, CallErr>>, (bool, Option<u64>, u64)) {
     if fails {
-        (Some(Err(TwinErr::Fault)), (true, Some(call), 0))
+        (Some(Err(CallErr::Fault)), (true, Some(call), 0))
     } else if call < 3 {
         (Some(Ok(Step::More)), (true, None, 0))
     } else {
@@ -106,7 +106,7 @@ fn stop<F: Saves>(rows: &mut Rows, row: usize, filter: &mut F, call: u64, fails:
     let last = step_after(filter, call);
     rows.nth(row, "the answer to the last call", last == answer);
     if fails {
-        let is_stopped = filter.step() == Some(Err(TwinErr::Stopped(call)));
+        let is_stopped = filter.step() == Some(Err(CallErr::Stopped(call)));
         rows.nth(row, "the answer behind a call that failed", is_stopped);
     }
     let stands = filter.standing() == standing;

@@ -2,13 +2,13 @@
 //!
 //! All is said of any disk, which is much less work to prove than for one in memory.
 
-ghost use Rattle.std.specs.Prelude.{◌≡◌};
+ghost use Rattle.std.specs.Prelude.{◌≡◌, IsSome, true};
 
 use crate::disks::{FailingDisk, Made, NEVER, left_in, read};
 use std::alloc::Global;
 use std::test::Fail;
 use vt_base::Bytes;
-use vt_disk::{Disk, Region};
+use vt_disk::{CallCount, Disk, Region};
 use vt_memdisk::CrashMode;
 use vt_rows::Rows;
 use vt_twin::{Step, Twin, TwinErr, format, mount};
@@ -44,20 +44,22 @@ trait Changes {
     /// The current frame, if it can be read.
     fn frame(&mut self) -> Option<Frame>;
 
-    /// The number of the call that stopped a change.
-    fn stopped(&self) -> Option<u64>;
+    /// The count of its calls.
+    fn calls(&self) -> CallCount;
 
     /// The buffer that is handed back.
     fn idle(&mut self) -> Option<Bytes>;
 }
 
-/// A disk with a twin, and the twin.
+/// A disk with a twin, the twin, and the count of its calls.
 #[derive(Drop)]
 struct Rig<D: Disk> {
     disk: D,
     twin: Twin,
+    calls: CallCount,
     ghost sized: { D.size disk ≡ 2560 },
     ghost len: { twin.frame_len ≡ 512 },
+    ghost lent: { twin.failed ≡ true → IsSome calls.stopped },
 }
 
 impl<D: Disk + Drop> Rig<D> {
@@ -78,7 +80,11 @@ impl<D: Disk + Drop> Rig<D> {
             return None;
         }
         match mount(&mut disk, REGION, 512) {
-            Ok(twin) => Some(Rig { disk, twin }),
+            Ok(twin) => Some(Rig {
+                disk,
+                twin,
+                calls: CallCount::new(),
+            }),
             Err(_) => None,
         }
     }
@@ -100,7 +106,7 @@ impl<D: Disk + Drop> Changes for Rig<D> {
         if !self.twin.is_changing() {
             return None;
         }
-        Some(self.twin.advance(&mut self.disk, REGION))
+        Some(self.twin.advance(&mut self.calls, &mut self.disk, REGION))
     }
 
     fn frame(&mut self) -> Option<Frame> {
@@ -110,8 +116,8 @@ impl<D: Disk + Drop> Changes for Rig<D> {
         Some(frame)
     }
 
-    fn stopped(&self) -> Option<u64> {
-        self.twin.stopped()
+    fn calls(&self) -> CallCount {
+        self.calls
     }
 
     fn idle(&mut self) -> Option<Bytes> {
@@ -134,11 +140,15 @@ fn step_after<T: Changes>(twin: &mut T, calls: u64) -> Option<Result<Step, TwinE
 /// further then, and leaves the old frame.
 fn stop<T: Changes>(rows: &mut Rows, row: usize, twin: &mut T, call: u64, fails: bool) {
     let last = step_after(twin, call);
+    let count = CallCount {
+        made: call.saturating_add(1),
+        stopped: if fails { Some(call) } else { None },
+    };
+    rows.nth(row, "the count of the calls", twin.calls() == count);
     if !fails {
         rows.nth(row, "the last call is made", matches!(last, Some(Ok(_))));
         return;
     }
-    let stopped = twin.stopped();
     let again = twin.step();
     let frame = twin.frame();
     rows.nth(
@@ -148,11 +158,10 @@ fn stop<T: Changes>(rows: &mut Rows, row: usize, twin: &mut T, call: u64, fails:
     );
     rows.nth(
         row,
-        "the number of the call that failed",
-        stopped == Some(call),
+        "the answer behind a call that failed",
+        again == Some(Err(TwinErr::Stopped(call))),
     );
-    let is_stopped = again == Some(Err(TwinErr::Stopped(call)));
-    rows.nth(row, "the answer behind a call that failed", is_stopped);
+    rows.nth(row, "the count behind it", twin.calls() == count);
     rows.nth(
         row,
         "the frame behind a call that failed",
@@ -188,7 +197,6 @@ fn see_resumed(rows: &mut Rows, row: usize, selector: u8, current: u8) {
     rows.nth(row, "the current frame", twin.current() == current);
     rows.nth(row, "no change is under way", !twin.is_changing());
     rows.nth(row, "no buffer is there", twin.idle().is_none());
-    rows.nth(row, "no call failed", twin.stopped() == None);
     rows.nth(row, "no call is left", twin.calls_left() == 0);
 }
 
@@ -214,7 +222,11 @@ fn stopped<D: Disk + Drop>(
     let mut rig = Rig::new(disk)?;
     rows.nth(row, "the change begins", rig.begin(alloc, &NEW));
     stop(rows, row, &mut rig, call, fails);
-    let Rig { disk, twin: _ } = rig;
+    let Rig {
+        disk,
+        twin: _,
+        calls: _,
+    } = rig;
     Some(disk)
 }
 
@@ -281,7 +293,11 @@ fn change_twice<D: FailingDisk>(rows: &mut Rows, alloc: Global) -> Option<()> {
     change(rows, 0, alloc, &mut rig, &NEW);
     let number = rig.twin.current();
     change(rows, 1, alloc, &mut rig, &NEXT);
-    let Rig { mut disk, twin: _ } = rig;
+    let Rig {
+        mut disk,
+        twin: _,
+        calls: _,
+    } = rig;
     rows.is("the frame behind the first change", number == 1);
     rows.is("the disk's bytes", read(&mut disk, 0) == Some(changed()));
     Some(())

@@ -89,7 +89,7 @@ stops_stay {D} old new many stay p has = ⊎_elim
     (Contains-append_cases (if_stopped log old.log.stopped) (section_stops 0 (stops_at old.shards)) p has)
   where
     filter_of : CoreState D → List (Option ℕ)
-    filter_of k = map (λ (b : BloomState D). b.twin.stopped) (option_to_list k.bloom)
+    filter_of k = map (λ (b : BloomState D). b.calls.stopped) (option_to_list k.bloom)
 
     shard_stays : (i call : ℕ) → slice_get (stops_at old.shards) i ≡ Some (Some call) → slice_get (stops_at new.shards) i ≡ Some (Some call)
     shard_stays i call at =

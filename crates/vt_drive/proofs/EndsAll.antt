@@ -178,16 +178,16 @@ step_ends {D} score disk (FileAdvance shard) why old mid new own step rose =
     to_ends disk why (IsStoppedAt shard old) old new rose
     (λ call is. (
       suc shard,
-      get_left (map (λ (s : ShardState D). s.section.stopped) old.shards) (map (λ (b : BloomState D). b.twin.stopped) (option_to_list old.bloom)) shard (Some call)
+      get_left (map (λ (s : ShardState D). s.section.stopped) old.shards) (map (λ (b : BloomState D). b.calls.stopped) (option_to_list old.bloom)) shard (Some call)
           (at_map (λ (s : ShardState D). s.section.stopped) old.shards shard is.0 is.1 ∙ ap Some is.2),
     ))
     (shard_fails disk shard why old mid step.does)
 step_ends {D} score disk BloomAdvance why old mid new own step rose =
-    to_ends disk why (λ call. (b : BloomState D) × (old.bloom ≡ Some b) × (b.twin.stopped ≡ Some call)) old new rose
+    to_ends disk why (λ call. (b : BloomState D) × (old.bloom ≡ Some b) × (b.calls.stopped ≡ Some call)) old new rose
     (λ call is. (
       suc (length (map (λ (s : ShardState D). s.section.stopped) old.shards) + 0),
-      behind_front (map (λ (s : ShardState D). s.section.stopped) old.shards) (map (λ (b : BloomState D). b.twin.stopped) (option_to_list old.bloom)) 0 (Some call)
-          (ap (λ (o : Option (BloomState D)). slice_get (map (λ (b : BloomState D). b.twin.stopped) (option_to_list o)) 0) is.1 ∙ ap Some is.2),
+      behind_front (map (λ (s : ShardState D). s.section.stopped) old.shards) (map (λ (b : BloomState D). b.calls.stopped) (option_to_list old.bloom)) 0 (Some call)
+          (ap (λ (o : Option (BloomState D)). slice_get (map (λ (b : BloomState D). b.calls.stopped) (option_to_list o)) 0) is.1 ∙ ap Some is.2),
     ))
     (filter_fails why old mid step.does)
 step_ends score disk (FileBegin shard) why old mid new own step rose = absurd step.does.changes

@@ -8,8 +8,8 @@ use Rattle.vt_bloom.specs.Bloom.{BloomState, Advances as BloomAdvances}
 use Rattle.vt_twin.specs.Twin.{Change, TwinState, calls_made}
 use Rattle.vt_twin.specs.declared.step.Step.{Step}
 use Rattle.vt_twin.specs.declared.step.Step.TheVariants.{More, Done}
-use Rattle.vt_twin.specs.declared.step.TwinErr.{TwinErr}
-use Rattle.vt_twin.specs.declared.step.TwinErr.TheVariants as twin_err
+use Rattle.vt_disk.specs.declared.call.CallErr.{CallErr}
+use Rattle.vt_disk.specs.declared.call.CallErr.TheVariants as call_err
 use Rattle.vt_core.specs.declared.event.Out.{Out}
 use Rattle.vt_core.specs.declared.event.Out.TheVariants.{Moved, Nothing}
 use Rattle.vt_core.specs.Core.{CoreState}
@@ -27,10 +27,10 @@ filter_left durable (Some b) = save_left durable b b.twin.change
 
 -- ---- what a call gives
 
-save_out : (answer : Result Step TwinErr) → IsWorkOut (out_of_save answer)
+save_out : (answer : Result Step CallErr) → IsWorkOut (out_of_save answer)
 save_out (Ok step) = tt
-save_out (Err twin_err.Fault) = tt
-save_out (Err (twin_err.Stopped call)) = tt
+save_out (Err call_err.Fault) = tt
+save_out (Err (call_err.Stopped call)) = tt
 
 pub filter_gives : {D : Type 0} (bits : Filter) (durable : ℕ) (out : Out) (old new : Option (BloomState D)) → SavesIn bits durable out old new → IsWorkOut out
 filter_gives bits durable out None new it = subst IsWorkOut (sym it.0) tt
@@ -38,10 +38,10 @@ filter_gives bits durable out (Some b) new it = ⊎_elim
     (λ rests. subst IsWorkOut (sym rests.1) tt)
     (λ s. subst IsWorkOut (sym s.out_is) (save_out s.answer)) it.2
 
-not_nothing : (answer : Result Step TwinErr) → Nothing ≡ out_of_save answer → ⊥
+not_nothing : (answer : Result Step CallErr) → Nothing ≡ out_of_save answer → ⊥
 not_nothing (Ok step) is = cc
-not_nothing (Err twin_err.Fault) is = cc
-not_nothing (Err (twin_err.Stopped call)) is = cc
+not_nothing (Err call_err.Fault) is = cc
+not_nothing (Err (call_err.Stopped call)) is = cc
 
 -- where nothing was done the filter is saved
 pub filter_idle : {D : Type 0} (bits : Filter) (durable : ℕ) (old new : Option (BloomState D)) → SavesIn bits durable Nothing old new → (b : BloomState D) → new ≡ Some b → IsSaved durable b
@@ -118,11 +118,11 @@ module _ {D : Type 0} (bits : Filter) (durable : ℕ) (old begun new : BloomStat
       absurd (omega (arith, zero, done.0 refl)))
       begins
 
-by_answer : {D : Type 0} (bits : Filter) (durable : ℕ) (old new : BloomState D) → (s : Saves bits durable Moved old new) → (r : Result Step TwinErr) → Moved ≡ out_of_save r
+by_answer : {D : Type 0} (bits : Filter) (durable : ℕ) (old new : BloomState D) → (s : Saves bits durable Moved old new) → (r : Result Step CallErr) → Moved ≡ out_of_save r
     → IfOk r (λ step. (step ≡ Done) ↔ (calls_made s.begun.twin ≡ 3)) → BloomAdvances r s.begun new → LeavesLess durable old new
 by_answer bits durable old new s (Ok step) is done it = by_step bits durable old s.begun new s.made s.begins step done it
-by_answer bits durable old new s (Err twin_err.Fault) is done it = absurd (cc)
-by_answer bits durable old new s (Err (twin_err.Stopped call)) is done it = absurd (cc)
+by_answer bits durable old new s (Err call_err.Fault) is done it = absurd (cc)
+by_answer bits durable old new s (Err (call_err.Stopped call)) is done it = absurd (cc)
 
 one_less : {D : Type 0} (bits : Filter) (durable : ℕ) (old new : BloomState D) → SavesOne bits durable Moved old new → LeavesLess durable old new
 one_less bits durable old new it = ⊎_elim

@@ -22,8 +22,8 @@ use Rattle.vt_log.specs.Answers.{Advances as LogAdvances}
 use Rattle.vt_model.specs.Places.{Setup, section_of_score}
 use Rattle.vt_shard.specs.Shard.{ShardState}
 use Rattle.vt_twin.specs.declared.step.Step.{Step}
-use Rattle.vt_twin.specs.declared.step.TwinErr.{TwinErr}
-use Rattle.vt_twin.specs.declared.step.TwinErr.TheVariants as twin_err
+use Rattle.vt_disk.specs.declared.call.CallErr.{CallErr}
+use Rattle.vt_disk.specs.declared.call.CallErr.TheVariants as call_err
 use Rattle.vt_core.specs.declared.event.Out.TheVariants.{Failed}
 use Rattle.vt_core.specs.Asking.{shard_of, stop_for}
 use Rattle.vt_core.specs.Core.{CoreState, setup_of, stops_of}
@@ -101,20 +101,20 @@ shard_fails {D} disk shard why old new it = ⊎_elim
     shard_why call.0 why (IsStoppedAt shard old) call.4 (λ n is. (it.before, it.at, (call.1.stopped n).0 is)) call.2.names)
     it.changes
 
-save_why : (answer : Result Step TwinErr) (why : Why) (stopped : ℕ → Type 0) → Failed why ≡ out_of_save answer → ((n : ℕ) → answer ≡ Err (twin_err.Stopped n) → stopped n) → IsWhy why stopped
+save_why : (answer : Result Step CallErr) (why : Why) (stopped : ℕ → Type 0) → Failed why ≡ out_of_save answer → ((n : ℕ) → answer ≡ Err (call_err.Stopped n) → stopped n) → IsWhy why stopped
 save_why (Ok step) why stopped is stops = absurd (cc)
-save_why (Err twin_err.Fault) why stopped is stops = subst (λ (w : Why). IsWhy w stopped) (sym (failed_is why DiskFault is)) tt
-save_why (Err (twin_err.Stopped n)) why stopped is stops = subst (λ (w : Why). IsWhy w stopped) (sym (failed_is why (Stopped n) is)) (stops n refl)
+save_why (Err call_err.Fault) why stopped is stops = subst (λ (w : Why). IsWhy w stopped) (sym (failed_is why DiskFault is)) tt
+save_why (Err (call_err.Stopped n)) why stopped is stops = subst (λ (w : Why). IsWhy w stopped) (sym (failed_is why (Stopped n) is)) (stops n refl)
 
-begun_stop : {D : Type 0} (bits : Filter) (durable : ℕ) (old begun : BloomState D) → IsBegun bits durable old begun → begun.twin.stopped ≡ old.twin.stopped
-begun_stop {D} bits durable old begun it = ⊎_elim (λ was. ap (λ (b : BloomState D). b.twin.stopped) was.1) (λ new. ap (λ (b : BloomState D). b.twin.stopped) new.2) it
+begun_stop : {D : Type 0} (bits : Filter) (durable : ℕ) (old begun : BloomState D) → IsBegun bits durable old begun → begun.calls.stopped ≡ old.calls.stopped
+begun_stop {D} bits durable old begun it = ⊎_elim (λ was. ap (λ (b : BloomState D). b.calls.stopped) was.1) (λ new. ap (λ (b : BloomState D). b.calls.stopped) new.2) it
 
 pub filter_fails : {D : Type 0} (why : Why) (old new : CoreState D) → SavesFilter (Failed why) old new
-    → IsWhy why (λ call. (b : BloomState D) × (old.bloom ≡ Some b) × (b.twin.stopped ≡ Some call))
+    → IsWhy why (λ call. (b : BloomState D) × (old.bloom ≡ Some b) × (b.calls.stopped ≡ Some call))
 filter_fails {D} why old new it = by_filter old.bloom refl it.saves
   where
     by_filter : (o : Option (BloomState D)) → old.bloom ≡ o → SavesIn old.bits old.log.durable (Failed why) o new.bloom
-        → IsWhy why (λ call. (b : BloomState D) × (old.bloom ≡ Some b) × (b.twin.stopped ≡ Some call))
+        → IsWhy why (λ call. (b : BloomState D) × (old.bloom ≡ Some b) × (b.calls.stopped ≡ Some call))
     by_filter None is saves = absurd (let no = saves.0 in cc)
     by_filter (Some b) is saves = ⊎_elim
         (λ rests. absurd (let no = rests.1 in cc))
@@ -140,7 +140,7 @@ pub shard_stops_same : {D : Type 0} (old new : CoreState D) → stops_of new ≡
     → map (λ (s : ShardState D). s.section.stopped) new.shards ≡ map (λ (s : ShardState D). s.section.stopped) old.shards
 shard_stops_same {D} old new same many =
     let f : ShardState D → Option ℕ = λ s. s.section.stopped in
-    let rest : map f new.shards ++ map (λ (b : BloomState D). b.twin.stopped) (option_to_list new.bloom) ≡ map f old.shards ++ map (λ (b : BloomState D). b.twin.stopped) (option_to_list old.bloom) = cc in
+    let rest : map f new.shards ++ map (λ (b : BloomState D). b.calls.stopped) (option_to_list new.bloom) ≡ map f old.shards ++ map (λ (b : BloomState D). b.calls.stopped) (option_to_list old.bloom) = cc in
     front_same (map f new.shards) (map f old.shards) _ _ (omega (arith, length-map new.shards f, length-map old.shards f, many)) rest
 
 stop_in : {D : Type 0} (xs : List (ShardState D)) (i : ℕ) → option_and_then (λ (s : ShardState D). s.section.stopped) (slice_get xs i) ≡ option_and_then (λ (o : Option ℕ). o) (slice_get (map (λ (s : ShardState D). s.section.stopped) xs) i)

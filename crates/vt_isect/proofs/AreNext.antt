@@ -71,10 +71,6 @@ abbrev pub AreOwn : (total bucket : ℕ) → List Entry → Type 0
 AreOwn total bucket entries = (entry : Entry) → Contains entries entry
     → bucket_of total entry.key.score.0 ≡ bucket
 
-pub own_none : (total bucket : ℕ) (xs : List Entry) → xs ≡ [] → AreOwn total bucket xs
-own_none total bucket xs none entry has =
-    absurd (none_of entry (subst (λ (l : List Entry). Contains l entry) none has))
-
 pub own_more : (total bucket : ℕ) (front : List Entry) (y : Entry)
     → bucket_of total y.key.score.0 ≡ bucket → AreOwn total bucket front
     → AreOwn total bucket (front ++ y ∷ [])

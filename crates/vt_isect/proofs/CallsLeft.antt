@@ -1,5 +1,5 @@
 -- How many device calls are left.
-use Rattle.std.proofs.Common.{◌≡◌, ◌≢◌, ⊎_elim, ℕ, ◌+◌, ◌-◌, ◌*◌, ◌%◌, ◌<◌, ◌≤◌, List, [], ◌∷◌, length, length-append, Option, Some, None, Result, Ok, Err, refl, ap, arith}
+use Rattle.std.proofs.Common.{◌≡◌, ⊎_elim, ℕ, ◌+◌, ◌-◌, ◌*◌, ◌%◌, ◌<◌, ◌≤◌, List, [], ◌∷◌, length, length-append, Option, Some, None, Result, Ok, Err, refl, ap, arith}
 use Rattle.std.specs.Prelude.{IfErr, OnOk}
 use Rattle.std.specs.Option.{option_map_or}
 use Rattle.vt_twin.specs.Twin.{Change, TwinState, calls_made}
@@ -143,23 +143,6 @@ begun_left t entries begins is =
     let none = there.4 in
     omega (arith, left, none))
     begins
-
-pub head_left : {D : Type 0} (t : SectionState D) → t.phase ≡ ChangeHead → calls_made t.head_twin ≡ 0
-    → calls_left t ≡ 4
-head_left t is none = let left = left_as t ChangeHead is in omega (arith, left, none)
-
--- something is under way where calls are left
-pub some_left : {D : Type 0} (t : SectionState D) (q : Phase) → t.phase ≡ q
-    → (q ≡ ChangeHead → calls_made t.head_twin < 4) → q ≢ Rest → 0 < calls_left t
-some_left t Rest is head other = absurd (other refl)
-some_left t ReadSelector is head other = let left = left_as t ReadSelector is in omega (arith, left)
-some_left t (ReadFrame s) is head other = let left = left_as t (ReadFrame s) is in omega (arith, left)
-some_left t (WriteFrame s) is head other = let left = left_as t (WriteFrame s) is in omega (arith, left)
-some_left t SyncFrames is head other = let left = left_as t SyncFrames is in omega (arith, left)
-some_left t (WriteSelector j) is head other = let left = left_as t (WriteSelector j) is in omega (arith, left)
-some_left t SyncSelectors is head other = let left = left_as t SyncSelectors is in omega (arith, left)
-some_left t ChangeHead is head other =
-    let left = left_as t ChangeHead is in let low = head refl in omega (arith, left, low)
 
 pub none_left : {D : Type 0} (t : SectionState D) → t.phase ≡ Rest → calls_left t ≡ 0
 none_left t is = left_as t Rest is

@@ -1,5 +1,6 @@
 -- A key has one block and one entry, and entries of different keys are counted by their blocks.
 use Rattle.std.proofs.Common.{◌≡◌, ◌≢◌, ⊎_elim, ℕ, zero, suc, ◌+◌, ◌≤◌, ◌==◌, Bool, true, false, cond, eqb, List, [], ◌∷◌, length, get_or, Some, refl, sym, ◌∙◌, ap, subst, arith}
+use Rattle.std.proofs.lemmas.Option.{same_Some}
 use Rattle.std.specs.Prelude.{slice_get}
 use Rattle.std.specs.Option.{option_map}
 use Rattle.std.specs.List.{AllPairs, Contains, count_by}
@@ -20,9 +21,6 @@ use Rattle.vt_isect.proofs.Merges.{decide_keys, cons_cases, in_cons}
 
 -- ---- one key
 
-some_one : {X : Type 0} (a b : X) → Some a ≡ Some b → a ≡ b
-some_one a b e = cc
-
 pub one_entry : (score : List ℕ → List ℕ) (c : Setup) (h : History) (i j : ℕ) (a b : Entry)
     → AllPairs (HasOtherKey score) h → IsEntryOf score c h i a → IsEntryOf score c h j b
     → a.key ≡ b.key → (i ≡ j) × (a ≡ b)
@@ -31,9 +29,9 @@ one_entry score c h i j a b keys one two key =
     let here : StandsAt c h j one.block one.spot =
     subst (λ (k : ℕ). StandsAt c h k one.block one.spot) same one.stands in
     let block : one.block ≡ two.block =
-    some_one one.block two.block (sym here.block ∙ two.stands.block) in
+    same_Some one.block two.block (sym here.block ∙ two.stands.block) in
     let spot : one.spot ≡ two.spot =
-    some_one one.spot two.spot (sym here.place ∙ two.stands.place) in
+    same_Some one.spot two.spot (sym here.place ∙ two.stands.place) in
     let size : a.size ≡ b.size =
     one.size_is ∙ ap (λ (x : Accepted). length x.block.bytes) block ∙ sym two.size_is in
     let arena : a.place.arena ≡ b.place.arena =
@@ -172,7 +170,7 @@ module _ (key_of : Accepted → Key) (p : Accepted → Bool) where
           → (p x ≡ true → entry.key ≢ key_of x)
           → (i : ℕ) × (y : Accepted) × Passes p xs i y × (entry.key ≡ key_of y)
       behind entry (zero, y, passes, is) not_first =
-          let same : x ≡ y = some_one x y passes.0 in
+          let same : x ≡ y = same_Some x y passes.0 in
           absurd (not_first (ap p same ∙ passes.1) (is ∙ sym (ap key_of same)))
       behind entry (suc i, y, passes, is) not_first = (i, y, passes, is)
 
@@ -248,6 +246,6 @@ module _ (score : List ℕ → List ℕ) (c : Setup) (h : History) (n : ℕ) (en
         bucket_is = eqb-true _ n passes.1;
       } in
       let it = has i at in
-      let same : it.2.block ≡ x = some_one it.2.block x (sym it.2.stands.block ∙ passes.0) in
+      let same : it.2.block ≡ x = same_Some it.2.block x (sym it.2.stands.block ∙ passes.0) in
       (it.0, it.1, key_is i it.0 it.2 ∙ ap key_in same)) in
       omega (arith, most, least)

@@ -1,5 +1,6 @@
 -- Buckets that are written whole: what a read gives of them, and what stands behind the next sync.
 use Rattle.std.proofs.Common.{◌≡◌, ◌≢◌, ◌⊎◌, inl, inr, ⊎_elim, ℕ, zero, suc, ◌+◌, ◌-◌, ◌*◌, ◌%◌, ◌<◌, ◌≤◌, Bool, true, false, cond, List, [], length, Option, Some, None, min, ◌^◌, IsTrue, refl, sym, ◌∙◌, ap, subst, arith}
+use Rattle.std.proofs.lemmas.Option.{same_Some}
 use Rattle.std.specs.Prelude.{IsSome, nat_le, nat_lt, ◌&&◌}
 use Rattle.std.specs.List.{Contains}
 use Rattle.std.proofs.lemmas.Bool.{cases_eq, cases_lt, le-leb, leb-true}
@@ -30,9 +31,6 @@ use Rattle.vt_isect.proofs.WithBucket.{settled_holds, with_here, with_there}
 use Rattle.vt_isect.proofs.Places.{one_place, head_apart, places_apart}
 use Rattle.vt_twin.proofs.Sound.{reads_sound}
 use Rattle.vt_isect.proofs.IsReadFrom.{reads_known}
-
-some_same : (a b : List Entry) → Some a ≡ Some b → a ≡ b
-some_same a b e = cc
 
 -- a read that gives this gives what is known
 abbrev pub ReadsAt : {D : Type 0} → SectionState D → Known → (read : List ℕ) → Type 0
@@ -243,7 +241,7 @@ pub reads_filled : {D : Type 0} (t : SectionState D) (d : D) (n : ℕ) (region :
     → ReadsAt (record t { disk = d }) (with_bucket n (Some entries) known) reads
 reads_filled t d n region entries known read reads in_it place same spelled were k list within is = ⊎_elim
     (λ (here : k ≡ n).
-    let e : entries ≡ list = some_same entries list (sym (ap (with_bucket n (Some entries) known) here ∙ with_here known n (Some entries)) ∙ is) in (
+    let e : entries ≡ list = same_Some entries list (sym (ap (with_bucket n (Some entries) known) here ∙ with_here known n (Some entries)) ∙ is) in (
       region,
       subst (λ (m : ℕ). IsPlaceOf (m - t.head.first) region) (sym here) place,
       subst (λ (m : ℕ). IsFrame m list (current_frame region 8192 reads)) (sym here)
@@ -282,7 +280,7 @@ agrees_building score c h t d known knows agrees waits next whole blocks = recor
 }
 
 none_in : (entries : List Entry) (entry : Entry) → Some entries ≡ Some [] → ¬ Contains entries entry
-none_in entries entry e has = let none : length entries ≡ 0 = ap (λ (l : List Entry). length l) (some_same entries [] e) in omega (arith, none, has.1)
+none_in entries entry e has = let none : length entries ≡ 0 = ap (λ (l : List Entry). length l) (same_Some entries [] e) in omega (arith, none, has.1)
 
 pub agrees_filled : {D : Type 0} (score : List ℕ → List ℕ) (c : Setup) (h : History) (t : SectionState D) (d : D) (n : ℕ) (filled : List Entry) (known : Known)
     → KnownAgrees score c h t known → t.head.state ≢ 1 → t.next ≡ t.head
@@ -296,7 +294,7 @@ agrees_filled score c h t d n filled known agrees waits next of =
     (cases_eq k n))
     (λ k entries entry within is has. ⊎_elim
     (λ (here : k ≡ n).
-    let e : filled ≡ entries = some_same filled entries (sym (ap (with_bucket n (Some filled) known) here ∙ with_here known n (Some filled)) ∙ is) in
+    let e : filled ≡ entries = same_Some filled entries (sym (ap (with_bucket n (Some filled) known) here ∙ with_here known n (Some filled)) ∙ is) in
     let it = of entry (subst (λ (l : List Entry). Contains l entry) (sym e) has) in
     (it.0, it.1 ∙ sym here))
     (λ (there : k ≢ n). agrees.blocks k entries entry within (sym (with_there known n k (Some filled) there) ∙ is) has)

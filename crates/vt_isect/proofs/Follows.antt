@@ -1,10 +1,9 @@
 -- What the steps of a writeback keep.
-use Rattle.std.proofs.Common.{◌≡◌, ◌⊎◌, inl, inr, ⊎_elim, ℕ, ◌+◌, ◌-◌, ◌%◌, ◌<◌, List, get_or, drop, Result, refl, sym, ◌∙◌, ap, subst, arith, lit<}
+use Rattle.std.proofs.Common.{◌≡◌, ◌⊎◌, inl, inr, ⊎_elim, ℕ, ◌+◌, ◌%◌, ◌<◌, List, get_or, drop, Result, Ok, Err, refl, sym, ◌∙◌, ap, subst, arith, lit<}
+use Rattle.std.specs.Prelude.{IsErrAnd}
 use Rattle.std.proofs.lemmas.List.{get_or-take, get_or-drop}
 use Rattle.vt_disk.specs.declared.region.Region.{Region}
-use Rattle.vt_disk.specs.Disk.{AreAmong, ChangesAt, SameBut, part}
-use Rattle.vt_disk.specs.Region.{Inside}
-use Rattle.vt_disk.proofs.Bytes.{same_refl, same_wider}
+use Rattle.vt_disk.specs.Disk.{part}
 use Rattle.vt_twin.specs.Frames.{named_number}
 use Rattle.std.specs.List.{Contains}
 use Rattle.vt_base.specs.declared.place.Entry.{Entry}
@@ -12,14 +11,14 @@ use Rattle.vt_model.specs.History.{History}
 use Rattle.vt_model.specs.Places.{Setup}
 use Rattle.vt_twin.specs.declared.step.Step.{Step}
 use Rattle.vt_isect.specs.declared.bad.ShardErr.{ShardErr}
+use Rattle.vt_isect.specs.declared.bad.ShardErr.TheVariants.{Fault}
 use Rattle.vt_isect.specs.declared.head.Head.{Head}
-use Rattle.vt_isect.specs.declared.phase.Phase.{Phase}
-use Rattle.vt_isect.specs.declared.phase.Phase.TheVariants.{ReadFrame, WriteFrame, ChangeHead}
+use Rattle.vt_isect.specs.declared.phase.Phase.TheVariants.{ReadFrame}
 use Rattle.vt_isect.specs.Agreement.{IsCovered, NoOthers, KnownAgrees}
-use Rattle.vt_isect.specs.Layout.{head_place, InRange, IsPlaceOf}
+use Rattle.vt_isect.specs.Layout.{InRange, IsPlaceOf}
 use Rattle.vt_isect.specs.Section.{SectionState, IsTodo}
 use Rattle.vt_isect.specs.Sound.{Known, IsSoundSection}
-use Rattle.vt_isect.specs.Writeback.{Completes, Follows, MayWrite, NextPhase}
+use Rattle.vt_isect.specs.Writeback.{Completes, Follows}
 use Rattle.vt_isect.proofs.Places.{one_place}
 
 -- a step keeps what is known, by what a read gives and what a crash may leave before it and after it
@@ -106,26 +105,7 @@ selector_read number k j file place region here there low named phases =
     let same = same_selector number k phases in
     ap (λ (r : Region). named_number r 8192 file) (one_place j region place there here) ∙ sym named ∙ (let e : number ≡ k % 2 = omega (arith, same, low) in e)
 
--- the phase behind a known one
-pub next_of : {D : Type 0} (q : Phase) (t u : SectionState D) → t.phase ≡ q → NextPhase q t u → NextPhase t.phase t u
-next_of q t u is next = subst (λ (p : Phase). NextPhase p t u) (sym is) next
-
--- a read changes nothing
-pub reads_within : (P : ℕ → Type 0) (images after : List ℕ → Type 0) → AreAmong after images → ChangesAt P images after
-reads_within P images after among c left = (c, among c left, same_refl P c)
-
-pub bytes_within : (P : ℕ → Type 0) (read reads : List ℕ) → reads ≡ read → SameBut P read reads
-bytes_within P read reads same = subst (λ (l : List ℕ). SameBut P read l) (sym same) (same_refl P read)
-
--- and a write in a place nothing elsewhere
-pub images_wider : (P Q : ℕ → Type 0) → ((i : ℕ) → P i → Q i) → (images after : List ℕ → Type 0) → ChangesAt P images after → ChangesAt Q images after
-images_wider P Q wider images after changes c left =
-    let it = changes c left in
-    (it.0, it.1, same_wider P Q wider it.0 c it.2)
-
-pub place_written : {D : Type 0} (t : SectionState D) (region : Region) (s : ℕ) → t.phase ≡ WriteFrame s → IsPlaceOf (t.bucket - t.head.first) region
-    → (i : ℕ) → Inside region i → MayWrite t.phase t i
-place_written t region s phase place i inside = subst (λ (p : Phase). MayWrite p t i) (sym phase) (region, place, inside)
-
-pub head_written : {D : Type 0} (t : SectionState D) → t.phase ≡ ChangeHead → (i : ℕ) → Inside head_place i → MayWrite t.phase t i
-head_written t phase i inside = subst (λ (p : Phase). MayWrite p t i) (sym phase) inside
+-- a fault that is handed on
+pub fault_of : (r : Result Step ShardErr) → IsErrAnd r (λ bad. bad ≡ Fault) → Err Fault ≡ r
+fault_of (Ok step) is = absurd is
+fault_of (Err bad) is = ap (λ (b : ShardErr). Err b) (sym is)

@@ -1,11 +1,12 @@
 -- Marks that are covered stay so.
 use Rattle.std.proofs.Common.{◌≡◌, ◌⊎◌, inl, inr, ⊎_elim, ℕ, ◌+◌, ◌<◌, ◌≤◌, List, drop, take, Option, Some, None, Result, Ok, Err, refl, sym, ◌∙◌, ap, subst, arith}
+use Rattle.std.proofs.lemmas.Option.{same_Some}
 use Rattle.std.specs.Prelude.{IsSome, OnOk}
 use Rattle.std.specs.List.{Contains}
 use Rattle.std.proofs.lemmas.Bool.{false≢true}
 use Rattle.vt_base.specs.declared.place.Entry.{Entry}
-use Rattle.vt_model.specs.History.{History, Accepted}
-use Rattle.vt_model.specs.Places.{Setup, bucket_of, bucket_count}
+use Rattle.vt_model.specs.History.{History}
+use Rattle.vt_model.specs.Places.{Setup}
 use Rattle.vt_twin.specs.Twin.{with_change}
 use Rattle.vt_twin.specs.declared.step.Step.{Step}
 use Rattle.vt_twin.specs.declared.step.Step.TheVariants.{More, Done}
@@ -17,7 +18,7 @@ use Rattle.vt_isect.specs.Agreement.{IsEntryOf, HasBlock, IsInBucket, IsCovered,
 use Rattle.vt_isect.specs.Entries.{EntriesState, items_of}
 use Rattle.vt_isect.specs.Head.{encoded}
 use Rattle.vt_isect.specs.Layout.{InRange}
-use Rattle.vt_isect.specs.Section.{SectionState, HasGroup, IsChanging, IsGroup, IsOfGroup, IsTodo, PutsEntries, bucket_number, entries_of}
+use Rattle.vt_isect.specs.Section.{SectionState, HasGroup, IsChanging, IsGroup, IsOfGroup, IsTodo, PutsEntries, entries_of}
 use Rattle.vt_isect.specs.Sound.{Known}
 use Rattle.vt_isect.specs.Writeback.{Advances, BeginsBehind, BeginsGroup, BeginsHead, Completes, Follows, GoesOn, KeepsCovered, NextPhase}
 use Rattle.vt_isect.proofs.AgreesWith.{merged_has}
@@ -25,6 +26,7 @@ use Rattle.vt_isect.proofs.AreNext.{group_or_behind, none_behind}
 use Rattle.vt_isect.proofs.BeginsBehind.{Begins, no_entries}
 use Rattle.vt_isect.proofs.Follows.{covers_more}
 use Rattle.vt_isect.proofs.IsRead.{read_puts}
+use Rattle.vt_isect.proofs.KnownAgrees.{its_bucket}
 use Rattle.vt_isect.proofs.Members.{Groups}
 use Rattle.vt_isect.proofs.WithinCall.{Stands, stands, completes_or}
 
@@ -33,23 +35,6 @@ use Rattle.vt_isect.proofs.WithinCall.{Stands, stands, completes_or}
 module _ {D : Type 0} (score : List ℕ → List ℕ) (c : Setup) (h : History) (t u : SectionState D)
     (known knows : Known) (agrees : KnownAgrees score c h t known)
     (group : Groups t) where
-  some_same : (a b : List Entry) → Some a ≡ Some b → a ≡ b
-  some_same a b e = cc
-
-  -- an entry of a block is of the block's bucket
-  its_bucket : (n i : ℕ) (entry : Entry) → IsEntryOf score c h i entry → IsInBucket score c h n i
-      → bucket_number t entry ≡ n
-  its_bucket n i entry of at =
-      let same : of.block ≡ at.block =
-      one_block of.block at.block (sym of.stands.block ∙ at.stands.block) in
-      ap (λ (k : ℕ). bucket_of k entry.key.score.0) agrees.total
-      ∙ ap (bucket_of (bucket_count c)) of.score_is
-      ∙ ap (λ (a : Accepted). bucket_of (bucket_count c) (score a.block.bytes)) same
-      ∙ at.bucket_is
-    where
-      one_block : (x y : Accepted) → Some x ≡ Some y → x ≡ y
-      one_block x y e = cc
-
   module _ (result : Result Step ShardErr) (steps : Advances result t u)
       (follows : Follows result t u known knows) where
     -- each of the others is put into the bucket that is completed, or is among more
@@ -96,7 +81,7 @@ module _ {D : Type 0} (score : List ℕ → List ℕ) (c : Setup) (h : History) 
             by None was some = absurd (false≢true some)
             by (Some old) was some =
                 let new = follows.merged n old first done was in
-                let same : new.0 ≡ entries = some_same new.0 entries (sym new.1 ∙ is) in
+                let same : new.0 ≡ entries = same_Some new.0 entries (sym new.1 ∙ is) in
                 let it = cover.has n i old within was below at in
                 let put : Contains old it.0 ⊎ IsOfGroup t n it.0
                 → HasBlock score c h (λ entry. Contains entries entry ⊎ more entry) i =
@@ -166,7 +151,7 @@ module _ {D : Type 0} (score : List ℕ → List ℕ) (c : Setup) (h : History) 
       let it = group (subst PutsEntries (sym is) tt) in
       ⊎_elim
       (λ (has : Contains (drop t.written (take t.framed (entries_of t))) entry).
-      let number = its_bucket n i entry of at in
+      let number = its_bucket score c h t known agrees n i entry of at in
       inl ((refl, is, subst (IsChanging t) number (it.own entry has)), (has, number)))
       (λ (todo : IsTodo u entry). inr todo)
       (behind_todo it (it.whole (subst HasGroup (sym is) tt)).1 goes next entry way)

@@ -1,6 +1,6 @@
 -- A writeback finds no damage while buckets have room.
-use Rattle.std.proofs.Common.{◌≡◌, ◌≢◌, ◌⊎◌, inl, inr, ⊎_elim, ℕ, ◌-◌, ◌%◌, ◌≤◌, List, Option, Some, None, refl, sym, ◌∙◌, ap, subst, arith}
-use Rattle.std.specs.Prelude.{IsSome}
+use Rattle.std.proofs.Common.{◌≡◌, ◌≢◌, ◌⊎◌, inl, inr, ⊎_elim, ℕ, ◌-◌, ◌%◌, ◌≤◌, List, Option, Some, None, Result, Ok, Err, IsTrue, refl, sym, ◌∙◌, ap, subst, arith}
+use Rattle.std.specs.Prelude.{IsSome, IfErr}
 use Rattle.std.specs.List.{Contains}
 use Rattle.std.proofs.lemmas.Bool.{false≢true}
 use Rattle.vt_base.specs.declared.place.Entry.{Entry}
@@ -9,9 +9,9 @@ use Rattle.vt_bucket.proofs.Frames.{accepted, one_frame}
 use Rattle.vt_disk.specs.declared.region.Region.{Region}
 use Rattle.vt_model.specs.History.{History}
 use Rattle.vt_model.specs.Places.{Setup, bucket_of, bucket_count, crowd}
-use Rattle.vt_twin.specs.Frames.{frame_of, named_number}
-use Rattle.vt_twin.specs.Twin.{fresh}
-use Rattle.vt_twin.specs.Sound.{IsSound, HasBegunSelector}
+use Rattle.vt_disk.specs.Members.{DiskOf}
+use Rattle.vt_twin.specs.declared.step.Step.{Step}
+use Rattle.vt_twin.specs.Frames.{frame_of}
 use Rattle.vt_isect.specs.declared.bad.ShardErr.{ShardErr}
 use Rattle.vt_isect.specs.declared.bad.ShardErr.TheVariants.{Fault, Damaged, Stopped}
 use Rattle.vt_isect.specs.declared.phase.Phase.TheVariants.{ReadFrame}
@@ -19,12 +19,12 @@ use Rattle.vt_isect.specs.Agreement.{IsOfBlock, KnownAgrees}
 use Rattle.vt_isect.specs.Layout.{IsPlaceOf, InRange}
 use Rattle.vt_isect.specs.Merging.{IsDamage, IsFaulty, IsOverfull, Joined}
 use Rattle.vt_isect.specs.Section.{SectionState, HasBucket, IsGroup, PutsEntries, bucket_number, entering, entries_of}
-use Rattle.vt_isect.specs.Sound.{Known, IsSoundSection}
+use Rattle.vt_isect.specs.Sound.{Known, DiskHolds, IsSoundSection}
+use Rattle.vt_isect.specs.Writeback.{Advances, FindsDamage}
 use Rattle.vt_isect.proofs.AreNext.{behind, of_group}
 use Rattle.vt_isect.proofs.Crowd.{blocks_most}
-use Rattle.vt_isect.proofs.Members.{under_way_apart}
-use Rattle.vt_twin.proofs.Changes.{begun_bound, none_made}
-use Rattle.vt_twin.proofs.Sound.{rests_fresh}
+use Rattle.vt_isect.proofs.Joining.{names_current}
+use Rattle.vt_isect.proofs.Members.{Groups}
 
 module _ {D : Type 0} (score : List ℕ → List ℕ) (c : Setup) (h : History) (t : SectionState D)
     (known : Known) (agrees : KnownAgrees score c h t known) (s : ℕ) (phase : t.phase ≡ ReadFrame s)
@@ -45,23 +45,9 @@ module _ {D : Type 0} (score : List ℕ → List ℕ) (c : Setup) (h : History) 
       × IsFrame t.bucket entries (frame_of region 8192 (s % 2) read)
   frame_known entries read images is_image sound is =
       let it = sound.bucket t.bucket entries within is in
-      let none = it.rest (under_way_apart t group has_bucket) in
-      let few : ¬ HasBegunSelector it.twin = λ begun.
-      omega (arith, begun, begun_bound it.twin, none_made it.twin none) in
-      let named : named_number it.region 8192 read ≡ it.twin.current =
-      ap (λ (k : ℕ). named_number it.region k read) (sym it.frame_len)
-      ∙ it.sound.named few read is_image in
-      let current : it.twin.current ≡ s % 2 =
-      sym named ∙ sound.selector s phase it.region it.place in
-      let rests : IsSound (fresh 8192 (s % 2)) it.region it.frame read images =
-      subst (λ (k : ℕ). IsSound (fresh 8192 k) it.region it.frame read images) current
-      (subst (λ (k : ℕ). IsSound (fresh k it.twin.current) it.region it.frame read images)
-      it.frame_len (rests_fresh it.twin it.region it.frame read images none it.sound)) in (
-        it.region,
-        it.place,
-        subst (λ (f : List ℕ). IsFrame t.bucket entries f) (sym (rests.kept read is_image))
-            it.spelled,
-      )
+      let current = (names_current t (s % 2) entries read images group has_bucket is_image (sound.selector s phase) it).1 in
+      let at : frame_of it.region it.twin.frame_len it.twin.current read ≡ frame_of it.region 8192 (s % 2) read = λ i. frame_of it.region (it.frame_len i) (current i) read in
+      (it.region, it.place, subst (λ (f : List ℕ). IsFrame t.bucket entries f) (sym (it.sound.kept read is_image) ∙ at) it.spelled)
 
   -- what the bucket has and gets are blocks of it
   joined_blocks : (entries : List Entry) → known t.bucket ≡ Some entries → (entry : Entry)
@@ -92,23 +78,31 @@ module _ {D : Type 0} (score : List ℕ → List ℕ) (c : Setup) (h : History) 
       omega (arith, most, keys.count_is, room, full.4))
       damage
 
-  pub no_damage : (read : List ℕ) (images : List ℕ → Type 0) → images read
+  no_damage : (read : List ℕ) (images : List ℕ → Type 0) → images read
       → IsSoundSection t known read images
       → ((n : ℕ) → crowd score (bucket_count c) h n ≤ 263) → (bad : ShardErr)
-      → (bad ≢ Fault → (frame : List ℕ) × IsDamage t.bucket (entering t) frame bad
+      → (frame : List ℕ) × IsDamage t.bucket (entering t) frame bad
       × ((region : Region) → IsPlaceOf (t.bucket - t.head.first) region
-      → frame ≡ frame_of region 8192 (s % 2) read))
-      → (bad ≡ Fault) ⊎ ((n : ℕ) × (bad ≡ Stopped n))
-  no_damage read images is_image sound room Fault damaged = inl refl
-  no_damage read images is_image sound room (Stopped n) damaged = inr (n, refl)
-  no_damage read images is_image sound room (Damaged n want found) damaged =
-      absurd (by (known t.bucket) refl (agrees.whole t.bucket within))
+      → frame ≡ frame_of region 8192 (s % 2) read)
+      → ⊥
+  no_damage read images is_image sound room bad it = by (known t.bucket) refl (agrees.whole t.bucket within)
     where
       by : (o : Option (List Entry)) → known t.bucket ≡ o → IsSome o → ⊥
       by None is some = false≢true some
       by (Some entries) is some =
-          let it = damaged (λ e. cc) in
           let at = frame_known entries read images is_image sound is in
-          not_damaged it.0 (Damaged n want found) entries is
+          not_damaged it.0 bad entries is
           (subst (λ (f : List ℕ). IsFrame t.bucket entries f) (sym (it.2 at.0 at.1)) at.2)
           (room t.bucket) it.1
+
+-- so a step that ends without a success ends by a fault
+pub undamaged_by : {D : Type 0} (disk : DiskOf D) (score : List ℕ → List ℕ) (c : Setup) (h : History) (t u : SectionState D) (known : Known) → KnownAgrees score c h t known → Groups t
+    → IsTrue disk.tells → disk.images t.disk (disk.bytes t.disk) → DiskHolds disk t known → ((n : ℕ) → crowd score (bucket_count c) h n ≤ 263) → (result : Result Step ShardErr) → Advances result t u
+    → ((s : ℕ) → IfErr result (λ bad. bad ≢ Fault → t.phase ≡ ReadFrame s → FindsDamage disk s t bad)) → IfErr result (λ bad. (bad ≡ Fault) ⊎ ((n : ℕ) × (bad ≡ Stopped n)))
+undamaged_by disk score c h t u known agrees group told is_image sound room (Ok step) steps damaged = tt
+undamaged_by disk score c h t u known agrees group told is_image sound room (Err Fault) steps damaged = inl refl
+undamaged_by disk score c h t u known agrees group told is_image sound room (Err (Stopped n)) steps damaged = inr (n, refl)
+undamaged_by disk score c h t u known agrees group told is_image sound room (Err (Damaged b want found)) steps damaged =
+    let at = steps.0 in
+    let it = damaged at.0 (λ e. cc) at.1 in
+    absurd (no_damage score c h t known agrees at.0 at.1 (group (subst PutsEntries (sym at.1) tt)) _ _ is_image sound room (Damaged b want found) (it.0, it.1, λ region place. it.2 region told place))

@@ -1,5 +1,5 @@
 -- What stays sound where nothing is written, or something else.
-use Rattle.std.proofs.Common.{◌≡◌, ◌≢◌, inl, inr, ⊎_elim, ℕ, ◌-◌, ◌%◌, List, [], Option, Some, None, take, drop, refl, sym, ap, ◌∙◌, subst, arith}
+use Rattle.std.proofs.Common.{◌≡◌, ◌≢◌, ◌⊎◌, inl, inr, ⊎_elim, ℕ, ◌+◌, ◌-◌, ◌*◌, ◌%◌, ◌≤◌, List, [], Option, Some, None, take, drop, refl, sym, ap, ◌∙◌, subst, arith}
 use Rattle.std.specs.Prelude.{slice_get}
 use Rattle.std.specs.List.{Contains}
 use Rattle.vt_base.specs.declared.place.Entry.{Entry}
@@ -18,10 +18,11 @@ use Rattle.vt_isect.specs.Entries.{EntriesState, items_of}
 use Rattle.vt_isect.specs.Head.{IsHeadFrame}
 use Rattle.vt_isect.specs.Layout.{head_place, IsPlaceOf, InRange}
 use Rattle.vt_isect.specs.Merging.{Merges}
-use Rattle.vt_isect.specs.Section.{SectionState, IsChanging, IsMember, IsOfGroup, PutsEntries}
+use Rattle.vt_isect.specs.Section.{SectionState, HasGroup, IsChanging, IsMember, IsOfGroup, IsTodo, PutsEntries}
 use Rattle.vt_isect.specs.Sound.{Known, HoldsBucket, IsMade, IsSoundSection, StillNames, made_of}
 use Rattle.vt_isect.specs.Writeback.{IsRead}
 use Rattle.vt_isect.proofs.IsRead.{read_apart, read_frame}
+use Rattle.vt_isect.proofs.Places.{head_room, place_room}
 
 -- how the soundness of twins passes from one moment to another, in a region
 abbrev pub Passes : Region → (read reads : List ℕ) → (images after : List ℕ → Type 0) → Type 0
@@ -31,12 +32,12 @@ Passes region read reads images after = (t : TwinState) (old : List ℕ) → t.f
 pub reads_pass : (region : Region) (read reads : List ℕ) (images after : List ℕ → Type 0) → reads ≡ read → AreAmong after images → Passes region read reads images after
 reads_pass region read reads images after same among t old len sound = reads_sound t region old read reads images after same among sound
 
--- what is done in another region
-pub others_pass : (region other : Region) (size : ℕ) (read reads : List ℕ) (images after : List ℕ → Type 0) → HasRoom region 8192 size
-    → ((i : ℕ) → Inside other i → ¬ Inside region i) → SameBut (Inside other) read reads → ChangesAt (Inside other) images after
+-- what is done elsewhere
+pub others_pass : (region : Region) (P : ℕ → Type 0) (size : ℕ) (read reads : List ℕ) (images after : List ℕ → Type 0) → HasRoom region 8192 size
+    → ((i : ℕ) → P i → ¬ Inside region i) → SameBut P read reads → ChangesAt P images after
     → Passes region read reads images after
-others_pass region other size read reads images after room apart same changes t old len sound =
-    sound_elsewhere t region size (subst (λ (n : ℕ). HasRoom region n size) (sym len) room) (Inside other) apart old read reads images after same changes sound
+others_pass region P size read reads images after room apart same changes t old len sound =
+    sound_elsewhere t region size (subst (λ (n : ℕ). HasRoom region n size) (sym len) room) P apart old read reads images after same changes sound
 
 -- the same entries are put into a bucket
 pub same_group : (old new : List Entry) (these those : Entry → Type 0) → ((entry : Entry) → these entry → those entry) → ((entry : Entry) → those entry → these entry)
@@ -113,22 +114,66 @@ pub bucket_passes : {D : Type 0} (t u : SectionState D) (n : ℕ) (entries : Lis
     → HoldsBucket t n entries read images → HoldsBucket u n entries reads after
 bucket_passes t u n entries read reads images after still stays first goes = holds_as t u n entries read reads images after (apart_stands t u n first still stays goes)
 
--- the same group is under way, and has come as far
-pub group_stands : {D : Type 0} (t u : SectionState D) (n : ℕ) → u.head ≡ t.head → u.group ≡ t.group → u.written ≡ t.written → u.framed ≡ t.framed → u.entries ≡ t.entries
-    → PutsEntries t.phase → PutsEntries u.phase → ((j : ℕ) → made_of u.phase j ≡ made_of t.phase j) → (u.stopped ≡ None → t.stopped ≡ None)
-    → SameStanding t u n
-group_stands t u n head group written framed entries puts goes_on made goes = record {
-  first = ap (λ (h : Head). h.first) head;
-  forth = λ way. (way.0, (goes_on, subst (λ (l : List Member). Contains l way.0) (sym group) way.1.1, way.1.2));
-  back = λ j m of at. (
-    (puts, subst (λ (l : List Member). Contains l m) group of.1, of.2),
-    ap (λ (l : List Member). slice_get l j) (sym group) ∙ at,
-    made j,
-  );
-  same = λ way entry of. of_same t u head written framed entries n entry of;
-  same_back = λ way entry of. of_same u t (sym head) (sym written) (sym framed) (sym entries) n entry of;
-  goes = goes;
-}
+-- the same section, of which entries go on to be put into their buckets
+pub record SameSection {D : Type 0} (t u : SectionState D) : Type 0 where
+  pub name : u.name ≡ t.name
+  pub head : u.head ≡ t.head
+  pub buckets : u.buckets ≡ t.buckets
+  pub twin : u.head_twin ≡ t.head_twin
+  pub entries : u.entries ≡ t.entries
+  pub written : u.written ≡ t.written
+  pub puts : PutsEntries t.phase
+  pub puts_on : PutsEntries u.phase
+
+-- what is still to be put stays so
+module _ {D : Type 0} (t u : SectionState D) (same : SameSection t u) (entry : Entry) where
+  pub todo_then : IsTodo t entry → IsTodo u entry
+  todo_then way = (
+    same.puts_on,
+    subst (λ (k : ℕ). Contains (drop k (items_of u.entries)) entry) (sym same.written)
+        (subst (λ (o : Option EntriesState). Contains (drop t.written (items_of o)) entry) (sym same.entries) way.1),
+  )
+
+  pub todo_before : IsTodo u entry → IsTodo t entry
+  todo_before way = (
+    same.puts,
+    subst (λ (k : ℕ). Contains (drop k (items_of t.entries)) entry) same.written
+        (subst (λ (o : Option EntriesState). Contains (drop u.written (items_of o)) entry) same.entries way.1),
+  )
+
+-- with the same group
+pub record KeepsGroup {D : Type 0} (t u : SectionState D) : Type 0 where
+  pub section : SameSection t u
+  pub group : u.group ≡ t.group
+  pub framed : u.framed ≡ t.framed
+  pub goes : t.stopped ≡ None
+
+module _ {D : Type 0} (t u : SectionState D) (keeps : KeepsGroup t u) where
+  pub still_member : (n : ℕ) (m : Member) → IsMember u n m → IsMember t n m
+  still_member n m of = (keeps.section.puts, subst (λ (l : List Member). Contains l m) keeps.group of.1, of.2)
+
+  pub then_member : (n : ℕ) (m : Member) → IsMember t n m → IsMember u n m
+  then_member n m of = (keeps.section.puts_on, subst (λ (l : List Member). Contains l m) (sym keeps.group) of.1, of.2)
+
+  pub still_at : (j : ℕ) (m : Member) → slice_get u.group j ≡ Some m → slice_get t.group j ≡ Some m
+  still_at j m at = ap (λ (l : List Member). slice_get l j) (sym keeps.group) ∙ at
+
+  pub still_of : (n : ℕ) (entry : Entry) → IsOfGroup u n entry → IsOfGroup t n entry
+  still_of = of_same u t (sym keeps.section.head) (sym keeps.section.written) (sym keeps.framed) (sym keeps.section.entries)
+
+  pub then_of : (n : ℕ) (entry : Entry) → IsOfGroup t n entry → IsOfGroup u n entry
+  then_of = of_same t u keeps.section.head keeps.section.written keeps.framed keeps.section.entries
+
+  -- a bucket whose change has come as far, or that isn't changed
+  pub group_stands : (n : ℕ) → ((j : ℕ) (m : Member) → IsMember t n m → slice_get t.group j ≡ Some m → made_of u.phase j ≡ made_of t.phase j) → SameStanding t u n
+  group_stands n made = record {
+    first = ap (λ (h : Head). h.first) keeps.section.head;
+    forth = λ way. (way.0, then_member n way.0 way.1);
+    back = λ j m of at. (still_member n m of, still_at j m at, made j m (still_member n m of) (still_at j m at));
+    same = λ way. then_of n;
+    same_back = λ way. still_of n;
+    goes = λ none. keeps.goes;
+  }
 
 module _ {D : Type 0} (t u : SectionState D) (known knows : Known) (read reads : List ℕ) (images after : List ℕ → Type 0)
     (name : u.name ≡ t.name) (head : u.head ≡ t.head) (buckets : u.buckets ≡ t.buckets) (twin : u.head_twin ≡ t.head_twin)
@@ -154,6 +199,31 @@ module _ {D : Type 0} (t u : SectionState D) (known knows : Known) (read reads :
     bucket = λ n entries within is. holds n entries
         (subst (λ (h : Head). InRange h t.buckets n) head (subst (λ (b : ℕ). InRange u.head b n) buckets within)) is;
   }
+
+-- A call touches of the head and of each bucket nothing, or it is one of the bucket's own change.
+module _ {D : Type 0} (t u : SectionState D) (known : Known) (size : ℕ) (P : ℕ → Type 0) (read reads : List ℕ) (images after : List ℕ → Type 0)
+    (same_section : SameSection t u) (room : 24576 + 16896 * t.buckets ≤ size) (same : SameBut P read reads) (changes : ChangesAt P images after)
+    (head_free : (i : ℕ) → P i → ¬ Inside head_place i) (sound : IsSoundSection t known read images)
+    (each : (n : ℕ) (entries : List Entry) → InRange t.head t.buckets n → known n ≡ Some entries
+    → (SameStanding t u n × ((region : Region) → IsPlaceOf (n - t.head.first) region → (i : ℕ) → P i → ¬ Inside region i))
+    ⊎ (HoldsBucket t n entries read images → HoldsBucket u n entries reads after)) where
+  pub section_goes : ((s : ℕ) → u.phase ≡ ReadFrame s → StillNames u (s % 2) reads) → ((s : ℕ) → u.phase ≡ WriteFrame s → StillNames u s reads)
+      → ((s : ℕ) (entries : List Entry) → u.phase ≡ WriteFrame s → known u.bucket ≡ Some entries → IsMade u entries)
+      → IsSoundSection u known reads after
+  section_goes = section_as t u known known read reads images after same_section.name same_section.head same_section.buckets same_section.twin
+      (λ e. subst PutsEntries e same_section.puts) (λ e. subst PutsEntries e same_section.puts_on)
+      (others_pass head_place P size read reads images after (head_room 8192 size t.buckets refl room) head_free same changes)
+      (λ n entries within is. ⊎_elim
+      (λ free. holds_as t u n entries read reads images after free.0
+      (λ region place. others_pass region P size read reads images after (place_room 8192 size t.buckets t.head n region refl room within place) (free.1 region place) same changes)
+      (sound.bucket n entries within is))
+      (λ own. own (sound.bucket n entries within is))
+      (each n entries within is))
+      sound
+
+  -- while its group is whole
+  pub whole_goes : HasGroup u.phase → IsSoundSection u known reads after
+  whole_goes whole = section_goes (λ s e. absurd (subst HasGroup e whole)) (λ s e. absurd (subst HasGroup e whole)) (λ s entries e. absurd (subst HasGroup e whole))
 
 -- a step that writes nothing, and brings no change further
 pub quiet_sound : {D : Type 0} (t u : SectionState D) (known : Known) (read reads : List ℕ) (images after : List ℕ → Type 0)

@@ -1,5 +1,5 @@
 -- The steps of a group of buckets.
-use Rattle.std.proofs.Common.{◌≡◌, ◌≢◌, ◌⊎◌, inl, inr, ⊎_elim, ℕ, ◌+◌, ◌-◌, ◌*◌, ◌%◌, ◌<◌, ◌≤◌, List, [], ◌∷◌, ◌++◌, length, length-append, length-take, get_or, take, drop, Option, Some, refl, sym, ◌∙◌, ap, subst, arith}
+use Rattle.std.proofs.Common.{◌≡◌, ◌≢◌, ◌⊎◌, inl, inr, ⊎_elim, ℕ, ◌+◌, ◌-◌, ◌*◌, ◌%◌, ◌<◌, ◌≤◌, List, [], ◌∷◌, ◌++◌, length, length-append, length-take, get_or, take, drop, Option, Some, None, IsTrue, refl, sym, ◌∙◌, ap, subst, arith}
 use Rattle.std.specs.Prelude.{slice_get}
 use Rattle.std.specs.List.{AllPairs, Contains}
 use Rattle.std.proofs.lemmas.Bool.{cases_eq}
@@ -8,46 +8,37 @@ use Rattle.std.proofs.lemmas.List.Quantifiers.{all_pairs_push}
 use Rattle.std.proofs.lemmas.List.Elements.{Contains-append_left, Contains-get_or, Contains-push, Contains-push_cases}
 use Rattle.vt_base.specs.declared.place.Entry.{Entry}
 use Rattle.vt_disk.specs.declared.region.Region.{Region}
-use Rattle.vt_disk.specs.Disk.{SameBut, ChangesAt, Touches}
-use Rattle.vt_disk.specs.Region.{Inside, ChangesWithin}
-use Rattle.vt_disk.proofs.Bytes.{same_wider}
+use Rattle.vt_disk.specs.Disk.{SameBut, ChangesAt}
+use Rattle.vt_disk.specs.DeviceCalls.{TouchedBy, bytes_after}
+use Rattle.vt_disk.specs.DeviceCalls.DeviceCall.{write}
+use Rattle.vt_disk.specs.Members.{DiskOf}
+use Rattle.vt_disk.specs.Region.{Inside}
 use Rattle.vt_model.specs.Places.{bucket_of}
-use Rattle.vt_twin.specs.Frames.{HasRoom, frame_start, named_number, with_frame}
-use Rattle.vt_twin.specs.Twin.{fresh, with_change, after_call, after_fault}
-use Rattle.vt_twin.specs.declared.calls.Call.TheVariants.{WriteFrame as FrameCall}
-use Rattle.vt_twin.specs.Sound.{IsSound, HasBegunSelector}
+use Rattle.vt_twin.specs.Calls.{call_at}
+use Rattle.vt_twin.specs.Frames.{HasRoom, frame_start, named_number}
+use Rattle.vt_twin.specs.Twin.{TwinState, fresh, with_change, after_call, after_fault}
+use Rattle.vt_twin.specs.declared.calls.Stage.TheVariants.{WriteFrame as FrameWrite}
+use Rattle.vt_twin.specs.Sound.{IsSound}
 use Rattle.vt_twin.proofs.Changes.{begun_bound, none_made}
-use Rattle.vt_twin.proofs.Places.{named_same, selector_free, touched_inside}
+use Rattle.vt_twin.proofs.Places.{named_same, selector_free}
 use Rattle.vt_twin.proofs.Sound.{rests_fresh, begins_sound}
-use Rattle.vt_twin.proofs.Steps.{call_sound, fault_sound}
+use Rattle.vt_isect.specs.declared.TheConstants.{GROUP_MAX}
 use Rattle.vt_isect.specs.declared.groups.Member.{Member}
 use Rattle.vt_isect.specs.declared.head.Head.{Head}
 use Rattle.vt_isect.specs.declared.phase.Phase.{Phase}
 use Rattle.vt_isect.specs.declared.phase.Phase.TheVariants.{ReadFrame, WriteFrame, SyncFrames, WriteSelector, ChangeHead}
 use Rattle.vt_isect.specs.Entries.{EntriesState, IsOrdered, items_of}
-use Rattle.vt_isect.specs.Layout.{head_place, IsPlaceOf, InRange}
-use Rattle.vt_isect.specs.Section.{SectionState, AreNext, HasBucket, HasGroup, IsChanging, IsGroup, IsOfGroup, IsTodo, PutsEntries, bucket_number, entering, entries_of}
+use Rattle.vt_isect.specs.Layout.{place_of, IsPlaceOf, InRange}
+use Rattle.vt_isect.specs.Section.{SectionState, AreNext, HasBucket, HasGroup, IsChanging, IsGroup, IsOfGroup, IsWell, PutsEntries, bucket_number, entering, entries_of}
 use Rattle.vt_isect.specs.Sound.{Known, HoldsBucket, IsSoundSection, StillNames, made_of}
-use Rattle.vt_isect.specs.Writeback.{IsRead}
+use Rattle.vt_isect.specs.Writeback.{BeginsBucket, ComesNext, IsFull, IsRead, NextPhase, next_call}
 use Rattle.vt_isect.proofs.AreNext.{behind, group_or_behind, of_group}
-use Rattle.vt_isect.proofs.Follows.{images_wider}
 use Rattle.vt_isect.proofs.IsRead.{read_apart, read_frame, read_made, read_puts, read_selector}
-use Rattle.vt_isect.proofs.IsSoundSection.{Passes, SameStanding, group_stands, holds_as, others_pass, same_group, section_as}
-use Rattle.vt_isect.proofs.Members.{joined_cases, at_member, under_way_apart}
-use Rattle.vt_isect.proofs.Twins.{given_up}
-use Rattle.vt_isect.proofs.Places.{head_apart, head_room, one_place, place_room, places_apart}
-
--- how the head and the other buckets stay while the place of bucket b is written
-module _ {D : Type 0} (t : SectionState D) (b : ℕ) (region : Region) (size : ℕ) (read reads : List ℕ) (images after : List ℕ → Type 0)
-    (room : 24576 + 16896 * t.buckets ≤ size) (in_it : InRange t.head t.buckets b)
-    (place : IsPlaceOf (b - t.head.first) region) (same : SameBut (Inside region) read reads) (changes : ChangesWithin region images after) where
-  pub head_stays : Passes head_place read reads images after
-  head_stays = others_pass head_place region size read reads images after (head_room 8192 size t.buckets refl room) (head_apart (b - t.head.first) region place) same changes
-
-  pub others_stay : (n : ℕ) → InRange t.head t.buckets n → n ≢ b → (r : Region) → IsPlaceOf (n - t.head.first) r → Passes r read reads images after
-  others_stay n within there r here = others_pass r region size read reads images after (place_room 8192 size t.buckets t.head n r refl room within here)
-      (λ i in_region in_r. places_apart (b - t.head.first) (n - t.head.first) region r place here
-      (λ e. there (omega (arith, e, within.0, in_it.0))) i in_region in_r) same changes
+use Rattle.vt_isect.proofs.IsSoundSection.{KeepsGroup, SameSection, SameStanding, group_stands, same_group, section_goes}
+use Rattle.vt_isect.proofs.Members.{joined_cases, at_member, under_way_apart, well_on}
+use Rattle.vt_isect.proofs.Twins.{given_up, own_fails, own_goes}
+use Rattle.vt_isect.proofs.Places.{is_place, place_is, place_room, spares_bucket, spares_head}
+use Rattle.vt_isect.proofs.Writes.{frame_inside}
 
 -- the entries between two counts
 module _ (w f b : ℕ) (xs : List Entry) (one : w ≤ f) (two : f ≤ b) (within : b ≤ length xs) (e : Entry) where
@@ -70,26 +61,14 @@ module _ (w f b : ℕ) (xs : List Entry) (one : w ≤ f) (two : f ≤ b) (within
 
 -- the section after that, with the bucket in the group
 pub record HasJoined {D : Type 0} (s : ℕ) (t u : SectionState D) : Type 0 where
-  pub name : u.name ≡ t.name
-  pub head : u.head ≡ t.head
-  pub buckets : u.buckets ≡ t.buckets
-  pub twin : u.head_twin ≡ t.head_twin
-  pub entries : u.entries ≡ t.entries
-  pub stopped : u.stopped ≡ t.stopped
+  pub section : SameSection t u
   pub group : u.group ≡ t.group ++ record { bucket = t.bucket; current = s } ∷ []
-  pub written : u.written ≡ t.written
   pub framed : u.framed ≡ t.begun
   pub phase : IsRead u.phase ⊎ (u.phase ≡ SyncFrames)
 
 module _ {D : Type 0} (t u : SectionState D) (s : ℕ) (phase : t.phase ≡ WriteFrame s) (group : IsGroup t) (joined : HasJoined s t u) where
-  puts : PutsEntries t.phase
-  puts = subst PutsEntries (sym phase) tt
-
   has : HasBucket t.phase
   has = subst HasBucket (sym phase) tt
-
-  puts_on : PutsEntries u.phase
-  puts_on = ⊎_elim (λ reads. read_puts u.phase reads) (λ (e : u.phase ≡ SyncFrames). subst PutsEntries (sym e) tt) joined.phase
 
   made_on : (j : ℕ) → made_of u.phase j ≡ 1
   made_on j = ⊎_elim (λ reads. read_made j u.phase reads) (λ (e : u.phase ≡ SyncFrames). ap (λ (p : Phase). made_of p j) e) joined.phase
@@ -100,18 +79,18 @@ module _ {D : Type 0} (t u : SectionState D) (s : ℕ) (phase : t.phase ≡ Writ
 
   to_u : (e : Entry) → Contains (drop t.written (take t.begun (entries_of t))) e → Contains (drop u.written (take u.framed (entries_of u))) e
   to_u e it =
-      subst (λ (k : ℕ). Contains (drop k (take u.framed (items_of u.entries))) e) (sym joined.written)
+      subst (λ (k : ℕ). Contains (drop k (take u.framed (items_of u.entries))) e) (sym joined.section.written)
       (subst (λ (k : ℕ). Contains (drop t.written (take k (items_of u.entries))) e) (sym joined.framed)
-      (subst (λ (o : Option EntriesState). Contains (drop t.written (take t.begun (items_of o))) e) (sym joined.entries) it))
+      (subst (λ (o : Option EntriesState). Contains (drop t.written (take t.begun (items_of o))) e) (sym joined.section.entries) it))
 
   from_u : (e : Entry) → Contains (drop u.written (take u.framed (entries_of u))) e → Contains (drop t.written (take t.begun (entries_of t))) e
   from_u e it =
-      subst (λ (o : Option EntriesState). Contains (drop t.written (take t.begun (items_of o))) e) joined.entries
+      subst (λ (o : Option EntriesState). Contains (drop t.written (take t.begun (items_of o))) e) joined.section.entries
       (subst (λ (k : ℕ). Contains (drop t.written (take k (items_of u.entries))) e) joined.framed
-      (subst (λ (k : ℕ). Contains (drop k (take u.framed (items_of u.entries))) e) joined.written it))
+      (subst (λ (k : ℕ). Contains (drop k (take u.framed (items_of u.entries))) e) joined.section.written it))
 
   number_is : (e : Entry) → bucket_number u e ≡ bucket_number t e
-  number_is e = ap (λ (h : Head). bucket_of h.total e.key.score.0) joined.head
+  number_is e = ap (λ (h : Head). bucket_of h.total e.key.score.0) joined.section.head
 
   of_then : (n : ℕ) (entry : Entry) → IsOfGroup t n entry → IsOfGroup u n entry
   of_then n entry of = (
@@ -125,190 +104,155 @@ module _ {D : Type 0} (t u : SectionState D) (s : ℕ) (phase : t.phase ≡ Writ
       (λ (new : Contains (entering t) entry). inr (new, sym of.1 ∙ number_is entry ∙ (group.next has).2.own entry new))
       (framed_or_entering t.written t.framed t.begun (entries_of t) group.order.0 group.order.1 group.order.2 entry (from_u entry of.0))
 
-  pub others_joined : (n : ℕ) → n ≢ t.bucket → SameStanding t u n
-  others_joined n other = record {
-    first = ap (λ (h : Head). h.first) joined.head;
-    forth = λ way. (way.0, (puts_on, subst (λ (l : List Member). Contains l way.0) (sym joined.group) (Contains-append_left t.group (record { bucket = t.bucket; current = s } ∷ []) way.0 way.1.1), way.1.2));
+  others_joined : t.stopped ≡ None → (n : ℕ) → n ≢ t.bucket → SameStanding t u n
+  others_joined goes n other = record {
+    first = ap (λ (h : Head). h.first) joined.section.head;
+    forth = λ way. (way.0, (joined.section.puts_on, subst (λ (l : List Member). Contains l way.0) (sym joined.group) (Contains-append_left t.group (record { bucket = t.bucket; current = s } ∷ []) way.0 way.1.1), way.1.2));
     back = λ j m of at. ⊎_elim
-        (λ (was : slice_get t.group j ≡ Some m). ((puts, at_member t.group j m was, of.2), was, made_on j ∙ sym (ap (λ (p : Phase). made_of p j) phase)))
+        (λ (was : slice_get t.group j ≡ Some m). ((joined.section.puts, at_member t.group j m was, of.2), was, made_on j ∙ sym (ap (λ (p : Phase). made_of p j) phase)))
         (λ last. absurd (other (sym of.2 ∙ ap (λ (x : Member). x.bucket) last.1)))
         (joined_cases t.group (record { bucket = t.bucket; current = s }) j m (ap (λ (l : List Member). slice_get l j) (sym joined.group) ∙ at));
     same = λ way entry of. of_then n entry of;
     same_back = λ way entry of. ⊎_elim (λ (was : IsOfGroup t n entry). was) (λ new. absurd (other new.1)) (of_before n entry of);
-    goes = λ none. sym joined.stopped ∙ none;
+    goes = λ none. goes;
   }
 
-  -- the bucket that joins: its frame is written, and the selector names the other one
-  module _ (region : Region) (size : ℕ) (known : Known) (read reads : List ℕ) (images after : List ℕ → Type 0)
-      (two : s < 2) (room : 24576 + 16896 * t.buckets ≤ size) (frame_len : length t.frame ≡ 8192)
-      (place : IsPlaceOf (t.bucket - t.head.first) region) (fits : length read ≡ size) (is_image : images read)
-      (same : SameBut (Touches (frame_start region 8192 (1 - s)) 8192) read reads)
-      (changes : ChangesAt (Touches (frame_start region 8192 (1 - s)) 8192) images after)
-      (bytes : reads ≡ with_frame region 8192 (1 - s) t.frame read)
-      (named : (k : ℕ) → u.phase ≡ ReadFrame k → StillNames u (k % 2) reads)
-      (sound : IsSoundSection t known read images) where
-    in_it : InRange t.head t.buckets t.bucket
-    in_it = group.bucket has
+-- ---- the write of an idle frame
 
-    place_has_room : HasRoom region 8192 size
-    place_has_room = place_room 8192 size t.buckets t.head t.bucket region refl room in_it place
+-- a bucket that is read and then written: while its selector still names this frame, that is its current one
+pub names_current : {D : Type 0} (t : SectionState D) (number : ℕ) (entries : List Entry) (read : List ℕ) (images : List ℕ → Type 0) → IsGroup t → HasBucket t.phase → images read
+    → StillNames t number read → (it : HoldsBucket t t.bucket entries read images) → (it.twin.change ≡ None) × (it.twin.current ≡ number)
+names_current t number entries read images group has is_image names it =
+    let none = it.rest (under_way_apart t group has) in (
+      none,
+      sym (ap (λ (k : ℕ). named_number it.region k read) (sym it.frame_len) ∙ it.sound.named (λ begun. omega (arith, begun, begun_bound it.twin, none_made it.twin none)) read is_image)
+          ∙ names it.region it.place,
+    )
 
-    inside : (i : ℕ) → Touches (frame_start region 8192 (1 - s)) 8192 i → Inside region i
-    inside i it = touched_inside region 8192 size place_has_room s two FrameCall i it
+module _ {D : Type 0} (t : SectionState D) (s : ℕ) (phase : t.phase ≡ WriteFrame s) (group : IsGroup t) (goes : t.stopped ≡ None) (size : ℕ) (known : Known)
+    (read reads : List ℕ) (images after : List ℕ → Type 0) (room : 24576 + 16896 * t.buckets ≤ size) (frame_len : length t.frame ≡ 8192) (is_image : images read)
+    (same : SameBut (TouchedBy (next_call (WriteFrame s) t)) read reads) (changes : ChangesAt (TouchedBy (next_call (WriteFrame s) t)) images after)
+    (sound : IsSoundSection t known read images) where
+  abbrev P : ℕ → Type 0
+  P = TouchedBy (next_call (WriteFrame s) t)
 
-    joins_same : SameBut (Inside region) read reads
-    joins_same = same_wider (Touches (frame_start region 8192 (1 - s)) 8192) (Inside region) inside read reads same
+  abbrev place : Region
+  place = place_of (t.bucket - t.head.first)
 
-    joins_changes : ChangesWithin region images after
-    joins_changes = images_wider (Touches (frame_start region 8192 (1 - s)) 8192) (Inside region) inside images after changes
+  now_has : HasBucket t.phase
+  now_has = subst HasBucket (sym phase) tt
 
-    joining : (entries : List Entry) → known t.bucket ≡ Some entries → HoldsBucket u t.bucket entries reads after
-    joining entries is =
-        let it = sound.bucket t.bucket entries in_it is in
-        let none = it.rest joins_apart in
-        let few : ¬ HasBegunSelector it.twin = λ begun. omega (arith, begun, begun_bound it.twin, none_made it.twin none) in
-        let named : named_number it.region 8192 read ≡ it.twin.current = ap (λ (k : ℕ). named_number it.region k read) (sym it.frame_len) ∙ it.sound.named few read is_image in
-        let current : it.twin.current ≡ s = sym named ∙ sound.current s phase it.region it.place in
-        let here : it.region ≡ region = one_place (t.bucket - t.head.first) it.region region it.place place in
-        let rested : IsSound (fresh 8192 s) region it.frame read images =
-        subst (λ (r : Region). IsSound (fresh 8192 s) r it.frame read images) here
-        (subst (λ (k : ℕ). IsSound (fresh 8192 k) it.region it.frame read images) current
-        (subst (λ (k : ℕ). IsSound (fresh k it.twin.current) it.region it.frame read images) it.frame_len (rests_fresh it.twin it.region it.frame read images none it.sound))) in
+  in_it : InRange t.head t.buckets t.bucket
+  in_it = group.bucket now_has
+
+  its_room : HasRoom place 8192 size
+  its_room = place_room 8192 size t.buckets t.head t.bucket place refl room in_it (is_place (t.bucket - t.head.first))
+
+  inside : (i : ℕ) → P i → Inside place i
+  inside = frame_inside t size room group s phase frame_len
+
+  selector_stays : (region : Region) → IsPlaceOf (t.bucket - t.head.first) region → named_number region 8192 reads ≡ named_number region 8192 read
+  selector_stays region here = subst (λ (r : Region). named_number r 8192 reads ≡ named_number r 8192 read) (sym (place_is (t.bucket - t.head.first) region here))
+      (named_same P place 8192 (selector_free place 8192 size its_room s (group.current s phase) t.frame frame_len FrameWrite (λ e. cc)) read reads same)
+
+  -- the bucket's twin, which changes to that frame
+  module _ (entries : List Entry) (it : HoldsBucket t t.bucket entries read images) where
+    at_rest : (it.twin.change ≡ None) × (it.twin.current ≡ s)
+    at_rest = names_current t s entries read images group now_has is_image (sound.current s phase) it
+
+    abbrev changed : TwinState
+    changed = with_change t.frame (fresh it.twin.frame_len it.twin.current)
+
+    twin_room : HasRoom it.region it.twin.frame_len size
+    twin_room = place_room it.twin.frame_len size t.buckets t.head t.bucket it.region it.frame_len room in_it it.place
+
+    own : call_at 0 it.region it.twin.frame_len it.twin.current t.frame ≡ next_call (WriteFrame s) t
+    own =
+        let here = place_is (t.bucket - t.head.first) it.region it.place in
+        let current = at_rest.1 in
+        λ i. write (frame_start (here i) (it.frame_len i) (1 - current i)) t.frame
+
+    changed_sound : IsSound changed it.region it.frame read images
+    changed_sound = begins_sound (fresh it.twin.frame_len it.twin.current) t.frame it.region it.frame read images refl (rests_fresh it.twin it.region it.frame read images at_rest.0 it.sound)
+
+    stays : IsSound (fresh it.twin.frame_len it.twin.current) it.region it.frame reads after
+    stays = given_up (after_fault changed) it.region it.frame reads after (λ begun. omega (arith, begun))
+        (own_fails changed it.region size twin_room FrameWrite refl (frame_len ∙ sym it.frame_len) (next_call (WriteFrame s) t) own it.frame read reads images after same changes changed_sound)
+
+    comes : length read ≡ size → reads ≡ bytes_after (next_call (WriteFrame s) t) read → IsSound (after_call changed) it.region it.frame reads after
+    comes fits bytes = own_goes changed it.region size twin_room FrameWrite refl (frame_len ∙ sym it.frame_len) (next_call (WriteFrame s) t) own it.frame read reads images after same changes changed_sound
+        fits bytes (λ e. absurd (cc))
+
+  -- it fails: the section stops, and the bucket's current frame stays
+  pub frame_stops : (d : D) (calls : ℕ) (stopped : Option ℕ) → KeepsGroup t (record t { disk = d; calls = calls; stopped = stopped })
+      → IsSoundSection (record t { disk = d; calls = calls; stopped = stopped }) known reads after
+  frame_stops d calls stopped keeps =
+      let u = record t { disk = d; calls = calls; stopped = stopped } in
+      section_goes t u known size P read reads images after keeps.section room same changes (spares_head t.head t.buckets t.bucket in_it P inside) sound
+      (λ n entries within has. ⊎_elim
+      (λ (here : n ≡ t.bucket). inr (subst (λ (k : ℕ). HoldsBucket t k entries read images → HoldsBucket u k entries reads after) (sym here) (λ it. record {
+        region = it.region;
+        place = it.place;
+        twin = fresh it.twin.frame_len it.twin.current;
+        frame = it.frame;
+        frame_len = it.frame_len;
+        sound = stays entries it;
+        spelled = it.spelled;
+        rest = λ still. refl;
+        changing = λ j m of at. absurd (under_way_apart t group now_has (m, of));
+      })))
+      (λ (there : n ≢ t.bucket). inl (group_stands t u keeps n (λ j m of at. refl), spares_bucket t.head t.buckets t.bucket in_it P inside n within there))
+      (cases_eq n t.bucket))
+      (λ k e. let no : WriteFrame s ≡ ReadFrame k = sym phase ∙ e in absurd (cc))
+      (λ k e region here. selector_stays region here ∙ sound.current k e region here)
+      sound.made
+
+  -- it succeeds: the bucket joins the group
+  module _ (u : SectionState D) (joined : HasJoined s t u) (fits : length read ≡ size) (bytes : reads ≡ bytes_after (next_call (WriteFrame s) t) read)
+      (named : (k : ℕ) → u.phase ≡ ReadFrame k → StillNames u (k % 2) reads) where
+    joining : (entries : List Entry) → known t.bucket ≡ Some entries → HoldsBucket t t.bucket entries read images → HoldsBucket u t.bucket entries reads after
+    joining entries is it =
+        let apart = under_way_apart t group now_has in
         let made = sound.made s entries phase is in
         record {
-          region = region;
-          place = subst (λ (h : Head). IsPlaceOf (t.bucket - h.first) region) (sym joined.head) place;
-          twin = after_call (with_change t.frame (fresh 8192 s));
+          region = it.region;
+          place = subst (λ (h : Head). IsPlaceOf (t.bucket - h.first) it.region) (sym joined.section.head) it.place;
+          twin = after_call (changed entries it);
           frame = it.frame;
-          frame_len = refl;
-          sound = call_sound (with_change t.frame (fresh 8192 s)) region size place_has_room it.frame read reads images after FrameCall refl same changes
-              (begins_sound (fresh 8192 s) t.frame region it.frame read images refl rested) frame_len fits bytes (λ sync. absurd (⊎_elim (λ e. cc) (λ e. cc) sync));
+          frame_len = it.frame_len;
+          sound = comes entries it fits bytes;
           spelled = it.spelled;
-          rest = λ still. absurd (still (record { bucket = t.bucket; current = s }, (puts_on, subst (λ (l : List Member). Contains l (record { bucket = t.bucket; current = s })) (sym joined.group) (Contains-push t.group (record { bucket = t.bucket; current = s })), refl)));
+          rest = λ still. absurd (still (record { bucket = t.bucket; current = s }, (joined.section.puts_on, subst (λ (l : List Member). Contains l (record { bucket = t.bucket; current = s })) (sym joined.group) (Contains-push t.group (record { bucket = t.bucket; current = s })), refl)));
           changing = λ j m of at. ⊎_elim
-              (λ (was : slice_get t.group j ≡ Some m). absurd (joins_apart (m, (puts, at_member t.group j m was, of.2))))
+              (λ (was : slice_get t.group j ≡ Some m). absurd (apart (m, (joined.section.puts, at_member t.group j m was, of.2))))
               (λ last. record {
-                current = sym (ap (λ (x : Member). x.current) last.1);
-                made = sym (made_on j);
+                current = (at_rest entries it).1 ∙ sym (ap (λ (x : Member). x.current) last.1);
+                made = sym (made_on t u s phase group joined j);
                 goes = λ none. refl;
                 whole = frame_len;
                 new = made.0;
                 spelled = made.1;
                 merges = same_group entries made.0 (Contains (entering t)) (IsOfGroup u t.bucket)
-                    (λ entry new. (to_u entry (entering_then t.written t.framed t.begun (entries_of t) group.order.0 group.order.1 group.order.2 entry new), number_is entry ∙ (group.next has).2.own entry new))
+                    (λ entry new. (to_u t u s phase group joined entry (entering_then t.written t.framed t.begun (entries_of t) group.order.0 group.order.1 group.order.2 entry new), number_is t u s phase group joined entry ∙ (group.next now_has).2.own entry new))
                     (λ entry ofu. ⊎_elim
-                    (λ (old : IsOfGroup t t.bucket entry). absurd (joins_apart (subst (IsChanging t) old.1 (group.own entry old.0))))
+                    (λ (old : IsOfGroup t t.bucket entry). absurd (apart (subst (IsChanging t) old.1 (group.own entry old.0))))
                     (λ new. new.0)
-                    (of_before t.bucket entry ofu))
+                    (of_before t u s phase group joined t.bucket entry ofu))
                     made.2;
               })
               (joined_cases t.group (record { bucket = t.bucket; current = s }) j m (ap (λ (l : List Member). slice_get l j) (sym joined.group) ∙ at));
         }
 
+    not_writing : (k : ℕ) → u.phase ≢ WriteFrame k
+    not_writing k e = ⊎_elim (λ reads. read_frame k u.phase reads e) (λ (p : u.phase ≡ SyncFrames). let no : SyncFrames ≡ WriteFrame k = sym p ∙ e in cc) joined.phase
+
     pub joined_sound : IsSoundSection u known reads after
-    joined_sound = section_as t u known known read reads images after joined.name joined.head joined.buckets joined.twin
-        (λ e. let no : WriteFrame s ≡ ChangeHead = sym phase ∙ e in cc)
-        (λ e. ⊎_elim (λ reads. read_apart u.phase reads e) (λ (p : u.phase ≡ SyncFrames). let no : SyncFrames ≡ ChangeHead = sym p ∙ e in cc) joined.phase)
-        (head_stays t t.bucket region size read reads images after room in_it place joins_same joins_changes)
-        (λ n entries within is. ⊎_elim
-        (λ (here : n ≡ t.bucket). subst (λ (k : ℕ). HoldsBucket u k entries reads after) (sym here) (joining entries (sym (ap known here) ∙ is)))
-        (λ (there : n ≢ t.bucket). holds_as t u n entries read reads images after (others_joined n there)
-        (others_stay t t.bucket region size read reads images after room in_it place joins_same joins_changes n within there) (sound.bucket n entries within is))
+    joined_sound = section_goes t u known size P read reads images after joined.section room same changes (spares_head t.head t.buckets t.bucket in_it P inside) sound
+        (λ n entries within has. ⊎_elim
+        (λ (here : n ≡ t.bucket). inr (subst (λ (k : ℕ). HoldsBucket t k entries read images → HoldsBucket u k entries reads after) (sym here) (joining entries (sym (ap known here) ∙ has))))
+        (λ (there : n ≢ t.bucket). inl (others_joined t u s phase group joined goes n there, spares_bucket t.head t.buckets t.bucket in_it P inside n within there))
         (cases_eq n t.bucket))
-        sound
-        named
-        (λ k e. ⊎_elim (λ reads. absurd (read_frame k u.phase reads e)) (λ (p : u.phase ≡ SyncFrames). let no : SyncFrames ≡ WriteFrame k = sym p ∙ e in absurd (cc)) joined.phase)
-        (λ k entries e. ⊎_elim (λ reads. absurd (read_frame k u.phase reads e)) (λ (p : u.phase ≡ SyncFrames). let no : SyncFrames ≡ WriteFrame k = sym p ∙ e in absurd (cc)) joined.phase)
-
--- what is still to be put stays so
-module _ {D : Type 0} (t u : SectionState D) (s : ℕ) (phase : t.phase ≡ WriteFrame s) (group : IsGroup t) (joined : HasJoined s t u) where
-  pub todo_then : (entry : Entry) → IsTodo t entry → IsTodo u entry
-  todo_then entry way = (
-    puts_on t u s phase group joined,
-    subst (λ (k : ℕ). Contains (drop k (entries_of u)) entry) (sym joined.written)
-        (subst (λ (o : Option EntriesState). Contains (drop t.written (items_of o)) entry) (sym joined.entries) way.1),
-  )
-
-  pub todo_before : (entry : Entry) → IsTodo u entry → IsTodo t entry
-  todo_before entry way = (
-    subst PutsEntries (sym phase) tt,
-    subst (λ (o : Option EntriesState). Contains (drop t.written (items_of o)) entry) joined.entries
-        (subst (λ (k : ℕ). Contains (drop k (entries_of u)) entry) joined.written way.1),
-  )
-
--- ---- the write fails: the section stops, and the bucket's current frame stays
-
-module _ {D : Type 0} (t : SectionState D) (d : D) (calls n s : ℕ) (phase : t.phase ≡ WriteFrame s) (group : IsGroup t)
-    (region : Region) (size : ℕ) (known : Known) (read reads : List ℕ) (images after : List ℕ → Type 0)
-    (two : s < 2) (room : 24576 + 16896 * t.buckets ≤ size)
-    (place : IsPlaceOf (t.bucket - t.head.first) region) (is_image : images read)
-    (same : SameBut (Touches (frame_start region 8192 (1 - s)) 8192) read reads)
-    (changes : ChangesAt (Touches (frame_start region 8192 (1 - s)) 8192) images after)
-    (sound : IsSoundSection t known read images) where
-  abbrev u : SectionState D
-  u = record t { disk = d; calls = calls; stopped = Some n }
-
-  still_has : HasBucket t.phase
-  still_has = subst HasBucket (sym phase) tt
-
-  still_puts : PutsEntries t.phase
-  still_puts = subst PutsEntries (sym phase) tt
-
-  apart : ¬ IsChanging t t.bucket
-  apart = under_way_apart t group still_has
-
-  its_room : HasRoom region 8192 size
-  its_room = place_room 8192 size t.buckets t.head t.bucket region refl room (group.bucket still_has) place
-
-  within : (i : ℕ) → Touches (frame_start region 8192 (1 - s)) 8192 i → Inside region i
-  within i it = touched_inside region 8192 size its_room s two FrameCall i it
-
-  place_same : SameBut (Inside region) read reads
-  place_same = same_wider (Touches (frame_start region 8192 (1 - s)) 8192) (Inside region) within read reads same
-
-  place_changes : ChangesWithin region images after
-  place_changes = images_wider (Touches (frame_start region 8192 (1 - s)) 8192) (Inside region) within images after changes
-
-  stays : (entries : List Entry) → HoldsBucket t t.bucket entries read images → HoldsBucket u t.bucket entries reads after
-  stays entries it =
-      let none = it.rest apart in
-      let few : ¬ HasBegunSelector it.twin = λ begun. omega (arith, begun, begun_bound it.twin, none_made it.twin none) in
-      let named : named_number it.region 8192 read ≡ it.twin.current = ap (λ (k : ℕ). named_number it.region k read) (sym it.frame_len) ∙ it.sound.named few read is_image in
-      let current : it.twin.current ≡ s = sym named ∙ sound.current s phase it.region it.place in
-      let here : it.region ≡ region = one_place (t.bucket - t.head.first) it.region region it.place place in
-      let rested : IsSound (fresh 8192 s) region it.frame read images =
-      subst (λ (r : Region). IsSound (fresh 8192 s) r it.frame read images) here
-      (subst (λ (k : ℕ). IsSound (fresh 8192 k) it.region it.frame read images) current
-      (subst (λ (k : ℕ). IsSound (fresh k it.twin.current) it.region it.frame read images) it.frame_len (rests_fresh it.twin it.region it.frame read images none it.sound))) in
-      record {
-        region = region;
-        place = place;
-        twin = fresh 8192 s;
-        frame = it.frame;
-        frame_len = refl;
-        sound = given_up (after_fault (with_change t.frame (fresh 8192 s))) region it.frame reads after (λ begun. omega (arith, begun))
-            (fault_sound (with_change t.frame (fresh 8192 s)) region size its_room it.frame read reads images after FrameCall refl same changes
-            (begins_sound (fresh 8192 s) t.frame region it.frame read images refl rested));
-        spelled = it.spelled;
-        rest = λ still. refl;
-        changing = λ j m of at. absurd (apart (m, of));
-      }
-
-  pub frame_stops : IsSoundSection u known reads after
-  frame_stops = section_as t u known known read reads images after refl refl refl refl
-      (λ e. let no : WriteFrame s ≡ ChangeHead = sym phase ∙ e in cc) (λ e. let no : WriteFrame s ≡ ChangeHead = sym phase ∙ e in cc)
-      (head_stays t t.bucket region size read reads images after room (group.bucket still_has) place place_same place_changes)
-      (λ k entries range is. ⊎_elim
-      (λ (here : k ≡ t.bucket). subst (λ (b : ℕ). HoldsBucket u b entries reads after) (sym here) (stays entries (sound.bucket t.bucket entries (group.bucket still_has) (sym (ap known here) ∙ is))))
-      (λ (there : k ≢ t.bucket). holds_as t u k entries read reads images after
-      (group_stands t u k refl refl refl refl refl still_puts still_puts (λ j. refl) (λ none. absurd (cc)))
-      (others_stay t t.bucket region size read reads images after room (group.bucket still_has) place place_same place_changes k range there) (sound.bucket k entries range is))
-      (cases_eq k t.bucket))
-      sound
-      (λ k e. let no : WriteFrame s ≡ ReadFrame k = sym phase ∙ e in absurd (cc))
-      (λ k e r at. subst (λ (x : Region). named_number x 8192 reads ≡ k) (one_place (t.bucket - t.head.first) region r place at)
-      (named_same (Touches (frame_start region 8192 (1 - s)) 8192) region 8192 (selector_free region 8192 size its_room s two FrameCall (λ e. cc)) read reads same ∙ sound.current k e region place))
-      sound.made
+        named (λ k e. absurd (not_writing k e)) (λ k entries e. absurd (not_writing k e))
 
 -- ---- the group with the bucket that joined
 
@@ -319,24 +263,21 @@ module _ {D : Type 0} (t u : SectionState D) (s : ℕ) (phase : t.phase ≡ Writ
   has_bucket : HasBucket t.phase
   has_bucket = subst HasBucket (sym phase) tt
 
-  puts_before : PutsEntries t.phase
-  puts_before = subst PutsEntries (sym phase) tt
-
   in_group : (n : ℕ) → IsChanging t n → IsChanging u n
-  in_group n way = (way.0, (puts_on t u s phase group joined, subst (λ (l : List Member). Contains l way.0) (sym joined.group) (Contains-append_left t.group (new_member ∷ []) way.0 way.1.1), way.1.2))
+  in_group n way = (way.0, (joined.section.puts_on, subst (λ (l : List Member). Contains l way.0) (sym joined.group) (Contains-append_left t.group (new_member ∷ []) way.0 way.1.1), way.1.2))
 
   unfolded : (n : ℕ) → IsChanging u n → IsChanging t n ⊎ (n ≡ t.bucket)
   unfolded n way = ⊎_elim
-      (λ (was : Contains t.group way.0). inl (way.0, (puts_before, was, way.1.2)))
+      (λ (was : Contains t.group way.0). inl (way.0, (joined.section.puts, was, way.1.2)))
       (λ (is : new_member ≡ way.0). inr (sym way.1.2 ∙ sym (ap (λ (x : Member). x.bucket) is)))
       (Contains-push_cases t.group new_member way.0 (subst (λ (l : List Member). Contains l way.0) joined.group way.1.1))
 
   entries_are : entries_of u ≡ entries_of t
-  entries_are = ap (λ (o : Option EntriesState). items_of o) joined.entries
+  entries_are = ap (λ (o : Option EntriesState). items_of o) joined.section.entries
 
   apart_on : AllPairs (λ a b. a.bucket ≢ b.bucket) (t.group ++ new_member ∷ [])
   apart_on = all_pairs_push (λ a b. a.bucket ≢ b.bucket) t.group new_member group.apart
-      (λ k d lt same. joins_apart t u s phase group joined (get_or t.group k d, (puts_before, Contains-get_or t.group k d lt, same)))
+      (λ k d lt same. joins_apart t u s phase group joined (get_or t.group k d, (joined.section.puts, Contains-get_or t.group k d lt, same)))
 
   -- whatever is under way behind it
   module _ (begun : t.begun ≤ u.begun) (within : u.begun ≤ length (entries_of t)) (most : u.most ≡ t.most) where
@@ -346,16 +287,16 @@ module _ {D : Type 0} (t u : SectionState D) (s : ℕ) (phase : t.phase ≡ Writ
         → IsGroup u
     group_joined range next whole = record {
       order = (
-        omega (arith, joined.written, joined.framed, group.order),
+        omega (arith, joined.section.written, joined.framed, group.order),
         omega (arith, joined.framed, begun),
         omega (arith, within, ap (λ (l : List Entry). length l) entries_are),
       );
       ordered = (
         group.ordered.0,
-        subst (λ (h : Head). IsOrdered h.total group.ordered.0 (entries_of u)) (sym joined.head)
+        subst (λ (h : Head). IsOrdered h.total group.ordered.0 (entries_of u)) (sym joined.section.head)
             (subst (λ (l : List Entry). IsOrdered t.head.total group.ordered.0 l) (sym entries_are) group.ordered.1),
       );
-      in_range = λ entry has. in_range_on (bucket_of u.head.total entry.key.score.0) (subst (λ (h : Head). InRange t.head t.buckets (bucket_of h.total entry.key.score.0)) (sym joined.head)
+      in_range = λ entry has. in_range_on (bucket_of u.head.total entry.key.score.0) (subst (λ (h : Head). InRange t.head t.buckets (bucket_of h.total entry.key.score.0)) (sym joined.section.head)
           (group.in_range entry (subst (λ (l : List Entry). Contains l entry) entries_are has)));
       own = λ entry has. subst (IsChanging u) (sym (number_is t u s phase group joined entry)) (⊎_elim
           (λ (was : Contains (drop t.written (take t.framed (entries_of t))) entry). in_group (bucket_number t entry) (group.own entry was))
@@ -382,10 +323,52 @@ module _ {D : Type 0} (t u : SectionState D) (s : ℕ) (phase : t.phase ≡ Writ
     }
       where
         in_range_on : (n : ℕ) → InRange t.head t.buckets n → InRange u.head u.buckets n
-        in_range_on n it = subst (λ (h : Head). InRange h u.buckets n) (sym joined.head) (subst (λ (b : ℕ). InRange t.head b n) (sym joined.buckets) it)
+        in_range_on n it = subst (λ (h : Head). InRange h u.buckets n) (sym joined.section.head) (subst (λ (b : ℕ). InRange t.head b n) (sym joined.section.buckets) it)
 
         new_way : IsChanging u t.bucket
-        new_way = (new_member, (puts_on t u s phase group joined, subst (λ (l : List Member). Contains l new_member) (sym joined.group) (Contains-push t.group new_member), refl))
+        new_way = (new_member, (joined.section.puts_on, subst (λ (l : List Member). Contains l new_member) (sym joined.group) (Contains-push t.group new_member), refl))
 
         new_in_range : InRange u.head u.buckets new_member.bucket × (new_member.current < 2)
         new_in_range = (in_range_on t.bucket (group.bucket has_bucket), group.current s phase)
+
+-- so the section stays well
+pub well_joined : {D : Type 0} {size capacity more begun bucket : ℕ} {members : List Member} {buffer : Option (List ℕ)} {frames : List (Option ℕ)} {p : Phase}
+    (disk : DiskOf D) (t : SectionState D) (s : ℕ) → t.phase ≡ WriteFrame s → t.stopped ≡ None → members ≡ t.group ++ record { bucket = t.bucket; current = s } ∷ [] → IsRead p ⊎ (p ≡ SyncFrames)
+    → t.begun ≤ begun → begun ≤ length (entries_of t) → GROUP_MAX ≤ more → (HasBucket p → InRange t.head t.buckets bucket)
+    → (HasBucket p → (t.begun < begun) × (length members < t.most) × AreNext t.head.total bucket t.begun begun (entries_of t)) → (HasGroup p → begun ≡ t.begun)
+    → IsWell disk size t buffer capacity frames
+    → IsWell disk size (record t { phase = p; framed = t.begun; begun = begun; bucket = bucket; group = members }) buffer more frames
+well_joined {p} disk t s phase goes many is order within memory range next whole well =
+    let puts : PutsEntries t.phase = subst PutsEntries (sym phase) tt in
+    let puts_on : PutsEntries p = ⊎_elim (λ reads. read_puts p reads) (λ (e : p ≡ SyncFrames). subst PutsEntries (sym e) tt) is in
+    let group = well.group puts in
+    let fewer = (group.next (subst HasBucket (sym phase) tt)).1 in
+    well_on disk t (λ e. subst PutsEntries e puts) puts_on
+    (group_joined t _ s phase group (record {
+      section = record { name = refl; head = refl; buckets = refl; twin = refl; entries = refl; written = refl; puts = puts; puts_on = puts_on };
+      group = many;
+      framed = refl;
+      phase = is;
+    }) order within refl range next whole)
+    (omega (arith, fewer, ap (λ (l : List Member). length l) many, length-append t.group (record { bucket = t.bucket; current = s } ∷ [])))
+    memory well.frame_len (λ none. goes) well.remembers well
+
+-- and that is what comes next
+pub joins_next : {D : Type 0} {begun bucket : ℕ} {members : List Member} {p : Phase} (disk : DiskOf D) (t : SectionState D) (s : ℕ) → t.phase ≡ WriteFrame s
+    → members ≡ t.group ++ record { bucket = t.bucket; current = s } ∷ [] → IsRead p ⊎ (p ≡ SyncFrames)
+    → (let u = record t { phase = p; framed = t.begun; begun = begun; bucket = bucket; group = members } in
+    ((length members < t.most) × BeginsBucket t.begun u) ⊎ ((p ≡ SyncFrames) × (u.framed ≡ t.begun) × (begun ≡ t.begun) × IsFull u))
+    → ((k : ℕ) → IsTrue disk.tells → p ≡ ReadFrame k → StillNames (record t { bucket = bucket }) (k % 2) (disk.bytes t.disk))
+    → ComesNext disk t (record t { phase = p; framed = t.begun; begun = begun; bucket = bucket; group = members })
+joins_next {begun} {bucket} {members} {p} disk t s is many either next named = record {
+  section = record { buckets = refl; name = refl; entries = refl; most = refl };
+  disk_is = refl;
+  head_is = refl;
+  next_is = refl;
+  calls = refl;
+  stopped = refl;
+  phase = subst (λ (x : Phase). NextPhase x t (record t { phase = p; framed = t.begun; begun = begun; bucket = bucket; group = members })) (sym is) (record { group = many; written = refl }, next);
+  group_twin = λ other. refl;
+  head_twin = λ e. absurd (⊎_elim (λ reads. read_apart p reads e) (λ (at : p ≡ SyncFrames). let no : SyncFrames ≡ ChangeHead = sym at ∙ e in cc) either);
+  named = named;
+}

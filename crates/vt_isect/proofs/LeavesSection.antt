@@ -1,5 +1,6 @@
 -- What the images of a sound section are.
 use Rattle.std.proofs.Common.{◌≡◌, ◌≢◌, ◌⊎◌, inl, inr, ⊎_elim, ℕ, ◌+◌, ◌-◌, ◌<◌, ◌≤◌, List, [], Option, Some, None, refl, sym, ◌∙◌, ap, subst, arith}
+use Rattle.std.proofs.lemmas.Option.{same_Some}
 use Rattle.std.specs.Prelude.{IsSome}
 use Rattle.std.proofs.lemmas.Bool.{cases_lt, false≢true}
 use Rattle.vt_base.specs.declared.place.Entry.{Entry}
@@ -50,9 +51,6 @@ module _ {D : Type 0} (t : SectionState D) (known : Known) (read : List ℕ) (im
   InBucket n es = ((region : Region) × IsPlaceOf (n - t.head.first) region × IsFrame n es (current_frame region 8192 c))
       × ((old : List Entry) → known n ≡ Some old → (es ≡ old) ⊎ (IsChanging t n × Merges old (IsOfGroup t n) es))
 
-  some_same : (a b : List Entry) → Some a ≡ Some b → a ≡ b
-  some_same a b e = cc
-
   holds : (n : ℕ) (old : List Entry) → known n ≡ Some old → HoldsBucket t n old read images → (es : List Entry) × InBucket n es
   holds n old is it =
       let gives = sound_gives it.twin it.region it.frame read images it.sound c left in
@@ -63,7 +61,7 @@ module _ {D : Type 0} (t : SectionState D) (known : Known) (read : List ℕ) (im
         old,
         (
           (it.region, it.place, subst (λ (f : List ℕ). IsFrame n old f) (sym (at it.frame same)) it.spelled),
-          λ other e. inl (some_same old other (sym is ∙ e)),
+          λ other e. inl (same_Some old other (sym is ∙ e)),
         ),
       ))
       (λ (new : HasBegunSelector it.twin × (current_frame it.region it.twin.frame_len c ≡ next_frame it.twin)).
@@ -73,7 +71,7 @@ module _ {D : Type 0} (t : SectionState D) (known : Known) (read : List ℕ) (im
         come.new,
         (
           (it.region, it.place, subst (λ (f : List ℕ). IsFrame n come.new f) (sym (at (next_frame it.twin) new.1)) come.spelled),
-          λ other e. inr ((way.1, way.3), subst (λ (o : List Entry). Merges o (IsOfGroup t n) come.new) (some_same old other (sym is ∙ e)) come.merges),
+          λ other e. inr ((way.1, way.3), subst (λ (o : List Entry). Merges o (IsOfGroup t n) come.new) (same_Some old other (sym is ∙ e)) come.merges),
         ),
       ))
       (λ (no : ¬ IsChanging t n). absurd (omega (arith, new.0, begun_bound it.twin, none_made it.twin (it.rest no))))

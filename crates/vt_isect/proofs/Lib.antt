@@ -33,3 +33,6 @@ pub mod WritesBack
 pub mod NamesDamage
 pub mod Fills
 pub mod WriteBucket
+pub mod GroupCalls
+pub mod HeadCalls
+pub mod ReadCalls

@@ -1,17 +1,19 @@
 -- The members of a group.
-use Rattle.std.proofs.Common.{◌≡◌, ◌≢◌, ◌⊎◌, inl, inr, ⊎_elim, ℕ, zero, suc, ◌<◌, List, [], ◌∷◌, ◌++◌, length, length-drop, length-take, take, Option, Some, refl, sym, ap, ◌∙◌, subst, arith}
+use Rattle.std.proofs.Common.{◌≡◌, ◌≢◌, ◌⊎◌, inl, inr, ⊎_elim, ℕ, zero, suc, ◌<◌, ◌≤◌, List, [], ◌∷◌, ◌++◌, length, length-drop, length-take, take, Option, Some, None, refl, sym, ap, ◌∙◌, subst, arith}
 use Rattle.std.specs.Prelude.{slice_get}
 use Rattle.std.specs.List.{AllPairs, Contains}
 use Rattle.std.proofs.lemmas.Bool.{cases_eq, cases_order}
 use Rattle.std.proofs.lemmas.Option.{get_or_from_slice_get, slice_get_within}
 use Rattle.vt_base.specs.declared.place.Entry.{Entry}
+use Rattle.vt_isect.specs.declared.TheConstants.{GROUP_MAX}
 use Rattle.vt_isect.specs.declared.groups.Member.{Member}
+use Rattle.vt_isect.specs.declared.head.Head.{Head}
 use Rattle.vt_isect.specs.declared.phase.Phase.{Phase}
 use Rattle.vt_isect.specs.declared.phase.Phase.TheVariants.{Rest, ReadSelector, ReadFrame, WriteFrame, SyncFrames, WriteSelector, SyncSelectors, ChangeHead}
 use Rattle.vt_isect.proofs.AreNext.{of_group}
 use Rattle.vt_disk.specs.Members.{DiskOf}
 use Rattle.vt_isect.specs.Remembered.{Remembers}
-use Rattle.vt_isect.specs.Section.{SectionState, HasBucket, HasGroup, IsAtRest, IsChanging, IsGroup, IsMember, IsWell, PutsEntries, entering, entries_of}
+use Rattle.vt_isect.specs.Section.{SectionState, HasBucket, HasGroup, IsChanging, IsGroup, IsMember, IsWell, PutsEntries, entering, entries_of}
 
 -- one of the group has this number, or none has
 abbrev pub Found : List Member → (n : ℕ) → Type 0
@@ -117,10 +119,10 @@ group_moves t d p frame calls stopped puts puts_on bucket whole current selector
   selector = selector;
 }
 
--- a call was made, and nothing else
-pub called : {D : Type 0} (disk : DiskOf D) (size : ℕ) (t : SectionState D) (buffer : Option (List ℕ)) (capacity : ℕ) (frames was : List (Option ℕ)) (d : D) (calls : ℕ)
-    → Remembers disk d t.buckets frames → IsWell disk size t buffer capacity was → IsWell disk size (record t { disk = d; calls = calls }) buffer capacity frames
-called disk size t buffer capacity frames was d calls remembers well = record {
+-- a read
+pub well_read : {D : Type 0} {size capacity : ℕ} {buffer : Option (List ℕ)} {frames was : List (Option ℕ)} {d : D} (disk : DiskOf D) (t : SectionState D)
+    → Remembers disk d t.buckets frames → IsWell disk size t buffer capacity was → IsWell disk size (record t { disk = d }) buffer capacity frames
+well_read {d} disk t remembers well = record {
   room = well.room;
   name_len = well.name_len;
   head_len = well.head_len;
@@ -131,72 +133,47 @@ called disk size t buffer capacity frames was d calls remembers well = record {
   few = well.few;
   group = λ puts.
       let group = well.group puts in
-      group_moves t d t.phase t.frame calls t.stopped puts puts (λ has. has) (λ has. has) group.current group.selector group;
+      group_moves t d t.phase t.frame t.calls t.stopped puts puts (λ has. has) (λ has. has) group.current group.selector group;
   alone = well.alone;
   rest = λ rest. record { goes = (well.rest rest).goes; next = (well.rest rest).next };
   goes = well.goes;
   remembers = remembers;
 }
 
--- and it failed
-pub stopped : {D : Type 0} (disk : DiskOf D) (size : ℕ) (t : SectionState D) (buffer : Option (List ℕ)) (capacity : ℕ) (frames was : List (Option ℕ)) (d : D) (calls n : ℕ) → ¬ IsAtRest t
-    → Remembers disk d t.buckets frames → IsWell disk size t buffer capacity was → IsWell disk size (record t { disk = d; calls = calls; stopped = Some n }) buffer capacity frames
-stopped disk size t buffer capacity frames was d calls n runs remembers well = record {
+-- entries go on to be put into their buckets
+pub well_on : {D : Type 0} {size capacity more written framed begun bucket calls : ℕ} {frame : List ℕ} {group : List Member} {buffer : Option (List ℕ)} {frames was : List (Option ℕ)} {d : D} {next : Head} {p : Phase} {stopped : Option ℕ}
+    (disk : DiskOf D) (t : SectionState D) → t.phase ≢ ChangeHead → PutsEntries p
+    → IsGroup (record t { disk = d; next = next; phase = p; written = written; framed = framed; begun = begun; bucket = bucket; frame = frame; group = group; calls = calls; stopped = stopped })
+    → length group ≤ t.most → GROUP_MAX ≤ more → length frame ≡ 8192 → (stopped ≡ None → t.stopped ≡ None) → Remembers disk d t.buckets frames
+    → IsWell disk size t buffer capacity was
+    → IsWell disk size (record t { disk = d; next = next; phase = p; written = written; framed = framed; begun = begun; bucket = bucket; frame = frame; group = group; calls = calls; stopped = stopped }) buffer more frames
+well_on disk t no_head puts group few memory whole goes remembers well = record {
   room = well.room;
   name_len = well.name_len;
   head_len = well.head_len;
-  frame_len = well.frame_len;
-  buffer = record { lent = well.buffer.lent; here = well.buffer.here };
+  frame_len = whole;
+  buffer = record { lent = λ e. absurd (subst PutsEntries e puts); here = λ no. well.buffer.here no_head };
   most = well.most;
-  memory = well.memory;
-  few = well.few;
-  group = λ puts.
-      let group = well.group puts in
-      group_moves t d t.phase t.frame calls (Some n) puts puts (λ has. has) (λ has. has) group.current group.selector group;
-  alone = well.alone;
-  rest = λ rest. absurd (runs rest);
-  goes = λ none. absurd (cc);
+  memory = memory;
+  few = few;
+  group = λ u. group;
+  alone = λ no. absurd (no puts);
+  rest = λ rest. absurd (subst PutsEntries rest puts);
+  goes = λ none. well.goes (goes none);
   remembers = remembers;
 }
 
--- another call of the group is next
-pub goes_on : {D : Type 0} (disk : DiskOf D) (size : ℕ) (t : SectionState D) (buffer : Option (List ℕ)) (capacity : ℕ) (frames was : List (Option ℕ)) (d : D) (p : Phase) (calls : ℕ)
-    → PutsEntries t.phase → PutsEntries p → (HasBucket p → HasBucket t.phase) → (HasGroup p → HasGroup t.phase)
-    → ((s : ℕ) → p ≡ WriteFrame s → s < 2) → ((j : ℕ) → p ≡ WriteSelector j → j < length t.group) → t.phase ≢ ChangeHead → p ≢ ChangeHead → p ≢ Rest
-    → Remembers disk d t.buckets frames → IsWell disk size t buffer capacity was → IsWell disk size (record t { disk = d; phase = p; calls = calls }) buffer capacity frames
-goes_on disk size t buffer capacity frames was d p calls puts puts_on bucket whole current selector no_head not_head runs remembers well = record {
-  room = well.room;
-  name_len = well.name_len;
-  head_len = well.head_len;
-  frame_len = well.frame_len;
-  buffer = record { lent = λ e. absurd (not_head e); here = λ no. well.buffer.here no_head };
-  most = well.most;
-  memory = well.memory;
-  few = well.few;
-  group = λ u. group_moves t d p t.frame calls t.stopped puts puts_on bucket whole current selector (well.group puts);
-  alone = λ no. absurd (no puts_on);
-  rest = λ rest. absurd (runs rest);
-  goes = well.goes;
-  remembers = remembers;
-}
+-- another call for the group is next
+pub well_moves : {D : Type 0} {size capacity calls : ℕ} {frame : List ℕ} {buffer : Option (List ℕ)} {frames was : List (Option ℕ)} {d : D} {p : Phase} {stopped : Option ℕ}
+    (disk : DiskOf D) (t : SectionState D) → PutsEntries t.phase → PutsEntries p → (HasBucket p → HasBucket t.phase) → (HasGroup p → HasGroup t.phase)
+    → ((s : ℕ) → p ≡ WriteFrame s → s < 2) → ((j : ℕ) → p ≡ WriteSelector j → j < length t.group) → t.stopped ≡ None → length frame ≡ 8192 → Remembers disk d t.buckets frames
+    → IsWell disk size t buffer capacity was → IsWell disk size (record t { disk = d; phase = p; frame = frame; calls = calls; stopped = stopped }) buffer capacity frames
+well_moves disk t puts puts_on bucket whole current selector goes len remembers well =
+    well_on disk t (λ e. subst PutsEntries e puts) puts_on (group_moves t _ _ _ _ _ puts puts_on bucket whole current selector (well.group puts)) well.few well.memory len (λ none. goes) remembers well
 
--- the frame that the bucket under way gets is made
-pub framed : {D : Type 0} (disk : DiskOf D) (size : ℕ) (t : SectionState D) (buffer : Option (List ℕ)) (capacity : ℕ) (frames was : List (Option ℕ)) (d : D) (frame : List ℕ) (calls : ℕ)
-    → length frame ≡ 8192 → Remembers disk d t.buckets frames → IsWell disk size t buffer capacity was → IsWell disk size (record t { disk = d; frame = frame; calls = calls }) buffer capacity frames
-framed disk size t buffer capacity frames was d frame calls len remembers well = record {
-  room = well.room;
-  name_len = well.name_len;
-  head_len = well.head_len;
-  frame_len = len;
-  buffer = record { lent = well.buffer.lent; here = well.buffer.here };
-  most = well.most;
-  memory = well.memory;
-  few = well.few;
-  group = λ puts.
-      let group = well.group puts in
-      group_moves t d t.phase frame calls t.stopped puts puts (λ has. has) (λ has. has) group.current group.selector group;
-  alone = well.alone;
-  rest = λ rest. record { goes = (well.rest rest).goes; next = (well.rest rest).next };
-  goes = well.goes;
-  remembers = remembers;
-}
+-- a call for it was made
+pub well_called : {D : Type 0} {size capacity calls : ℕ} {frame : List ℕ} {buffer : Option (List ℕ)} {frames was : List (Option ℕ)} {d : D} {stopped : Option ℕ}
+    (disk : DiskOf D) (t : SectionState D) → PutsEntries t.phase → t.stopped ≡ None → length frame ≡ 8192 → Remembers disk d t.buckets frames
+    → IsWell disk size t buffer capacity was → IsWell disk size (record t { disk = d; frame = frame; calls = calls; stopped = stopped }) buffer capacity frames
+well_called disk t puts goes len remembers well =
+    well_moves disk t puts puts (λ has. has) (λ has. has) (well.group puts).current (well.group puts).selector goes len remembers well

@@ -1,6 +1,5 @@
 -- Entries that are put into a bucket one after another.
 use Rattle.std.proofs.Common.{◌≡◌, ◌≢◌, ◌⊎◌, inl, inr, ⊎_elim, ℕ, zero, suc, ◌+◌, ◌<◌, List, [], ◌∷◌, ◌++◌, length, length-append, get_or, take, drop, take-append-drop, refl, sym, ap, ◌∙◌, subst, arith}
-use Rattle.std.specs.Prelude.{◌↔◌}
 use Rattle.std.specs.List.{All, AllPairs, Contains}
 use Rattle.std.proofs.lemmas.List.Elements.{All-contains, All-contains_itself, Contains-append_cases, Contains-append_left, Contains-append_right, Contains-push, Contains-push_cases}
 use Rattle.std.proofs.Math.Seq.{drop-cons}
@@ -66,17 +65,6 @@ merges_more old mid new front y before put = record {
         (λ (other : it.0.key ≢ y.key). (it.0, (put it.0).1 (inr (it.1, other)), it.2))
         (decide_keys it.0.key y.key)
 
--- the same of two groups that have the same entries
-module _ (group of : Entry → Type 0) (same : (entry : Entry) → group entry ↔ of entry) where
-  pub merges_same : (old new : List Entry) → Merges old group new → Merges old of new
-  merges_same old new it = record {
-    from = λ entry has. ⊎_elim
-        (λ (here : group entry). inl ((same entry).0 here))
-        (λ was. inr (was.0, λ that. was.1 (that.0, (same that.0).1 that.1, that.2)))
-        (it.from entry has);
-    keeps = λ entry has. it.keeps entry (⊎_elim inl (λ (here : of entry). inr ((same entry).1 here)) has);
-  }
-
 -- ---- keys, each counted once
 
 pub cons_cases : (y : Entry) (xs : List Entry) (entry : Entry) → Contains (y ∷ xs) entry
@@ -115,16 +103,6 @@ no_key_more key front y none other it = ⊎_elim
     (λ (has : Contains front it.0). none (it.0, has, it.2))
     (λ (is : y ≡ it.0). other (ap (λ (e : Entry). e.key) is ∙ it.2))
     (Contains-push_cases front y it.0 it.1)
-
--- none is counted yet
-pub keys_none : (old : List Entry) (front : List Entry) → front ≡ [] → HasKeys (IsAbsent old (Contains front)) 0
-keys_none old front none = record {
-  some = [];
-  count_is = refl;
-  distinct = λ i j d low high. absurd (omega (arith, high));
-  each = λ entry has. absurd (omega (arith, has.1));
-  all = λ entry it. absurd (let e : length front ≡ 0 = ap length none in omega (arith, it.0.1, e));
-}
 
 -- one more is
 pub keys_more : (old : List Entry) (front : List Entry) (y : Entry) (count : ℕ) → ¬ HasKey (Contains old) y.key

@@ -1,5 +1,6 @@
 -- A section that was mounted.
 use Rattle.std.proofs.Common.{◌≡◌, ℕ, ◌+◌, ◌-◌, ◌*◌, ◌^◌, ◌<◌, ◌≤◌, List, Some, refl, sym, subst, inl}
+use Rattle.std.proofs.lemmas.Option.{same_Some}
 use Rattle.std.specs.List.{Contains}
 use Rattle.vt_base.specs.declared.place.Entry.{Entry}
 use Rattle.vt_bucket.specs.Frame.{IsFrame}
@@ -54,16 +55,13 @@ module _ {D : Type 0} (d : D) (buckets : ℕ) (name : List ℕ) (head : Head) (n
         settled_holds t n at.0 entries read images (still n) at.1 only (are n at.0 entries within at.1 is);
   }
 
-  some_same : (a b : List Entry) → Some a ≡ Some b → a ≡ b
-  some_same a b e = cc
-
   pub mounted_agrees : (score : List ℕ → List ℕ) (c : Setup) (h : History) (entries : ℕ → List Entry)
       → IsSection name head buckets entries read → AgreesWith score c h buckets head entries
       → IsSoundSection t (all_known entries) read images × KnownAgrees score c h t (all_known entries)
   mounted_agrees score c h entries section agrees = (
     mounted_sound (all_known entries) (λ n region es within place is.
         let it = section.bucket n within in
-        subst (λ (l : List Entry). IsFrame n l (current_frame region 8192 read)) (some_same (entries n) es is)
+        subst (λ (l : List Entry). IsFrame n l (current_frame region 8192 read)) (same_Some (entries n) es is)
         (subst (λ (r : Region). IsFrame n (entries n) (current_frame r 8192 read)) (one_place (n - head.first) it.0 region it.1 place) it.2)),
     record {
       keys = agrees.keys;
@@ -71,7 +69,7 @@ module _ {D : Type 0} (d : D) (buckets : ℕ) (name : List ℕ) (head : Head) (n
       same_first = refl;
       same_total = refl;
       whole = λ n within. refl;
-      blocks = λ n es entry within is has. agrees.blocks n entry within (subst (λ (l : List Entry). Contains l entry) (sym (some_same (entries n) es is)) has);
+      blocks = λ n es entry within is has. agrees.blocks n entry within (subst (λ (l : List Entry). Contains l entry) (sym (same_Some (entries n) es is)) has);
       todo = λ entry way. absurd way.0;
       filed = λ live. covered _;
       coming = λ live. covered _;
@@ -83,5 +81,5 @@ module _ {D : Type 0} (d : D) (buckets : ℕ) (name : List ℕ) (head : Head) (n
         fits = agrees.mark_fits;
         has = λ n i es within is below at.
             let it = agrees.filed n i within below at in
-            (it.0, inl (subst (λ (l : List Entry). Contains l it.0) (some_same (entries n) es is) it.1), it.2);
+            (it.0, inl (subst (λ (l : List Entry). Contains l it.0) (same_Some (entries n) es is) it.1), it.2);
       }

@@ -1,5 +1,6 @@
 -- The two values of a damage are of one form, and differ.
-use Rattle.std.proofs.Common.{◌≡◌, ◌≢◌, ⊎_elim, ℕ, List, codes, sym, ◌∙◌, subst, arith}
+use Rattle.std.proofs.Common.{◌≡◌, ◌≢◌, ⊎_elim, ℕ, List, codes, Result, Ok, Err, sym, ◌∙◌, subst, arith}
+use Rattle.std.specs.Prelude.{IfErr}
 use Rattle.vt_base.specs.declared.place.Entry.{Entry}
 use Rattle.vt_base.specs.declared.why.FieldValue.TheVariants as value
 use Rattle.vt_bucket.specs.declared.decoding.BucketBad.{BucketBad}
@@ -9,6 +10,11 @@ use Rattle.vt_isect.specs.declared.bad.ShardErr.{ShardErr}
 use Rattle.vt_isect.specs.declared.bad.ShardErr.TheVariants.{Fault, Damaged, Stopped}
 use Rattle.vt_isect.specs.Faults.{NamesDamage, damage_of}
 use Rattle.vt_isect.specs.Merging.{IsDamage, IsFaulty, IsOverfull}
+use Rattle.vt_disk.specs.Members.{DiskOf}
+use Rattle.vt_twin.specs.declared.step.Step.{Step}
+use Rattle.vt_isect.specs.declared.phase.Phase.TheVariants.{ReadFrame}
+use Rattle.vt_isect.specs.Section.{SectionState}
+use Rattle.vt_isect.specs.Writeback.{Advances, FindsDamage}
 
 one_magic : (a b : List ℕ) → value.Magic a ≡ value.Magic b → a ≡ b
 one_magic a b e = cc
@@ -34,13 +40,12 @@ damage_differs n group frame bad it = ⊎_elim
     (record { form = tt; values = λ same. let e = one_number 263 full.2 same in omega (arith, full.4, e) }))
     it
 
--- a refusal that is none of a device call
-pub differs_in : (n : ℕ) (group : List Entry) (Of : List ℕ → Type 0) (bad : ShardErr)
-    → (bad ≢ Fault → (frame : List ℕ) × IsDamage n group frame bad × Of frame) → NamesDamage bad
-differs_in n group Of Fault it = tt
-differs_in n group Of (Stopped call) it = tt
-differs_in n group Of (Damaged b want found) it =
-    let damage = it (λ e. cc) in damage_differs n group damage.0 (Damaged b want found) damage.1
-
-pub fault_is : (bad : ShardErr) → bad ≡ Fault → NamesDamage bad
-fault_is bad is = subst NamesDamage (sym is) tt
+-- a step that ends without a success names damage, or none
+pub differs_by : {D : Type 0} (disk : DiskOf D) (result : Result Step ShardErr) (t u : SectionState D) → Advances result t u
+    → ((s : ℕ) → IfErr result (λ bad. bad ≢ Fault → t.phase ≡ ReadFrame s → FindsDamage disk s t bad)) → IfErr result NamesDamage
+differs_by disk (Ok step) t u steps damaged = tt
+differs_by disk (Err Fault) t u steps damaged = tt
+differs_by disk (Err (Damaged b want found)) t u steps damaged =
+    let it = damaged steps.0.0 (λ e. cc) steps.0.1 in
+    damage_differs _ _ it.0 (Damaged b want found) it.1
+differs_by disk (Err (Stopped n)) t u steps damaged = tt

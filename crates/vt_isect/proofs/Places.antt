@@ -5,13 +5,19 @@ use Rattle.vt_disk.specs.declared.region.Region.{Region}
 use Rattle.vt_disk.specs.Region.{Inside}
 use Rattle.vt_twin.specs.Frames.{HasRoom}
 use Rattle.vt_isect.specs.declared.head.Head.{Head}
-use Rattle.vt_isect.specs.Layout.{head_place, IsPlaceOf, InRange}
+use Rattle.vt_isect.specs.Layout.{head_place, place_of, IsPlaceOf, InRange}
 
 one_region : (a b : Region) → a.start ≡ b.start → a.len ≡ b.len → a ≡ b
 one_region a b start len i = record { start = start i; len = len i }
 
 pub one_place : (j : ℕ) (a b : Region) → IsPlaceOf j a → IsPlaceOf j b → a ≡ b
 one_place j a b here there = one_region a b (here.start ∙ sym there.start) (here.len ∙ sym there.len)
+
+pub is_place : (j : ℕ) → IsPlaceOf j (place_of j)
+is_place j = record { start = refl; len = refl }
+
+pub place_is : (j : ℕ) (region : Region) → IsPlaceOf j region → region ≡ place_of j
+place_is j region here = one_place j region (place_of j) here (is_place j)
 
 pub head_room : (n size buckets : ℕ) → n ≡ 8192 → 24576 + 16896 * buckets ≤ size → HasRoom head_place n size
 head_room n size buckets is fits = subst (λ (k : ℕ). HasRoom head_place k size) (sym is) (record {
@@ -48,3 +54,13 @@ places_apart j k a b one two other i here there = ⊎_elim
     (λ (high : k < j). omega (arith, one.start, one.len, two.start, two.len, here.0, there.1))
     rest)
     (cases_order j k)
+
+-- what is done in the place of bucket b is done elsewhere for the head and the other buckets
+module _ (head : Head) (buckets b : ℕ) (in_it : InRange head buckets b) (P : ℕ → Type 0) (inside : (i : ℕ) → P i → Inside (place_of (b - head.first)) i) where
+  pub spares_head : (i : ℕ) → P i → ¬ Inside head_place i
+  spares_head i touched = head_apart (b - head.first) (place_of (b - head.first)) (is_place (b - head.first)) i (inside i touched)
+
+  pub spares_bucket : (n : ℕ) → InRange head buckets n → n ≢ b → (region : Region) → IsPlaceOf (n - head.first) region → (i : ℕ) → P i → ¬ Inside region i
+  spares_bucket n within other region place i touched =
+      places_apart (b - head.first) (n - head.first) (place_of (b - head.first)) region (is_place (b - head.first)) place
+      (λ e. other (omega (arith, e, within.0, in_it.0))) i (inside i touched)

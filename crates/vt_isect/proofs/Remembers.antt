@@ -1,21 +1,23 @@
 -- What is remembered of current frames stays so.
-use Rattle.std.proofs.Common.{◌≡◌, ◌≢◌, ⊎_elim, ℕ, zero, suc, ◌+◌, ◌-◌, ◌%◌, ◌<◌, ◌≤◌, List, [], ◌∷◌, length, length-set, get_or, drop, replicate, Option, Some, None, Result, Ok, Err, IsTrue, refl, sym, ◌∙◌, ap, subst, arith}
+use Rattle.std.proofs.Common.{◌≡◌, ◌≢◌, ⊎_elim, ℕ, zero, suc, ◌+◌, ◌%◌, ◌<◌, ◌≤◌, List, [], ◌∷◌, length, length-set, get_or, drop, replicate, Option, Some, None, Result, Ok, Err, IsTrue, refl, sym, ◌∙◌, ap, subst, arith}
 use Rattle.std.specs.Prelude.{slice_get, slice_set, IfOk, IfSome, OnErr}
 use Rattle.std.proofs.lemmas.Bool.{cases_eq, cases_order}
 use Rattle.std.proofs.lemmas.List.{get_or-drop, get_or-take, length-replicate}
-use Rattle.std.proofs.lemmas.Option.{slice_get_within}
+use Rattle.std.proofs.lemmas.Option.{same_Some, slice_get_within}
 use Rattle.vt_base.specs.declared.why.Failed.{Failed}
 use Rattle.vt_disk.specs.declared.region.Region.{Region}
 use Rattle.vt_disk.specs.Calls.{WritesAt, WritesWithin}
-use Rattle.vt_disk.specs.Disk.{SameBut, Touches, part}
+use Rattle.vt_disk.specs.Disk.{SameBut, Touches, part, with_bytes}
+use Rattle.vt_disk.specs.DeviceCalls.{TouchedBy}
+use Rattle.vt_disk.specs.DeviceCalls.DeviceCall.{sync}
 use Rattle.vt_disk.specs.Members.{DiskOf}
 use Rattle.vt_disk.specs.Region.{Inside}
 use Rattle.vt_disk.proofs.Bytes.{part-with_bytes, same_refl}
-use Rattle.vt_twin.specs.Frames.{frame_start, named_number, selector_bytes, selector_len, selector_start, with_selector}
+use Rattle.vt_twin.specs.Frames.{frame_start, named_number, selector_bytes, selector_len, selector_start}
 use Rattle.vt_twin.proofs.Places.{named_same}
 use Rattle.vt_isect.specs.declared.phase.Phase.{Phase}
 use Rattle.vt_isect.specs.declared.phase.Phase.TheVariants.{ReadFrame}
-use Rattle.vt_isect.specs.Layout.{head_place, IsPlaceOf}
+use Rattle.vt_isect.specs.Layout.{IsPlaceOf}
 use Rattle.vt_isect.specs.Remembered.{Remembers, first_read}
 use Rattle.vt_isect.proofs.IsRead.{first_frame}
 use Rattle.vt_isect.proofs.Places.{one_place}
@@ -82,9 +84,6 @@ selector_spares k j region other apart one two it = ⊎_elim
     rest)
     (cases_order j k)
 
-head_spares : (j : ℕ) (other : Region) → IsPlaceOf j other → ¬ Inside head_place (selector_start other 8192)
-head_spares j other two it = omega (arith, two.start, it.1)
-
 -- the frame that these bytes of a selector name
 named_of : (region : Region) (file rest : List ℕ) (number len : ℕ) → number < 2 → 0 < len → part (selector_start region 8192) len file ≡ number ∷ rest
     → named_number region 8192 file ≡ number
@@ -94,9 +93,6 @@ named_of region file rest number len low some is =
     get_or-take len (drop start file) 0 0 some ∙ get_or-drop start file 0 0 ∙ ap (λ (k : ℕ). get_or file k 0) (let e : start + 0 ≡ start = omega arith in e) in
     let small : number % 2 ≡ number = omega (arith, low) in
     ap (λ (b : ℕ). b % 2) (sym first ∙ ap (λ (l : List ℕ). get_or l 0 0) is) ∙ small
-
-one_number : (a b : ℕ) → Some a ≡ Some b → a ≡ b
-one_number a b e = cc
 
 -- a frame that is read first is the one that the selector names
 pub first_named : {D : Type 0} (disk : DiskOf D) (d : D) (buckets : ℕ) (frames : List (Option ℕ)) (j : ℕ) (current : Option ℕ) (p : Phase) (k : ℕ)
@@ -148,7 +144,7 @@ module _ {D : Type 0} (disk : DiskOf D) (d e : D) (buckets : ℕ) (frames : List
   reads k region number place same is was = but_one (λ i. ⊥) (λ told. subst (λ (file : List ℕ). SameBut (λ i. ⊥) (disk.bytes d) file) (sym same) (same_refl (λ i. ⊥) (disk.bytes d))) was
       k (Some number) (λ j other apart there no. no)
       (λ s other told is_s there. ap (λ (file : List ℕ). named_number other 8192 file) same
-      ∙ ap (λ (r : Region). named_number r 8192 (disk.bytes d)) (one_place k other region there place) ∙ is told ∙ one_number number s is_s)
+      ∙ ap (λ (r : Region). named_number r 8192 (disk.bytes d)) (one_place k other region there place) ∙ is told ∙ same_Some number s is_s)
 
   -- or none, where its number is remembered
   pub found : (after : List (Option ℕ)) (k : ℕ) (region : Region) (r : Result ℕ Failed) → IsPlaceOf k region → disk.bytes e ≡ disk.bytes d
@@ -159,15 +155,15 @@ module _ {D : Type 0} (disk : DiskOf D) (d e : D) (buckets : ℕ) (frames : List
       subst (Remembers disk e buckets) (sym is) (reads k region number place same (λ told. sym (named was told)) was)
   found after k region (Err failed) place same named is kept was = subst (Remembers disk e buckets) (sym kept) (remembers_same same was)
 
-  -- the write of a frame
-  pub frame_remembers : (k : ℕ) (region : Region) (a : ℕ) → a < 2 → IsPlaceOf k region → WritesAt disk (Touches (frame_start region 8192 a) 8192) 1 d e
-      → Remembers disk d buckets frames → Remembers disk e buckets frames
-  frame_remembers k region a low place wrote was = beside (Touches (frame_start region 8192 a) 8192) wrote.bytes was
-      (λ j other there. frame_spares k j region other a low place there)
+  -- a sync, done or failed
+  pub sync_remembers : WritesAt disk (TouchedBy sync) 1 d e → Remembers disk d buckets frames → Remembers disk e buckets frames
+  sync_remembers made was = beside (TouchedBy sync) made.bytes was (λ j region place no. no)
 
-  -- the change of the head
-  pub head_remembers : (most : ℕ) → WritesWithin disk head_place most d e → Remembers disk d buckets frames → Remembers disk e buckets frames
-  head_remembers most wrote was = beside (Inside head_place) wrote.bytes was head_spares
+  -- the write of a frame
+  pub frame_remembers : (k : ℕ) (region : Region) (a : ℕ) (frame : List ℕ) → length frame ≡ 8192 → a < 2 → IsPlaceOf k region → WritesAt disk (Touches (frame_start region 8192 a) (length frame)) 1 d e
+      → Remembers disk d buckets frames → Remembers disk e buckets frames
+  frame_remembers k region a frame whole low place wrote was = beside (Touches (frame_start region 8192 a) (length frame)) wrote.bytes was
+      (λ j other there touched. frame_spares k j region other a low place there (subst (λ (n : ℕ). Touches (frame_start region 8192 a) n (selector_start other 8192)) whole touched))
 
   -- what is written in a bucket's place is forgotten
   pub forgets : (k : ℕ) (region : Region) (most : ℕ) → IsPlaceOf k region → WritesWithin disk region most d e
@@ -182,26 +178,27 @@ module _ {D : Type 0} (disk : DiskOf D) (d e : D) (buckets : ℕ) (frames : List
   learns k region most number rest low place wrote is was = but_one (Inside region) wrote.bytes was k (Some number)
       (λ j other apart there. place_spares k j region other apart place there)
       (λ s other told same there. subst (λ (r : Region). named_number r 8192 (disk.bytes e) ≡ s) (one_place k region other place there)
-      (named_of region (disk.bytes e) rest number (selector_len region 8192) low (omega (arith, place.len)) (is told) ∙ one_number number s same))
+      (named_of region (disk.bytes e) rest number (selector_len region 8192) low (omega (arith, place.len)) (is told) ∙ same_Some number s same))
 
   -- the write of a selector, done and failed
-  module _ (k : ℕ) (region : Region) (place : IsPlaceOf k region) (wrote : WritesAt disk (Touches (selector_start region 8192) (selector_len region 8192)) 1 d e)
-      (was : Remembers disk d buckets frames) where
-    apart : (j : ℕ) (other : Region) → j ≢ k → IsPlaceOf j other → ¬ Touches (selector_start region 8192) (selector_len region 8192) (selector_start other 8192)
-    apart j other not there = selector_spares k j region other not place there
+  module _ (k : ℕ) (region : Region) (place : IsPlaceOf k region) (number : ℕ)
+      (wrote : WritesAt disk (Touches (selector_start region 8192) (length (selector_bytes number 512))) 1 d e) (was : Remembers disk d buckets frames) where
+    long : length (selector_bytes number 512) ≡ selector_len region 8192
+    long = omega (arith, length-replicate {A = ℕ} 511 0, place.len)
+
+    apart : (j : ℕ) (other : Region) → j ≢ k → IsPlaceOf j other → ¬ Touches (selector_start region 8192) (length (selector_bytes number 512)) (selector_start other 8192)
+    apart j other not there touched =
+        selector_spares k j region other not place there (subst (λ (n : ℕ). Touches (selector_start region 8192) n (selector_start other 8192)) long touched)
 
     pub selector_forgets : Remembers disk e buckets (slice_set frames k None)
-    selector_forgets = but_one (Touches (selector_start region 8192) (selector_len region 8192)) wrote.bytes was k None apart (λ s other told none there. absurd (cc))
+    selector_forgets = but_one (Touches (selector_start region 8192) (length (selector_bytes number 512))) wrote.bytes was k None apart (λ s other told none there. absurd (cc))
 
-    pub selector_learns : (number : ℕ) → number < 2 → (IsTrue disk.tells → disk.bytes e ≡ with_selector region 8192 number (disk.bytes d))
+    pub selector_learns : number < 2 → (IsTrue disk.tells → disk.bytes e ≡ with_bytes (selector_start region 8192) (selector_bytes number 512) (disk.bytes d))
         → (IsTrue disk.tells → region.start + region.len ≤ length (disk.bytes d)) → Remembers disk e buckets (slice_set frames k (Some number))
-    selector_learns number low is fits = but_one (Touches (selector_start region 8192) (selector_len region 8192)) wrote.bytes was k (Some number) apart
-        (λ s other told same there. subst (λ (r : Region). named_number r 8192 (disk.bytes e) ≡ s) (one_place k region other place there) (named told ∙ one_number number s same))
+    selector_learns low is fits = but_one (Touches (selector_start region 8192) (length (selector_bytes number 512))) wrote.bytes was k (Some number) apart
+        (λ s other told same there. subst (λ (r : Region). named_number r 8192 (disk.bytes e) ≡ s) (one_place k region other place there) (named told ∙ same_Some number s same))
       where
-        selector : List ℕ
-        selector = selector_bytes number (selector_len region 8192)
-
         named : IsTrue disk.tells → named_number region 8192 (disk.bytes e) ≡ number
-        named told = named_of region (disk.bytes e) (replicate (selector_len region 8192 - 1) 0) number (length selector) low (omega arith)
-            (ap (λ (file : List ℕ). part (selector_start region 8192) (length selector) file) (is told)
-            ∙ part-with_bytes (selector_start region 8192) selector (disk.bytes d) (omega (arith, place.len, fits told, length-replicate {A = ℕ} (selector_len region 8192 - 1) 0)))
+        named told = named_of region (disk.bytes e) (replicate 511 0) number (length (selector_bytes number 512)) low (omega arith)
+            (ap (λ (file : List ℕ). part (selector_start region 8192) (length (selector_bytes number 512)) file) (is told)
+            ∙ part-with_bytes (selector_start region 8192) (selector_bytes number 512) (disk.bytes d) (omega (arith, place.len, fits told, length-replicate {A = ℕ} 511 0)))

@@ -1,16 +1,17 @@
 -- The end of a group: its selectors are synced, or it is given up.
 use Rattle.std.proofs.Common.{◌≡◌, ◌≢◌, ◌⊎◌, inl, inr, ⊎_elim, ℕ, ◌-◌, ◌≤◌, List, Option, Some, None, Ok, refl, sym, ◌∙◌, ap, subst, arith}
+use Rattle.std.proofs.lemmas.Option.{same_Some}
 use Rattle.std.specs.Prelude.{IsSome}
 use Rattle.std.specs.List.{Contains}
 use Rattle.vt_base.specs.declared.place.Entry.{Entry}
 use Rattle.vt_disk.specs.Disk.{AreAmong, Only}
-use Rattle.vt_model.specs.History.{History, Accepted}
-use Rattle.vt_model.specs.Places.{Setup, bucket_of, bucket_count}
+use Rattle.vt_model.specs.History.{History}
+use Rattle.vt_model.specs.Places.{Setup}
 use Rattle.vt_twin.specs.Twin.{fresh, after_last, calls_made, next_frame}
 use Rattle.vt_twin.specs.declared.step.Step.TheVariants.{More}
 use Rattle.vt_twin.proofs.Changes.{begun_bound}
 use Rattle.vt_twin.proofs.Sound.{reads_sound}
-use Rattle.vt_isect.specs.Agreement.{HasBlock, IsCovered, IsEntryOf, IsInBucket, KnownAgrees, NoOthers}
+use Rattle.vt_isect.specs.Agreement.{HasBlock, IsCovered, KnownAgrees, NoOthers}
 use Rattle.vt_isect.specs.declared.head.Head.{Head}
 use Rattle.vt_isect.specs.declared.phase.Phase.{Phase}
 use Rattle.vt_isect.specs.declared.phase.Phase.TheVariants.{Rest, ReadFrame, WriteFrame, SyncSelectors, ChangeHead}
@@ -21,6 +22,7 @@ use Rattle.vt_isect.specs.Sound.{Known, HoldsBucket, IsSoundSection, made_of}
 use Rattle.vt_isect.specs.Writeback.{Follows}
 use Rattle.vt_isect.proofs.AgreesWith.{merged_blocks, merged_has}
 use Rattle.vt_isect.proofs.IsSoundSection.{SameStanding, apart_stands, holds_as, reads_pass, section_as}
+use Rattle.vt_isect.proofs.KnownAgrees.{its_bucket}
 use Rattle.vt_isect.proofs.Members.{Stands, standing}
 use Rattle.vt_isect.proofs.Twins.{given_up, selector_settles}
 
@@ -108,16 +110,13 @@ module _ {D : Type 0} (t u : SectionState D) (known : Known) (read reads : List 
     pub knows : Known
     knows n = pick n (standing t n) (known n) refl
 
-    some_same : (a b : List Entry) → Some a ≡ Some b → a ≡ b
-    some_same a b e = cc
-
     seen : (n : ℕ) (entries : List Entry) (s : Stands t n ⊎ ¬ IsChanging t n) (o : Option (List Entry)) (is : known n ≡ o) → pick n s o is ≡ Some entries
         → (IsChanging t n × (old : List Entry) × (known n ≡ Some old) × Merged n old entries) ⊎ (¬ IsChanging t n × (known n ≡ Some entries))
     unfolding pick
     seen n entries (inl at) None is e = absurd (cc)
     seen n entries (inl at) (Some old) is e =
         let it = merged_of n at old is in
-        inl ((at.1, at.3), old, is, subst (Merged n old) (some_same it.0 entries e) it.1)
+        inl ((at.1, at.3), old, is, subst (Merged n old) (same_Some it.0 entries e) it.1)
     seen n entries (inr still) o is e = inr (still, is ∙ e)
 
     kept : (n : ℕ) (s : Stands t n ⊎ ¬ IsChanging t n) (o : Option (List Entry)) (is : known n ≡ o) → ¬ IsChanging t n → pick n s o is ≡ o
@@ -131,7 +130,7 @@ module _ {D : Type 0} (t u : SectionState D) (known : Known) (read reads : List 
     merged n (inl at) None is way entries e = absurd (let no : None ≡ Some entries = sym is ∙ e in cc)
     merged n (inl at) (Some old) is way entries e =
         let it = merged_of n at old is in
-        (it.0, refl, subst (λ (l : List Entry). Merges l (IsOfGroup t n) it.0) (some_same old entries (sym is ∙ e)) it.1.0)
+        (it.0, refl, subst (λ (l : List Entry). Merges l (IsOfGroup t n) it.0) (same_Some old entries (sym is ∙ e)) it.1.0)
     merged n (inr still) o is way entries e = absurd (still way)
 
     some_still : (n : ℕ) (s : Stands t n ⊎ ¬ IsChanging t n) (o : Option (List Entry)) (is : known n ≡ o) → IsSome o → IsSome (pick n s o is)
@@ -166,18 +165,6 @@ module _ {D : Type 0} (t u : SectionState D) (known : Known) (read reads : List 
       here : (n : ℕ) → InRange v.head v.buckets n → InRange t.head t.buckets n
       here n within = subst (λ (x : Head). InRange x t.buckets n) v_head (subst (λ (b : ℕ). InRange v.head b n) v_buckets within)
 
-      -- an entry of a block is in the block's bucket
-      its_bucket : (n i : ℕ) (entry : Entry) → IsEntryOf score c h i entry → IsInBucket score c h n i → bucket_number t entry ≡ n
-      its_bucket n i entry of at =
-          let same_block : of.block ≡ at.block = some_block of.block at.block (sym of.stands.block ∙ at.stands.block) in
-          ap (λ (k : ℕ). bucket_of k entry.key.score.0) agrees.total
-          ∙ ap (bucket_of (bucket_count c)) of.score_is
-          ∙ ap (λ (a : Accepted). bucket_of (bucket_count c) (score a.block.bytes)) same_block
-          ∙ at.bucket_is
-        where
-          some_block : (x y : Accepted) → Some x ≡ Some y → x ≡ y
-          some_block x y e = cc
-
       covered : (others more : Entry → Type 0) (mark : ℕ)
           → ((entry : Entry) → others entry → IsOfGroup t (bucket_number t entry) entry ⊎ more entry)
           → IsCovered score c h t known others mark
@@ -196,7 +183,7 @@ module _ {D : Type 0} (t u : SectionState D) (known : Known) (read reads : List 
             ⊎_elim
             (λ (has : Contains old it.0). put (inl has))
             (λ (other : others it.0). ⊎_elim
-            (λ of. put (inr (of.0, its_bucket n i it.0 it.2 at)))
+            (λ of. put (inr (of.0, its_bucket score c h t known agrees n i it.0 it.2 at)))
             (λ (m : more it.0). (it.0, inr m, it.2)) (split it.0 other))
             it.1)
             (λ old.
@@ -204,7 +191,7 @@ module _ {D : Type 0} (t u : SectionState D) (known : Known) (read reads : List 
             ⊎_elim
             (λ (has : Contains entries it.0). (it.0, inl has, it.2))
             (λ (other : others it.0). ⊎_elim
-            (λ of. absurd (old.0 (subst (IsChanging t) (its_bucket n i it.0 it.2 at) (group.own it.0 of.0))))
+            (λ of. absurd (old.0 (subst (IsChanging t) (its_bucket score c h t known agrees n i it.0 it.2 at) (group.own it.0 of.0))))
             (λ (m : more it.0). (it.0, inr m, it.2)) (split it.0 other))
             it.1)
             (sees n entries holds);

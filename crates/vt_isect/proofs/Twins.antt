@@ -1,11 +1,14 @@
 -- The changes of many twins of a disk, which one sync serves.
-use Rattle.std.proofs.Common.{◌≡◌, ⊎_elim, ℕ, ◌-◌, List, length, sym, ◌∙◌, ap, subst, arith}
+use Rattle.std.proofs.Common.{◌≡◌, ℕ, List, length, sym, ◌∙◌, ap, subst, arith}
 use Rattle.vt_disk.specs.declared.region.Region.{Region}
-use Rattle.vt_disk.specs.Disk.{AreAmong, ChangesAt, Only, SameBut, Touches}
-use Rattle.vt_twin.specs.Frames.{HasRoom, frame_of, named_number, selector_len, selector_start, with_selector}
+use Rattle.vt_disk.specs.Disk.{AreAmong, ChangesAt, Only, SameBut}
+use Rattle.vt_disk.specs.DeviceCalls.{DeviceCall, TouchedBy, bytes_after}
+use Rattle.vt_disk.specs.DeviceCalls.DeviceCall.{sync}
+use Rattle.vt_twin.specs.Calls.{call_at, number_of}
+use Rattle.vt_twin.specs.Frames.{HasRoom, named_number}
 use Rattle.vt_twin.specs.Sound.{IsSound, HasBegunSelector}
 use Rattle.vt_twin.specs.Twin.{TwinState, fresh, calls_made, next_frame, after_call, after_fault, after_last}
-use Rattle.vt_twin.specs.declared.calls.Call.TheVariants.{WriteSelector}
+use Rattle.vt_twin.specs.declared.calls.Stage.{Stage}
 use Rattle.vt_twin.proofs.Steps.{call_sound, fault_sound}
 
 -- a change of which no selector's write began is given up
@@ -20,49 +23,32 @@ given_up t region old read images few sound = record {
   selected = λ made. absurd (omega (arith, made));
 }
 
-module _ (t : TwinState) (region : Region) (old read reads : List ℕ) (images after : List ℕ → Type 0)
-    (same : reads ≡ read) (among : AreAmong after images) (settled : Only read after) (sound : IsSound t region old read images) where
-  -- the sync behind the frame's write
-  pub frame_settles : calls_made t ≡ 1 → ¬ HasBegunSelector t → IsSound (after_call t) region old reads after
-  frame_settles one few = record {
-    number = sound.number;
-    kept = λ c left. sound.kept c (among c left);
-    named = λ waits c left. sound.named few c (among c left);
-    written = λ made. rw same (sound.written (omega (arith, one)));
-    synced = λ made c left. ap (λ (file : List ℕ). frame_of region t.frame_len (1 - t.current) file) (settled c left) ∙ sound.written (omega (arith, one));
-    selected = λ made. absurd (omega (arith, made, one));
-  }
+-- the sync behind the selector's write
+pub selector_settles : (t : TwinState) (region : Region) (old read reads : List ℕ) (images after : List ℕ → Type 0) → reads ≡ read → AreAmong after images → Only read after
+    → IsSound t region old read images → calls_made t ≡ 3 → IsSound (after_last t) region (next_frame t) reads after
+selector_settles t region old read reads images after same among settled sound three = record {
+  number = omega (arith, sound.number);
+  kept = λ c left. sound.synced (omega (arith, three)) c (among c left);
+  named = λ waits c left. ap (λ (file : List ℕ). named_number region t.frame_len file) (settled c left) ∙ sound.selected (omega (arith, three));
+  written = λ made. absurd (omega (arith, made));
+  synced = λ made. absurd (omega (arith, made));
+  selected = λ made. absurd (omega (arith, made));
+}
 
-  -- the sync behind the selector's write
-  pub selector_settles : calls_made t ≡ 3 → IsSound (after_last t) region (next_frame t) reads after
-  selector_settles three = record {
-    number = omega (arith, sound.number);
-    kept = λ c left. sound.synced (omega (arith, three)) c (among c left);
-    named = λ waits c left. ap (λ (file : List ℕ). named_number region t.frame_len file) (settled c left) ∙ sound.selected (omega (arith, three));
-    written = λ made. absurd (omega (arith, made));
-    synced = λ made. absurd (omega (arith, made));
-    selected = λ made. absurd (omega (arith, made));
-  }
+-- a device call that is one of a twin's change
+module _ (w : TwinState) (region : Region) (size : ℕ) (room : HasRoom region w.frame_len size) (stage : Stage) (made : calls_made w ≡ number_of stage)
+    (whole : length (next_frame w) ≡ w.frame_len) (call : DeviceCall) (own : call_at (number_of stage) region w.frame_len w.current (next_frame w) ≡ call)
+    (old read reads : List ℕ) (images after : List ℕ → Type 0) (same : SameBut (TouchedBy call) read reads) (changes : ChangesAt (TouchedBy call) images after)
+    (sound : IsSound w region old read images) where
+  its_same : SameBut (TouchedBy (call_at (number_of stage) region w.frame_len w.current (next_frame w))) read reads
+  its_same = subst (λ (c : DeviceCall). SameBut (TouchedBy c) read reads) (sym own) same
 
--- the selector's write, which succeeds or fails
-module _ (n : ℕ) (t : TwinState) (region : Region) (size : ℕ) (old read reads : List ℕ) (before after : List ℕ → Type 0)
-    (len : t.frame_len ≡ n) (room : HasRoom region n size) (made : calls_made t ≡ 2)
-    (same : SameBut (Touches (selector_start region n) (selector_len region n)) read reads)
-    (changes : ChangesAt (Touches (selector_start region n) (selector_len region n)) before after)
-    (sound : IsSound t region old read before) where
-  room_of : HasRoom region t.frame_len size
-  room_of = subst (λ (k : ℕ). HasRoom region k size) (sym len) room
+  its_changes : ChangesAt (TouchedBy (call_at (number_of stage) region w.frame_len w.current (next_frame w))) images after
+  its_changes = subst (λ (c : DeviceCall). ChangesAt (TouchedBy c) images after) (sym own) changes
 
-  same_of : SameBut (Touches (selector_start region t.frame_len) (selector_len region t.frame_len)) read reads
-  same_of = subst (λ (k : ℕ). SameBut (Touches (selector_start region k) (selector_len region k)) read reads) (sym len) same
+  pub own_fails : IsSound (after_fault w) region old reads after
+  own_fails = fault_sound w region size room old read reads images after stage made whole its_same its_changes sound
 
-  changes_of : ChangesAt (Touches (selector_start region t.frame_len) (selector_len region t.frame_len)) before after
-  changes_of = subst (λ (k : ℕ). ChangesAt (Touches (selector_start region k) (selector_len region k)) before after) (sym len) changes
-
-  pub selector_fails : IsSound (after_fault t) region old reads after
-  selector_fails = fault_sound t region size room_of old read reads before after WriteSelector made same_of changes_of sound
-
-  pub selector_goes : length (next_frame t) ≡ n → length read ≡ size → reads ≡ with_selector region n (1 - t.current) read
-      → IsSound (after_call t) region old reads after
-  selector_goes whole fits bytes = call_sound t region size room_of old read reads before after WriteSelector made same_of changes_of sound (whole ∙ sym len) fits
-      (subst (λ (k : ℕ). reads ≡ with_selector region k (1 - t.current) read) (sym len) bytes) (λ sync. absurd (⊎_elim (λ e. cc) (λ e. cc) sync))
+  pub own_goes : length read ≡ size → reads ≡ bytes_after call read → (call ≡ sync → Only reads after) → IsSound (after_call w) region old reads after
+  own_goes fits bytes settled = call_sound w region size room old read reads images after stage made whole its_same its_changes sound fits
+      (subst (λ (c : DeviceCall). reads ≡ bytes_after c read) (sym own) bytes) (λ syncs. settled (sym own ∙ syncs))

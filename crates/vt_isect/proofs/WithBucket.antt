@@ -64,7 +64,7 @@ module _ {D : Type 0} (t : SectionState D) (d : D) (n : ℕ) (region : Region) (
   known_sound known knows others here sound = record {
     head_frame = sound.head_frame;
     head_len = sound.head_len;
-    head_twin = others_pass head_place region size read reads images after (head_room 8192 size t.buckets refl room) (head_apart (n - t.head.first) region place) same changes
+    head_twin = others_pass head_place (Inside region) size read reads images after (head_room 8192 size t.buckets refl room) (head_apart (n - t.head.first) region place) same changes
         t.head_twin sound.head_frame sound.head_len sound.head_twin;
     head = sound.head;
     head_rest = sound.head_rest;
@@ -75,7 +75,7 @@ module _ {D : Type 0} (t : SectionState D) (d : D) (n : ℕ) (region : Region) (
     bucket = λ k entries within is. ⊎_elim
         (λ (same_n : k ≡ n). subst (λ (m : ℕ). HoldsBucket (record t { disk = d }) m entries reads after) (sym same_n) (here entries (sym (ap knows same_n) ∙ is)))
         (λ (there : k ≢ n). bucket_passes t (record t { disk = d }) k entries read reads images after (still k) (still k) refl (λ goes. goes)
-        (λ r at. others_pass r region size read reads images after (place_room 8192 size t.buckets t.head k r refl room within at)
+        (λ r at. others_pass r (Inside region) size read reads images after (place_room 8192 size t.buckets t.head k r refl room within at)
         (λ i in_region in_r. places_apart (n - t.head.first) (k - t.head.first) region r place at
         (λ e. there (omega (arith, e, within.0, in_it.0))) i in_region in_r) same changes)
         (sound.bucket k entries within (sym (others k there) ∙ is)))
@@ -84,9 +84,6 @@ module _ {D : Type 0} (t : SectionState D) (d : D) (n : ℕ) (region : Region) (
 
   none_some : (entries : List Entry) → None ≡ Some entries → ⊥
   none_some entries e = cc
-
-  some_same : (a b : List Entry) → Some a ≡ Some b → a ≡ b
-  some_same a b e = cc
 
   pub others_sound : (known : Known) → IsSoundSection t known read images → IsSoundSection (record t { disk = d }) (with_bucket n None known) reads after
   others_sound known = known_sound known (with_bucket n None known) (λ k there. with_there known n k None there)

@@ -8,7 +8,6 @@ use Rattle.std.proofs.lemmas.List.{length-replicate}
 use Rattle.vt_disk.proofs.Bytes.{part-with_bytes, length-with_bytes}
 use Rattle.vt_twin.specs.Formatting.{TouchedByFirst}
 use Rattle.vt_twin.specs.Frames.{HasRoom, frame_of, selector_of, selector_start, selector_len, selector_bytes, current_frame}
-use Rattle.vt_twin.specs.Calls.{TouchedBy}
 use Rattle.vt_twin.proofs.EndsFormat.{frame_writes, both_write, first_writes_within, framed, formatted, formatted_frame, formatted_idle, formatted_current, frame_is_whole}
 
 -- a frame of 8,192 bytes in the place of a bucket
@@ -33,7 +32,7 @@ module _ (place : Region) (frame : List ℕ) (size : ℕ) (len : length frame �
         record { bytes = it.bytes; images = it.images; size = it.size; calls = λ told. omega (arith, frame_written.calls told) }
 
     module _ (new : D) (second : WritesAt disk (Touches (place.start + 16384) 512) 1 mid new) where
-      pub selector_written : WritesAt disk (TouchedBy 2 place (length frame) 1) 1 mid new
+      pub selector_written : WritesAt disk (Touches (selector_start place (length frame)) (selector_len place (length frame))) 1 mid new
       selector_written =
           subst (λ (s : ℕ). WritesAt disk (Touches s (selector_len place (length frame))) 1 mid new) start_is
           (subst (λ (k : ℕ). WritesAt disk (Touches (place.start + 16384) k) 1 mid new) len_is second)
@@ -48,7 +47,7 @@ module _ (place : Region) (frame : List ℕ) (size : ℕ) (len : length frame �
 
   module _ (file : List ℕ) (fits : length file ≡ size) where
     -- the frame stands, whatever becomes of the selector
-    pub frame_left : (new : List ℕ) → SameBut (TouchedBy 2 place (length frame) 1) (framed place frame file) new
+    pub frame_left : (new : List ℕ) → SameBut (Touches (selector_start place (length frame)) (selector_len place (length frame))) (framed place frame file) new
         → frame_of place (length frame) 0 new ≡ frame
     frame_left new same = frame_is_whole place frame file size own fits new same
 

@@ -1,100 +1,87 @@
--- What stands where something was written.
-use Rattle.std.proofs.Common.{◌≡◌, ℕ, ◌-◌, List, Some, sym, ◌∙◌, ap, subst, arith, ◌+◌, ◌*◌, ◌<◌, length}
+-- What a step does to the disk.
+use Rattle.std.proofs.Common.{◌≡◌, ⊎_elim, ℕ, ◌+◌, ◌-◌, ◌*◌, ◌≤◌, List, length, Option, Some, refl, sym, ap, subst}
 use Rattle.std.specs.Prelude.{slice_get}
-use Rattle.std.proofs.lemmas.List.{length-replicate}
+use Rattle.std.proofs.lemmas.Option.{slice_get-get_or}
 use Rattle.vt_disk.specs.declared.region.Region.{Region}
-use Rattle.vt_disk.specs.Calls.{WritesAt}
-use Rattle.vt_disk.specs.Disk.{Touches, with_bytes}
-use Rattle.vt_disk.specs.Members.{DiskOf}
-use Rattle.vt_disk.proofs.Calls.{writes_wider}
-use Rattle.vt_twin.specs.Calls.{bytes_after}
-use Rattle.vt_twin.specs.Frames.{HasRoom, frame_start, selector_bytes, selector_len, selector_start, with_frame, with_selector}
-use Rattle.vt_twin.specs.declared.calls.Call.TheVariants.{WriteFrame as FrameCall, WriteSelector as SelectorCall}
-use Rattle.vt_twin.proofs.Places.{touched_inside}
+use Rattle.vt_disk.specs.DeviceCalls.{DeviceCall, TouchedBy, bytes_after}
+use Rattle.vt_disk.specs.DeviceCalls.DeviceCall.{sync}
+use Rattle.vt_disk.specs.Disk.{Touches}
+use Rattle.vt_disk.specs.Region.{Inside}
+use Rattle.vt_twin.specs.Calls.{call_at}
+use Rattle.vt_twin.specs.Frames.{HasRoom, selector_start, with_frame, with_selector}
 use Rattle.vt_twin.specs.Twin.{calls_made, next_frame}
+use Rattle.vt_twin.specs.declared.calls.Stage.TheVariants.{WriteFrame as FrameWrite}
+use Rattle.vt_twin.proofs.Places.{selector_length, selector_within, touched_inside}
 use Rattle.vt_isect.specs.declared.groups.Member.{Member}
 use Rattle.vt_isect.specs.declared.phase.Phase.{Phase}
-use Rattle.vt_isect.specs.declared.phase.Phase.TheVariants.{WriteFrame, WriteSelector, ChangeHead}
-use Rattle.vt_isect.specs.Layout.{head_place, IsPlaceOf}
-use Rattle.vt_isect.specs.Section.{SectionState}
-use Rattle.vt_isect.specs.Writeback.{MayWrite, Writes}
-use Rattle.vt_isect.proofs.Places.{one_place}
+use Rattle.vt_isect.specs.declared.phase.Phase.TheVariants.{Rest, ReadSelector, ReadFrame, WriteFrame, SyncFrames, WriteSelector, SyncSelectors, ChangeHead}
+use Rattle.vt_isect.specs.Layout.{head_place, place_of}
+use Rattle.vt_isect.specs.Section.{SectionState, ChangesGroup, HasBucket, IsGroup}
+use Rattle.vt_isect.specs.Writeback.{IsRead, MayWrite, Syncs, Writes, next_call, selector_write}
+use Rattle.vt_isect.proofs.IsRead.{changes_phase, read_phase}
+use Rattle.vt_isect.proofs.Members.{at_member}
+use Rattle.vt_isect.proofs.Places.{is_place, place_is, place_room}
 
--- what is written by what is done next
-pub writes_at : {D : Type 0} (q : Phase) (t : SectionState D) (read reads : List ℕ)
-    → t.phase ≡ q → Writes q t read reads → Writes t.phase t read reads
-writes_at q t read reads is written = subst (λ (p : Phase). Writes p t read reads) (sym is) written
+module _ {D : Type 0} (t : SectionState D) (size : ℕ) (room : 24576 + 16896 * t.buckets ≤ size) (group : IsGroup t) where
+  -- the write of an idle frame, and that of a selector, lie in their bucket's place
+  pub frame_inside : (s : ℕ) → t.phase ≡ WriteFrame s → length t.frame ≡ 8192 → (i : ℕ) → TouchedBy (next_call (WriteFrame s) t) i → Inside (place_of (t.bucket - t.head.first)) i
+  frame_inside s phase whole i touched =
+      touched_inside (place_of (t.bucket - t.head.first)) 8192 size
+      (place_room 8192 size t.buckets t.head t.bucket (place_of (t.bucket - t.head.first)) refl room (group.bucket (subst HasBucket (sym phase) tt)) (is_place (t.bucket - t.head.first)))
+      s (group.current s phase) t.frame whole FrameWrite i touched
 
--- a frame of a bucket
-pub frame_writes : {D : Type 0} (t : SectionState D) (s : ℕ) (place : Region) (read reads : List ℕ)
-    → t.phase ≡ WriteFrame s → IsPlaceOf (t.bucket - t.head.first) place
-    → reads ≡ with_frame place 8192 (1 - s) t.frame read
-    → Writes t.phase t read reads
-frame_writes t s place read reads phase here written = writes_at (WriteFrame s) t read reads phase (λ region there.
-    subst (λ (r : Region). reads ≡ with_frame r 8192 (1 - s) t.frame read)
-    (one_place (t.bucket - t.head.first) place region here there) written)
+  pub selector_inside : (j : ℕ) (m : Member) → slice_get t.group j ≡ Some m → (i : ℕ) → TouchedBy (selector_write t (Some m)) i → Inside (place_of (m.bucket - t.head.first)) i
+  selector_inside j m at i touched =
+      let region = place_of (m.bucket - t.head.first) in
+      let has_room : HasRoom region 8192 size =
+      place_room 8192 size t.buckets t.head m.bucket region refl room (group.members m (at_member t.group j m at)).0 (is_place (m.bucket - t.head.first)) in
+      selector_within region 8192 size has_room i
+      (subst (λ (n : ℕ). Touches (selector_start region 8192) n i) (selector_length region 8192 size has_room (1 - m.current)) touched)
 
--- a selector
-pub selector_writes : {D : Type 0} (t : SectionState D) (j : ℕ) (m : Member) (place : Region) (read reads : List ℕ)
-    → t.phase ≡ WriteSelector j → slice_get t.group j ≡ Some m → IsPlaceOf (m.bucket - t.head.first) place
-    → reads ≡ with_selector place 8192 (1 - m.current) read
-    → Writes t.phase t read reads
-selector_writes t j m place read reads phase at here written = writes_at (WriteSelector j) t read reads phase (λ k region is there.
-    let same : m ≡ k = some_one m k (sym at ∙ is) in
-    subst (λ (x : Member). reads ≡ with_selector region 8192 (1 - x.current) read) same
-    (subst (λ (r : Region). reads ≡ with_selector r 8192 (1 - m.current) read)
-    (one_place (m.bucket - t.head.first) place region here (subst (λ (x : Member). IsPlaceOf (x.bucket - t.head.first) region) (sym same) there)) written))
-  where
-    some_one : (a b : Member) → Some a ≡ Some b → a ≡ b
-    some_one a b e = cc
+  -- the member whose selector is written
+  pub member_at : (j : ℕ) → t.phase ≡ WriteSelector j → (m : Member) × (slice_get t.group j ≡ Some m)
+  member_at j phase = (_, slice_get-get_or t.group j (record { bucket = 0; current = 0 }) (group.selector j phase))
 
--- a call of the change of the head
-pub head_writes : {D : Type 0} (t : SectionState D) (n : ℕ) (read reads : List ℕ)
-    → t.phase ≡ ChangeHead → n ≡ 8192
-    → reads ≡ bytes_after (calls_made t.head_twin) head_place n t.head_twin.current
-    (next_frame t.head_twin) read
-    → Writes t.phase t read reads
-head_writes t n read reads phase len written =
-    writes_at ChangeHead t read reads phase (subst (λ (k : ℕ).
-    reads ≡ bytes_after (calls_made t.head_twin) head_place k t.head_twin.current
-    (next_frame t.head_twin) read) len written)
+  -- what is written for the group is what may be
+  pub may_write : length t.frame ≡ 8192 → (p : Phase) → ChangesGroup p → t.phase ≡ p → (i : ℕ) → TouchedBy (next_call p t) i → MayWrite p t i
+  may_write whole = changes_phase (λ p. t.phase ≡ p → (i : ℕ) → TouchedBy (next_call p t) i → MayWrite p t i)
+      (λ s phase i touched. (place_of (t.bucket - t.head.first), is_place (t.bucket - t.head.first), frame_inside s phase whole i touched))
+      (λ phase i touched. touched)
+      (λ j phase i touched.
+      let at = member_at j phase in
+      (at.0, at.1, (place_of (at.0.bucket - t.head.first), is_place (at.0.bucket - t.head.first), selector_inside j at.0 at.1 i (subst (λ (o : Option Member). TouchedBy (selector_write t o) i) at.1 touched))))
+      (λ phase i touched. touched)
 
--- what the write of an idle frame changes
-pub wrote_frame : {D : Type 0} (disk : DiskOf D) (region : Region) (s at : ℕ) (chunk frame : List ℕ) (old new : D) → at ≡ 1 - s → chunk ≡ frame → length frame ≡ 8192
-    → WritesAt disk (Touches (region.start + 8192 * at) (length chunk)) 1 old new
-    → WritesAt disk (Touches (frame_start region 8192 (1 - s)) 8192) 1 old new
-wrote_frame disk region s at chunk frame old new place same len writes =
-    subst (λ (n : ℕ). WritesAt disk (Touches (frame_start region 8192 (1 - s)) n) 1 old new) (ap (λ (l : List ℕ). length l) same ∙ len)
-    (subst (λ (k : ℕ). WritesAt disk (Touches (region.start + 8192 * k) (length chunk)) 1 old new) place writes)
+module _ {D : Type 0} (t : SectionState D) (read reads : List ℕ) where
+  -- and what a read gives behind it
+  pub next_writes : (p : Phase) → ChangesGroup p → reads ≡ bytes_after (next_call p t) read → Writes p t read reads
+  next_writes = changes_phase (λ p. reads ≡ bytes_after (next_call p t) read → Writes p t read reads)
+      (λ s bytes region here. subst (λ (r : Region). reads ≡ with_frame r 8192 (1 - s) t.frame read) (sym (place_is (t.bucket - t.head.first) region here)) bytes)
+      (λ bytes. bytes)
+      (λ j bytes m region at here.
+      subst (λ (r : Region). reads ≡ with_selector r 8192 (1 - m.current) read) (sym (place_is (m.bucket - t.head.first) region here))
+      (subst (λ (o : Option Member). reads ≡ bytes_after (selector_write t o) read) at bytes))
+      (λ bytes. bytes)
 
--- which lies in the place of the bucket under way
-pub frame_may : {D : Type 0} (disk : DiskOf D) (t : SectionState D) (region : Region) (size s : ℕ) (old new : D) → t.phase ≡ WriteFrame s → s < 2
-    → HasRoom region 8192 size → IsPlaceOf (t.bucket - t.head.first) region
-    → WritesAt disk (Touches (frame_start region 8192 (1 - s)) 8192) 1 old new
-    → WritesAt disk (MayWrite t.phase t) 1 old new
-frame_may disk t region size s old new phase two room place = writes_wider disk _ _
-    (λ i it. subst (λ (p : Phase). MayWrite p t i) (sym phase) (region, place, touched_inside region 8192 size room s two FrameCall i it)) 1 1 (omega arith) old new
+  pub head_writes : t.head_twin.frame_len ≡ 8192 → reads ≡ bytes_after (next_call ChangeHead t) read → Writes ChangeHead t read reads
+  head_writes len written = subst (λ (n : ℕ). reads ≡ bytes_after (call_at (calls_made t.head_twin) head_place n t.head_twin.current (next_frame t.head_twin)) read) len written
 
--- ---- a selector
+-- what is called a sync is one
+pub syncs_next : {D : Type 0} (t : SectionState D) (p : Phase) → Syncs p t → next_call p t ≡ sync
+syncs_next t Rest syncs = absurd syncs
+syncs_next t ReadSelector syncs = absurd syncs
+syncs_next t (ReadFrame s) syncs = absurd syncs
+syncs_next t (WriteFrame s) syncs = absurd syncs
+syncs_next t SyncFrames syncs = refl
+syncs_next t (WriteSelector j) syncs = absurd syncs
+syncs_next t SyncSelectors syncs = refl
+syncs_next t ChangeHead syncs =
+    let at : (n : ℕ) → DeviceCall = λ n. call_at n head_place t.head_twin.frame_len t.head_twin.current (next_frame t.head_twin) in
+    ⊎_elim (λ (one : calls_made t.head_twin ≡ 1). ap at one) (λ (three : calls_made t.head_twin ≡ 3). ap at three) syncs
 
-selector_long : (region : Region) (number : ℕ) → region.len ≡ 16896 → length (selector_bytes number 512) ≡ selector_len region 8192
-selector_long region number len = omega (arith, length-replicate {A = ℕ} 511 0, len)
+-- a read writes nothing, and is no sync
+pub read_writes : {D : Type 0} (t : SectionState D) (read reads : List ℕ) → reads ≡ read → IsRead t.phase → Writes t.phase t read reads
+read_writes t read reads same = read_phase (λ p. Writes p t read reads) same (λ s. same) t.phase
 
-pub wrote_selector : {D : Type 0} (disk : DiskOf D) (region : Region) (number : ℕ) (chunk : List ℕ) (old new : D) → region.len ≡ 16896 → chunk ≡ selector_bytes number 512
-    → WritesAt disk (Touches (region.start + 16384) (length chunk)) 1 old new
-    → WritesAt disk (Touches (selector_start region 8192) (selector_len region 8192)) 1 old new
-wrote_selector disk region number chunk old new len same writes =
-    subst (λ (n : ℕ). WritesAt disk (Touches (region.start + 16384) n) 1 old new) (ap (λ (l : List ℕ). length l) same ∙ selector_long region number len) writes
-
-pub selector_bytes_are : (region : Region) (number : ℕ) (chunk read reads : List ℕ) → region.len ≡ 16896 → chunk ≡ selector_bytes number 512
-    → reads ≡ with_bytes (region.start + 16384) chunk read → reads ≡ with_selector region 8192 number read
-selector_bytes_are region number chunk read reads len same bytes =
-    let whole : 512 ≡ selector_len region 8192 = omega (arith, len) in
-    bytes ∙ ap (λ (l : List ℕ). with_bytes (region.start + 16384) l read) (same ∙ ap (λ (n : ℕ). selector_bytes number n) whole)
-
-pub selector_may : {D : Type 0} (disk : DiskOf D) (t : SectionState D) (region : Region) (size j : ℕ) (m : Member) (old new : D) → t.phase ≡ WriteSelector j
-    → slice_get t.group j ≡ Some m → HasRoom region 8192 size → IsPlaceOf (m.bucket - t.head.first) region
-    → WritesAt disk (Touches (selector_start region 8192) (selector_len region 8192)) 1 old new
-    → WritesAt disk (MayWrite t.phase t) 1 old new
-selector_may disk t region size j m old new phase at room place = writes_wider disk _ _
-    (λ i it. subst (λ (p : Phase). MayWrite p t i) (sym phase) (m, at, (region, place, touched_inside region 8192 size room 0 (omega arith) SelectorCall i it))) 1 1 (omega arith) old new
+pub read_syncs : {D : Type 0} (t : SectionState D) → IsRead t.phase → ¬ Syncs t.phase t
+read_syncs t = read_phase (λ p. ¬ Syncs p t) (λ no. no) (λ s no. no) t.phase

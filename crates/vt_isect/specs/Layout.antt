@@ -15,9 +15,12 @@ abbrev pub head_place : Region
 head_place = record { start = 0; len = HEAD_PLACE_LEN }
 
 -- the place of bucket j of a section: two frames of 8,192 bytes and a sector
+abbrev pub place_of : (j : ℕ) → Region
+place_of j = record { start = HEAD_PLACE_LEN + BUCKET_PLACE_LEN * j; len = BUCKET_PLACE_LEN }
+
 pub record IsPlaceOf (j : ℕ) (region : Region) : Type 0 where
-  pub start : region.start ≡ HEAD_PLACE_LEN + BUCKET_PLACE_LEN * j
-  pub len : region.len ≡ BUCKET_PLACE_LEN
+  pub start : region.start ≡ (place_of j).start
+  pub len : region.len ≡ (place_of j).len
 
 -- How many buckets a section of this length has. Buckets are numbered in four bytes, so that the
 -- end of a disk of more than 64 TiB may be left unused.

@@ -1,8 +1,9 @@
 -- A section as its calls see it.
-use Rattle.std.specs.Prelude.{◌≡◌, ◌≢◌, ⊤, ℕ, ◌+◌, ◌*◌, ◌<◌, ◌≤◌, List, [], length, take, drop, replicate, Option, Some, None, is_some, MatchOption, if◌then◌else◌, Result, Ok, Err}
+use Rattle.std.specs.Prelude.{◌≡◌, ◌≢◌, ⊤, ℕ, ◌+◌, ◌*◌, ◌<◌, ◌≤◌, false, List, [], length, take, drop, replicate, Option, Some, None, is_some, MatchOption, if◌then◌else◌, Result, Ok, Err}
 use Rattle.std.specs.List.{AllPairs, Contains}
 use Rattle.vt_base.specs.declared.place.Entry.{Entry}
 use Rattle.vt_disk.specs.declared.TheConstants.{NAME_LEN}
+use Rattle.vt_disk.specs.declared.call.CallCount.{CallCount}
 use Rattle.vt_disk.specs.Members.{DiskOf}
 use Rattle.vt_model.specs.Places.{bucket_of}
 use Rattle.vt_twin.specs.Twin.{Change, TwinState, fresh}
@@ -42,6 +43,10 @@ pub record SectionState (D : Type 0) : Type 0 where
   pub head_twin : TwinState
   pub calls : ℕ
   pub stopped : Option ℕ
+
+-- those as a count of device calls
+abbrev pub count_of : {D : Type 0} → SectionState D → CallCount
+count_of t = record { made = t.calls; stopped = t.stopped }
 
 abbrev pub entries_of : {D : Type 0} → SectionState D → List Entry
 entries_of t = items_of t.entries
@@ -86,6 +91,17 @@ PutsEntries SyncFrames = ⊤
 PutsEntries (WriteSelector member) = ⊤
 PutsEntries SyncSelectors = ⊤
 PutsEntries ChangeHead = ⊥
+
+-- a write or a sync for buckets of a group is next
+abbrev pub ChangesGroup : Phase → Type 0
+ChangesGroup Rest = ⊥
+ChangesGroup ReadSelector = ⊥
+ChangesGroup (ReadFrame selector) = ⊥
+ChangesGroup (WriteFrame current) = ⊤
+ChangesGroup SyncFrames = ⊤
+ChangesGroup (WriteSelector member) = ⊤
+ChangesGroup SyncSelectors = ⊤
+ChangesGroup ChangeHead = ⊥
 
 -- the number of the bucket of an entry
 abbrev pub bucket_number : {D : Type 0} → SectionState D → Entry → ℕ
@@ -219,5 +235,5 @@ pub record IsWell {D : Type 0} (disk : DiskOf D) (size : ℕ) (t : SectionState 
   pub group : PutsEntries t.phase → IsGroup t
   pub alone : ¬ PutsEntries t.phase → t.group ≡ []
   pub rest : IsAtRest t → IsIdle t
-  pub goes : t.stopped ≡ None → t.head_twin.stopped ≡ None
+  pub goes : t.stopped ≡ None → t.head_twin.failed ≡ false
   pub remembers : Remembers disk t.disk t.buckets frames

@@ -1,5 +1,5 @@
 -- What a disk holds for a section, and what a crash leaves of it.
-use Rattle.std.specs.Prelude.{◌≡◌, ◌≢◌, ◌⊎◌, ◌==◌, ℕ, ◌-◌, ◌%◌, nat_lt, List, length, Option, Some, None, IsSome, slice_get, if◌then◌else◌}
+use Rattle.std.specs.Prelude.{◌≡◌, ◌≢◌, ◌⊎◌, ◌==◌, ℕ, ◌-◌, ◌%◌, nat_lt, false, List, length, Option, Some, None, IsSome, slice_get, if◌then◌else◌}
 use Rattle.std.specs.List.{Contains}
 use Rattle.vt_base.specs.declared.place.Entry.{Entry}
 use Rattle.vt_bucket.specs.Frame.{IsFrame}
@@ -54,7 +54,7 @@ pub record HasCome {D : Type 0} (t : SectionState D) (n : ℕ) (entries : List E
     (twin : TwinState) (j : ℕ) (member : Member) : Type 0 where
   pub current : twin.current ≡ member.current
   pub made : calls_made twin ≡ made_of t.phase j
-  pub goes : t.stopped ≡ None → twin.stopped ≡ None
+  pub goes : t.stopped ≡ None → twin.failed ≡ false
   pub whole : length (next_frame twin) ≡ FRAME_LEN
   pub new : List Entry
   pub spelled : IsFrame n new (next_frame twin)

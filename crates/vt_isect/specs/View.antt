@@ -20,6 +20,6 @@ state_of s = record {
   group = s.group.items;
   most = s.most;
   head_twin = s.head_twin;
-  calls = s.calls;
-  stopped = s.stopped;
+  calls = s.calls.made;
+  stopped = s.calls.stopped;
 }

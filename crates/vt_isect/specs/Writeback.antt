@@ -1,10 +1,15 @@
 -- The steps of a writeback and of a change of the head.
-use Rattle.std.specs.Prelude.{◌≡◌, ◌≢◌, ◌⊎◌, ⊤, ◌+◌, ◌-◌, ◌*◌, ◌%◌, ◌<◌, ℕ, List, [], ◌∷◌, ◌++◌, length, take, drop, slice_get, Some, None, Result, Ok, Err, OnOk}
+use Rattle.std.specs.Prelude.{◌≡◌, ◌≢◌, ◌⊎◌, ⊤, ◌+◌, ◌-◌, ◌*◌, ◌%◌, ◌<◌, ℕ, List, [], ◌∷◌, ◌++◌, length, take, drop, slice_get, Option, Some, None, IsTrue, Result, Ok, Err, OnOk}
 use Rattle.std.specs.List.{Contains}
 use Rattle.vt_base.specs.declared.place.Entry.{Entry}
-use Rattle.vt_twin.specs.Calls.{bytes_after, IsSync}
-use Rattle.vt_twin.specs.Frames.{with_frame, with_selector}
-use Rattle.vt_twin.specs.Twin.{TwinState, calls_made, next_frame, after_call, one_more}
+use Rattle.vt_base.specs.Faults.{CountsFault, one_more}
+use Rattle.vt_disk.specs.declared.TheConstants.{SECTOR_LEN}
+use Rattle.vt_disk.specs.Calls.{WritesAt, MadeCalls, IsSynced}
+use Rattle.vt_disk.specs.DeviceCalls.{DeviceCall, CallMade, bytes_after}
+use Rattle.vt_disk.specs.DeviceCalls.DeviceCall.{write, sync}
+use Rattle.vt_twin.specs.Calls.{call_at}
+use Rattle.vt_twin.specs.Frames.{frame_of, frame_start, selector_bytes, selector_start, with_frame, with_selector}
+use Rattle.vt_twin.specs.Twin.{TwinState, calls_made, next_call as twin_call, next_frame, after_call, with_change}
 use Rattle.vt_twin.specs.declared.step.Step.{Step}
 use Rattle.vt_twin.specs.declared.step.Step.TheVariants.{More, Done}
 use Rattle.vt_isect.specs.declared.TheConstants.{FRAME_LEN}
@@ -14,14 +19,15 @@ use Rattle.vt_isect.specs.declared.groups.Member.{Member}
 use Rattle.vt_isect.specs.declared.head.Head.{Head}
 use Rattle.vt_isect.specs.declared.phase.Phase.{Phase}
 use Rattle.vt_isect.specs.declared.phase.Phase.TheVariants.{Rest, ReadSelector, ReadFrame, WriteFrame, SyncFrames, WriteSelector, SyncSelectors, ChangeHead}
-use Rattle.vt_isect.specs.Head.{encoded}
-use Rattle.vt_isect.specs.Section.{SectionState, AreNext, IsChanging, IsOfGroup, IsTodo, entries_of}
+use Rattle.vt_isect.specs.Faults.{is_fault}
+use Rattle.vt_isect.specs.Head.{IsHead, encoded}
+use Rattle.vt_isect.specs.Section.{SectionState, AreNext, IsChanging, IsOfGroup, IsTodo, count_of, entering, entries_of}
 use Rattle.vt_disk.specs.declared.region.Region.{Region}
 use Rattle.vt_disk.specs.Members.{DiskOf}
 use Rattle.vt_disk.specs.Region.{Inside}
-use Rattle.vt_isect.specs.Layout.{head_place, IsPlaceOf}
-use Rattle.vt_isect.specs.Merging.{Merges}
-use Rattle.vt_isect.specs.Sound.{Known, DiskHolds}
+use Rattle.vt_isect.specs.Layout.{head_place, place_of, IsPlaceOf}
+use Rattle.vt_isect.specs.Merging.{IsDamage, IsMerged, Merges}
+use Rattle.vt_isect.specs.Sound.{Known, DiskHolds, StillNames}
 use Rattle.vt_isect.specs.Agreement.{IsCovered, KnownAgrees}
 use Rattle.vt_model.specs.History.{History}
 use Rattle.vt_model.specs.Places.{Setup}
@@ -163,7 +169,7 @@ MayWrite ChangeHead t i = Inside head_place i
 -- what a read gives after the next call of the change under way in this region
 abbrev pub read_after : TwinState → Region → (read : List ℕ) → List ℕ
 read_after twin region read =
-    bytes_after (calls_made twin) region FRAME_LEN twin.current (next_frame twin) read
+    bytes_after (call_at (calls_made twin) region FRAME_LEN twin.current (next_frame twin)) read
 
 -- What the next call writes, where it succeeds: an idle frame, the selector that names it, or what
 -- the change of the head writes.
@@ -189,7 +195,26 @@ Syncs (WriteFrame s) t = ⊥
 Syncs SyncFrames t = ⊤
 Syncs (WriteSelector j) t = ⊥
 Syncs SyncSelectors t = ⊤
-Syncs ChangeHead t = IsSync (calls_made t.head_twin)
+Syncs ChangeHead t = (calls_made t.head_twin ≡ 1) ⊎ (calls_made t.head_twin ≡ 3)
+
+-- the write of the selector that names the idle frame of a member of the group (there is one)
+abbrev pub selector_write : {D : Type 0} → SectionState D → Option Member → DeviceCall
+selector_write t None = sync
+selector_write t (Some member) =
+    write (selector_start (place_of (member.bucket - t.head.first)) FRAME_LEN)
+    (selector_bytes (1 - member.current) SECTOR_LEN)
+
+-- The next call, where it is a write or a sync. Of a read, and at rest, it tells nothing.
+abbrev pub next_call : {D : Type 0} → Phase → SectionState D → DeviceCall
+next_call Rest t = sync
+next_call ReadSelector t = sync
+next_call (ReadFrame s) t = sync
+next_call (WriteFrame s) t =
+    write (frame_start (place_of (t.bucket - t.head.first)) FRAME_LEN (1 - s)) t.frame
+next_call SyncFrames t = sync
+next_call (WriteSelector j) t = selector_write t (slice_get t.group j)
+next_call SyncSelectors t = sync
+next_call ChangeHead t = twin_call t.head_twin head_place
 
 -- A fault in a read ends the writeback. One in a write or sync stops the section at that call.
 abbrev pub EndsOrStops : {D : Type 0} → (old new : SectionState D) → Type 0
@@ -244,3 +269,57 @@ KeepsCovered score c h result old new known knows = (mark : ℕ)
     → IsCovered score c h new knows (Contains others) mark)
     × OnOk result (IsCovered score c h old known (IsTodo old) mark
     → IsCovered score c h new knows (IsTodo new) mark)
+
+-- ---- the parts of a step
+
+-- the next call of what is under way was made, and counted, and nothing else has changed
+pub record MakesNext {D E : Type 0} (disk : DiskOf D) (result : Result Unit E)
+    (old new : SectionState D) : Type 0 where
+  pub makes : CallMade disk (next_call old.phase old) result (count_of old) (count_of new)
+      old.disk new.disk
+  pub same : new ≡ record old { disk = new.disk; calls = new.calls; stopped = new.stopped }
+
+-- what is under way behind a call for a group that succeeded, and nothing else has changed
+pub record ComesNext {D : Type 0} (disk : DiskOf D) (old new : SectionState D) : Type 0 where
+  pub section : IsOfSection old new
+  pub disk_is : new.disk ≡ old.disk
+  pub head_is : new.head ≡ old.head
+  pub next_is : new.next ≡ old.next
+  pub calls : new.calls ≡ old.calls
+  pub stopped : new.stopped ≡ old.stopped
+  pub phase : NextPhase old.phase old new
+  pub group_twin : new.phase ≢ ChangeHead → new.head_twin ≡ old.head_twin
+  pub head_twin : new.phase ≡ ChangeHead
+      → (new.head_twin ≡ with_change (encoded old.name old.next) old.head_twin) × IsHead old.next
+  pub named : (s : ℕ) → IsTrue disk.tells → new.phase ≡ ReadFrame s
+      → StillNames new (s % 2) (disk.bytes new.disk)
+
+-- this is the frame of the bucket under way that a selector with this first byte names
+abbrev pub IsNamedFrame : {D : Type 0} → DiskOf D → SectionState D → (selector : ℕ) → List ℕ → Type 0
+IsNamedFrame disk t selector read = (region : Region) → IsTrue disk.tells
+    → IsPlaceOf (t.bucket - t.head.first) region
+    → read ≡ frame_of region FRAME_LEN (selector % 2) (disk.bytes t.disk)
+
+-- the frame that the bucket under way gets has the entries of that one, and those put into it
+abbrev pub GetsFrame : {D : Type 0} → DiskOf D → (selector : ℕ) → (old new : SectionState D)
+    → Type 0
+GetsFrame disk selector old new = (read : List ℕ)
+    × IsMerged old.bucket (entering old) read new.frame × IsNamedFrame disk old selector read
+
+-- or they can't be put into it
+abbrev pub FindsDamage : {D : Type 0} → DiskOf D → (selector : ℕ) → SectionState D → ShardErr
+    → Type 0
+FindsDamage disk selector t bad = (read : List ℕ)
+    × IsDamage t.bucket (entering t) read bad × IsNamedFrame disk t selector read
+
+-- What a step does, which makes one call: to what is known and what is under way, and to the disk.
+pub record TakesStep {D : Type 0} (disk : DiskOf D) (result : Result Step ShardErr)
+    (old new : SectionState D) : Type 0 where
+  pub sound : IsTrue disk.tells → Keeps disk result old new
+  pub steps : Advances result old new
+  pub written : IsTrue disk.tells
+      → OnOk result (Writes old.phase old (disk.bytes old.disk) (disk.bytes new.disk))
+  pub settled : Syncs old.phase old → OnOk result (IsSynced disk new.disk)
+  pub writes : WritesAt disk (MayWrite old.phase old) 1 old.disk new.disk
+  pub calls : MadeCalls disk 1 old.disk new.disk
+  pub faults : CountsFault is_fault result (disk.faults old.disk) (disk.faults new.disk)

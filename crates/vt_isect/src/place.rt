@@ -2,12 +2,14 @@
 
 ghost use Rattle.std.specs.Prelude.{◌≡◌, ◌+◌, ◌*◌, ◌^◌, ◌<◌, ◌≤◌, ℕ};
 ghost use Rattle.vt_model.specs.Places.{bucket_of};
-ghost use Rattle.vt_twin.specs.Frames.{HasRoom};
-ghost use Rattle.vt_isect.specs.Layout.{head_place, IsPlaceOf, buckets_in};
+ghost use Rattle.vt_disk.specs.DeviceCalls.{call_of};
+ghost use Rattle.vt_disk.specs.DeviceCalls.DeviceCall.{write};
+ghost use Rattle.vt_twin.specs.Frames.{HasRoom, frame_start, selector_start};
+ghost use Rattle.vt_isect.specs.Layout.{head_place, place_of, IsPlaceOf, buckets_in};
 
 use crate::{BUCKET_PLACE_LEN, FRAME_LEN, HEAD_PLACE_LEN};
 use vt_base::Score;
-use vt_disk::Region;
+use vt_disk::{Call, Region, SECTOR_LEN};
 use vt_model::bucket_of;
 
 /// How many buckets a section of this length has.
@@ -39,6 +41,20 @@ pub fn bucket_place(bucket: u32) -> Region
         start: HEAD_PLACE_LEN + BUCKET_PLACE_LEN * u64::from(bucket),
         len: BUCKET_PLACE_LEN,
     }
+}
+
+/// The call that writes a frame of a bucket, which is counted from 0 in its section.
+pub fn frame_write<'a>(bucket: u32, number: u8, frame: &'a [u8]) -> Call<'a>
+    ensures { call_of result ≡ write (frame_start (place_of bucket) FRAME_LEN number) frame.now }
+{
+    bucket_place(bucket).write_call(FRAME_LEN as u64 * u64::from(number), frame)
+}
+
+/// The call that writes its selector.
+pub fn selector_write<'a>(bucket: u32, selector: &'a [u8; SECTOR_LEN]) -> Call<'a>
+    ensures { call_of result ≡ write (selector_start (place_of bucket) FRAME_LEN) selector.now }
+{
+    bucket_place(bucket).write_call(2 * FRAME_LEN as u64, selector)
 }
 
 /// The number of a score's bucket, of so many.

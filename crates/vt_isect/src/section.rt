@@ -34,7 +34,7 @@ use std::marker::Model;
 use std::sync::ledger::Ledger;
 use vt_base::{Entry, Failed};
 use vt_bucket::Bucket;
-use vt_disk::{Disk, NAME_LEN};
+use vt_disk::{CallCount, Disk, NAME_LEN};
 use vt_steps::Steps;
 use vt_twin::Twin;
 
@@ -71,8 +71,8 @@ pub struct Section<D: Disk> {
     pub(crate) head_frame: Option<Vec<u8>>,
     /// The number of each bucket's current frame, once that was read or written.
     pub(crate) frames: Remembered,
-    pub(crate) calls: u64,
-    pub(crate) stopped: Option<u64>,
+    /// The device calls of `advance`.
+    pub(crate) calls: CallCount,
 }
 
 impl<D: Disk> Model for Section<D> {
@@ -137,8 +137,7 @@ impl<D: Disk> Section<D> {
             head_twin: twin,
             head_frame: Some(head_frame),
             frames,
-            calls: 0,
-            stopped: None,
+            calls: CallCount::new(),
         }
     }
 
@@ -261,7 +260,7 @@ impl<D: Disk> Section<D> {
     pub fn stopped(&self) -> Option<u64>
         ensures { result ≡ self.now.stopped }
     {
-        self.stopped
+        self.calls.stopped
     }
 
     /// Gives the disk back.

@@ -28,18 +28,18 @@ use crate::groups::{Member, bucket_behind};
 use crate::head::{Head, encode_head};
 use crate::merging::read_merged;
 use crate::phase::Phase;
-use crate::place::{bucket_place, head_place};
+use crate::place::{bucket_place, frame_write, head_place, selector_write};
 use crate::section::Section;
 use vt_base::{Bytes, Failed};
-use vt_disk::{Disk, SECTOR_LEN};
+use vt_disk::{Call, Disk, SECTOR_LEN};
 use vt_model::BUCKET_ROOM;
 use vt_twin::Step;
 
 impl<D: Disk> Section<D> {
     ghost use Rattle.vt_isect.specs.declared.phase.Phase.TheVariants.{Rest, ReadSelector, ReadFrame, WriteFrame, SyncFrames, WriteSelector, SyncSelectors, ChangeHead};
-    ghost use Rattle.vt_isect.specs.Section.{AreInRange, IsAtRest, IsOfGroup, PutsEntries, bucket_number as number_of, entering, entries_of};
+    ghost use Rattle.vt_isect.specs.Section.{AreInRange, ChangesGroup, IsAtRest, IsOfGroup, PutsEntries, bucket_number as number_of, entering, entries_of};
     ghost use Rattle.vt_isect.specs.Sound.{Known, DiskHolds, LeavesSection, IsWhole, StillNames};
-    ghost use Rattle.vt_isect.specs.Writeback.{Advances, BeginsBehind, Completes, Follows, Joins, Keeps, KeepsCovered, MayWrite, NextPhase, Syncs, Writes, WritesBack, calls_left};
+    ghost use Rattle.vt_isect.specs.Writeback.{Advances, BeginsBehind, ComesNext, Completes, FindsDamage, Follows, GetsFrame, Joins, Keeps, KeepsCovered, MakesNext, MayWrite, NextPhase, Syncs, TakesStep, Writes, WritesBack, calls_left};
 
     /// Makes one device call of what is under way. Of a writeback, for each bucket of a group: it
     /// reads the selector, unless the frame that this names is remembered, reads that frame, and
@@ -138,7 +138,7 @@ impl<D: Disk> Section<D> {
         ensures writes { WritesAt D.Disk (MayWrite self.old.phase self.old) 1
             self.old.disk self.new.disk }
     {
-        if let Some(call) = self.stopped {
+        if let Some(call) = self.calls.stopped {
             return Err(ShardErr::Stopped(call));
         }
         self.make_call()
@@ -148,45 +148,20 @@ impl<D: Disk> Section<D> {
     fn make_call(&mut self) -> Result<Step, ShardErr>
         requires under_way { ¬ IsAtRest self.old }
         requires goes { self.old.stopped ≡ None }
-        ensures sound { IsTrue D.tells → Keeps D.Disk result self.old self.new }
-        ensures written { IsTrue D.tells → OnOk result (Writes self.old.phase self.old
-            (D.bytes self.old.disk) (D.bytes self.new.disk)) }
-        ensures settled { Syncs self.old.phase self.old
-            → OnOk result (IsSynced D.Disk self.new.disk) }
-        ensures steps { Advances result self.old self.new }
+        ensures step { TakesStep D.Disk result self.old self.new }
         ensures merged { (s : ℕ) → OnOk result (self.old.phase ≡ ReadFrame s
-            → (read : List ℕ) × IsMerged self.old.bucket (entering self.old) read self.new.frame
-            × ((region : Region) → IsTrue D.tells
-            → IsPlaceOf (self.old.bucket - self.old.head.first) region
-            → read ≡ twin_frame region FRAME_LEN (s % 2) (D.bytes self.old.disk))) }
-        ensures differs { IfErr result NamesDamage }
+            → GetsFrame D.Disk s self.old self.new) }
         ensures damaged { (s : ℕ) → IfErr result (λ bad. bad ≢ ShardErr.Fault
-            → self.old.stopped ≡ None → self.old.phase ≡ ReadFrame s
-            → (read : List ℕ) × IsDamage self.old.bucket (entering self.old) read bad
-            × ((region : Region) → IsTrue D.tells
-            → IsPlaceOf (self.old.bucket - self.old.head.first) region
-            → read ≡ twin_frame region FRAME_LEN (s % 2) (D.bytes self.old.disk))) }
-        ensures undamaged { (score : List ℕ → List ℕ) (c : Setup) (h : History) (known : Known)
-            → IsTrue D.tells
-            → DiskHolds D.Disk self.old known
-            → KnownAgrees score c h self.old known
-            → ((n : ℕ) → crowd score (bucket_count c) h n ≤ BUCKET_ROOM)
-            → IfErr result (λ bad. (bad ≡ ShardErr.Fault)
-            ⊎ ((n : ℕ) × (bad ≡ ShardErr.Stopped n))) }
-        ensures faults { CountsFault is_fault result
-            (D.faults self.old.disk) (D.faults self.new.disk) }
-        ensures calls { MadeCalls D.Disk 1 self.old.disk self.new.disk }
-        ensures writes { WritesAt D.Disk (MayWrite self.old.phase self.old) 1
-            self.old.disk self.new.disk }
+            → self.old.phase ≡ ReadFrame s → FindsDamage D.Disk s self.old bad) }
     {
         match self.phase {
             Phase::Rest => unreachable!(),
             Phase::ReadSelector => self.read_selector(),
             Phase::ReadFrame(selector) => self.read_frame(selector),
-            Phase::WriteFrame(current) => self.write_frame(current),
-            Phase::SyncFrames => self.sync_frames(),
-            Phase::WriteSelector(member) => self.write_selector(member),
-            Phase::SyncSelectors => self.sync_selectors(),
+            Phase::WriteFrame(_)
+            | Phase::SyncFrames
+            | Phase::WriteSelector(_)
+            | Phase::SyncSelectors => self.change_group(),
             Phase::ChangeHead => self.change_head(),
         }
     }
@@ -195,18 +170,9 @@ impl<D: Disk> Section<D> {
     fn read_selector(&mut self) -> Result<Step, ShardErr>
         requires phase { self.old.phase ≡ ReadSelector }
         requires goes { self.old.stopped ≡ None }
-        ensures sound { IsTrue D.tells → Keeps D.Disk result self.old self.new }
-        ensures written { IsTrue D.tells → OnOk result (Writes self.old.phase self.old
-            (D.bytes self.old.disk) (D.bytes self.new.disk)) }
-        ensures steps { Advances result self.old self.new }
-        ensures faults { CountsFault is_fault result
-            (D.faults self.old.disk) (D.faults self.new.disk) }
-        ensures calls { MadeCalls D.Disk 1 self.old.disk self.new.disk }
-        ensures writes { WritesAt D.Disk (MayWrite self.old.phase self.old) 1
-            self.old.disk self.new.disk }
-        ensures refused { IfErr result (λ bad. bad ≡ ShardErr.Fault) }
+        ensures { TakesStep D.Disk result self.old self.new }
     {
-        self.calls = self.calls.saturating_add(1);
+        self.calls.count();
         let index = self.bucket - self.head.first;
         match self.frames.read(&mut self.disk, bucket_place(index), index) {
             Ok(number) => {
@@ -220,31 +186,16 @@ impl<D: Disk> Section<D> {
         }
     }
 
-    /// Reads its current frame, and begins the change to one with the bucket's entries.
+    /// Reads its current frame, and makes the one that has the bucket's entries, too.
     fn read_frame(&mut self, selector: u8) -> Result<Step, ShardErr>
         requires phase { self.old.phase ≡ ReadFrame selector }
         requires goes { self.old.stopped ≡ None }
-        ensures sound { IsTrue D.tells → Keeps D.Disk result self.old self.new }
-        ensures written { IsTrue D.tells → OnOk result (Writes self.old.phase self.old
-            (D.bytes self.old.disk) (D.bytes self.new.disk)) }
-        ensures steps { Advances result self.old self.new }
-        ensures faults { CountsFault is_fault result
-            (D.faults self.old.disk) (D.faults self.new.disk) }
-        ensures calls { MadeCalls D.Disk 1 self.old.disk self.new.disk }
-        ensures writes { WritesAt D.Disk (MayWrite self.old.phase self.old) 1
-            self.old.disk self.new.disk }
-        ensures merged { OnOk result ((read : List ℕ)
-            × IsMerged self.old.bucket (entering self.old) read self.new.frame
-            × ((region : Region) → IsTrue D.tells
-            → IsPlaceOf (self.old.bucket - self.old.head.first) region
-            → read ≡ twin_frame region FRAME_LEN (selector % 2) (D.bytes self.old.disk))) }
+        ensures step { TakesStep D.Disk result self.old self.new }
+        ensures merged { OnOk result (GetsFrame D.Disk selector self.old self.new) }
         ensures damaged { IfErr result (λ bad. bad ≢ ShardErr.Fault
-            → (read : List ℕ) × IsDamage self.old.bucket (entering self.old) read bad
-            × ((region : Region) → IsTrue D.tells
-            → IsPlaceOf (self.old.bucket - self.old.head.first) region
-            → read ≡ twin_frame region FRAME_LEN (selector % 2) (D.bytes self.old.disk))) }
+            → FindsDamage D.Disk selector self.old bad) }
     {
-        self.calls = self.calls.saturating_add(1);
+        self.calls.count();
         let merged = read_merged(
             &mut self.disk,
             bucket_place(self.bucket - self.head.first),
@@ -265,132 +216,79 @@ impl<D: Disk> Section<D> {
         }
     }
 
-    /// Writes the idle frame of the bucket under way, which is one of the group then.
-    fn write_frame(&mut self, current: u8) -> Result<Step, ShardErr>
+    /// Makes the write or the sync for buckets of the group that is next.
+    fn change_group(&mut self) -> Result<Step, ShardErr>
+        requires phase { ChangesGroup self.old.phase }
+        requires goes { self.old.stopped ≡ None }
+        ensures { TakesStep D.Disk result self.old self.new }
+    {
+        // (so that what the section keeps is known here)
+        let _ = &self.calls;
+        self.make_next()?;
+        self.come_next();
+        Ok(Step::More)
+    }
+
+    /// Makes that call, and nothing else.
+    fn make_next(&mut self) -> Result<(), Failed>
+        requires phase { ChangesGroup self.old.phase }
+        requires goes { self.old.stopped ≡ None }
+        ensures { MakesNext D.Disk result self.old self.new }
+    {
+        match self.phase {
+            Phase::WriteFrame(current) => self.write_frame(current),
+            Phase::WriteSelector(member) => self.write_selector(member),
+            _ => self.calls.make(&mut self.disk, Call::Sync),
+        }
+    }
+
+    /// Writes the idle frame of the bucket under way.
+    fn write_frame(&mut self, current: u8) -> Result<(), Failed>
         requires phase { self.old.phase ≡ WriteFrame current }
         requires goes { self.old.stopped ≡ None }
-        ensures sound { IsTrue D.tells → Keeps D.Disk result self.old self.new }
-        ensures written { IsTrue D.tells → OnOk result (Writes self.old.phase self.old
-            (D.bytes self.old.disk) (D.bytes self.new.disk)) }
-        ensures steps { Advances result self.old self.new }
-        ensures faults { CountsFault is_fault result
-            (D.faults self.old.disk) (D.faults self.new.disk) }
-        ensures calls { MadeCalls D.Disk 1 self.old.disk self.new.disk }
-        ensures writes { WritesAt D.Disk (MayWrite self.old.phase self.old) 1
-            self.old.disk self.new.disk }
-        ensures refused { IfErr result (λ bad. bad ≡ ShardErr.Fault) }
+        ensures { MakesNext D.Disk result self.old self.new }
     {
-        let call = self.calls;
-        self.calls = call.saturating_add(1);
-        let place = bucket_place(self.bucket - self.head.first);
-        let idle = FRAME_LEN as u64 * u64::from(1 - current);
-        match place.write_at(&mut self.disk, idle, &self.frame) {
-            Ok(()) => {
-                self.join(current);
-                Ok(Step::More)
-            }
-            Err(Failed) => {
-                self.stopped = Some(call);
-                Err(ShardErr::Fault)
-            }
-        }
+        let index = self.bucket - self.head.first;
+        self.calls.make(&mut self.disk, frame_write(index, 1 - current, &self.frame))
     }
 
-    /// Syncs the frames of the group.
-    fn sync_frames(&mut self) -> Result<Step, ShardErr>
-        requires phase { self.old.phase ≡ SyncFrames }
-        requires goes { self.old.stopped ≡ None }
-        ensures sound { IsTrue D.tells → Keeps D.Disk result self.old self.new }
-        ensures written { IsTrue D.tells → OnOk result (Writes self.old.phase self.old
-            (D.bytes self.old.disk) (D.bytes self.new.disk)) }
-        ensures settled { OnOk result (IsSynced D.Disk self.new.disk) }
-        ensures steps { Advances result self.old self.new }
-        ensures faults { CountsFault is_fault result
-            (D.faults self.old.disk) (D.faults self.new.disk) }
-        ensures calls { MadeCalls D.Disk 1 self.old.disk self.new.disk }
-        ensures writes { WritesAt D.Disk (MayWrite self.old.phase self.old) 1
-            self.old.disk self.new.disk }
-        ensures refused { IfErr result (λ bad. bad ≡ ShardErr.Fault) }
-    {
-        let call = self.calls;
-        self.calls = call.saturating_add(1);
-        match self.disk.sync() {
-            Ok(()) => {
-                self.phase = Phase::WriteSelector(0);
-                Ok(Step::More)
-            }
-            Err(Failed) => {
-                self.stopped = Some(call);
-                Err(ShardErr::Fault)
-            }
-        }
-    }
-
-    /// Writes the selector of a member of the group.
-    fn write_selector(&mut self, member: usize) -> Result<Step, ShardErr>
+    /// Writes the selector of a member of the group. Nothing is remembered of that until it is
+    /// written.
+    fn write_selector(&mut self, member: usize) -> Result<(), Failed>
         requires phase { self.old.phase ≡ WriteSelector member }
         requires goes { self.old.stopped ≡ None }
-        ensures sound { IsTrue D.tells → Keeps D.Disk result self.old self.new }
-        ensures written { IsTrue D.tells → OnOk result (Writes self.old.phase self.old
-            (D.bytes self.old.disk) (D.bytes self.new.disk)) }
-        ensures steps { Advances result self.old self.new }
-        ensures faults { CountsFault is_fault result
-            (D.faults self.old.disk) (D.faults self.new.disk) }
-        ensures calls { MadeCalls D.Disk 1 self.old.disk self.new.disk }
-        ensures writes { WritesAt D.Disk (MayWrite self.old.phase self.old) 1
-            self.old.disk self.new.disk }
-        ensures refused { IfErr result (λ bad. bad ≡ ShardErr.Fault) }
+        ensures { MakesNext D.Disk result self.old self.new }
     {
-        let call = self.calls;
-        self.calls = call.saturating_add(1);
         let Member { bucket, current } = self.group[member];
-        let selector = selector_naming(1 - current);
         let index = bucket - self.head.first;
-        let place = bucket_place(index);
-        match place.write_at(&mut self.disk, 2 * FRAME_LEN as u64, &selector) {
-            Ok(()) => {
-                self.frames.put(index, 1 - current);
-                self.phase = behind_selector(member, self.group.len());
-                Ok(Step::More)
-            }
-            Err(Failed) => {
-                self.frames.forget(index);
-                self.stopped = Some(call);
-                Err(ShardErr::Fault)
-            }
-        }
+        let selector = selector_naming(1 - current);
+        self.frames.forget(index);
+        self.calls
+            .make(&mut self.disk, selector_write(index, &selector))?;
+        self.frames.put(index, 1 - current);
+        Ok(())
     }
 
-    /// Syncs the selectors of the group. Behind that its entries are in their buckets, and the next
+    /// What comes behind it: behind the write of a frame the next bucket, or where the group is
+    /// whole its syncs and selectors. Behind these its entries are in their buckets, and the next
     /// group is under way, or the head.
-    fn sync_selectors(&mut self) -> Result<Step, ShardErr>
-        requires phase { self.old.phase ≡ SyncSelectors }
+    fn come_next(&mut self)
+        requires phase { ChangesGroup self.old.phase }
         requires goes { self.old.stopped ≡ None }
-        ensures sound { IsTrue D.tells → Keeps D.Disk result self.old self.new }
-        ensures written { IsTrue D.tells → OnOk result (Writes self.old.phase self.old
-            (D.bytes self.old.disk) (D.bytes self.new.disk)) }
-        ensures settled { OnOk result (IsSynced D.Disk self.new.disk) }
-        ensures steps { Advances result self.old self.new }
-        ensures faults { CountsFault is_fault result
-            (D.faults self.old.disk) (D.faults self.new.disk) }
-        ensures calls { MadeCalls D.Disk 1 self.old.disk self.new.disk }
-        ensures writes { WritesAt D.Disk (MayWrite self.old.phase self.old) 1
-            self.old.disk self.new.disk }
-        ensures refused { IfErr result (λ bad. bad ≡ ShardErr.Fault) }
+        ensures { ComesNext D.Disk self.old self.new }
     {
-        let call = self.calls;
-        self.calls = call.saturating_add(1);
-        match self.disk.sync() {
-            Ok(()) => {
+        match self.phase {
+            Phase::WriteFrame(current) => self.join(current),
+            Phase::SyncFrames => self.phase = Phase::WriteSelector(0),
+            Phase::WriteSelector(member) => {
+                self.phase = behind_selector(member, self.group.len());
+            }
+            Phase::SyncSelectors => {
                 let next = self.next;
                 self.end();
                 self.go_on(self.begun, next);
-                Ok(Step::More)
             }
-            Err(Failed) => {
-                self.stopped = Some(call);
-                Err(ShardErr::Fault)
-            }
+            _ => unreachable!(),
         }
     }
 
@@ -398,22 +296,12 @@ impl<D: Disk> Section<D> {
     fn change_head(&mut self) -> Result<Step, ShardErr>
         requires phase { self.old.phase ≡ ChangeHead }
         requires goes { self.old.stopped ≡ None }
-        ensures sound { IsTrue D.tells → Keeps D.Disk result self.old self.new }
-        ensures written { IsTrue D.tells → OnOk result (Writes self.old.phase self.old
-            (D.bytes self.old.disk) (D.bytes self.new.disk)) }
-        ensures settled { Syncs self.old.phase self.old
-            → OnOk result (IsSynced D.Disk self.new.disk) }
-        ensures steps { Advances result self.old self.new }
-        ensures faults { CountsFault is_fault result
-            (D.faults self.old.disk) (D.faults self.new.disk) }
-        ensures calls { MadeCalls D.Disk 1 self.old.disk self.new.disk }
-        ensures writes { WritesAt D.Disk (MayWrite self.old.phase self.old) 1
-            self.old.disk self.new.disk }
-        ensures refused { IfErr result (λ bad. bad ≡ ShardErr.Fault) }
+        ensures { TakesStep D.Disk result self.old self.new }
     {
-        let call = self.calls;
-        self.calls = call.saturating_add(1);
-        match self.head_twin.advance(&mut self.disk, head_place()) {
+        match self
+            .head_twin
+            .advance(&mut self.calls, &mut self.disk, head_place())
+        {
             Ok(Step::More) => Ok(Step::More),
             Ok(Step::Done) => {
                 self.head_frame = memory_of(self.head_twin.idle());
@@ -421,10 +309,8 @@ impl<D: Disk> Section<D> {
                 self.phase = Phase::Rest;
                 Ok(Step::Done)
             }
-            Err(_) => {
-                self.stopped = Some(call);
-                Err(ShardErr::Fault)
-            }
+            // (the count isn't stopped)
+            Err(_) => Err(ShardErr::Fault),
         }
     }
 
@@ -482,17 +368,8 @@ impl<D: Disk> Section<D> {
     /// is under way, or where the group is full or no entries are left the sync of its frames.
     fn join(&mut self, current: u8)
         requires phase { self.old.phase ≡ WriteFrame current }
-        ensures group { Joins current self.old self.new }
-        ensures goes { NextPhase (WriteFrame current) self.old self.new }
-        ensures named { (s : ℕ) → IsTrue D.tells → self.new.phase ≡ ReadFrame s
-            → StillNames self.new (s % 2) (D.bytes self.new.disk) }
-        ensures same { self.new ≡ record self.old {
-          phase = self.new.phase;
-          framed = self.old.begun;
-          begun = self.new.begun;
-          bucket = self.new.bucket;
-          group = self.new.group;
-        } }
+        requires goes { self.old.stopped ≡ None }
+        ensures { ComesNext D.Disk self.old self.new }
     {
         let member = Member {
             bucket: self.bucket,

@@ -1,13 +1,13 @@
 -- A call of `advance`, from its two steps.
-use Rattle.std.proofs.Common.{◌≡◌, ◌≢◌, ⊎_elim, ℕ, ◌+◌, ◌<◌, ◌≤◌, List, [], ◌∷◌, length, get_or, refl, sym, ◌∙◌, ap, subst, arith, Option, Some, None, Ok, Err, Result}
+use Rattle.std.proofs.Common.{◌≡◌, ◌≢◌, ⊎_elim, ℕ, ◌+◌, ◌<◌, List, [], ◌∷◌, length, refl, sym, ◌∙◌, ap, subst, arith, Option, Some, None, Ok, Err, Result}
 use Rattle.std.specs.Option.{option_map_or}
 use Rattle.std.specs.Prelude.{IsTrue, IsFalse, slice_get, if◌then◌else◌}
 use Rattle.std.proofs.lemmas.Bool.{cases_eq}
 use Rattle.std.proofs.lemmas.List.{length-drop}
-use Rattle.std.proofs.lemmas.Option.{slice_get_within, slice_get_cases}
+use Rattle.std.proofs.lemmas.Option.{slice_get_within}
 use Rattle.vt_base.specs.declared.place.Place.{Place}
 use Rattle.vt_disk.specs.Members.{DiskOf}
-use Rattle.vt_twin.specs.Twin.{one_more}
+use Rattle.vt_base.specs.Faults.{one_more}
 use Rattle.vt_clump.specs.declared.packed.Packed.{Packed}
 use Rattle.vt_model.specs.History.{History}
 use Rattle.vt_part.specs.declared.layout.ArenaRegion.{ArenaRegion}
@@ -25,10 +25,9 @@ use Rattle.vt_log.specs.declared.queue.Waiting.{Waiting}
 use Rattle.vt_log.specs.Log.{LogState, queued, front, filled_as, fits_in, next_filling}
 use Rattle.vt_log.specs.Queue.{WaitsFor}
 use Rattle.vt_log.specs.Sound.{AreWithinCall, StandForPrefix}
-use Rattle.vt_log.specs.Whole.{IsOnDisk, IsWhole, Fill, turned_to}
+use Rattle.vt_log.specs.Whole.{IsWhole, Fill, turned_to}
 use Rattle.vt_log.proofs.Disks.{tells_set}
 use Rattle.vt_log.proofs.Fill.{fits_within, turned_arena, fill_arena}
-use Rattle.vt_log.proofs.Lists.{at_slice}
 use Rattle.vt_log.proofs.Owed.{none_made}
 
 makes_call : {D : Type 0} (old m new : LogState D) → Prepares old m → MakesCall m new → MakesCall old new

@@ -1,5 +1,5 @@
 -- What a read answers.
-use Rattle.std.proofs.Common.{◌≡◌, ◌≢◌, ◌⊎◌, ⊎_elim, inl, inr, ℕ, ◌-◌, ◌<◌, ◌≤◌, Bool, IsTrue, List, length, drop, sym, ◌∙◌, ap, subst, arith, Some, Ok, Err, Result, IfOk, IfErr, MatchResult}
+use Rattle.std.proofs.Common.{◌≡◌, ◌≢◌, ◌⊎◌, ⊎_elim, inl, inr, ℕ, ◌-◌, ◌<◌, ◌≤◌, IsTrue, List, length, drop, sym, ◌∙◌, ap, subst, arith, Some, Ok, Err, Result, IfOk, IfErr, MatchResult}
 use Rattle.std.specs.Prelude.{slice_get}
 use Rattle.std.proofs.lemmas.Bool.{cases_lt}
 use Rattle.std.proofs.lemmas.Option.{slice_get_within}

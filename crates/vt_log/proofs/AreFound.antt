@@ -1,6 +1,6 @@
 -- Partitions that are read, and what is found of their arenas.
-use Rattle.std.proofs.Common.{◌≡◌, ◌≢◌, ⊎_elim, inl, inr, ℕ, zero, suc, ◌+◌, ◌*◌, ◌%◌, ◌<◌, ◌≤◌, ◌==◌, ◌||◌, Bool, true, false, cond, List, [], ◌∷◌, ◌++◌, length, get_or, map, set, take, drop, refl, sym, ◌∙◌, ap, subst, arith, append_assoc, append-nil, take-append-drop, Some, None, Option, option_map, Ok, Err, Result, IsTrue}
-use Rattle.std.specs.Prelude.{All, slice_get, slice_index, sum_by, not, OnOk, MatchBool}
+use Rattle.std.proofs.Common.{◌≡◌, ◌≢◌, ⊎_elim, inl, inr, ℕ, zero, suc, ◌+◌, ◌%◌, ◌<◌, ◌≤◌, ◌==◌, ◌||◌, Bool, true, false, cond, List, [], ◌∷◌, ◌++◌, length, get_or, map, set, take, drop, refl, sym, ◌∙◌, ap, subst, arith, append_assoc, append-nil, take-append-drop, Some, None, Option, option_map, Ok, Err, Result, IsTrue}
+use Rattle.std.specs.Prelude.{All, slice_get, sum_by, not, OnOk, MatchBool}
 use Rattle.std.proofs.lemmas.Bool.{cases_eq}
 use Rattle.std.proofs.lemmas.List.{length-map, length_push, map-append, drop_more, drop_all, map_more, length-take-le}
 use Rattle.std.proofs.lemmas.Option.{slice_get_within, slice_get-get_or, slice_get-map, same_Some, get_or_from_slice_get}
@@ -20,7 +20,7 @@ use Rattle.vt_arena.specs.declared.head.Found.{Found}
 use Rattle.vt_arena.specs.Arena.{ArenaState, fresh_arena}
 use Rattle.vt_arena.specs.Faults.{first_bad as first_bad_in, Finds, CanStand, is_fault as is_arena_fault}
 use Rattle.vt_arena.specs.Heads.{fields_of, flag_of, sealed_in, clumps_in}
-use Rattle.vt_arena.specs.Layout.{Content, IsArena, fields_at, head_of}
+use Rattle.vt_arena.specs.Layout.{fields_at}
 use Rattle.vt_arena.specs.Places.{IsArenaLen}
 use Rattle.vt_arena.specs.Sound.{IsRegion}
 use Rattle.vt_log.specs.declared.bad.LogBad.{LogBad}

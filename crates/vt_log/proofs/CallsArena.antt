@@ -1,5 +1,5 @@
 -- What a device call of a commit leaves of a log.
-use Rattle.std.proofs.Common.{◌≡◌, ◌≢◌, ◌⊎◌, ⊎_elim, ℕ, ◌+◌, ◌^◌, ◌<◌, ◌≤◌, Bool, true, false, cond, List, ◌++◌, get_or, map, set, refl, sym, ◌∙◌, ap, subst, arith, Some, None, Option, inl, inr}
+use Rattle.std.proofs.Common.{◌≡◌, ◌≢◌, ◌⊎◌, ⊎_elim, ℕ, ◌+◌, ◌<◌, ◌≤◌, Bool, true, false, cond, List, ◌++◌, get_or, map, set, refl, sym, ◌∙◌, ap, subst, arith, Some, None, Option, inl, inr}
 use Rattle.std.specs.Prelude.{AllPairs, slice_get, nat_lt}
 use Rattle.std.proofs.Math.Dec.{leb}
 use Rattle.std.proofs.lemmas.Bool.{cases_eq}
@@ -21,7 +21,7 @@ use Rattle.vt_part.specs.declared.layout.ArenaRegion.{ArenaRegion}
 use Rattle.vt_part.specs.Laws.{IsBefore}
 use Rattle.vt_arena.specs.declared.TheConstants.{FRAME_LEN}
 use Rattle.vt_arena.specs.declared.head.ArenaHead.{ArenaHead}
-use Rattle.vt_arena.specs.Arena.{ArenaState, next_content, pieces, after_step, after_piece, after_head, after_fault, stopped_at_call, changing}
+use Rattle.vt_arena.specs.Arena.{ArenaState, next_content, pieces, after_step, after_piece, after_head, after_fault, with_failure, changing}
 use Rattle.vt_arena.specs.Layout.{Content, IsArena}
 use Rattle.vt_arena.specs.Sound.{IsRegion, IsSettled, IsSound as IsSoundArena, GivesOldOrNext}
 use Rattle.vt_arena.proofs.Fresh.{settled_elsewhere}
@@ -43,17 +43,17 @@ pub record KeepsArena (a b : ArenaState) : Type 0 where
   pub next : b.next ≡ a.next
   pub staged : b.staged ≡ a.staged
 
-pub step_keeps : (a : ArenaState) → KeepsArena a (after_step a) × ((after_step a).stopped ≡ a.stopped)
+pub step_keeps : (a : ArenaState) → KeepsArena a (after_step a) × ((after_step a).failed ≡ a.failed)
 step_keeps a = at (nat_lt a.written (pieces a))
   where
-    at : (b : Bool) → KeepsArena a (cond b (after_piece a) (after_head a)) × ((cond b (after_piece a) (after_head a)).stopped ≡ a.stopped)
+    at : (b : Bool) → KeepsArena a (cond b (after_piece a) (after_head a)) × ((cond b (after_piece a) (after_head a)).failed ≡ a.failed)
     at true = (record { len = refl; number = refl; head = refl; next = refl; staged = refl }, refl)
     at false = (record { len = refl; number = refl; head = refl; next = refl; staged = refl }, refl)
 
 pub fault_keeps : (a : ArenaState) → KeepsArena a (after_fault a)
 fault_keeps a = at (nat_lt a.written (pieces a)) (twin_after_fault (changing a))
   where
-    at : (b : Bool) (t : TwinState) → KeepsArena a (cond b (stopped_at_call a) (record (stopped_at_call a) { twin = t }))
+    at : (b : Bool) (t : TwinState) → KeepsArena a (cond b (with_failure a) (record (with_failure a) { twin = t }))
     at true t = record { len = refl; number = refl; head = refl; next = refl; staged = refl }
     at false t = record { len = refl; number = refl; head = refl; next = refl; staged = refl }
 
@@ -76,7 +76,7 @@ on_disk_set disk ds i d e r at same on = ⊎_elim
 
 -- a log in memory stays whole by a call that ends no commit
 pub call_whole : {D : Type 0} (disk : DiskOf D) (l : LogState D) (i : ℕ) (d e : D) (b : ArenaState) (calls : ℕ) (stopped : Option ℕ) → IsWhole disk l → IsReady l → KeepsArena l.arena b
-    → (stopped ≡ None → b.stopped ≡ None) → slice_get l.disks i ≡ Some d → disk.size e ≡ disk.size d
+    → (stopped ≡ None → b.failed ≡ false) → slice_get l.disks i ≡ Some d → disk.size e ≡ disk.size d
     → IsWhole disk (record l { disks = set l.disks i e; arena = b; calls = calls; stopped = stopped })
 call_whole disk l i d e b calls stopped whole ready keeps runs at same = record {
   many_disks = length-set l.disks i e ∙ whole.many_disks;
@@ -169,7 +169,7 @@ module _ {D : Type 0} (score_of : List ℕ → List ℕ) (disk : DiskOf D) (l : 
 
   -- a disk stays sound by a call that ends no commit
   pub call_sound : (h : History) (b : ArenaState) (calls : ℕ) (stopped : Option ℕ) → (sound : IsSound score_of disk l h) → IsReady l → KeepsArena l.arena b
-      → (stopped ≡ None → b.stopped ≡ None)
+      → (stopped ≡ None → b.failed ≡ false)
       → ((a : Content) → slice_get sound.contents l.committing ≡ Some a → IsSoundArena score_of b r.region a (disk.bytes e) (disk.images e))
       → IsSound score_of disk (record l { disks = set l.disks r.part e; arena = b; calls = calls; stopped = stopped }) h
   call_sound h b calls stopped sound ready keeps runs stays = record {

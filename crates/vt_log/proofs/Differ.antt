@@ -1,9 +1,8 @@
 -- The two values of a damage are of one form, and differ.
 use Rattle.std.proofs.Common.{◌≡◌, ◌≢◌, ◌⊎◌, ⊎_elim, inl, inr, ℕ, ◌+◌, ◌-◌, ◌<◌, ◌≤◌, Bool, true, false, not, Option, Some, None, List, length, take, refl, sym, ◌∙◌, ap, subst, arith, Err, Result}
-use Rattle.std.specs.Prelude.{◌==◌, ◌||◌, ◌&&◌, nat_lt, if◌then◌else◌, codes, slice_index}
+use Rattle.std.specs.Prelude.{◌==◌, nat_lt, if◌then◌else◌, codes, slice_index}
 use Rattle.std.specs.Str.{bytes_eq}
 use Rattle.std.proofs.lemmas.Bool.{cases_lt, eqb-false, ltb-true}
-use Rattle.std.proofs.lemmas.Bool.Decides.{nat_tests}
 use Rattle.std.proofs.lemmas.Slice.Eq.{bytes_eq-Decides}
 use Rattle.vt_base.specs.declared.key.Key.{Key}
 use Rattle.vt_base.specs.declared.place.Place.{Place}
@@ -12,7 +11,6 @@ use Rattle.vt_base.specs.declared.why.FieldValue.{FieldValue}
 use Rattle.vt_base.specs.declared.why.FieldValue.TheVariants.{Number, Score as ScoreValue}
 use Rattle.vt_base.specs.Damage.{Differ}
 use Rattle.vt_base.specs.Kind.{is_kind}
-use Rattle.vt_base.specs.declared.TheConstants.{MAX_BLOCK}
 use Rattle.vt_disk.specs.Members.{DiskOf}
 use Rattle.vt_clump.specs.declared.reading.ClumpBad.{ClumpBad}
 use Rattle.vt_clump.specs.Faults.{or_else, bad_encoding, bad_size, bad_header, other_score, first_bad}

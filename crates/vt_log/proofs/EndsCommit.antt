@@ -1,6 +1,6 @@
 -- What the last call of a commit leaves of a log.
-use Rattle.std.proofs.Common.{◌≡◌, ◌≢◌, ⊎_elim, ℕ, ◌+◌, ◌%◌, ◌<◌, ◌≤◌, ◌==◌, Bool, true, false, cond, List, [], ◌∷◌, ◌++◌, length, take, drop, map, set, refl, sym, ◌∙◌, ap, subst, arith, Some, None, Option}
-use Rattle.std.specs.Prelude.{slice_get, IsTrue, IsFalse, is_some}
+use Rattle.std.proofs.Common.{◌≡◌, ◌≢◌, ⊎_elim, ℕ, ◌+◌, ◌%◌, ◌<◌, ◌≤◌, ◌==◌, Bool, true, false, cond, List, [], ◌∷◌, ◌++◌, length, take, drop, map, set, refl, sym, ◌∙◌, ap, subst, arith, Some, Option}
+use Rattle.std.specs.Prelude.{slice_get, IsTrue, IsFalse}
 use Rattle.std.specs.Option.{option_map_or}
 use Rattle.std.proofs.lemmas.Bool.{cases_eq}
 use Rattle.std.proofs.lemmas.Bool.Decides.{eqb_tells}
@@ -48,18 +48,18 @@ pub record EndsArena (a b : ArenaState) : Type 0 where
   pub head : b.head ≡ a.next
   pub next : b.next ≡ a.next
   pub staged : b.staged ≡ []
-  pub stopped : b.stopped ≡ None
+  pub failed : b.failed ≡ false
   pub rest : IsFalse (is_committing b)
 
-pub last_ends : (a : ArenaState) → a.stopped ≡ None → EndsArena a (after_last a)
+pub last_ends : (a : ArenaState) → a.failed ≡ false → EndsArena a (after_last a)
 last_ends a runs = record {
   len = refl;
   number = refl;
   head = refl;
   next = refl;
   staged = refl;
-  stopped = runs;
-  rest = ap (λ (o : Option ℕ). is_some o) runs;
+  failed = runs;
+  rest = runs;
 }
 
 -- a filling that leads on doesn't ask for the heads of arenas up to it
@@ -153,7 +153,7 @@ ended_whole disk l r found d e b calls whole ends unsealed here has fit at same 
   none = λ past. absurd (omega (arith, past, slice_get_within l.layout l.committing r here));
   number = ap (λ (h : ArenaHead). h.number) ends.next ∙ whole.number ∙ sym ends.number;
   clumps = omega (arith, ap (λ (h : ArenaHead). h.clumps) ends.head, ap (λ (h : ArenaHead). h.clumps) ends.next, ap (λ (ps : List Packed). length ps) ends.staged);
-  runs = λ runs. ends.stopped;
+  runs = λ runs. ends.failed;
   some = λ committing none. let off = ends.rest in absurd (cc);
   way = λ sealed. let off : b.next.sealed ≡ false = ap (λ (h : ArenaHead). h.sealed) ends.next ∙ unsealed in absurd (cc);
   queue = subst (λ (h : ArenaHead). Fill l.layout (set l.heads l.committing (record found { head = b.head })) (filled_as l.committing h) l.queue.waiting l.filling) (sym ends.next)

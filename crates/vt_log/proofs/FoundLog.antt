@@ -31,7 +31,7 @@ use Rattle.vt_arena.specs.declared.head.Found.{Found}
 use Rattle.vt_arena.specs.Arena.{ArenaState, fresh_arena, is_committing}
 use Rattle.vt_arena.specs.Faults.{first_bad as first_bad_in, CanStand}
 use Rattle.vt_arena.specs.Heads.{fields_of, flag_of, sealed_in, clumps_in}
-use Rattle.vt_arena.specs.Layout.{Content, IsContent, IsArena, head_of}
+use Rattle.vt_arena.specs.Layout.{Content, IsArena, head_of}
 use Rattle.vt_arena.specs.Places.{IsArenaLen, block_room, lengths_of}
 use Rattle.vt_arena.specs.Sound.{IsRegion, IsSettled, IsSound as IsSoundArena}
 use Rattle.vt_arena.proofs.Finds.{arena_passes}

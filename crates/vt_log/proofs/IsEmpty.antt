@@ -1,10 +1,10 @@
 -- Partitions whose arenas have no blocks.
-use Rattle.std.proofs.Common.{◌≡◌, ◌≢◌, ⊎_elim, ℕ, ◌+◌, ◌*◌, ◌<◌, ◌≤◌, Bool, Result, List, [], ◌∷◌, length, get_or, map, set, take, refl, sym, ◌∙◌, ap, subst, arith, Some, option_map}
+use Rattle.std.proofs.Common.{◌≡◌, ◌≢◌, ⊎_elim, ℕ, ◌+◌, ◌*◌, ◌<◌, ◌≤◌, Bool, Result, List, [], ◌∷◌, length, get_or, map, set, refl, sym, ◌∙◌, ap, subst, arith, Some, option_map}
 use Rattle.std.specs.Prelude.{All, IsTrue, slice_get}
 use Rattle.std.proofs.lemmas.Bool.{cases_eq}
 use Rattle.std.proofs.lemmas.List.{length-map, map-set}
 use Rattle.std.proofs.lemmas.List.Elements.{All-map}
-use Rattle.std.proofs.lemmas.Option.{slice_get_within, slice_get-get_or, slice_get-map, same_Some, get_or_from_slice_get}
+use Rattle.std.proofs.lemmas.Option.{slice_get_within, slice_get-get_or, slice_get-map, same_Some}
 use Rattle.vt_base.specs.Faults.{CountsFault}
 use Rattle.vt_disk.specs.declared.region.Region.{Region}
 use Rattle.vt_disk.specs.Calls.{WritesAt, WritesWithin, IsSynced}

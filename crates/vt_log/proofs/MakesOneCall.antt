@@ -1,20 +1,19 @@
 -- What one device call of a commit makes of a log, for each of its answers.
-use Rattle.std.proofs.Common.{◌≡◌, ◌↔◌, ℕ, ◌+◌, ◌%◌, ◌<◌, ◌≤◌, Bool, true, false, List, [], ◌++◌, length, get_or, drop, map, set, refl, sym, ◌∙◌, ap, subst, arith, Some, None, Option, option_map, Ok, Err, Result}
+use Rattle.std.proofs.Common.{◌≡◌, ◌↔◌, ℕ, ◌+◌, ◌%◌, ◌<◌, ◌≤◌, true, false, List, [], ◌++◌, length, get_or, drop, map, set, refl, sym, ◌∙◌, ap, subst, arith, Some, None, Option, option_map, Ok, Err, Result}
 use Rattle.std.specs.Prelude.{slice_get, IsTrue}
-use Rattle.std.specs.Option.{option_map_or}
 use Rattle.std.proofs.lemmas.List.{drop_at, length-set}
 use Rattle.std.proofs.lemmas.Option.{slice_get_within, slice_get-map, slice_get-get_or, slice_get_read, same_Some}
-use Rattle.vt_base.specs.Faults.{CountsFault}
+use Rattle.vt_base.specs.Faults.{CountsFault, one_more}
+use Rattle.vt_disk.specs.declared.call.CallErr.{CallErr}
+use Rattle.vt_disk.specs.declared.call.CallCount.{CallCount}
+use Rattle.vt_disk.specs.DeviceCalls.{CallMade, counted, stopped_at}
 use Rattle.vt_disk.specs.Members.{DiskOf}
 use Rattle.vt_disk.specs.declared.region.Region.{Region}
-use Rattle.vt_disk.specs.Calls.{WritesWithin, MadeCalls, IsSynced}
+use Rattle.vt_disk.specs.Calls.{WritesWithin, IsSynced}
 use Rattle.vt_disk.specs.Disk.{WithinCall}
 use Rattle.vt_disk.specs.Region.{region_bytes}
 use Rattle.vt_twin.specs.declared.step.Step.{Step}
 use Rattle.vt_twin.specs.declared.step.Step.TheVariants.{More, Done}
-use Rattle.vt_twin.specs.declared.step.TwinErr.{TwinErr}
-use Rattle.vt_twin.specs.declared.step.TwinErr.TheVariants.{Fault as TwinFault, Stopped as TwinStopped}
-use Rattle.vt_twin.specs.Twin.{is_fault, one_more}
 use Rattle.vt_clump.specs.declared.packed.Packed.{Packed}
 use Rattle.vt_model.specs.History.{History}
 use Rattle.vt_part.specs.declared.layout.ArenaRegion.{ArenaRegion}
@@ -26,13 +25,14 @@ use Rattle.vt_arena.specs.Arena.{ArenaState, Advances, next_content, content_aft
 use Rattle.vt_arena.specs.Layout.{Content, IsArena}
 use Rattle.vt_arena.specs.Places.{IsArenaLen, directory_room, arena_room}
 use Rattle.vt_arena.specs.Sound.{IsSound as IsSoundArena, GivesOldOrNext}
+use Rattle.vt_arena.specs.Written.{next_call}
 use Rattle.vt_log.specs.declared.bad.Progress.{Progress}
 use Rattle.vt_log.specs.declared.bad.Progress.TheVariants.{Step as StepMade, Durable}
 use Rattle.vt_log.specs.declared.bad.LogErr.{LogErr}
-use Rattle.vt_log.specs.declared.bad.LogErr.TheVariants.{Fault, Stopped}
+use Rattle.vt_log.specs.declared.bad.LogErr.TheVariants.{Fault}
 use Rattle.vt_log.specs.declared.queue.Waiting.{Waiting}
 use Rattle.vt_log.specs.Answers.{MakesCall, EndsCommit, CallsArena}
-use Rattle.vt_log.specs.Committing.{IsReady, TakesAll, MakesOrEnds, MakesOneCall}
+use Rattle.vt_log.specs.Committing.{IsReady, TakesAll, MakesOneCall}
 use Rattle.vt_log.specs.Faults.{is_fault_now}
 use Rattle.vt_log.specs.Log.{LogState, queued, packed_of}
 use Rattle.vt_log.specs.Sound.{IsAt, IsSound, AreWithinCall, StandForPrefix}
@@ -48,7 +48,7 @@ use Rattle.vt_log.proofs.Owed.{step_made, call_owed, ended_owed, turned_owed}
 
 -- what a call of an arena's commit tells
 pub record IsAdvanced {D : Type 0} (score_of : List ℕ → List ℕ) (disk : DiskOf D)
-    (a : ArenaState) (region : Region) (d e : D) (b : ArenaState) (step : Result Step TwinErr) : Type 0 where
+    (a : ArenaState) (region : Region) (d e : D) (b : ArenaState) (step : Result Step CallErr) : Type 0 where
   pub sound : (old : Content) → IsTrue disk.tells → IsSoundArena score_of a region old (disk.bytes d) (disk.images d) → IsSoundArena score_of b region (content_after step a old) (disk.bytes e) (disk.images e)
   pub crash : (old : Content) → IsTrue disk.tells → IsSoundArena score_of a region old (disk.bytes d) (disk.images d) → (c : List ℕ) → WithinCall (disk.images d) (disk.images e) c
       → GivesOldOrNext (commit_calls a ≤ calls_made a + 2) score_of region a.number old (next_content a old) c
@@ -57,14 +57,14 @@ pub record IsAdvanced {D : Type 0} (score_of : List ℕ → List ℕ) (disk : Di
   pub steps : Advances step a b
   pub left : calls_made a < commit_calls a
   pub done : step ≡ Ok Done → calls_made a + 1 ≡ commit_calls a
-  pub stopped : (n : ℕ) → step ≡ Err (TwinStopped n) → a.stopped ≡ Some n
-  pub faults : CountsFault is_fault step (disk.faults d) (disk.faults e)
-  pub calls : a.stopped ≡ None → MadeCalls disk 1 d e
+  pub n : CallCount
+  pub m : CallCount
+  pub makes : CallMade disk (next_call a region) step n m d e
   pub writes : WritesWithin disk region 1 d e
 
 -- what is known once the device call was made
 pub record IsCalled {D : Type 0} (score_of : List ℕ → List ℕ) (disk : DiskOf D)
-    (l : LogState D) (r : ArenaRegion) (d e : D) (b : ArenaState) (step : Result Step TwinErr) : Type 0 where
+    (l : LogState D) (r : ArenaRegion) (d e : D) (b : ArenaState) (step : Result Step CallErr) : Type 0 where
   pub whole : IsWhole disk l
   pub runs : l.stopped ≡ None
   pub ready : IsReady l
@@ -72,6 +72,9 @@ pub record IsCalled {D : Type 0} (score_of : List ℕ → List ℕ) (disk : Disk
   pub made : IsAdvanced score_of disk l.arena r.region d e b step
 
 -- ---- what a call leaves in memory
+
+abbrev pub count_of : {D : Type 0} → LogState D → CallCount
+count_of l = record { made = l.calls; stopped = l.stopped }
 
 abbrev called : {D : Type 0} → LogState D → (part : ℕ) → (e : D) → (b : ArenaState) → (calls : ℕ) → (stopped : Option ℕ) → LogState D
 called l part e b calls stopped = record l { disks = set l.disks part e; arena = b; calls = calls; stopped = stopped }
@@ -122,7 +125,7 @@ ends_commit l found b m has head_is calls heads durable staged waiting places = 
 -- ---- one call, by its answer
 
 module _ {D : Type 0} (score_of : List ℕ → List ℕ) (disk : DiskOf D) (l : LogState D) (r : ArenaRegion) (d e : D) (b : ArenaState) where
-  calls_arena : (k : LogState D) (step : Result Step TwinErr) (result : Result Progress LogErr)
+  calls_arena : (k : LogState D) (step : Result Step CallErr) (result : Result Progress LogErr)
       → IsCalled score_of disk l r d e b step → k.disks ≡ set l.disks r.part e
       → CountsFault is_fault_now result (disk.faults d) (disk.faults e) → CallsArena disk result l k
   calls_arena k step result it disks cause = record {
@@ -133,16 +136,16 @@ module _ {D : Type 0} (score_of : List ℕ → List ℕ) (disk : DiskOf D) (l : 
     was = it.at.disk_is;
     disks = disks;
     writes = it.made.writes;
-    calls = it.made.calls (it.whole.runs it.runs);
+    calls = it.made.makes.calls;
     cause = cause;
   }
 
-  changes : (step : Result Step TwinErr) → IsCalled score_of disk l r d e b step → IsTrue disk.tells → ChangesRegion disk r.region d e
+  changes : (step : Result Step CallErr) → IsCalled score_of disk l r d e b step → IsTrue disk.tells → ChangesRegion disk r.region d e
   changes step it told =
       record { size_is = it.made.writes.size; images_are = it.made.writes.images; bytes_are = it.made.writes.bytes told }
 
   -- a crash at any moment of the call
-  stands : (step : Result Step TwinErr) → IsCalled score_of disk l r d e b step
+  stands : (step : Result Step CallErr) → IsCalled score_of disk l r d e b step
       → (h : History) → IsTrue disk.tells → IsSound score_of disk l h → (files : List (List ℕ)) → AreWithinCall disk l.disks (set l.disks r.part e) files → StandForPrefix score_of l files h
   stands step it h told sound files left =
       call_stands score_of disk l r d e it.at (changes step it told) h (commit_calls l.arena ≤ calls_made l.arena + 2) files sound
@@ -162,38 +165,37 @@ module _ {D : Type 0} (score_of : List ℕ → List ℕ) (disk : DiskOf D) (l : 
     batch = λ all more. takes_all l r.part e b (one_more l.calls) l.stopped keeps all;
     last = λ n is. absurd (cc);
     kept = (refl, refl, refl, refl);
-    calls = calls_arena (called l r.part e b (one_more l.calls) l.stopped) (Ok More) (Ok StepMade) it refl it.made.faults;
+    calls = calls_arena (called l r.part e b (one_more l.calls) l.stopped) (Ok More) (Ok StepMade) it refl it.made.makes.cause;
   }
     where
       keeps : KeepsArena l.arena b
       keeps = subst (λ (x : ArenaState). KeepsArena l.arena x) (sym it.made.steps) (step_keeps l.arena).0
 
-      runs : l.stopped ≡ None → b.stopped ≡ None
-      runs none = ap (λ (x : ArenaState). x.stopped) it.made.steps ∙ (step_keeps l.arena).1 ∙ it.whole.runs none
+      runs : l.stopped ≡ None → b.failed ≡ false
+      runs none = ap (λ (x : ArenaState). x.failed) it.made.steps ∙ (step_keeps l.arena).1 ∙ it.whole.runs none
 
       made : calls_made b ≡ calls_made l.arena + 1
       made = ap (λ (x : ArenaState). calls_made x) it.made.steps ∙ step_made l.arena
 
   -- it failed
-  pub fault_made : (err : TwinErr) → IsCalled score_of disk l r d e b (Err err)
+  pub fault_made : (err : CallErr) → IsCalled score_of disk l r d e b (Err err)
       → MakesOneCall score_of disk l (called l r.part e b (one_more l.calls) (Some l.calls)) (Err Fault)
-  fault_made (TwinStopped n) it = absurd (let off = it.made.stopped n refl in let on = it.whole.runs it.runs in cc)
-  fault_made TwinFault it = record {
+  fault_made err it = record {
     whole = call_whole disk l r.part d e b (one_more l.calls) (Some l.calls) it.whole it.ready keeps runs it.at.disk_is it.made.writes.size;
-    sound = λ h told sound. call_sound score_of disk l r d e it.at (changes (Err TwinFault) it told) h b (one_more l.calls) (Some l.calls) sound it.ready keeps runs
+    sound = λ h told sound. call_sound score_of disk l r d e it.at (changes (Err err) it told) h b (one_more l.calls) (Some l.calls) sound it.ready keeps runs
         (λ a has. it.made.sound a told (sound.current r d a it.at has));
-    crash = stands (Err TwinFault) it;
+    crash = stands (Err err) it;
     makes = (makes_call l r.part e b (Some l.calls) keeps, refl);
     batch = λ all more. takes_all l r.part e b (one_more l.calls) (Some l.calls) keeps all;
     last = λ n is. absurd (cc);
     kept = (refl, refl, refl, refl);
-    calls = calls_arena (called l r.part e b (one_more l.calls) (Some l.calls)) (Err TwinFault) (Err Fault) it refl it.made.faults;
+    calls = calls_arena (called l r.part e b (one_more l.calls) (Some l.calls)) (Err err) (Err Fault) it refl it.made.makes.cause;
   }
     where
       keeps : KeepsArena l.arena b
       keeps = subst (λ (x : ArenaState). KeepsArena l.arena x) (sym it.made.steps) (fault_keeps l.arena)
 
-      runs : Some l.calls ≡ None → b.stopped ≡ None
+      runs : Some l.calls ≡ None → b.failed ≡ false
       runs none = absurd (cc)
 
   -- ---- one that ends a commit
@@ -234,7 +236,7 @@ module _ {D : Type 0} (score_of : List ℕ → List ℕ) (disk : DiskOf D) (l : 
     batch = λ all more. absurd (omega (arith, more, it.made.done refl));
     last = λ n is. it.made.done refl;
     kept = (refl, refl, refl, refl);
-    calls = calls_arena m (Ok Done) (Ok (Durable (l.durable + length l.arena.staged))) it refl it.made.faults;
+    calls = calls_arena m (Ok Done) (Ok (Durable (l.durable + length l.arena.staged))) it refl it.made.makes.cause;
   }
     where
       m : LogState D
@@ -271,7 +273,7 @@ module _ {D : Type 0} (score_of : List ℕ → List ℕ) (disk : DiskOf D) (l : 
     batch = λ all more. absurd (omega (arith, more, it.made.done refl));
     last = λ n is. it.made.done refl;
     kept = (refl, refl, refl, refl);
-    calls = calls_arena m (Ok Done) (Ok (Durable (l.durable + length l.arena.staged))) it refl it.made.faults;
+    calls = calls_arena m (Ok Done) (Ok (Durable (l.durable + length l.arena.staged))) it refl it.made.makes.cause;
   }
     where
       m : LogState D
@@ -370,9 +372,9 @@ pub record IsNextArena {D : Type 0} (v : LogState D) (q : ArenaRegion) (next : F
   pub len : IsArenaLen q.region.len
   pub fit : next.head.used + directory_room next.head.clumps ≤ arena_room q.region.len
 
-pub seals_too : (a b : ArenaState) (step : Step) → Advances (Ok step) a b → step ≡ Done → b.next.sealed ≡ true → a.next.sealed ≡ true
-seals_too a b step it done seals =
-    let steps : Advances (Ok Done) a b = subst (λ (s : Step). Advances (Ok s) a b) done it in
+pub seals_too : (E : Type 0) (a b : ArenaState) (step : Step) → Advances {E = E} (Ok step) a b → step ≡ Done → b.next.sealed ≡ true → a.next.sealed ≡ true
+seals_too E a b step it done seals =
+    let steps : Advances {E = E} (Ok Done) a b = subst (λ (s : Step). Advances {E = E} (Ok s) a b) done it in
     sym (ap (λ (x : ArenaState). x.next.sealed) steps) ∙ seals
 
 pub next_arena_there : {D : Type 0} (disk : DiskOf D) (v : LogState D) (rs : List ArenaRegion) (q : ArenaRegion) (x next : Found) → IsWhole disk v → v.arena.next.sealed ≡ true
@@ -399,29 +401,29 @@ next_arena_there {D = D} disk v rs q x next whole seals layout q_is next_is = re
 
 -- and what is known once its call was made
 pub record IsCalledIn {D : Type 0} (score_of : List ℕ → List ℕ) (disk : DiskOf D)
-    (ps : List (Part D)) (p : Part D) (v m : LogState D) (r : ArenaRegion) (e : D) (b : ArenaState) (step : Result Step TwinErr) : Type 0 where
+    (ps : List (Part D)) (p : Part D) (v m : LogState D) (r : ArenaRegion) (e : D) (b : ArenaState) (step : Result Step CallErr) : Type 0 where
   pub made : IsAdvanced score_of disk v.arena r.region (disk_of p) e b step
   pub there : IsThere disk ps p v m r
 
 -- how the blocks of a commit leave the log's memory
-pub record Settles {D : Type 0} (v : LogState D) (found : Found) (b : ArenaState) (heads : List Found) (queue : QueueState) (durable calls : ℕ) : Type 0 where
+pub record Settles {D : Type 0} (v : LogState D) (found : Found) (b : ArenaState) (heads : List Found) (queue : QueueState) (durable : ℕ) (n : CallCount) : Type 0 where
   pub heads_are : heads ≡ set v.heads v.committing (record found { head = b.head })
   pub waiting : queue.waiting ≡ v.queue.waiting
   pub places : queue.places ≡ drop (length v.arena.staged) v.queue.places
   pub durable_is : durable ≡ v.durable + length v.arena.staged
-  pub calls_is : calls ≡ one_more v.calls
+  pub count_is : n ≡ counted (count_of v)
 
 module _ {D : Type 0} {score_of : List ℕ → List ℕ} {disk : DiskOf D}
     {ps : List (Part D)} {p : Part D} {v m : LogState D} {r : ArenaRegion} {e : D} {b : ArenaState} where
-  called_in : (step : Result Step TwinErr) → IsCalledIn score_of disk ps p v m r e b step → IsCalled score_of disk v r (disk_of p) e b step
+  called_in : (step : Result Step CallErr) → IsCalledIn score_of disk ps p v m r e b step → IsCalled score_of disk v r (disk_of p) e b step
   called_in step it =
       record { whole = it.there.whole; runs = it.there.runs; ready = it.there.ready; at = it.there.at; made = it.made }
 
-  pub more_in_parts : {step : Step} {calls : ℕ}
-      → IsCalledIn score_of disk ps p v m r e b (Ok step) → step ≡ More → calls ≡ one_more v.calls
-      → MakesOneCall score_of disk m (with_disk ps r.part p e (record v { arena = b; calls = calls })) (Ok StepMade)
-  more_in_parts {step = step} {calls = calls} it more is =
-      subst (λ (x : LogState D). MakesOneCall score_of disk x (with_disk ps r.part p e (record v { arena = b; calls = calls })) (Ok StepMade)) made.there.view
+  pub more_in_parts : {step : Step} {n : CallCount}
+      → IsCalledIn score_of disk ps p v m r e b (Ok step) → step ≡ More → n ≡ counted (count_of v)
+      → MakesOneCall score_of disk m (with_disk ps r.part p e (record v { arena = b; calls = n.made; stopped = n.stopped })) (Ok StepMade)
+  more_in_parts {step = step} {n = n} it more is =
+      subst (λ (x : LogState D). MakesOneCall score_of disk x (with_disk ps r.part p e (record v { arena = b; calls = n.made; stopped = n.stopped })) (Ok StepMade)) made.there.view
       (subst (λ (x : LogState D). MakesOneCall score_of disk v x (Ok StepMade)) (sym state)
       (more_made score_of disk v r (disk_of p) e b (called_in (Ok More) made)))
     where
@@ -431,33 +433,33 @@ module _ {D : Type 0} {score_of : List ℕ → List ℕ} {disk : DiskOf D}
       are : AreParts ps r.part p v
       are = made.there.parts
 
-      state : with_disk ps r.part p e (record v { arena = b; calls = calls }) ≡ called v r.part e b (one_more v.calls) v.stopped
+      state : with_disk ps r.part p e (record v { arena = b; calls = n.made; stopped = n.stopped }) ≡ called v r.part e b (one_more v.calls) v.stopped
       state =
-          let same : record v { disks = set v.disks r.part e; arena = b; calls = calls } ≡ called v r.part e b (one_more v.calls) v.stopped =
-          λ j. record v { disks = set v.disks r.part e; arena = b; calls = is j } in
-          parts_state ps r.part p e (record v { arena = b; calls = calls }) are.disks are.tables are.at ∙ same
+          let same : record v { disks = set v.disks r.part e; arena = b; calls = n.made; stopped = n.stopped } ≡ called v r.part e b (one_more v.calls) v.stopped =
+          λ j. record v { disks = set v.disks r.part e; arena = b; calls = (is j).made; stopped = (is j).stopped } in
+          parts_state ps r.part p e (record v { arena = b; calls = n.made; stopped = n.stopped }) are.disks are.tables are.at ∙ same
 
-  pub fault_in_parts : {err : TwinErr} {calls : ℕ}
-      → IsCalledIn score_of disk ps p v m r e b (Err err) → calls ≡ one_more v.calls
-      → MakesOneCall score_of disk m (with_disk ps r.part p e (record v { arena = b; calls = calls; stopped = Some v.calls })) (Err Fault)
-  fault_in_parts {err = err} {calls = calls} made is =
-      subst (λ (x : LogState D). MakesOneCall score_of disk x (with_disk ps r.part p e (record v { arena = b; calls = calls; stopped = Some v.calls })) (Err Fault)) made.there.view
+  pub fault_in_parts : {err : CallErr} {n : CallCount}
+      → IsCalledIn score_of disk ps p v m r e b (Err err) → n ≡ stopped_at (count_of v)
+      → MakesOneCall score_of disk m (with_disk ps r.part p e (record v { arena = b; calls = n.made; stopped = n.stopped })) (Err Fault)
+  fault_in_parts {err = err} {n = n} made is =
+      subst (λ (x : LogState D). MakesOneCall score_of disk x (with_disk ps r.part p e (record v { arena = b; calls = n.made; stopped = n.stopped })) (Err Fault)) made.there.view
       (subst (λ (x : LogState D). MakesOneCall score_of disk v x (Err Fault)) (sym state)
       (fault_made score_of disk v r (disk_of p) e b err (called_in (Err err) made)))
     where
       are : AreParts ps r.part p v
       are = made.there.parts
 
-      state : with_disk ps r.part p e (record v { arena = b; calls = calls; stopped = Some v.calls }) ≡ called v r.part e b (one_more v.calls) (Some v.calls)
+      state : with_disk ps r.part p e (record v { arena = b; calls = n.made; stopped = n.stopped }) ≡ called v r.part e b (one_more v.calls) (Some v.calls)
       state =
-          let same : record v { disks = set v.disks r.part e; arena = b; calls = calls; stopped = Some v.calls } ≡ called v r.part e b (one_more v.calls) (Some v.calls) =
-          λ j. record v { disks = set v.disks r.part e; arena = b; calls = is j; stopped = Some v.calls } in
-          parts_state ps r.part p e (record v { arena = b; calls = calls; stopped = Some v.calls }) are.disks are.tables are.at ∙ same
+          let same : record v { disks = set v.disks r.part e; arena = b; calls = n.made; stopped = n.stopped } ≡ called v r.part e b (one_more v.calls) (Some v.calls) =
+          λ j. record v { disks = set v.disks r.part e; arena = b; calls = (is j).made; stopped = (is j).stopped } in
+          parts_state ps r.part p e (record v { arena = b; calls = n.made; stopped = n.stopped }) are.disks are.tables are.at ∙ same
 
-  pub ended_in_parts : {found : Found} {step : Step} {heads : List Found} {queue : QueueState} {durable calls : ℕ}
-      → IsCalledIn score_of disk ps p v m r e b (Ok step) → step ≡ Done → IsLast v r found b → Settles v found b heads queue durable calls → b.next.sealed ≡ false
-      → MakesOneCall score_of disk m (with_disk ps r.part p e (record v { heads = heads; arena = b; queue = queue; durable = durable; calls = calls })) (Ok (Durable durable))
-  ended_in_parts {found = found} {step = step} {heads = heads} {queue = queue} {durable = durable} {calls = calls} it done last settles no_seal =
+  pub ended_in_parts : {found : Found} {step : Step} {heads : List Found} {queue : QueueState} {durable : ℕ} {n : CallCount}
+      → IsCalledIn score_of disk ps p v m r e b (Ok step) → step ≡ Done → IsLast v r found b → Settles v found b heads queue durable n → b.next.sealed ≡ false
+      → MakesOneCall score_of disk m (with_disk ps r.part p e (record v { heads = heads; arena = b; queue = queue; durable = durable; calls = n.made; stopped = n.stopped })) (Ok (Durable durable))
+  ended_in_parts {found = found} {step = step} {heads = heads} {queue = queue} {durable = durable} {n = n} it done last settles no_seal =
       subst (λ (x : LogState D). MakesOneCall score_of disk x k (Ok (Durable durable))) made.there.view
       (subst (λ (x : LogState D). MakesOneCall score_of disk v x (Ok (Durable durable))) (sym state)
       (subst (λ (n : ℕ). MakesOneCall score_of disk v (ended v r.part e found b (one_more v.calls)) (Ok (Durable n))) (sym settles.durable_is)
@@ -470,27 +472,28 @@ module _ {D : Type 0} {score_of : List ℕ → List ℕ} {disk : DiskOf D}
       are = made.there.parts
 
       k : LogState D
-      k = with_disk ps r.part p e (record v { heads = heads; arena = b; queue = queue; durable = durable; calls = calls })
+      k = with_disk ps r.part p e (record v { heads = heads; arena = b; queue = queue; durable = durable; calls = n.made; stopped = n.stopped })
 
-      state : with_disk ps r.part p e (record v { heads = heads; arena = b; queue = queue; durable = durable; calls = calls }) ≡ ended v r.part e found b (one_more v.calls)
+      state : with_disk ps r.part p e (record v { heads = heads; arena = b; queue = queue; durable = durable; calls = n.made; stopped = n.stopped }) ≡ ended v r.part e found b (one_more v.calls)
       state =
-          let same : record v { disks = set v.disks r.part e; heads = heads; arena = b; queue = queue; durable = durable; calls = calls } ≡ ended v r.part e found b (one_more v.calls) =
+          let same : record v { disks = set v.disks r.part e; heads = heads; arena = b; queue = queue; durable = durable; calls = n.made; stopped = n.stopped } ≡ ended v r.part e found b (one_more v.calls) =
           λ j. record v {
             disks = set v.disks r.part e;
             heads = settles.heads_are j;
             arena = b;
             queue = record { waiting = settles.waiting j; places = settles.places j };
             durable = settles.durable_is j;
-            calls = settles.calls_is j;
+            calls = (settles.count_is j).made;
+            stopped = (settles.count_is j).stopped;
           } in
-          parts_state ps r.part p e (record v { heads = heads; arena = b; queue = queue; durable = durable; calls = calls }) are.disks are.tables are.at ∙ same
+          parts_state ps r.part p e (record v { heads = heads; arena = b; queue = queue; durable = durable; calls = n.made; stopped = n.stopped }) are.disks are.tables are.at ∙ same
 
-  pub turned_in_parts : {q : ArenaRegion} {found next : Found} {turn : ArenaState} {step : Step} {heads : List Found} {queue : QueueState} {durable calls : ℕ}
+  pub turned_in_parts : {q : ArenaRegion} {found next : Found} {turn : ArenaState} {step : Step} {heads : List Found} {queue : QueueState} {durable : ℕ} {n : CallCount}
       → ((device : D) → IsTrue disk.tells → disk.images device (disk.bytes device)) → IsCalledIn score_of disk ps p v m r e b (Ok step) → step ≡ Done → IsLast v r found b
-      → Settles v found b heads queue durable calls → b.next.sealed ≡ true → IsNextArena v q next → turn ≡ fresh_arena q.region.len (next.selector % 2) next.head
+      → Settles v found b heads queue durable n → b.next.sealed ≡ true → IsNextArena v q next → turn ≡ fresh_arena q.region.len (next.selector % 2) next.head
       → MakesOneCall score_of disk m
-      (with_disk ps r.part p e (record v { heads = heads; committing = v.committing + 1; arena = turn; queue = queue; durable = durable; calls = calls })) (Ok (Durable durable))
-  turned_in_parts {q = q} {found = found} {next = next} {turn = turn} {step = step} {heads = heads} {queue = queue} {durable = durable} {calls = calls}
+      (with_disk ps r.part p e (record v { heads = heads; committing = v.committing + 1; arena = turn; queue = queue; durable = durable; calls = n.made; stopped = n.stopped })) (Ok (Durable durable))
+  turned_in_parts {q = q} {found = found} {next = next} {turn = turn} {step = step} {heads = heads} {queue = queue} {durable = durable} {n = n}
       read it done last settles seals is_next turn_is =
       subst (λ (x : LogState D). MakesOneCall score_of disk x k (Ok (Durable durable))) made.there.view
       (subst (λ (x : LogState D). MakesOneCall score_of disk v x (Ok (Durable durable))) (sym state)
@@ -504,11 +507,11 @@ module _ {D : Type 0} {score_of : List ℕ → List ℕ} {disk : DiskOf D}
       are = made.there.parts
 
       k : LogState D
-      k = with_disk ps r.part p e (record v { heads = heads; committing = v.committing + 1; arena = turn; queue = queue; durable = durable; calls = calls })
+      k = with_disk ps r.part p e (record v { heads = heads; committing = v.committing + 1; arena = turn; queue = queue; durable = durable; calls = n.made; stopped = n.stopped })
 
-      state : with_disk ps r.part p e (record v { heads = heads; committing = v.committing + 1; arena = turn; queue = queue; durable = durable; calls = calls }) ≡ turned v r.part e found b (one_more v.calls) q.region.len next
+      state : with_disk ps r.part p e (record v { heads = heads; committing = v.committing + 1; arena = turn; queue = queue; durable = durable; calls = n.made; stopped = n.stopped }) ≡ turned v r.part e found b (one_more v.calls) q.region.len next
       state =
-          let same : record v { disks = set v.disks r.part e; heads = heads; committing = v.committing + 1; arena = turn; queue = queue; durable = durable; calls = calls }
+          let same : record v { disks = set v.disks r.part e; heads = heads; committing = v.committing + 1; arena = turn; queue = queue; durable = durable; calls = n.made; stopped = n.stopped }
           ≡ turned v r.part e found b (one_more v.calls) q.region.len next =
           λ j. record v {
             disks = set v.disks r.part e;
@@ -517,6 +520,7 @@ module _ {D : Type 0} {score_of : List ℕ → List ℕ} {disk : DiskOf D}
             arena = turn_is j;
             queue = record { waiting = settles.waiting j; places = settles.places j };
             durable = settles.durable_is j;
-            calls = settles.calls_is j;
+            calls = (settles.count_is j).made;
+            stopped = (settles.count_is j).stopped;
           } in
-          parts_state ps r.part p e (record v { heads = heads; committing = v.committing + 1; arena = turn; queue = queue; durable = durable; calls = calls }) are.disks are.tables are.at ∙ same
+          parts_state ps r.part p e (record v { heads = heads; committing = v.committing + 1; arena = turn; queue = queue; durable = durable; calls = n.made; stopped = n.stopped }) are.disks are.tables are.at ∙ same

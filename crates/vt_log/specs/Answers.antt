@@ -1,5 +1,5 @@
 -- What the calls of a log answer.
-use Rattle.std.specs.Prelude.{◌≡◌, ◌≢◌, ℕ, ◌+◌, ◌<◌, ◌≤◌, Bool, IsTrue, Some, None, Result, Ok, Err, List, [], ◌∷◌, ◌++◌, length, map, drop, sum_by, slice_get, slice_set}
+use Rattle.std.specs.Prelude.{◌≡◌, ◌≢◌, ℕ, ◌+◌, ◌<◌, ◌≤◌, IsTrue, Some, None, Result, Ok, Err, List, [], ◌∷◌, ◌++◌, length, map, drop, sum_by, slice_get, slice_set}
 use Rattle.vt_base.specs.declared.place.Place.{Place}
 use Rattle.vt_base.specs.Faults.{CountsFault}
 use Rattle.vt_disk.specs.Members.{DiskOf}
@@ -7,7 +7,7 @@ use Rattle.vt_clump.specs.declared.packed.Packed.{Packed}
 use Rattle.vt_clump.specs.Clumps.{stored_of}
 use Rattle.vt_disk.specs.Calls.{WritesWithin, MadeCalls}
 use Rattle.vt_disk.specs.Disk.{AreAmong}
-use Rattle.vt_twin.specs.Twin.{one_more}
+use Rattle.vt_base.specs.Faults.{one_more}
 use Rattle.vt_model.specs.declared.TheConstants.{ARENA_HEAD_LEN}
 use Rattle.vt_model.specs.History.{History}
 use Rattle.vt_model.specs.Places.{next_arena, place_of}

@@ -1,5 +1,5 @@
 -- What making partitions a log does to their disks.
-use Rattle.std.specs.Prelude.{◌≡◌, ℕ, ◌+◌, ◌*◌, ◌<◌, ◌≤◌, IsTrue, List, length, Some, slice_get}
+use Rattle.std.specs.Prelude.{◌≡◌, ℕ, ◌*◌, ◌<◌, IsTrue, List, length, Some, slice_get}
 use Rattle.vt_disk.specs.Members.{DiskOf}
 use Rattle.vt_disk.specs.Calls.{WritesAt, IsSynced}
 use Rattle.vt_twin.specs.Formatting.{EndsFormat}

@@ -1,5 +1,5 @@
 -- What reading a block answers.
-use Rattle.std.specs.Prelude.{◌≡◌, ◌≢◌, ◌⊎◌, ⊤, ℕ, ◌-◌, ◌≤◌, Bool, IsTrue, Some, None, List, length, drop, slice_get, Result, Ok, Err}
+use Rattle.std.specs.Prelude.{◌≡◌, ◌≢◌, ◌⊎◌, ⊤, ℕ, ◌-◌, ◌≤◌, IsTrue, Some, None, List, length, drop, slice_get, Result, Ok, Err}
 use Rattle.vt_base.specs.declared.key.Key.{Key}
 use Rattle.vt_base.specs.declared.why.FieldValue.{FieldValue}
 use Rattle.vt_base.specs.declared.why.FieldValue.TheVariants.{Number, Score as ScoreValue}

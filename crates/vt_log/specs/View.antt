@@ -16,6 +16,6 @@ state_of l = record {
   queue = l.queue;
   filling = l.filling;
   durable = l.durable;
-  calls = l.calls;
-  stopped = l.stopped;
+  calls = l.calls.made;
+  stopped = l.calls.stopped;
 }

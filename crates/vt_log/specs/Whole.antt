@@ -71,7 +71,7 @@ pub record IsWhole {D : Type 0} (disk : DiskOf D) (l : LogState D) : Type 0 wher
       → (l.arena.staged ≡ []) × (l.arena.next.sealed ≡ Bool.false)
   pub number : l.arena.next.number ≡ l.arena.number
   pub clumps : l.arena.next.clumps ≡ l.arena.head.clumps + length l.arena.staged
-  pub runs : l.stopped ≡ None → l.arena.stopped ≡ None
+  pub runs : l.stopped ≡ None → l.arena.failed ≡ Bool.false
   -- a commit adds blocks or seals, and one that seals makes way for a block that waits for the next
   -- arena
   pub some : IsTrue (is_committing l.arena) → l.arena.staged ≡ [] → l.arena.next.sealed ≡ Bool.true

@@ -10,7 +10,7 @@ use crate::queue::Queue;
 use vt_arena::Arena;
 use vt_base::Scorer;
 use vt_disk::Disk;
-use vt_twin::{Step, TwinErr};
+use vt_twin::Step;
 
 impl<D: Disk, S: Scorer> Log<D, S> {
     ghost use Rattle.vt_log.specs.Committing.{Stages, IsReady, TakesAll, TakesStep, Prepares, MakesOneCall};
@@ -68,7 +68,7 @@ impl<D: Disk, S: Scorer> Log<D, S> {
         // So much holds whatever the disks have.
         ensures step { TakesStep D.Disk result self.old self.new }
     {
-        if let Some(call) = self.stopped {
+        if let Some(call) = self.calls.stopped {
             return Err(LogErr::Stopped(call));
         }
         if self.queue.is_empty() {
@@ -139,13 +139,11 @@ impl<D: Disk, S: Scorer> Log<D, S> {
         requires ready { IsReady self.old }
         ensures { MakesOneCall S.score_of D.Disk self.old self.new result }
     {
-        let call = self.calls;
-        self.calls = call.saturating_add(1);
         let blocks = self.arena.staged().len();
         let at = self.committing as usize;
         let r = self.layout.as_slice()[at];
         let disk = &mut self.parts[r.part as usize].disk;
-        match self.arena.advance(disk, r.region) {
+        match self.arena.advance(&mut self.calls, disk, r.region) {
             Ok(Step::More) => Ok(Progress::Step),
             Ok(Step::Done) => {
                 self.queue.drop_committed(blocks);
@@ -160,10 +158,8 @@ impl<D: Disk, S: Scorer> Log<D, S> {
                 self.arena.move_to(len, self.heads[at + 1]);
                 Ok(Progress::Durable(self.durable))
             }
-            Err(_) => {
-                self.stopped = Some(call);
-                Err(LogErr::Fault)
-            }
+            // (the count isn't stopped)
+            Err(_) => Err(LogErr::Fault),
         }
     }
 }

@@ -20,7 +20,7 @@ use std::marker::Model;
 use vt_arena::{Arena, ArenaHead, Found, has_room};
 use vt_base::{Failed, Place, Score, Scorer};
 use vt_clump::Packed;
-use vt_disk::Disk;
+use vt_disk::{CallCount, Disk};
 use vt_model::ARENA_HEAD_LEN;
 use vt_part::{ArenaRegion, Layout, Part};
 
@@ -46,8 +46,7 @@ pub struct Log<D: Disk, S: Scorer> {
     pub(crate) queue: Queue,
     pub(crate) filling: Filling,
     pub(crate) durable: u64,
-    pub(crate) calls: u64,
-    pub(crate) stopped: Option<u64>,
+    pub(crate) calls: CallCount,
 }
 
 impl<D: Disk, S: Scorer> Model for Log<D, S> {
@@ -169,7 +168,7 @@ impl<D: Disk, S: Scorer> Log<D, S> {
     pub fn stopped(&self) -> Option<u64>
         ensures { result ≡ self.now.stopped }
     {
-        self.stopped
+        self.calls.stopped
     }
 
     /// Whether a block of `n` bytes has room: in the arena that is being filled, or in the next

@@ -30,7 +30,7 @@ use crate::queue::Queue;
 use std::alloc::{AllocError, Global};
 use vt_arena::{Arena, ArenaBad, ArenaHead, Field, Found, find};
 use vt_base::{Failed, Score, Scorer};
-use vt_disk::{Disk, LEAST_ARENA};
+use vt_disk::{CallCount, Disk, LEAST_ARENA};
 use vt_part::{ArenaRegion, Layout, Part, PartBad};
 
 /// Makes each arena of these partitions one without blocks. Its head is written and synced; other
@@ -175,8 +175,7 @@ impl Opened {
             queue,
             filling,
             durable,
-            calls: 0,
-            stopped: None,
+            calls: CallCount::new(),
         }
     }
 }

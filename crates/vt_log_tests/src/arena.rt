@@ -3,7 +3,7 @@
 //! What is done with an arena is data. It is done on any disk, which is much less work to prove than
 //! on one in memory, and the test functions alone make such disks and crash them.
 
-ghost use Rattle.std.specs.Prelude.{◌≡◌};
+ghost use Rattle.std.specs.Prelude.{◌≡◌, IsSome, true};
 
 use crate::cases::note;
 use std::alloc::{AllocError, Global};
@@ -14,7 +14,7 @@ use vt_arena::{
 };
 use vt_base::{Failed, FieldValue, Info, Key, Kind, Place, Score, Scorer, Sha1Scorer};
 use vt_clump::{Clump, pack};
-use vt_disk::{Disk, Region};
+use vt_disk::{CallCount, Disk, Region};
 use vt_memdisk::{CrashMode, Listed, MemDisk};
 use vt_rows::Rows;
 use vt_twin::{Step, TwinErr};
@@ -153,13 +153,15 @@ fn disk(alloc: Global, failing: u64) -> Result<MemDisk<Listed>, Fail> {
     Ok(MemDisk::failing(alloc, LEN, calls)?)
 }
 
-/// A disk with an arena, and the arena.
+/// A disk with an arena, the arena, and the count of its calls.
 #[derive(Drop)]
 struct Rig<D: Disk> {
     disk: D,
     arena: Arena,
+    calls: CallCount,
     ghost sized: { D.size disk ≡ 33792 },
     ghost len: { arena.len ≡ 32768 },
+    ghost lent: { arena.failed ≡ true → IsSome calls.stopped },
 }
 
 impl<D: Disk + Drop> Rig<D> {
@@ -169,7 +171,11 @@ impl<D: Disk + Drop> Rig<D> {
             return Err("another length".into());
         }
         let arena = mount(alloc, &mut disk, REGION, NUMBER)?;
-        Ok(Rig { disk, arena })
+        Ok(Rig {
+            disk,
+            arena,
+            calls: CallCount::new(),
+        })
     }
 
     /// Does these in turn. Each is a row, and the first has this number.
@@ -263,7 +269,7 @@ impl<D: Disk + Drop> Rig<D> {
 
     /// Makes one call of a commit.
     fn advance(&mut self) -> Result<Step, TwinErr> {
-        self.arena.advance(&mut self.disk, REGION)
+        self.arena.advance(&mut self.calls, &mut self.disk, REGION)
     }
 
     /// Makes so many calls of a commit and one further call, which gives this, where each of those
@@ -288,7 +294,7 @@ impl<D: Disk + Drop> Rig<D> {
 
     /// Whether the arena is stopped at this call, and so is its commit, or at none.
     fn is_stopped(&mut self, call: Option<u64>) -> bool {
-        if self.arena.stopped() != call {
+        if self.calls.stopped != call {
             return false;
         }
         match call {
@@ -460,7 +466,11 @@ fn session<D: Disk + Drop>(
 ) -> Result<D, Fail> {
     let mut rig = Rig::mounted(alloc, disk)?;
     rig.play(alloc, acts, first, rows);
-    let Rig { disk, arena: _ } = rig;
+    let Rig {
+        disk,
+        arena: _,
+        calls: _,
+    } = rig;
     Ok(disk)
 }
 

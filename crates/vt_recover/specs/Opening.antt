@@ -1,5 +1,5 @@
 -- How the sections and the filter of a store are opened.
-use Rattle.std.specs.Prelude.{◌≡◌, ℕ, ◌<◌, ◌≤◌, IsTrue, Option, Some, None, Result, Ok, Err, Vec, List, length, map, [], vec_capacity}
+use Rattle.std.specs.Prelude.{◌≡◌, ℕ, ◌<◌, ◌≤◌, IsTrue, Option, Some, None, false, Result, Ok, Err, Vec, List, length, map, [], vec_capacity}
 use Rattle.std.specs.declared.alloc.Global.{Global}
 use Rattle.std.specs.Option.{option_map}
 use Rattle.vt_base.specs.declared.mount.MountBad.{MountBad}
@@ -78,7 +78,8 @@ pub record IsFilterOpened {D : Type 0} (disk : DiskOf D) (device : D) (b : Bloom
   pub counts : HasCounts b bits
   pub next : b.next ≡ b.mark
   pub rest : b.twin.change ≡ None
-  pub goes : b.twin.stopped ≡ None
+  pub goes : b.calls.stopped ≡ None
+  pub runs : b.twin.failed ≡ false
   pub reads : OnlyReads disk 3 device b.disk
   pub faults : disk.faults b.disk ≡ disk.faults device
 

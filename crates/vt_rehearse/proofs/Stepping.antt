@@ -121,7 +121,7 @@ module _ {D : Type 0} (score : List ℕ → List ℕ) (disk : DiskOf D) where
       let lt : i < length k.shards = within_get k.shards i s at in
       let within : i < length (map f k.shards) = omega (arith, many, lt) in
       at_place (λ (o : Option ℕ). o ≡ None) (stops_of k) (suc i) (s.section.stopped) steady.stops
-      (in_front (map f k.shards) (map (λ b. b.twin.stopped) (option_to_list k.bloom)) i within ∙ at_map f k.shards i s at)
+      (in_front (map f k.shards) (map (λ b. b.calls.stopped) (option_to_list k.bloom)) i within ∙ at_map f k.shards i s at)
 
   -- no part has stopped to which an operation writes
   no_stop_at : (k : CoreState D) (h : History) (shard call : ℕ) (o : Option (ShardState D)) → IsSteady score disk k h → slice_get k.shards shard ≡ o

@@ -1,17 +1,12 @@
 -- What holds of a twin with a change under way, and of one without.
-use Rattle.std.proofs.Common.{◌≡◌, ◌⊎◌, inl, inr, ⊎_elim, ℕ, ◌+◌, ◌≤◌, Bool, true, false, is_some, if◌then◌else◌, List, [], length, Option, Some, None, Err, refl, sym, ◌∙◌, ap, subst, arith}
+use Rattle.std.proofs.Common.{◌≡◌, ◌⊎◌, inl, inr, ⊎_elim, ℕ, ◌+◌, ◌≤◌, Bool, true, false, if◌then◌else◌, [], length, Option, Some, None, refl, sym, ◌∙◌, ap, subst, arith}
 use Rattle.std.specs.Prelude.{IsSome}
 use Rattle.std.specs.Option.{ForSome, option_map_or}
-use Rattle.std.proofs.lemmas.Bool.{cases_eq}
-use Rattle.vt_disk.specs.Disk.{Only}
-use Rattle.vt_twin.specs.Calls.{IsSync}
-use Rattle.vt_twin.specs.Twin.{Change, TwinState, calls_made, calls_begun, next_frame, after_call, Advances}
-use Rattle.vt_twin.specs.declared.step.TwinErr.{TwinErr}
-use Rattle.vt_twin.specs.declared.step.TwinErr.TheVariants.{Fault, Stopped}
+use Rattle.vt_twin.specs.Twin.{Change, TwinState, calls_made, calls_begun, after_call}
 
 -- at most one call that was begun has failed
 pub begun_bound : (t : TwinState) → calls_begun t ≤ calls_made t + 1
-begun_bound t = bound (is_some t.stopped)
+begun_bound t = bound t.failed
   where
     bound : (b : Bool) → calls_made t + (if b then 1 else 0) ≤ calls_made t + 1
     bound true = omega arith
@@ -37,11 +32,11 @@ pub is_changing : (t : TwinState) → 1 ≤ calls_made t → IsSome t.change
 is_changing t made = ⊎_elim (λ none. absurd (omega (arith, made, none_made t none))) (λ some. some) (some_change t.change)
 
 -- so is a selector's write that was begun
-pub begun_some : (change : Option Change) (stopped : Bool)
-    → 3 ≤ option_map_or (λ it. it.made) change 0 + (if stopped then 1 else 0) → IsSome change
+pub begun_some : (change : Option Change) (failed : Bool)
+    → 3 ≤ option_map_or (λ it. it.made) change 0 + (if failed then 1 else 0) → IsSome change
 begun_some None true begun = absurd (omega arith)
 begun_some None false begun = absurd (omega arith)
-begun_some (Some it) stopped begun = refl
+begun_some (Some it) failed begun = refl
 
 -- the frame of a change under way
 pub brings_length : (change : Option Change) (n : ℕ) → IsSome change
@@ -62,27 +57,3 @@ call_length n old new steps some each = subst (HasLength n) (sym steps)
 
 pub call_changes : (old new : TwinState) → new ≡ after_call old → IsSome new.change
 call_changes old new steps = subst (λ (t : TwinState). IsSome t.change) (sym steps) refl
-
--- and so does one that failed
-pub refusal_change : (e : TwinErr) (old new : TwinState) → Advances (Err e) old new
-    → new.change ≡ old.change
-refusal_change Fault old new steps = ap (λ (t : TwinState). t.change) steps
-refusal_change (Stopped n) old new steps = ap (λ (t : TwinState). t.change) steps
-
-pub refusal_frame : (e : TwinErr) (old new : TwinState) → Advances (Err e) old new
-    → next_frame new ≡ next_frame old
-refusal_frame Fault old new steps = ap (λ (t : TwinState). next_frame t) steps
-refusal_frame (Stopped n) old new steps = ap (λ (t : TwinState). next_frame t) steps
-
--- a twin that wasn't stopped refuses nothing but by a fault
-pub only_fault : (e : TwinErr) (stopped : Option ℕ) → stopped ≡ None → ((n : ℕ) → e ≡ Stopped n → stopped ≡ Some n) → e ≡ Fault
-only_fault Fault stopped none tells = refl
-only_fault (Stopped n) stopped none tells = absurd (let is = tells n refl in cc)
-
--- the second call of a change syncs
-pub sync_or_before : (t : TwinState) (reads : List ℕ) (after : List ℕ → Type 0) → (IsSync (calls_made t) → Only reads after)
-    → 2 ≤ calls_made t + 1 → (2 ≤ calls_made t) ⊎ Only reads after
-sync_or_before t reads after settled made = ⊎_elim
-    (λ (first : calls_made t ≡ 1). inr (settled (inl first)))
-    (λ (other : calls_made t ≡ 1 → ⊥). inl (omega (arith, made, other)))
-    (cases_eq (calls_made t) 1)

@@ -1,7 +1,8 @@
 -- Where the frames and the selector stand, and what the calls of a change touch of them.
-use Rattle.std.proofs.Common.{◌≡◌, ⊎_elim, ℕ, ◌+◌, ◌-◌, ◌*◌, ◌%◌, ◌<◌, ◌≤◌, List, ◌∙◌, ap, arith}
+use Rattle.std.proofs.Common.{◌≡◌, ⊎_elim, ℕ, ◌+◌, ◌-◌, ◌*◌, ◌%◌, ◌<◌, ◌≤◌, List, length, ◌∙◌, ap, subst, arith}
 use Rattle.std.proofs.Math.Nat.{mul-le-mul_left}
 use Rattle.std.proofs.lemmas.Bool.{cases_lt}
+use Rattle.std.proofs.lemmas.List.{length-replicate}
 use Rattle.vt_disk.specs.declared.region.Region.{Region}
 use Rattle.vt_disk.specs.Disk.{Touches, IsAligned, SameBut, ChangesAt}
 use Rattle.vt_disk.specs.Calls.{WritesAt, WritesWithin}
@@ -9,10 +10,11 @@ use Rattle.vt_disk.specs.Members.{DiskOf}
 use Rattle.vt_disk.specs.Region.{Inside}
 use Rattle.vt_disk.proofs.Bytes.{touches_within, part_same, aligned_sum, aligned_product}
 use Rattle.vt_disk.proofs.Calls.{writes_wider}
-use Rattle.vt_twin.specs.declared.calls.Call.{Call}
-use Rattle.vt_twin.specs.declared.calls.Call.TheVariants.{WriteFrame, SyncFrame, WriteSelector, SyncSelector}
-use Rattle.vt_twin.specs.Frames.{HasRoom, frame_start, selector_start, selector_len, frame_of, named_number}
-use Rattle.vt_twin.specs.Calls.{TouchedBy, number_of}
+use Rattle.vt_disk.specs.DeviceCalls.{TouchedBy}
+use Rattle.vt_twin.specs.declared.calls.Stage.{Stage}
+use Rattle.vt_twin.specs.declared.calls.Stage.TheVariants.{WriteFrame, SyncFrame, WriteSelector, SyncSelector}
+use Rattle.vt_twin.specs.Frames.{HasRoom, frame_start, selector_start, selector_len, selector_bytes, frame_of, named_number}
+use Rattle.vt_twin.specs.Calls.{call_at, number_of}
 use Rattle.vt_twin.specs.Sound.{HasFrame, Names}
 
 -- frame 0 or 1 ends where the selector begins, or before it
@@ -57,43 +59,72 @@ module _ (region : Region) (n size : ℕ) (room : HasRoom region n size) where
   before_selector : (number i : ℕ) → number < 2 → InFrame region n number i → selector_start region n ≤ i → ⊥
   before_selector number i two this behind = omega (arith, this.1, frame_bound n number two)
 
-  module _ (current : ℕ) (two : current < 2) where
+  -- what a write of a frame touches isn't in the other one, and what a write of the selector touches in neither
+  pub frame_apart : (number : ℕ) → number < 2 → (i : ℕ) → InFrame region n number i → ¬ Touches (frame_start region n (1 - number)) n i
+  frame_apart number two i here touched = frames_apart number i two here (in_frame (1 - number) i touched)
+
+  pub selector_apart : (number : ℕ) → number < 2 → (i : ℕ) → InFrame region n number i → ¬ Touches (selector_start region n) (selector_len region n) i
+  selector_apart number two i here touched = before_selector number i two here (in_selector i touched).0
+
+  -- both lie in the region
+  pub frame_within : (number : ℕ) → number < 2 → (i : ℕ) → Touches (frame_start region n number) n i → Inside region i
+  frame_within number two i touched =
+      let here = in_frame number i touched in
+      (omega (arith, here.0), omega (arith, here.1, frame_bound n number two, room.least))
+
+  pub selector_within : (i : ℕ) → Touches (selector_start region n) (selector_len region n) i → Inside region i
+  selector_within i touched =
+      let here = in_selector i touched in
+      (omega (arith, here.0), here.1)
+
+  -- as long as the region has room for
+  pub selector_length : (number : ℕ) → length (selector_bytes number (selector_len region n)) ≡ selector_len region n
+  selector_length number = omega (arith, length-replicate {A = ℕ} (selector_len region n - 1) 0, room.least)
+
+  module _ (current : ℕ) (two : current < 2) (frame : List ℕ) (whole : length frame ≡ n) where
+    abbrev TouchedAt : Stage → ℕ → Type 0
+    TouchedAt stage = TouchedBy (call_at (number_of stage) region n current frame)
+
+    touches_frame : (i : ℕ) → TouchedAt WriteFrame i → InFrame region n (1 - current) i
+    touches_frame i touched = in_frame (1 - current) i (subst (λ (k : ℕ). Touches (frame_start region n (1 - current)) k i) whole touched)
+
+    touches_selector : (i : ℕ) → TouchedAt WriteSelector i → (selector_start region n ≤ i) × (i < region.start + region.len)
+    touches_selector i touched = in_selector i (subst (λ (k : ℕ). Touches (selector_start region n) k i) (selector_length (1 - current)) touched)
+
     -- no call touches the current frame
-    pub current_free : (call : Call) (i : ℕ) → InFrame region n current i → ¬ TouchedBy (number_of call) region n current i
-    current_free WriteFrame i here touched = frames_apart current i two here (in_frame (1 - current) i touched)
+    pub current_free : (stage : Stage) (i : ℕ) → InFrame region n current i → ¬ TouchedAt stage i
+    current_free WriteFrame i here touched = frames_apart current i two here (touches_frame i touched)
     current_free SyncFrame i here touched = touched
-    current_free WriteSelector i here touched = before_selector current i two here (in_selector i touched).0
+    current_free WriteSelector i here touched = before_selector current i two here (touches_selector i touched).0
     current_free SyncSelector i here touched = touched
 
     -- none but the first touches the idle one
-    pub idle_free : (call : Call) → 1 ≤ number_of call → (i : ℕ) → InFrame region n (1 - current) i → ¬ TouchedBy (number_of call) region n current i
+    pub idle_free : (stage : Stage) → 1 ≤ number_of stage → (i : ℕ) → InFrame region n (1 - current) i → ¬ TouchedAt stage i
     idle_free WriteFrame later i here touched = omega (arith, later)
     idle_free SyncFrame later i here touched = touched
-    idle_free WriteSelector later i here touched = before_selector (1 - current) i (omega arith) here (in_selector i touched).0
+    idle_free WriteSelector later i here touched = before_selector (1 - current) i (omega arith) here (touches_selector i touched).0
     idle_free SyncSelector later i here touched = touched
 
     -- none but the third touches the selector
-    pub selector_free : (call : Call) → ¬ (number_of call ≡ 2) → ¬ TouchedBy (number_of call) region n current (selector_start region n)
+    pub selector_free : (stage : Stage) → ¬ (number_of stage ≡ 2) → ¬ TouchedAt stage (selector_start region n)
     selector_free WriteFrame other touched =
-        before_selector (1 - current) (selector_start region n) (omega arith) (in_frame (1 - current) (selector_start region n) touched) (omega arith)
+        before_selector (1 - current) (selector_start region n) (omega arith) (touches_frame (selector_start region n) touched) (omega arith)
     selector_free SyncFrame other touched = touched
     selector_free WriteSelector other touched = other (omega arith)
     selector_free SyncSelector other touched = touched
 
     -- what a call touches lies in the region
-    pub touched_inside : (call : Call) (i : ℕ) → TouchedBy (number_of call) region n current i → Inside region i
+    pub touched_inside : (stage : Stage) (i : ℕ) → TouchedAt stage i → Inside region i
     touched_inside WriteFrame i touched =
-        let here = in_frame (1 - current) i touched in
-        (omega (arith, here.0), omega (arith, here.1, frame_bound n (1 - current) (omega arith), room.least))
+        frame_within (1 - current) (omega arith) i (subst (λ (k : ℕ). Touches (frame_start region n (1 - current)) k i) whole touched)
     touched_inside SyncFrame i touched = absurd touched
     touched_inside WriteSelector i touched =
-        let here = in_selector i touched in
-        (omega (arith, here.0), here.1)
+        selector_within i (subst (λ (k : ℕ). Touches (selector_start region n) k i) (selector_length (1 - current)) touched)
     touched_inside SyncSelector i touched = absurd touched
 
     -- so what changes where it touches changes in the region alone
-    pub writes_inside : {D : Type 0} (disk : DiskOf D) (call : Call) (most : ℕ) (old new : D) → WritesAt disk (TouchedBy (number_of call) region n current) most old new → WritesWithin disk region most old new
-    writes_inside disk call most old new = writes_wider disk (TouchedBy (number_of call) region n current) (Inside region) (touched_inside call) most most (omega arith) old new
+    pub writes_inside : {D : Type 0} (disk : DiskOf D) (stage : Stage) (most : ℕ) (old new : D) → WritesAt disk (TouchedAt stage) most old new → WritesWithin disk region most old new
+    writes_inside disk stage most old new = writes_wider disk (TouchedAt stage) (Inside region) (touched_inside stage) most most (omega arith) old new
 
   -- a frame and the selector lie in the region
   pub frame_inside : (number i : ℕ) → number < 2 → InFrame region n number i → Inside region i

@@ -5,17 +5,19 @@ use Rattle.std.proofs.lemmas.List.{length-replicate}
 use Rattle.vt_disk.specs.declared.region.Region.{Region}
 use Rattle.vt_disk.specs.Disk.{SameBut, ChangesAt, WithinCall, Only, with_bytes, part}
 use Rattle.vt_disk.proofs.Bytes.{part-with_bytes, with_bytes_within}
-use Rattle.vt_twin.specs.declared.calls.Call.{Call}
-use Rattle.vt_twin.specs.declared.calls.Call.TheVariants.{WriteFrame, SyncFrame, WriteSelector, SyncSelector}
+use Rattle.vt_disk.specs.DeviceCalls.{TouchedBy, bytes_after}
+use Rattle.vt_disk.specs.DeviceCalls.DeviceCall.{sync}
+use Rattle.vt_twin.specs.declared.calls.Stage.{Stage}
+use Rattle.vt_twin.specs.declared.calls.Stage.TheVariants.{WriteFrame, SyncFrame, WriteSelector, SyncSelector}
 use Rattle.vt_twin.specs.Frames.{HasRoom, frame_start, selector_start, selector_len, selector_bytes, frame_of, named_number, current_frame}
-use Rattle.vt_twin.specs.Twin.{TwinState, calls_made, calls_begun, next_frame, after_call, after_fault}
-use Rattle.vt_twin.specs.Calls.{bytes_after, next_call, IsSync, TouchedBy, number_of}
+use Rattle.vt_twin.specs.Twin.{TwinState, calls_made, calls_begun, next_frame, after_call, after_last, after_fault}
+use Rattle.vt_twin.specs.Calls.{call_at, next_stage, number_of}
 use Rattle.vt_twin.specs.Sound.{HasFrame, Names, IsSound, HasBegunSelector, GivesOldOrNew}
 use Rattle.vt_twin.proofs.Changes.{begun_bound}
 use Rattle.vt_twin.proofs.Places.{current_free, idle_free, selector_free, frame_same, named_same, has_same, names_same, frame_bound}
 
 -- the call behind this one has the next number
-pub next_number : (call later : Call) → next_call call ≡ Some later → number_of later ≡ number_of call + 1
+pub next_number : (stage later : Stage) → next_stage stage ≡ Some later → number_of later ≡ number_of stage + 1
 next_number WriteFrame later is = cc
 next_number SyncFrame later is = cc
 next_number WriteSelector later is = cc
@@ -51,43 +53,43 @@ crash_gives t later region old read reads before after sound sound_later same_le
     left
 
 module _ (t : TwinState) (region : Region) (size : ℕ) (room : HasRoom region t.frame_len size)
-    (old read reads : List ℕ) (before after : List ℕ → Type 0) (call : Call) (made : calls_made t ≡ number_of call)
-    (same : SameBut (TouchedBy (number_of call) region t.frame_len t.current) read reads)
-    (changes : ChangesAt (TouchedBy (number_of call) region t.frame_len t.current) before after)
+    (old read reads : List ℕ) (before after : List ℕ → Type 0) (stage : Stage) (made : calls_made t ≡ number_of stage) (whole : length (next_frame t) ≡ t.frame_len)
+    (same : SameBut (TouchedBy (call_at (number_of stage) region t.frame_len t.current (next_frame t))) read reads)
+    (changes : ChangesAt (TouchedBy (call_at (number_of stage) region t.frame_len t.current (next_frame t))) before after)
     (sound : IsSound t region old read before) where
   P : ℕ → Type 0
-  P = TouchedBy (number_of call) region t.frame_len t.current
+  P = TouchedBy (call_at (number_of stage) region t.frame_len t.current (next_frame t))
 
   kept_after : HasFrame region t.frame_len t.current old after
   unfolding P
-  kept_after = has_same P region t.frame_len before after changes t.current (current_free region t.frame_len size room t.current sound.number call) old sound.kept
+  kept_after = has_same P region t.frame_len before after changes t.current (current_free region t.frame_len size room t.current sound.number (next_frame t) whole stage) old sound.kept
 
   named_after : ¬ (3 ≤ calls_made t + 1) → Names region t.frame_len t.current after
   unfolding P
   named_after waits =
       names_same P region t.frame_len before after changes
-      (selector_free region t.frame_len size room t.current sound.number call (λ third. waits (omega (arith, made, third))))
+      (selector_free region t.frame_len size room t.current sound.number (next_frame t) whole stage (λ third. waits (omega (arith, made, third))))
       t.current (sound.named (λ begun. waits (omega (arith, begun, begun_bound t))))
 
-  later : 1 ≤ calls_made t → 1 ≤ number_of call
+  later : 1 ≤ calls_made t → 1 ≤ number_of stage
   later some = omega (arith, made, some)
 
   written_after : 1 ≤ calls_made t → frame_of region t.frame_len (1 - t.current) reads ≡ next_frame t
   unfolding P
   written_after some =
-      frame_same P region t.frame_len (1 - t.current) (idle_free region t.frame_len size room t.current sound.number call (later some)) read reads same
+      frame_same P region t.frame_len (1 - t.current) (idle_free region t.frame_len size room t.current sound.number (next_frame t) whole stage (later some)) read reads same
       ∙ sound.written some
 
   synced_after : 2 ≤ calls_made t → HasFrame region t.frame_len (1 - t.current) (next_frame t) after
   unfolding P
   synced_after some =
-      has_same P region t.frame_len before after changes (1 - t.current) (idle_free region t.frame_len size room t.current sound.number call (later (omega arith)))
+      has_same P region t.frame_len before after changes (1 - t.current) (idle_free region t.frame_len size room t.current sound.number (next_frame t) whole stage (later (omega arith)))
       (next_frame t) (sound.synced some)
 
   selected_after : 3 ≤ calls_made t → named_number region t.frame_len reads ≡ 1 - t.current
   unfolding P
   selected_after some =
-      named_same P region t.frame_len (selector_free region t.frame_len size room t.current sound.number call (λ third. omega (arith, made, third, some))) read reads same
+      named_same P region t.frame_len (selector_free region t.frame_len size room t.current sound.number (next_frame t) whole stage (λ third. omega (arith, made, third, some))) read reads same
       ∙ sound.selected some
 
   -- a call that failed
@@ -101,11 +103,11 @@ module _ (t : TwinState) (region : Region) (size : ℕ) (room : HasRoom region t
     selected = selected_after;
   }
 
-  module _ (whole : length (next_frame t) ≡ t.frame_len) (fits : length read ≡ size)
-      (bytes : reads ≡ bytes_after (number_of call) region t.frame_len t.current (next_frame t) read)
-      (settled : IsSync (number_of call) → Only reads after) where
-    written_by : (k : ℕ) → number_of call ≡ k → reads ≡ bytes_after k region t.frame_len t.current (next_frame t) read
-    written_by k is = subst (λ (n : ℕ). reads ≡ bytes_after n region t.frame_len t.current (next_frame t) read) is bytes
+  module _ (fits : length read ≡ size)
+      (bytes : reads ≡ bytes_after (call_at (number_of stage) region t.frame_len t.current (next_frame t)) read)
+      (settled : call_at (number_of stage) region t.frame_len t.current (next_frame t) ≡ sync → Only reads after) where
+    written_by : (k : ℕ) → number_of stage ≡ k → reads ≡ bytes_after (call_at k region t.frame_len t.current (next_frame t)) read
+    written_by k is = subst (λ (n : ℕ). reads ≡ bytes_after (call_at n region t.frame_len t.current (next_frame t)) read) is bytes
 
     -- the first call writes the idle frame
     frame_read : frame_of region t.frame_len (1 - t.current) reads ≡ next_frame t
@@ -147,11 +149,14 @@ module _ (t : TwinState) (region : Region) (size : ℕ) (room : HasRoom region t
             ∙ small
 
     -- the second call syncs the idle frame
+    syncs_second : number_of stage ≡ 1 → call_at (number_of stage) region t.frame_len t.current (next_frame t) ≡ sync
+    syncs_second second = ap (λ (n : ℕ). call_at n region t.frame_len t.current (next_frame t)) second
+
     frame_synced : 2 ≤ calls_made t + 1 → HasFrame region t.frame_len (1 - t.current) (next_frame t) after
     frame_synced some = ⊎_elim second synced_after (cases_lt (calls_made t) 2)
       where
         second : calls_made t < 2 → HasFrame region t.frame_len (1 - t.current) (next_frame t) after
-        second few c left = ap (λ (file : List ℕ). frame_of region t.frame_len (1 - t.current) file) (settled (inl (omega arith)) c left) ∙ frame_read
+        second few c left = ap (λ (file : List ℕ). frame_of region t.frame_len (1 - t.current) file) (settled (syncs_second (omega (arith, made, few, some))) c left) ∙ frame_read
 
     -- a call that succeeded, and wasn't the last
     pub call_sound : IsSound (after_call t) region old reads after
@@ -163,3 +168,19 @@ module _ (t : TwinState) (region : Region) (size : ℕ) (room : HasRoom region t
       synced = frame_synced;
       selected = selector_read;
     }
+
+    -- the last one
+    pub last_sound : number_of stage ≡ 3 → IsSound (after_last t) region (next_frame t) reads after
+    last_sound last = record {
+      number = omega (arith, sound.number);
+      kept = synced_after (omega (arith, made, last));
+      named = λ waits c left.
+          ap (λ (file : List ℕ). named_number region t.frame_len file) (settled syncs_last c left)
+          ∙ selected_after (omega (arith, made, last));
+      written = λ some. absurd (omega (arith, some));
+      synced = λ some. absurd (omega (arith, some));
+      selected = λ some. absurd (omega (arith, some));
+    }
+      where
+        syncs_last : call_at (number_of stage) region t.frame_len t.current (next_frame t) ≡ sync
+        syncs_last = ap (λ (n : ℕ). call_at n region t.frame_len t.current (next_frame t)) last

@@ -3,7 +3,6 @@ use Rattle.std.specs.Prelude.{◌≡◌, ◌⊎◌, ℕ, ◌-◌, ◌<◌, ◌�
 use Rattle.vt_disk.specs.declared.region.Region.{Region}
 use Rattle.vt_twin.specs.declared.step.Step.{Step}
 use Rattle.vt_twin.specs.declared.step.Step.TheVariants.{More, Done}
-use Rattle.vt_twin.specs.declared.step.TwinErr.{TwinErr}
 use Rattle.vt_twin.specs.Frames.{frame_of, named_number, current_frame}
 use Rattle.vt_twin.specs.Twin.{TwinState, calls_made, calls_begun, next_frame}
 
@@ -40,7 +39,7 @@ GivesOldOrNew began region n old new file =
     (current_frame region n file ≡ old) ⊎ (began × (current_frame region n file ≡ new))
 
 -- the frame that is current after a step of a change: the new one after the last, else the old
-abbrev pub frame_after : Result Step TwinErr → TwinState → (old : List ℕ) → List ℕ
+abbrev pub frame_after : {E : Type 0} → Result Step E → TwinState → (old : List ℕ) → List ℕ
 frame_after (Ok Done) t old = next_frame t
 frame_after (Ok More) t old = old
 frame_after (Err e) t old = old

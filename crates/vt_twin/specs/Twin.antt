@@ -1,11 +1,11 @@
 -- A twin as its calls see it.
-use Rattle.std.specs.Prelude.{◌≡◌, ℕ, ◌+◌, ◌-◌, Bool, true, false, List, [], Option, Some, None, is_some, if◌then◌else◌, Result, Ok, Err}
+use Rattle.std.specs.Prelude.{◌≡◌, ℕ, ◌+◌, ◌-◌, Bool, true, false, List, [], Option, Some, None, if◌then◌else◌, Result, Ok, Err}
 use Rattle.std.specs.Option.{option_map_or}
-pub use Rattle.vt_base.specs.Faults.{one_more}
+use Rattle.vt_disk.specs.declared.region.Region.{Region}
+use Rattle.vt_disk.specs.DeviceCalls.{DeviceCall}
 use Rattle.vt_twin.specs.declared.step.Step.{Step}
 use Rattle.vt_twin.specs.declared.step.Step.TheVariants.{More, Done}
-use Rattle.vt_twin.specs.declared.step.TwinErr.{TwinErr}
-use Rattle.vt_twin.specs.declared.step.TwinErr.TheVariants.{Fault, Stopped}
+use Rattle.vt_twin.specs.Calls.{call_at}
 
 -- A change under way: the frame that it brings, and how many of its four device calls succeeded.
 -- The first writes the idle frame, the second syncs it, the third writes the selector, the fourth
@@ -15,15 +15,13 @@ pub record Change : Type 0 where
   pub made : ℕ
 
 -- A twin: the length of its frames, the number of the current one, the change under way, the buffer
--- of the last change until it is handed back, how many device calls this value has made, and the
--- number of the one that failed.
+-- of the last change until it is handed back, and whether one of its device calls failed.
 pub record TwinState : Type 0 where
   pub frame_len : ℕ
   pub current : ℕ
   pub change : Option Change
   pub spare : Option (List ℕ)
-  pub calls : ℕ
-  pub stopped : Option ℕ
+  pub failed : Bool
 
 -- how many calls of the change under way succeeded
 abbrev pub calls_made : TwinState → ℕ
@@ -31,21 +29,25 @@ calls_made t = option_map_or (λ it. it.made) t.change 0
 
 -- how many of them were begun: the one that failed too
 abbrev pub calls_begun : TwinState → ℕ
-calls_begun t = calls_made t + (if is_some t.stopped then 1 else 0)
+calls_begun t = calls_made t + (if t.failed then 1 else 0)
 
 -- the frame that the change under way brings
 abbrev pub next_frame : TwinState → List ℕ
 next_frame t = option_map_or (λ it. it.frame) t.change []
 
--- a twin that has made no call, whose current frame has this number
+-- the next device call of the change under way, of a twin in this region
+abbrev pub next_call : TwinState → Region → DeviceCall
+next_call t region = call_at (calls_made t) region t.frame_len t.current (next_frame t)
+
+-- a twin with no change under way, none of whose calls failed, and whose current frame has this
+-- number
 abbrev pub fresh : (frame_len number : ℕ) → TwinState
 fresh frame_len number = record {
   frame_len = frame_len;
   current = number;
   change = None;
   spare = None;
-  calls = 0;
-  stopped = None;
+  failed = false;
 }
 
 -- the twin with a change to this frame under way
@@ -60,7 +62,6 @@ without_spare t = record t { spare = None }
 abbrev pub after_call : TwinState → TwinState
 after_call t = record t {
   change = Some (record { frame = next_frame t; made = calls_made t + 1 });
-  calls = one_more t.calls;
 }
 
 -- after the last one: the frame that was idle is the current one
@@ -69,21 +70,14 @@ after_last t = record t {
   current = 1 - t.current;
   change = None;
   spare = Some (next_frame t);
-  calls = one_more t.calls;
 }
 
--- after one that failed: it is stopped at that call's number
+-- after one that failed
 abbrev pub after_fault : TwinState → TwinState
-after_fault t = record t { calls = one_more t.calls; stopped = Some t.calls }
+after_fault t = record t { failed = true }
 
 -- what `advance` makes of a twin
-abbrev pub Advances : Result Step TwinErr → (old new : TwinState) → Type 0
+abbrev pub Advances : {E : Type 0} → Result Step E → (old new : TwinState) → Type 0
 Advances (Ok More) old new = new ≡ after_call old
 Advances (Ok Done) old new = new ≡ after_last old
-Advances (Err Fault) old new = new ≡ after_fault old
-Advances (Err (Stopped n)) old new = new ≡ old
-
--- the answer tells of a fault of the disk in this call
-abbrev pub is_fault : TwinErr → Bool
-is_fault Fault = true
-is_fault (Stopped n) = false
+Advances (Err e) old new = new ≡ after_fault old

@@ -1,47 +1,76 @@
 //! The device calls of a change.
 
-ghost use Rattle.std.specs.Prelude.{◌≡◌, ◌+◌, ◌-◌, ◌*◌, ◌<◌, ◌≤◌, length, IsTrue, OnOk};
+ghost use Rattle.std.specs.Prelude.{◌≡◌, ◌+◌, ◌-◌, ◌*◌, ◌^◌, ◌<◌, ◌≤◌, IsTrue, OnOk};
 ghost use Rattle.vt_base.specs.Faults.{HasCause};
-ghost use Rattle.vt_disk.specs.Calls.{WritesAt, MadeCalls, IsSynced};
+ghost use Rattle.vt_disk.specs.Calls.{WritesAt, MadeCalls};
+ghost use Rattle.vt_disk.specs.DeviceCalls.{call_of};
+ghost use Rattle.vt_disk.specs.DeviceCalls.DeviceCall.{write};
 ghost use Rattle.vt_disk.specs.Disk.{Touches};
-ghost use Rattle.vt_twin.specs.Frames.{HasRoom, selector_start, selector_len, with_selector};
-ghost use Rattle.vt_twin.specs.Calls.{bytes_after, number_of, next_call, IsSync, TouchedBy};
+ghost use Rattle.vt_twin.specs.Frames.{HasRoom, selector_start, selector_len, selector_bytes, with_selector};
+ghost use Rattle.vt_twin.specs.Calls.{number_of, next_stage};
 
 use vt_base::Failed;
-use vt_disk::{BLOCK_LEN, Disk, Region};
+use vt_disk::{BLOCK_LEN, Call, Disk, Region};
 
-/// A device call of a change.
+/// How far a change has come: its next device call.
 #[derive(Clone, Copy, Debug, PartialEq, Eq)]
-pub enum Call {
+pub enum Stage {
     WriteFrame,
     SyncFrame,
     WriteSelector,
     SyncSelector,
 }
 
-/// The call behind this one, if it isn't the last.
-pub fn next(call: Call) -> Option<Call>
-    ensures { result ≡ next_call call }
+/// What comes behind this call, if it isn't the last.
+pub fn next(stage: Stage) -> Option<Stage>
+    ensures { result ≡ next_stage stage }
 {
-    match call {
-        Call::WriteFrame => Some(Call::SyncFrame),
-        Call::SyncFrame => Some(Call::WriteSelector),
-        Call::WriteSelector => Some(Call::SyncSelector),
-        Call::SyncSelector => None,
+    match stage {
+        Stage::WriteFrame => Some(Stage::SyncFrame),
+        Stage::SyncFrame => Some(Stage::WriteSelector),
+        Stage::WriteSelector => Some(Stage::SyncSelector),
+        Stage::SyncSelector => None,
     }
 }
 
 /// How many calls are left before this one was made.
-pub fn left(call: Call) -> u64
-    ensures all { result + number_of call ≡ 4 }
+pub fn left(stage: Stage) -> u64
+    ensures all { result + number_of stage ≡ 4 }
     ensures some { 0 < result }
 {
-    match call {
-        Call::WriteFrame => 4,
-        Call::SyncFrame => 3,
-        Call::WriteSelector => 2,
-        Call::SyncSelector => 1,
+    match stage {
+        Stage::WriteFrame => 4,
+        Stage::SyncFrame => 3,
+        Stage::WriteSelector => 2,
+        Stage::SyncSelector => 1,
     }
+}
+
+/// A selector that names this frame, as long as the longest one: a region's has its first bytes.
+pub fn selector_naming(number: u8) -> [u8; BLOCK_LEN]
+    ensures { result ≡ selector_bytes number BLOCK_LEN }
+{
+    let mut selector = [0; BLOCK_LEN];
+    selector[0] = number;
+    selector
+}
+
+/// The call that writes the selector that names this frame: the first bytes of the longest one.
+pub fn selector_call<'a>(
+    region: Region,
+    frame_len: u64,
+    number: u8,
+    selector: &'a [u8; BLOCK_LEN],
+) -> Call<'a>
+    requires end { region.start + region.len < 2 ^ 64 }
+    requires least { 2 * frame_len < region.len }
+    requires most { region.len ≤ 2 * frame_len + BLOCK_LEN }
+    requires names { selector.now ≡ selector_bytes number BLOCK_LEN }
+    ensures { call_of result ≡ write (selector_start region frame_len)
+        (selector_bytes number (selector_len region frame_len)) }
+{
+    let len = (region.len - 2 * frame_len) as usize;
+    region.write_call(2 * frame_len, &selector[..len])
 }
 
 /// Writes the whole selector, so that it names this frame.
@@ -60,35 +89,7 @@ pub fn write_selector<D: Disk>(
     ensures calls { MadeCalls D.Disk 1 disk.old disk.new }
     ensures cause { HasCause result (D.faults disk.old) (D.faults disk.new) }
 {
-    let mut selector = [0; BLOCK_LEN];
-    selector[0] = number;
+    let selector = selector_naming(number);
     let len = (region.len - 2 * frame_len) as usize;
     region.write_at(disk, 2 * frame_len, &selector[..len])
-}
-
-/// Makes one call of a change to this frame.
-pub fn make_call<D: Disk>(
-    disk: &mut D,
-    region: Region,
-    frame_len: u64,
-    current: u8,
-    call: Call,
-    frame: &[u8],
-) -> Result<(), Failed>
-    requires number { current < 2 }
-    requires whole { length frame.now ≡ frame_len }
-    requires room { HasRoom region frame_len (D.size disk.old) }
-    ensures writes { WritesAt D.Disk (TouchedBy (number_of call) region frame_len current) 1
-        disk.old disk.new }
-    ensures written { OnOk result (IsTrue D.tells → D.bytes disk.new
-        ≡ bytes_after (number_of call) region frame_len current frame.now (D.bytes disk.old)) }
-    ensures settled { IsSync (number_of call) → OnOk result (IsSynced D.Disk disk.new) }
-    ensures calls { MadeCalls D.Disk 1 disk.old disk.new }
-    ensures cause { HasCause result (D.faults disk.old) (D.faults disk.new) }
-{
-    match call {
-        Call::WriteFrame => region.write_at(disk, frame_len * (1 - current as u64), frame),
-        Call::WriteSelector => write_selector(disk, region, frame_len, 1 - current),
-        Call::SyncFrame | Call::SyncSelector => disk.sync(),
-    }
 }

@@ -11,5 +11,5 @@ mod twin;
 
 pub use laws::{crash_gives_old_or_new, soundness_is_kept};
 pub use mounting::{format, mount};
-pub use step::{Step, TwinErr};
-pub use twin::Twin;
+pub use step::Step;
+pub use twin::{Twin, TwinErr};

@@ -1,17 +1,20 @@
 //! A twin, and its changes step by step.
 
-ghost use Rattle.std.specs.Prelude.{◌≡◌, ◌⊎◌, ◌↔◌, ◌+◌, ◌-◌, ◌%◌, ◌<◌, ◌≤◌, ℕ, List, length, IsTrue, IsSome, is_some, is_none, IfOk, OnOk, None, Some, Ok, Err};
+ghost use Rattle.std.specs.Prelude.{◌≡◌, ◌↔◌, ◌+◌, ◌-◌, ◌*◌, ◌^◌, ◌%◌, ◌<◌, ◌≤◌, ℕ, List, length, IsTrue, IsSome, is_some, is_none, IfOk, IfErr, IsOk, true, None, Some, Ok, Err};
 
-use crate::calls::{Call, left, make_call, next};
-use crate::{Step, TwinErr};
+use crate::Step;
+use crate::calls::{Stage, left, next, selector_call, selector_naming};
 use std::marker::Model;
 use vt_base::{Bytes, Failed};
-use vt_disk::{Disk, Region};
+use vt_disk::{BLOCK_LEN, Call, CallCount, CallErr, Disk, Region};
 
-/// A change under way: its next device call, and the frame that it brings.
+/// Why a step of a change made no device call that succeeded.
+pub type TwinErr = CallErr;
+
+/// A change under way: how far it has come, and the frame that it brings.
 #[derive(Drop)]
 struct Pending {
-    call: Call,
+    stage: Stage,
     frame: Bytes,
 }
 
@@ -26,8 +29,7 @@ pub struct Twin {
     current: u8,
     pending: Option<Pending>,
     spare: Option<Bytes>,
-    calls: u64,
-    stopped: Option<u64>,
+    failed: bool,
 }
 
 impl Model for Twin {
@@ -42,10 +44,9 @@ impl Model for Twin {
     ghost view = { λ t. record {
       frame_len = t.frame_len;
       current = t.current;
-      change = option_map (λ it. record { frame = it.frame; made = number_of it.call }) t.pending;
+      change = option_map (λ it. record { frame = it.frame; made = number_of it.stage }) t.pending;
       spare = t.spare;
-      calls = t.calls;
-      stopped = t.stopped;
+      failed = t.failed;
     } };
 
     ghost invariant = { λ t. (t.current < 2)
@@ -54,12 +55,14 @@ impl Model for Twin {
 }
 
 impl Twin {
+    ghost use Rattle.vt_twin.specs.declared.calls.Stage.{Stage};
+    ghost use Rattle.vt_twin.specs.Calls.{number_of};
+    ghost use Rattle.vt_disk.specs.Calls.{WritesWithin};
     ghost use Rattle.vt_base.specs.Faults.{CountsFault};
-    ghost use Rattle.vt_disk.specs.Calls.{WritesAt, WritesWithin, MadeCalls, IsSynced};
+    ghost use Rattle.vt_disk.specs.DeviceCalls.{CallMade, call_of, is_fault};
     ghost use Rattle.vt_disk.specs.Disk.{WithinCall};
-    ghost use Rattle.vt_twin.specs.Frames.{HasRoom, frame_of, current_frame};
-    ghost use Rattle.vt_twin.specs.Twin.{fresh, with_change, without_spare, calls_made, next_frame, Advances, is_fault};
-    ghost use Rattle.vt_twin.specs.Calls.{bytes_after, IsSync, TouchedBy};
+    ghost use Rattle.vt_twin.specs.Frames.{HasRoom, frame_of, current_frame, selector_bytes};
+    ghost use Rattle.vt_twin.specs.Twin.{fresh, with_change, without_spare, calls_made, next_frame, next_call, Advances};
     ghost use Rattle.vt_twin.specs.Sound.{IsSound, GivesOldOrNew, frame_after};
 
     /// A twin with frames of `frame_len` bytes whose current one is named by this first byte of its
@@ -74,8 +77,7 @@ impl Twin {
             current: selector % 2,
             pending: None,
             spare: None,
-            calls: 0,
-            stopped: None,
+            failed: false,
         }
     }
 
@@ -87,7 +89,7 @@ impl Twin {
         self.current
     }
 
-    /// Whether a change is under way. One that was stopped stays so.
+    /// Whether a change is under way. One of which a call failed stays so.
     pub fn is_changing(&self) -> bool
         ensures { result ≡ is_some self.now.change }
     {
@@ -102,16 +104,9 @@ impl Twin {
         ensures rest { self.now.change ≡ None → result ≡ 0 }
     {
         match &self.pending {
-            Some(pending) => left(pending.call),
+            Some(pending) => left(pending.stage),
             None => 0,
         }
-    }
-
-    /// The number of the device call that stopped it, if one did.
-    pub fn stopped(&self) -> Option<u64>
-        ensures { result ≡ self.now.stopped }
-    {
-        self.stopped
     }
 
     /// Takes in the frame of the next change. It makes no device call.
@@ -121,7 +116,7 @@ impl Twin {
         ensures { self.new ≡ with_change frame self.old }
     {
         self.pending = Some(Pending {
-            call: Call::WriteFrame,
+            stage: Stage::WriteFrame,
             frame,
         });
         self.spare = None;
@@ -140,10 +135,17 @@ impl Twin {
     /// Makes one device call of the change under way: it writes the idle frame, syncs it, writes
     /// the selector, syncs it.
     ///
-    /// Done is the answer to the last of them, and Fault to one that fails. From then on the answer
-    /// is Stopped with the number of that call, and nothing is done.
-    pub fn advance<D: Disk>(&mut self, disk: &mut D, region: Region) -> Result<Step, TwinErr>
+    /// Done is the answer to the last of them, and Fault to one that fails. The count is lent by
+    /// whoever owns the twin, the same one in each call. Once a call that it counts has failed the
+    /// answer is Stopped with that call's number, and nothing is done.
+    pub fn advance<D: Disk>(
+        &mut self,
+        calls: &mut CallCount,
+        disk: &mut D,
+        region: Region,
+    ) -> Result<Step, TwinErr>
         requires under_way { IsSome self.old.change }
+        requires lent { self.old.failed ≡ true → IsSome calls.old.stopped }
         requires room { HasRoom region self.old.frame_len (D.size disk.old) }
 
         // A sound disk stays so, for the old frame or, after the last call, for the new one.
@@ -173,63 +175,81 @@ impl Twin {
             → frame_of region self.new.frame_len self.new.current (D.bytes disk.new)
             ≡ frame_after result self.old old }
 
-        // What it writes, and that it syncs.
-        ensures writes { WritesAt D.Disk
-            (TouchedBy (calls_made self.old) region self.old.frame_len self.old.current) 1
-            disk.old disk.new }
-        ensures written { IsTrue D.tells → OnOk result (D.bytes disk.new
-            ≡ bytes_after (calls_made self.old) region self.old.frame_len self.old.current
-            (next_frame self.old) (D.bytes disk.old)) }
-        ensures settled { IsSync (calls_made self.old) → OnOk result (IsSynced D.Disk disk.new) }
-
-        ensures steps { Advances result self.old self.new }
+        // Where the count isn't stopped it makes this call, and no other.
+        ensures makes { calls.old.stopped ≡ None
+            → CallMade D.Disk (next_call self.old region) result
+            calls.old calls.new disk.old disk.new }
+        ensures whole { calls.old.stopped ≡ None
+            → length (next_frame self.old) ≡ self.old.frame_len }
+        ensures steps { calls.old.stopped ≡ None → Advances result self.old self.new }
         ensures len { self.new.frame_len ≡ self.old.frame_len }
         ensures done { IfOk result (λ step. (step ≡ Step.Done) ↔ (calls_made self.old ≡ 3)) }
         ensures stopped { (n : ℕ)
-            → (result ≡ Err (TwinErr.Stopped n)) ↔ (self.old.stopped ≡ Some n) }
+            → (result ≡ Err (CallErr.Stopped n)) ↔ (calls.old.stopped ≡ Some n) }
         ensures faults { CountsFault is_fault result (D.faults disk.old) (D.faults disk.new) }
-
-        // It makes one call or, where it is stopped, none.
-        ensures calls { self.old.stopped ≡ None → MadeCalls D.Disk 1 disk.old disk.new }
-        ensures untouched { IsSome self.old.stopped → disk.new ≡ disk.old }
+        ensures untouched { IsSome calls.old.stopped
+            → (self.new ≡ self.old) × (calls.new ≡ calls.old) × (disk.new ≡ disk.old) }
 
         // Nothing outside the region changes.
         ensures within { WritesWithin D.Disk region 1 disk.old disk.new }
     {
-        if let Some(call) = self.stopped {
+        if let Some(call) = calls.stopped {
             return Err(TwinErr::Stopped(call));
         }
-        let Some(mut pending) = self.pending.take() else {
+        let selector = selector_naming(1 - self.current);
+        let outcome = calls.make(disk, self.next_call(region, &selector));
+        self.go_on(outcome)
+    }
+
+    /// The next device call of the change under way, by a selector that names the idle frame.
+    fn next_call<'a>(&'a self, region: Region, selector: &'a [u8; BLOCK_LEN]) -> Call<'a>
+        requires under_way { IsSome self.now.change }
+        requires end { region.start + region.len < 2 ^ 64 }
+        requires least { 2 * self.now.frame_len < region.len }
+        requires most { region.len ≤ 2 * self.now.frame_len + BLOCK_LEN }
+        requires names { selector.now ≡ selector_bytes (1 - self.now.current) BLOCK_LEN }
+        ensures call { call_of result ≡ next_call self.now region }
+        ensures stage { (stage : Stage) × (calls_made self.now ≡ number_of stage) }
+        ensures whole { length (next_frame self.now) ≡ self.now.frame_len }
+    {
+        let Some(Pending { stage, frame }) = &self.pending else {
             unreachable!()
         };
-        let number = self.calls;
-        self.calls = number.saturating_add(1);
-        let outcome = make_call(
-            disk,
-            region,
-            self.frame_len,
-            self.current,
-            pending.call,
-            pending.frame.as_slice(),
-        );
-        match outcome {
-            Ok(()) => match next(pending.call) {
-                Some(call) => {
-                    pending.call = call;
-                    self.pending = Some(pending);
-                    Ok(Step::More)
-                }
-                None => {
-                    let Pending { call: _, frame } = pending;
-                    self.current = 1 - self.current;
-                    self.spare = Some(frame);
-                    Ok(Step::Done)
-                }
-            },
-            Err(Failed) => {
-                self.pending = Some(pending);
-                self.stopped = Some(number);
-                Err(TwinErr::Fault)
+        let len = self.frame_len;
+        match stage {
+            Stage::WriteFrame => region.write_call(
+                len * u64::from(1 - self.current),
+                frame.as_slice(),
+            ),
+            Stage::WriteSelector => selector_call(region, len, 1 - self.current, selector),
+            Stage::SyncFrame | Stage::SyncSelector => Call::Sync,
+        }
+    }
+
+    /// What comes behind the next call of the change under way.
+    fn go_on(&mut self, outcome: Result<(), Failed>) -> Result<Step, TwinErr>
+        requires { IsSome self.old.change }
+        ensures outcome { IsOk result ↔ IsOk outcome }
+        ensures fault { IfErr result (λ err. err ≡ CallErr.Fault) }
+        ensures steps { Advances result self.old self.new }
+        ensures done { IfOk result (λ step. (step ≡ Step.Done) ↔ (calls_made self.old ≡ 3)) }
+    {
+        let Ok(()) = outcome else {
+            self.failed = true;
+            return Err(TwinErr::Fault);
+        };
+        let Some(Pending { stage, frame }) = self.pending.take() else {
+            unreachable!()
+        };
+        match next(stage) {
+            Some(stage) => {
+                self.pending = Some(Pending { stage, frame });
+                Ok(Step::More)
+            }
+            None => {
+                self.current = 1 - self.current;
+                self.spare = Some(frame);
+                Ok(Step::Done)
             }
         }
     }

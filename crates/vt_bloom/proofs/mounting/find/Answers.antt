@@ -1,24 +1,19 @@
-use Rattle.std.proofs.Common.{◌≡◌, ◌+◌, ◌-◌, ◌*◌, ◌^◌, ◌≤◌, ◌++◌, ◌∙◌, ℕ, List, length, take, drop, ap, sym, subst, arith, length-take, length-drop}
+use Rattle.std.proofs.Common.{◌≡◌, ◌+◌, ◌-◌, ◌*◌, ◌^◌, ◌++◌, ◌∙◌, ℕ, List, length, take, drop, ap, sym, subst, arith, length-take, length-drop}
 use Rattle.std.proofs.lemmas.List.{take_at, take_all}
 use Rattle.vt_disk.specs.declared.region.Region.{Region}
 use Rattle.vt_disk.specs.Disk.{part}
-use Rattle.vt_twin.specs.Frames.{HasRoom, named_number}
+use Rattle.vt_twin.specs.Frames.{named_number}
 use Rattle.vt_bloom.specs.Frame.{Saved, IsFrame, HaveWords, current_of}
-use Rattle.vt_bloom.specs.Size.{frame_len, filter_len, region_of, IsLargest}
+use Rattle.vt_bloom.specs.Size.{frame_len, region_of, IsLargest}
 use Rattle.vt_bloom.proofs.Powers.{shifted, words_fill, bytes_fill, has_room}
 use Rattle.vt_twin.proofs.Sound.{reads_sound}
 use Rattle.vt_bloom.proofs.mounting.find.Goals as goal
 
 pub mount-requires : goal.mount-requires
 mount-requires g c =
-    let m : ℕ = c.largest-m.result in
-    let whole : c.len.result ≡ frame_len m = c.len.ensures ∙ c.in_ok-frame.ensures.len ∙
-    c.frame_len.ensures in
-    subst (λ r. HasRoom r c.len.result (g.D.Disk.size c.args.disk.now)) (sym
-    c.region-region.ensures)
-    (subst (λ (n : ℕ). HasRoom (region_of m) n (g.D.Disk.size c.args.disk.now)) (sym whole)
-    (has_room m _ c.largest-m.ensures.least c.largest-m.ensures.most
-    (subst (λ (n : ℕ). filter_len m ≤ n) c.len-len.ensures c.largest-m.ensures.fits)))
+    rw (c.region-region.ensures, c.len.ensures, c.in_ok-frame.ensures.len, c.frame_len.ensures)
+    (has_room c.largest-m.result _ c.largest-m.ensures.least c.largest-m.ensures.most
+    (rw c.len-len.ensures at c.largest-m.ensures.fits))
 
 pub read_words-requires : goal.read_words-requires
 read_words-requires g c =
@@ -116,12 +111,10 @@ returns-clause-found g c told =
 
 pub returns-clause-twin : goal.returns-clause-twin
 returns-clause-twin g c told =
-    let m : ℕ = c.largest-m.result in
-    let whole : c.len.result ≡ frame_len m = c.len.ensures ∙ c.in_ok-frame.ensures.len ∙
-    c.frame_len.ensures in
-    let sound = rw (c.region-region.ensures, whole) at (c.in_ok-twin.ensures.sound told) in
-    reads_sound c.in_ok-twin.twin (region_of m) _ _ _ _ _ c.read_at.ensures.reads.bytes
-    c.read_at.ensures.reads.images sound
+    reads_sound c.in_ok-twin.twin (region_of c.largest-m.result) _ _ _ _ _
+    c.read_at.ensures.reads.bytes c.read_at.ensures.reads.images
+    (rw (c.region-region.ensures, c.len.ensures, c.in_ok-frame.ensures.len, c.frame_len.ensures)
+    at (c.in_ok-twin.ensures.sound told))
 
 pub returns-clause-settled : goal.returns-clause-settled
 returns-clause-settled g c _ told file left =

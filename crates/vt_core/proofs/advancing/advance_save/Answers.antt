@@ -32,5 +32,6 @@ returns-clause-calls g c =
     subst (λ (o : Out). CallsDevice g.D.Disk o (c.args.bloom.now.disk ∷ []) (c.advance-answer.new.self.disk ∷ [])) (sym c.out_of_save.ensures)
     (calls_begun g.D.Disk c.args.bits.now c.args.durable (out_of_save c.advance-answer.result) c.args.bloom.now c.begin_save.new.bloom (c.advance-answer.new.self.disk ∷ [])
     (c.begin_save.ensures.begun c.if-not-begin_save.false)
-    (save_calls g.D.Disk c.begin_save.new.bloom c.advance-answer.new.self c.advance-answer.result c.advance-answer.ensures.stopped c.advance-answer.ensures.calls
+    (save_calls g.D.Disk c.begin_save.new.bloom c.advance-answer.new.self c.advance-answer.result c.advance-answer.ensures.stopped
+    (λ goes. (c.advance-answer.ensures.makes goes).calls)
     c.advance-answer.ensures.untouched c.advance-answer.ensures.faults c.advance-answer.ensures.within.size))

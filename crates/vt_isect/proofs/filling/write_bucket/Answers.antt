@@ -1,8 +1,8 @@
 use Rattle.std.proofs.Common.{◌≡◌, ◌+◌, ◌<◌, IsTrue, List, ℕ, length, replicate, ◌∙◌, ap, subst, arith}
 use Rattle.std.proofs.lemmas.Result.{on_ok_weaker}
-use Rattle.vt_disk.specs.Disk.{with_bytes, SameBut}
+use Rattle.vt_disk.specs.Disk.{with_bytes, SameBut, Touches}
 use Rattle.vt_disk.proofs.Calls.{on_err, made_then}
-use Rattle.vt_twin.specs.Calls.{TouchedBy}
+use Rattle.vt_twin.specs.Frames.{selector_start, selector_len}
 use Rattle.vt_twin.specs.Formatting.{EndsFormat}
 use Rattle.vt_isect.proofs.WriteBucket.{frame_written, first_within, selector_written, both_written, both_within, frame_left, new_frame, new_idle, new_current, new_selector}
 use Rattle.vt_isect.proofs.filling.write_bucket.Goals as goal
@@ -69,7 +69,7 @@ returns-clause-stops g c = on_err {P = (made : ℕ) × (made < 2) × EndsFormat 
     calls = made_then g.D.Disk 1 1 _ _ _ c.write_at.ensures.calls c.write_at-2.ensures.calls;
     writes = both_written c.args.place c.args.frame.now _ c.requires.whole c.requires.len c.requires.room g.D.Disk _ _ c.write_at.ensures.writes _ c.write_at-2.ensures.writes;
     frame_is = λ some told. frame_left c.args.place c.args.frame.now _ c.requires.whole c.requires.len c.requires.room _ (whole g c told) _
-        (subst (λ (file : List ℕ). SameBut (TouchedBy 2 c.args.place (length c.args.frame.now) 1) file (g.D.Disk.bytes c.write_at-2.new.disk))
+        (subst (λ (file : List ℕ). SameBut (Touches (selector_start c.args.place (length c.args.frame.now)) (selector_len c.args.place (length c.args.frame.now))) file (g.D.Disk.bytes c.write_at-2.new.disk))
         (c.in_ok-write_at.ensures.written told)
         ((selector_written c.args.place c.args.frame.now _ c.requires.whole c.requires.len c.requires.room g.D.Disk _ _ c.write_at.ensures.writes _ c.write_at-2.ensures.writes).bytes told));
     selector_is = λ some. absurd (omega (arith, some));

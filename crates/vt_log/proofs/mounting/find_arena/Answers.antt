@@ -1,5 +1,5 @@
 -- One disk is read.
-use Rattle.std.proofs.Common.{◌<◌, length, get_or, map, set, sym, subst, rules, Ok, Err, false}
+use Rattle.std.proofs.Common.{◌<◌, length, get_or, set, sym, subst, rules, Ok, Err, false}
 use Rattle.std.proofs.lemmas.Option.{slice_get-get_or}
 use Rattle.vt_arena.specs.declared.head.Found.{Found}
 use Rattle.vt_arena.specs.Faults.{is_fault as is_arena_fault}

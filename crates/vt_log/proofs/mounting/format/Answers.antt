@@ -1,5 +1,5 @@
 -- One more partition is done.
-use Rattle.std.proofs.Common.{◌≡◌, ◌+◌, ℕ, List, get_or, map, set, true, ◌∙◌, subst, arith, Some, Err, []}
+use Rattle.std.proofs.Common.{◌≡◌, List, get_or, set, true, ◌∙◌, subst, arith, Some, Err, []}
 use Rattle.std.specs.Prelude.{slice_get}
 use Rattle.std.proofs.lemmas.Option.{slice_get-get_or, slice_get_within}
 use Rattle.std.proofs.lemmas.Result.{err_from_is_err_and}

@@ -1,5 +1,5 @@
 -- One more head is written.
-use Rattle.std.proofs.Common.{◌≡◌, ◌+◌, ℕ, List, refl, ◌∙◌, ap, subst, arith}
+use Rattle.std.proofs.Common.{◌≡◌, ◌+◌, ℕ, refl, ◌∙◌, ap, subst, arith}
 use Rattle.std.proofs.lemmas.Result.{err_from_is_err_and}
 use Rattle.vt_disk.specs.declared.region.Region.{Region}
 use Rattle.vt_disk.specs.Calls.{WritesWithin}

@@ -47,7 +47,8 @@ returns-in-Ok-mount-clause-opened g c =
         counts = e.counts;
         next = e.next;
         rest = e.rest;
-        goes = e.stopped;
+        goes = e.runs.0;
+        runs = e.runs.1;
         reads = e.reads;
         faults = e.cause;
       },

@@ -1,5 +1,4 @@
-use Rattle.std.proofs.Common.{◌≡◌, ⊎_elim, None, sym, ◌∙◌, ap, rules}
-use Rattle.vt_arena.specs.Arena.{ArenaState}
+use Rattle.std.proofs.Common.{⊎_elim}
 use Rattle.vt_arena.proofs.Crashes.{gives_before, gives_after, gives_last}
 use Rattle.vt_arena.proofs.arena.Arena.advance.Goals as goal
 
@@ -8,13 +7,10 @@ returns-in-Some-clause-crash g c score_of old told sound image left =
     gives_before score_of c.args.self.now c.args.region old _ (g.D.Disk.bytes c.args.disk.now) _ (g.D.Disk.images c.args.disk.now) sound image (⊎_elim (λ it. it) (λ it. it) left)
 
 pub returns-clause-crash : goal.returns-clause-crash
-returns-clause-crash g c score_of old told sound image left =
-    let none : c.self.inside.stopped ≡ None = search rules in
-    let runs : c.args.self.now.twin.stopped ≡ None = ap (λ (s : ArenaState). s.twin.stopped) (sym c.self.view_is) ∙ c.self.invariant.runs none in
-    ⊎_elim
+returns-clause-crash g c score_of old told sound image left = ⊎_elim
     (λ was. gives_before score_of c.args.self.now c.args.region old _ (g.D.Disk.bytes c.make_call.new.disk) _ (g.D.Disk.images c.make_call.new.disk) sound image was)
-    (λ is. gives_after score_of c.args.self.now c.args.region old _ _ _ _ sound image runs is c.make_call.result c.make_call.new.self
-    c.make_call.ensures.steps c.make_call.ensures.fault c.make_call.ensures.done (c.make_call.ensures.sound score_of old told sound))
+    (λ is. gives_after score_of c.args.self.now c.args.region old _ _ _ _ sound image c.make_call.ensures.running is c.make_call.result c.make_call.new.self
+    c.make_call.ensures.steps c.make_call.ensures.done (c.make_call.ensures.sound score_of old told sound))
     left
 
 pub returns-clause-last : goal.returns-clause-last

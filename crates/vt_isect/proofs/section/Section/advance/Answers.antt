@@ -1,9 +1,12 @@
 use Rattle.std.proofs.Common.{Err, refl, sym, ap, ◌∙◌, subst}
+use Rattle.std.proofs.lemmas.Result.{IfErr-weaker}
 use Rattle.vt_isect.specs.declared.bad.ShardErr.TheVariants.{Stopped}
 use Rattle.vt_isect.specs.Section.{PutsEntries}
 use Rattle.vt_isect.specs.View.{state_of}
 use Rattle.vt_isect.proofs.Follows.{keeps_quiet}
 use Rattle.vt_isect.proofs.IsCovered.{covered_kept}
+use Rattle.vt_isect.proofs.IsDamage.{undamaged_by}
+use Rattle.vt_isect.proofs.NamesDamage.{differs_by}
 use Rattle.vt_isect.proofs.WithinCall.{crash_within, agrees_within}
 use Rattle.vt_isect.proofs.Members.{Groups}
 use Rattle.vt_isect.proofs.WritesBack.{wrote_is}
@@ -39,26 +42,37 @@ returns-in-Some-clause-wrote g c entry =
 
 pub returns-clause-crash : goal.returns-clause-crash
 returns-clause-crash g c known told sound whole first =
-    crash_within _ _ _ _ _ _ _ (c.make_call.ensures.sound told) c.make_call.ensures.steps known sound whole first
+    crash_within _ _ _ _ _ _ _ (c.make_call.ensures.step.sound told) c.make_call.ensures.step.steps known sound whole first
 
 pub returns-clause-agrees : goal.returns-clause-agrees
 returns-clause-agrees g c score setup h known told sound agrees =
-    agrees_within _ _ _ _ _ _ _ (c.make_call.ensures.sound told) c.make_call.ensures.steps score setup h known sound agrees
+    agrees_within _ _ _ _ _ _ _ (c.make_call.ensures.step.sound told) c.make_call.ensures.step.steps score setup h known sound agrees
 
 pub returns-clause-left : goal.returns-clause-left
 returns-clause-left g c =
     rw (← c.self.view_is)
-    (advance_lower c.make_call.result _ _ (rw (← c.self.view_is) at c.make_call.ensures.steps)
+    (advance_lower c.make_call.result _ _ (rw (← c.self.view_is) at c.make_call.ensures.step.steps)
     (λ j e. (c.self.invariant.group (subst PutsEntries (sym e) tt)).selector j e) (head_made (state_of c.self.inside) _ c.self.invariant.buffer))
 
 pub returns-clause-covers : goal.returns-clause-covers
 returns-clause-covers g c score setup h known knows agrees follows =
-    covered_kept score setup h _ _ known knows agrees (subst Groups c.self.view_is c.self.invariant.group) _ c.make_call.ensures.steps follows
+    covered_kept score setup h _ _ known knows agrees (subst Groups c.self.view_is c.self.invariant.group) _ c.make_call.ensures.step.steps follows
 
 pub returns-clause-ended : goal.returns-clause-ended
-returns-clause-ended g c = ends_none c.make_call.result _ _ c.make_call.ensures.steps
+returns-clause-ended g c = ends_none c.make_call.result _ _ c.make_call.ensures.step.steps
 
 pub returns-clause-wrote : goal.returns-clause-wrote
 returns-clause-wrote g c entry =
     wrote_is _ _ (subst Groups c.self.view_is c.self.invariant.group) entry
-    c.make_call.result c.make_call.ensures.steps
+    c.make_call.result c.make_call.ensures.step.steps
+
+pub returns-clause-differs : goal.returns-clause-differs
+returns-clause-differs g c = differs_by g.D.Disk c.make_call.result _ _ c.make_call.ensures.step.steps c.make_call.ensures.damaged
+
+pub returns-clause-undamaged : goal.returns-clause-undamaged
+returns-clause-undamaged g c score setup h known told sound agrees room =
+    undamaged_by g.D.Disk score setup h _ _ known agrees (subst Groups c.self.view_is c.self.invariant.group) told (g.met.D.Disk.read_is_image _ told) sound room
+    c.make_call.result c.make_call.ensures.step.steps c.make_call.ensures.damaged
+
+pub returns-clause-damaged : goal.returns-clause-damaged
+returns-clause-damaged g c s = IfErr-weaker c.make_call.result _ _ (λ bad it other none phase. it other phase) (c.make_call.ensures.damaged s)

@@ -11,7 +11,7 @@ use Rattle.vt_isect.specs.Sound.{IsReadFrom}
 use Rattle.vt_isect.proofs.NamesDamage.{faulty_differs}
 use Rattle.vt_isect.specs.View.{state_of}
 use Rattle.vt_isect.proofs.IsReadFrom.{reads_from, reads_known}
-use Rattle.vt_isect.proofs.Members.{called}
+use Rattle.vt_isect.proofs.Members.{well_read}
 use Rattle.vt_isect.proofs.Remembers.{remembers_same}
 use Rattle.vt_isect.proofs.section.Section.bucket.Goals as goal
 
@@ -61,7 +61,7 @@ returns-clause-differs g c =
     IfErr-weaker c.decode_bucket.result _ _ (λ bad is. faulty_differs c.args.number c.read_at.new.buf bad is) c.decode_bucket.ensures.refused
 
 pub invariant_of-self : goal.invariant_of-self
-invariant_of-self g c = rw c.read_at.ensures.reads.size (called g.D.Disk _ (state_of c.self-2.inside) _ _ _ _ _ _ (remembers_same g.D.Disk _ _ _ _ c.read_at.ensures.reads.bytes c.self-2.invariant.remembers) c.self-2.invariant)
+invariant_of-self g c = rw c.read_at.ensures.reads.size (well_read g.D.Disk (state_of c.self-2.inside) (remembers_same g.D.Disk _ _ _ _ c.read_at.ensures.reads.bytes c.self-2.invariant.remembers) c.self-2.invariant)
 
 pub invariant_of-self-2 : goal.invariant_of-self-2
-invariant_of-self-2 g c = rw c.read_at.ensures.reads.size (called g.D.Disk _ (state_of c.self-2.inside) _ _ _ _ _ _ (remembers_same g.D.Disk _ _ _ _ c.read_at.ensures.reads.bytes c.self-2.invariant.remembers) c.self-2.invariant)
+invariant_of-self-2 g c = rw c.read_at.ensures.reads.size (well_read g.D.Disk (state_of c.self-2.inside) (remembers_same g.D.Disk _ _ _ _ c.read_at.ensures.reads.bytes c.self-2.invariant.remembers) c.self-2.invariant)

@@ -8,7 +8,7 @@ use Rattle.vt_twin.specs.Frames.{named_number}
 use Rattle.vt_isect.specs.declared.groups.Member.{Member}
 use Rattle.vt_isect.specs.Section.{SectionState, IsChanging, IsMember, PutsEntries}
 use Rattle.vt_isect.specs.View.{state_of}
-use Rattle.vt_isect.proofs.Members.{called, one_member, puts_or_not}
+use Rattle.vt_isect.proofs.Members.{one_member, puts_or_not, well_read}
 use Rattle.vt_isect.proofs.Places.{one_place}
 use Rattle.vt_isect.proofs.Remembers.{found}
 use Rattle.vt_isect.proofs.section.Section.current_number.Goals as goal
@@ -72,7 +72,7 @@ anyway (Err e) P all = tt
 pub invariant_of-self : goal.invariant_of-self
 invariant_of-self g c =
     let s = c.self.inside in
-    rw c.find.ensures.reads.size (called g.D.Disk _ (state_of s) _ _ _ _ _ _
+    rw c.find.ensures.reads.size (well_read g.D.Disk (state_of s)
     (found g.D.Disk s.disk c.find.new.disk s.buckets s.frames c.find.new.self (c.args.number - s.head.first) c.bucket_place.result c.find.result c.bucket_place.ensures.place
     c.find.ensures.reads.bytes (c.find.ensures.named s.buckets) c.find.ensures.remembers c.find.ensures.failed c.self.invariant.remembers)
     c.self.invariant)

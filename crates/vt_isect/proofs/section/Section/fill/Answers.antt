@@ -8,7 +8,7 @@ use Rattle.vt_isect.specs.Layout.{IsPlaceOf}
 use Rattle.vt_isect.specs.View.{state_of}
 use Rattle.vt_isect.proofs.WithBucket.{others_sound}
 use Rattle.vt_isect.proofs.Fills.{reads_filled, agrees_filled, in_buckets}
-use Rattle.vt_isect.proofs.Members.{called}
+use Rattle.vt_isect.proofs.Members.{well_read}
 use Rattle.vt_isect.proofs.Places.{one_place}
 use Rattle.vt_isect.proofs.Remembers.{forgets, learns, set_twice}
 use Rattle.vt_isect.proofs.section.Section.fill.Goals as goal
@@ -84,7 +84,7 @@ returns-in_err-write_bucket-clause-stops g c =
 pub invariant_of-self : goal.invariant_of-self
 invariant_of-self g c =
     let s = c.self.inside in
-    rw (c.write_bucket.ensures.writes.size, c.forget.ensures) (called g.D.Disk _ (state_of s) _ _ _ _ _ _
+    rw (c.write_bucket.ensures.writes.size, c.forget.ensures) (well_read g.D.Disk (state_of s)
     (forgets g.D.Disk s.disk c.write_bucket.new.disk s.buckets s.frames (c.number.result - s.head.first) c.bucket_place-place.result 2 c.bucket_place-place.ensures.place
     c.write_bucket.ensures.writes c.self.invariant.remembers)
     c.self.invariant)
@@ -93,7 +93,7 @@ pub invariant_of-self-2 : goal.invariant_of-self-2
 invariant_of-self-2 g c =
     let s = c.self.inside in
     rw (c.write_bucket.ensures.writes.size, c.put.ensures, c.forget.ensures, set_twice s.frames (c.number.result - s.head.first) None (Some 0))
-    (called g.D.Disk _ (state_of s) _ _ _ _ _ _
+    (well_read g.D.Disk (state_of s)
     (learns g.D.Disk s.disk c.write_bucket.new.disk s.buckets s.frames (c.number.result - s.head.first) c.bucket_place-place.result 2 0 (replicate 511 0) (omega arith) c.bucket_place-place.ensures.place
     c.write_bucket.ensures.writes (λ told. c.in_ok-write_bucket.ensures.selector told) c.self.invariant.remembers)
     c.self.invariant)

@@ -4,8 +4,10 @@ use Rattle.vt_isect.specs.declared.groups.Member.{Member}
 use Rattle.vt_isect.specs.Entries.{items_of}
 use Rattle.vt_isect.specs.Layout.{InRange}
 use Rattle.vt_isect.specs.Section.{PutsEntries}
+use Rattle.vt_isect.specs.View.{state_of}
 use Rattle.vt_isect.proofs.AreNext.{none_written}
-use Rattle.vt_isect.proofs.IsRead.{read_apart, read_frame, read_puts, read_runs, read_selector, read_whole}
+use Rattle.vt_isect.proofs.IsRead.{read_frame, read_puts, read_selector, read_whole}
+use Rattle.vt_isect.proofs.Members.{well_on}
 use Rattle.vt_isect.proofs.Remembers.{first_named}
 use Rattle.vt_isect.proofs.section.Section.go_on.Goals as goal
 
@@ -38,34 +40,20 @@ invariant_of-self g c =
     let p = c.first_read-self-inside.result in
     let reads = c.first_read-self-inside.ensures.reads in
     let no_member : (m : Member) → ¬ Contains s.group.items m = λ m has. omega (arith, has.1, many) in
-    record {
-      room = c.self.invariant.room;
-      name_len = c.self.invariant.name_len;
-      head_len = c.self.invariant.head_len;
-      frame_len = c.self.invariant.frame_len;
-      buffer = record { lent = λ e. absurd (read_apart p reads e); here = λ no. c.self.invariant.buffer.here (λ e. cc) };
-      most = c.self.invariant.most;
-      memory = c.self.invariant.memory;
-      few = c.self.invariant.few;
-      group = λ u. record {
-        order = (omega arith, omega (arith, next.0), next.1.within);
-        ordered = ordered;
-        in_range = ranged;
-        own = λ entry has. absurd (none_written c.args.from (items_of s.entries) entry has);
-        behind = λ entry has way. no_member way.0 way.1.1;
-        apart = λ i j d low within. absurd (omega (arith, within, many));
-        members = λ m has. absurd (no_member m has);
-        bucket = λ has. subst (InRange s.head s.buckets) first.2 (ranged first.0 first.1);
-        next = λ has. (next.0, omega (arith, many, c.self.invariant.most), next.1);
-        current = λ k e. absurd (read_frame k p reads e);
-        whole = λ has. absurd (read_whole p reads has);
-        selector = λ k e. absurd (read_selector k p reads e);
-      };
-      alone = λ no. absurd (no (read_puts p reads));
-      rest = λ u. absurd (read_runs p reads u);
-      goes = c.self.invariant.goes;
-      remembers = c.self.invariant.remembers;
-    }
+    well_on g.D.Disk (state_of s) (λ e. cc) (read_puts p reads) (record {
+      order = (omega arith, omega (arith, next.0), next.1.within);
+      ordered = ordered;
+      in_range = ranged;
+      own = λ entry has. absurd (none_written c.args.from (items_of s.entries) entry has);
+      behind = λ entry has way. no_member way.0 way.1.1;
+      apart = λ i j d low within. absurd (omega (arith, within, many));
+      members = λ m has. absurd (no_member m has);
+      bucket = λ has. subst (InRange s.head s.buckets) first.2 (ranged first.0 first.1);
+      next = λ has. (next.0, omega (arith, many, c.self.invariant.most), next.1);
+      current = λ k e. absurd (read_frame k p reads e);
+      whole = λ has. absurd (read_whole p reads has);
+      selector = λ k e. absurd (read_selector k p reads e);
+    }) c.self.invariant.few c.self.invariant.memory c.self.invariant.frame_len (λ none. none) c.self.invariant.remembers c.self.invariant
 
 pub returns-in-None-clause-begins : goal.returns-in-None-clause-begins
 returns-in-None-clause-begins g c =

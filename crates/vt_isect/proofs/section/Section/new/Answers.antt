@@ -1,5 +1,6 @@
 use Rattle.std.proofs.Common.{◌∙◌, ℕ, List, length, refl, ap, arith}
 use Rattle.std.proofs.lemmas.List.{length-replicate}
+use Rattle.vt_disk.specs.declared.call.CallCount.{CallCount}
 use Rattle.vt_twin.specs.Twin.{TwinState}
 use Rattle.vt_isect.specs.declared.groups.Member.{Member}
 use Rattle.vt_isect.specs.Section.{mounted}
@@ -11,6 +12,8 @@ returns g c = λ i. record (mounted c.args.disk c.args.buckets c.args.opened.nam
   frame = c.requires.frame i;
   group = c.requires.group.0 i;
   head_twin = c.requires.twin i;
+  calls = (c.new.ensures i).made;
+  stopped = (c.new.ensures i).stopped;
 }
 
 pub invariant_of-result : goal.invariant_of-result
@@ -25,7 +28,7 @@ invariant_of-result g c = record {
   few = omega (arith, ap (λ (l : List Member). length l) c.requires.group.0);
   group = λ puts. absurd puts;
   alone = λ no. c.requires.group.0;
-  rest = λ rest. record { goes = refl; next = refl };
-  goes = λ none. ap (λ (t : TwinState). t.stopped) c.requires.twin;
+  rest = λ rest. record { goes = ap (λ (k : CallCount). k.stopped) c.new.ensures; next = refl };
+  goes = λ none. ap (λ (t : TwinState). t.failed) c.requires.twin;
   remembers = remembers_none g.D.Disk c.args.disk c.args.buckets c.args.opened.frames c.requires.room_for_frames c.requires.frames;
 }

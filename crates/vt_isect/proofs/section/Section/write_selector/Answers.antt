@@ -1,231 +1,111 @@
-use Rattle.std.proofs.Common.{◌≡◌, ◌-◌, ℕ, Some, Vec, Global, vec_len, length, inl, refl, sym, ap, ◌∙◌, subst, arith}
-use Rattle.std.specs.Prelude.{slice_get}
+use Rattle.std.proofs.Common.{◌≡◌, ◌-◌, ◌<◌, ℕ, List, Option, Some, None, Result, Ok, Err, length, length-set, get_or, refl, sym, ap, ◌∙◌, subst, arith}
+use Rattle.std.specs.Prelude.{slice_get, IsErr}
+use Rattle.std.proofs.lemmas.List.{length-replicate}
 use Rattle.std.proofs.lemmas.Option.{slice_get-get_or}
+use Rattle.vt_base.specs.declared.why.Failed.{Failed}
 use Rattle.vt_isect.specs.declared.groups.Member.{Member}
-use Rattle.vt_isect.specs.declared.phase.Phase.{Phase}
-use Rattle.vt_isect.specs.Section.{HasGroup, PutsEntries}
-use Rattle.vt_isect.specs.Sound.{made_of}
+use Rattle.vt_isect.specs.declared.phase.Phase.TheVariants.{WriteSelector}
+use Rattle.vt_isect.specs.Layout.{place_of, InRange}
+use Rattle.vt_isect.specs.Section.{SectionState, PutsEntries}
 use Rattle.vt_isect.specs.View.{state_of}
-use Rattle.vt_isect.proofs.Members.{goes_on, stopped}
-use Rattle.vt_isect.proofs.Places.{place_room}
-use Rattle.vt_isect.proofs.Selecting.{IsBehind, behind_bucket, behind_not, behind_puts, behind_within, others_made, selector_sound, selector_stops, three_made}
-use Rattle.vt_isect.proofs.Follows.{agrees_as, keeps_quiet}
-use Rattle.vt_isect.proofs.Writes.{selector_bytes_are, selector_may, selector_writes, wrote_selector}
-use Rattle.vt_isect.proofs.Remembers.{selector_forgets, selector_learns}
+use Rattle.vt_isect.proofs.Members.{Groups, well_called}
+use Rattle.vt_isect.proofs.Places.{is_place, place_room}
+use Rattle.vt_isect.proofs.Remembers.{selector_forgets, selector_learns, set_twice}
 use Rattle.vt_isect.proofs.section.Section.write_selector.Goals as goal
 
-many_are : (v : Vec Member Global) (n : ℕ) → n ≡ vec_len v → n ≡ length v.items
-many_are v n is = omega (arith, is, v.ok.0)
+-- the member is one of the section's buckets
+its : {D : Type 0} (t : SectionState D) (j : ℕ) (m : Member) → Groups t → t.phase ≡ WriteSelector j → m ≡ get_or t.group j m
+    → (slice_get t.group j ≡ Some m) × InRange t.head t.buckets m.bucket × (m.current < 2)
+its t j m groups phase is =
+    let group = groups (subst PutsEntries (sym phase) tt) in
+    let low = group.selector j phase in
+    let it = group.members m (j, low, sym is) in
+    (slice_get-get_or t.group j m low ∙ ap (λ (x : Member). Some x) (sym is), it.0, it.1)
+
+-- a failure passed on is one
+same_failed : (failed : Failed) (r : Result Unit Failed) → IsErr r → Err failed ≡ r
+same_failed failed (Ok value) is = absurd (cc)
+same_failed failed (Err other) is = refl
 
 pub overflow_sub-current : goal.overflow_sub-current
 overflow_sub-current g c =
-    let s = c.self.inside in
     let phase = rw (← c.self.view_is) at c.requires.phase in
-    let group = c.self.invariant.group (subst PutsEntries (sym phase) tt) in
-    let it = group.members c.index.result.now (c.args.member, group.selector c.args.member phase, sym c.index.ensures) in
-    omega (arith, it.1)
+    let it = its (state_of c.self.inside) c.args.member c.index.result.now c.self.invariant.group phase c.index.ensures in
+    omega (arith, it.2)
+
+pub overflow_sub-current-2 : goal.overflow_sub-current-2
+overflow_sub-current-2 g c =
+    let phase = rw (← c.self.view_is) at c.requires.phase in
+    let it = its (state_of c.self.inside) c.args.member c.index.result.now c.self.invariant.group phase c.index.ensures in
+    omega (arith, it.2)
 
 pub overflow_sub-index : goal.overflow_sub-index
 overflow_sub-index g c =
-    let s = c.self.inside in
     let phase = rw (← c.self.view_is) at c.requires.phase in
-    let group = c.self.invariant.group (subst PutsEntries (sym phase) tt) in
-    (group.members c.index.result.now (c.args.member, group.selector c.args.member phase, sym c.index.ensures)).0.0
+    let it = its (state_of c.self.inside) c.args.member c.index.result.now c.self.invariant.group phase c.index.ensures in
+    it.1.0
 
-pub overflow_sub-current-in-Ok : goal.overflow_sub-current-in-Ok
-overflow_sub-current-in-Ok g c =
-    let s = c.self.inside in
+pub forget-requires : goal.forget-requires
+forget-requires g c =
     let phase = rw (← c.self.view_is) at c.requires.phase in
-    let group = c.self.invariant.group (subst PutsEntries (sym phase) tt) in
-    let it = group.members c.index.result.now (c.args.member, group.selector c.args.member phase, sym c.index.ensures) in
-    omega (arith, it.1)
+    let it = its (state_of c.self.inside) c.args.member c.index.result.now c.self.invariant.group phase c.index.ensures in
+    omega (arith, it.1.0, it.1.1, c.self.invariant.remembers.each)
+
+pub make-requires-clause-fits : goal.make-requires-clause-fits
+make-requires-clause-fits g c =
+    let s = c.self.inside in
+    let m = c.index.result.now in
+    let phase = rw (← c.self.view_is) at c.requires.phase in
+    let it = its (state_of s) c.args.member m c.self.invariant.group phase c.index.ensures in
+    let at = m.bucket - s.head.first in
+    let within = (place_room 8192 (g.D.Disk.size s.disk) s.buckets s.head m.bucket (place_of at) refl c.self.invariant.room it.1 (is_place at)).within in
+    rw (c.selector_write.ensures, c.selector_naming-selector.ensures) (omega (arith, within, length-replicate {A = ℕ} 511 0))
 
 pub put-requires-clause-bucket : goal.put-requires-clause-bucket
 put-requires-clause-bucket g c =
     let s = c.self.inside in
     let phase = rw (← c.self.view_is) at c.requires.phase in
-    let group = c.self.invariant.group (subst PutsEntries (sym phase) tt) in
-    let it = group.members c.index.result.now (c.args.member, group.selector c.args.member phase, sym c.index.ensures) in
-    omega (arith, it.0.0, it.0.1, c.self.invariant.remembers.each)
-
-pub forget-requires : goal.forget-requires
-forget-requires g c =
-    let s = c.self.inside in
-    let phase = rw (← c.self.view_is) at c.requires.phase in
-    let group = c.self.invariant.group (subst PutsEntries (sym phase) tt) in
-    let it = group.members c.index.result.now (c.args.member, group.selector c.args.member phase, sym c.index.ensures) in
-    omega (arith, it.0.0, it.0.1, c.self.invariant.remembers.each)
-
-pub write_at-requires-clause-region : goal.write_at-requires-clause-region
-write_at-requires-clause-region g c =
-    let s = c.self.inside in
-    let phase = rw (← c.self.view_is) at c.requires.phase in
-    let group = c.self.invariant.group (subst PutsEntries (sym phase) tt) in
-    let it = group.members c.index.result.now (c.args.member, group.selector c.args.member phase, sym c.index.ensures) in
-    (place_room 8192 (g.D.Disk.size s.disk) s.buckets s.head c.index.result.now.bucket c.bucket_place-place.result refl c.self.invariant.room it.0 c.bucket_place-place.ensures.place).within
+    let it = its (state_of s) c.args.member c.index.result.now c.self.invariant.group phase c.index.ensures in
+    omega (arith, it.1.0, it.1.1, c.self.invariant.remembers.each, ap (λ (l : List (Option ℕ)). length l) c.forget.ensures, length-set s.frames (c.index.result.now.bucket - s.head.first) None)
 
 pub invariant_of-self : goal.invariant_of-self
 invariant_of-self g c =
     let s = c.self.inside in
-    let phase = rw (← c.self.view_is) at c.requires.phase in
-    let puts : PutsEntries s.phase = subst PutsEntries (sym phase) tt in
-    let behind : IsBehind c.args.member (length s.group.items) c.behind_selector-self-inside.result =
-    subst (λ (n : ℕ). IsBehind c.args.member n c.behind_selector-self-inside.result) (many_are s.group c.len.result c.len.ensures) c.behind_selector-self-inside.ensures in
-    let other = behind_not c.args.member _ _ behind in
     let m = c.index.result.now in
-    let group = c.self.invariant.group puts in
-    let in_it = (group.members m (c.args.member, group.selector c.args.member phase, sym c.index.ensures)).0 in
-    let region = c.bucket_place-place.result in
-    let place = c.bucket_place-place.ensures.place in
-    rw (c.write_at.ensures.writes.size, c.put.ensures) (goes_on g.D.Disk _ (state_of s) _ _ _ _ _ _ _ puts (behind_puts c.args.member _ _ behind)
-    (λ has. absurd (behind_bucket c.args.member _ _ behind has)) (λ has. subst HasGroup (sym phase) tt)
-    (λ k e. absurd (other.1 k e)) (behind_within c.args.member _ _ behind) (λ e. cc) other.2 other.3
-    (selector_learns g.D.Disk s.disk c.write_at.new.disk s.buckets s.frames (m.bucket - s.head.first) region place
-    (wrote_selector g.D.Disk region (1 - m.current) c.selector_naming-selector.result s.disk c.write_at.new.disk place.len c.selector_naming-selector.ensures c.write_at.ensures.writes)
-    c.self.invariant.remembers (1 - m.current) (omega arith)
-    (λ told. selector_bytes_are region (1 - m.current) c.selector_naming-selector.result _ _ place.len c.selector_naming-selector.ensures (c.in-Ok.ensures.written told))
-    (λ told. omega (arith, (place_room 8192 (g.D.Disk.size s.disk) s.buckets s.head m.bucket region refl c.self.invariant.room in_it place).within, (g.met.D.Disk.images_fit _ _ (g.met.D.Disk.read_is_image s.disk told)).0)))
-    c.self.invariant)
-
-pub invariant_of-self-in-Err : goal.invariant_of-self-in-Err
-invariant_of-self-in-Err g c =
-    let phase = rw (← c.self.view_is) at c.requires.phase in
-    let s = c.self.inside in
-    let m = c.index.result.now in
-    let region = c.bucket_place-place.result in
-    let place = c.bucket_place-place.ensures.place in
-    rw (c.write_at.ensures.writes.size, c.forget.ensures) (stopped g.D.Disk _ (state_of s) _ _ _ _ _ _ _ (λ e. cc)
-    (selector_forgets g.D.Disk s.disk c.write_at.new.disk s.buckets s.frames (m.bucket - s.head.first) region place
-    (wrote_selector g.D.Disk region (1 - m.current) c.selector_naming-selector.result s.disk c.write_at.new.disk place.len c.selector_naming-selector.ensures c.write_at.ensures.writes)
-    c.self.invariant.remembers)
-    c.self.invariant)
-
-pub returns-in-Ok-clause-writes : goal.returns-in-Ok-clause-writes
-returns-in-Ok-clause-writes g c =
-    let s = c.self.inside in
-    let t = state_of s in
     let phase = rw (← c.self.view_is) at c.requires.phase in
     let goes = rw (← c.self.view_is) at c.requires.goes in
-    let puts : PutsEntries s.phase = subst PutsEntries (sym phase) tt in
-    let group = c.self.invariant.group puts in
-    let m = c.index.result.now in
-    let lt = group.selector c.args.member phase in
-    let at : slice_get s.group.items c.args.member ≡ Some m = slice_get-get_or s.group.items c.args.member m lt ∙ ap (λ (x : Member). Some x) (sym c.index.ensures) in
-    let region = c.bucket_place-place.result in
-    let place = c.bucket_place-place.ensures.place in
-    let in_it = (group.members m (c.args.member, lt, sym c.index.ensures)).0 in
-    let wrote = wrote_selector g.D.Disk region (1 - m.current) c.selector_naming-selector.result s.disk c.write_at.new.disk place.len c.selector_naming-selector.ensures c.write_at.ensures.writes in
-    let may = selector_may g.D.Disk t region (g.D.Disk.size s.disk) c.args.member m s.disk c.write_at.new.disk phase at
-    (place_room 8192 (g.D.Disk.size s.disk) s.buckets s.head m.bucket region refl c.self.invariant.room in_it place) place wrote in
-    rw (← c.self.view_is) may
+    let at = m.bucket - s.head.first in
+    let wrote = (rw (c.selector_write.ensures, c.selector_naming-selector.ensures) at c.make.ensures).writes in
+    rw (wrote.size, c.forget.ensures)
+    (well_called g.D.Disk (state_of s) (subst PutsEntries (sym phase) tt) goes c.self.invariant.frame_len
+    (selector_forgets g.D.Disk s.disk c.make.new.disk s.buckets s.frames at (place_of at) (is_place at) (1 - m.current) wrote c.self.invariant.remembers) c.self.invariant)
 
-pub returns-in-Err-clause-writes : goal.returns-in-Err-clause-writes
-returns-in-Err-clause-writes g c =
+pub invariant_of-self-2 : goal.invariant_of-self-2
+invariant_of-self-2 g c =
     let s = c.self.inside in
-    let t = state_of s in
+    let m = c.index.result.now in
     let phase = rw (← c.self.view_is) at c.requires.phase in
     let goes = rw (← c.self.view_is) at c.requires.goes in
-    let puts : PutsEntries s.phase = subst PutsEntries (sym phase) tt in
-    let group = c.self.invariant.group puts in
-    let m = c.index.result.now in
-    let lt = group.selector c.args.member phase in
-    let at : slice_get s.group.items c.args.member ≡ Some m = slice_get-get_or s.group.items c.args.member m lt ∙ ap (λ (x : Member). Some x) (sym c.index.ensures) in
-    let region = c.bucket_place-place.result in
-    let place = c.bucket_place-place.ensures.place in
-    let in_it = (group.members m (c.args.member, lt, sym c.index.ensures)).0 in
-    let wrote = wrote_selector g.D.Disk region (1 - m.current) c.selector_naming-selector.result s.disk c.write_at.new.disk place.len c.selector_naming-selector.ensures c.write_at.ensures.writes in
-    let may = selector_may g.D.Disk t region (g.D.Disk.size s.disk) c.args.member m s.disk c.write_at.new.disk phase at
-    (place_room 8192 (g.D.Disk.size s.disk) s.buckets s.head m.bucket region refl c.self.invariant.room in_it place) place wrote in
-    rw (← c.self.view_is) may
+    let it = its (state_of s) c.args.member m c.self.invariant.group phase c.index.ensures in
+    let at = m.bucket - s.head.first in
+    let within = (place_room 8192 (g.D.Disk.size s.disk) s.buckets s.head m.bucket (place_of at) refl c.self.invariant.room it.1 (is_place at)).within in
+    let made = rw (c.selector_write.ensures, c.selector_naming-selector.ensures) at c.in_ok-make.ensures in
+    rw (made.writes.size, c.put.ensures, c.forget.ensures, set_twice)
+    (well_called g.D.Disk (state_of s) (subst PutsEntries (sym phase) tt) goes c.self.invariant.frame_len
+    (selector_learns g.D.Disk s.disk c.make.new.disk s.buckets s.frames at (place_of at) (is_place at) (1 - m.current) made.writes c.self.invariant.remembers (omega arith) made.written
+    (λ told. omega (arith, within, (g.met.D.Disk.images_fit _ _ (g.met.D.Disk.read_is_image s.disk told)).0))) c.self.invariant)
 
-pub returns-in-Ok-clause-written : goal.returns-in-Ok-clause-written
-returns-in-Ok-clause-written g c told =
+pub returns-in_err-make : goal.returns-in_err-make
+returns-in_err-make g c =
     let s = c.self.inside in
-    let t = state_of s in
     let phase = rw (← c.self.view_is) at c.requires.phase in
-    let goes = rw (← c.self.view_is) at c.requires.goes in
-    let puts : PutsEntries s.phase = subst PutsEntries (sym phase) tt in
-    let group = c.self.invariant.group puts in
-    let m = c.index.result.now in
-    let lt = group.selector c.args.member phase in
-    let at : slice_get s.group.items c.args.member ≡ Some m = slice_get-get_or s.group.items c.args.member m lt ∙ ap (λ (x : Member). Some x) (sym c.index.ensures) in
-    let region = c.bucket_place-place.result in
-    let place = c.bucket_place-place.ensures.place in
-    let in_it = (group.members m (c.args.member, lt, sym c.index.ensures)).0 in
-    let wrote = wrote_selector g.D.Disk region (1 - m.current) c.selector_naming-selector.result s.disk c.write_at.new.disk place.len c.selector_naming-selector.ensures c.write_at.ensures.writes in
-    rw (← c.self.view_is) (selector_writes t c.args.member m region _ _ phase at place
-    (selector_bytes_are region (1 - m.current) c.selector_naming-selector.result _ _ place.len c.selector_naming-selector.ensures (c.in-Ok.ensures.written told)))
+    let it = its (state_of s) c.args.member c.index.result.now c.self.invariant.group phase c.index.ensures in
+    let is = same_failed c.in_err-make.field-0.0 c.from_residual.result c.from_residual.ensures.0 in
+    rw (← is, ← c.self.view_is) (record { makes = rw (phase, it.0) (rw (c.selector_write.ensures, c.selector_naming-selector.ensures) at c.in_err-make.ensures); same = refl })
 
-pub returns-in-Ok-clause-sound : goal.returns-in-Ok-clause-sound
-returns-in-Ok-clause-sound g c told =
+pub returns : goal.returns
+returns g c =
     let s = c.self.inside in
-    let t = state_of s in
     let phase = rw (← c.self.view_is) at c.requires.phase in
-    let goes = rw (← c.self.view_is) at c.requires.goes in
-    let puts : PutsEntries s.phase = subst PutsEntries (sym phase) tt in
-    let group = c.self.invariant.group puts in
-    let m = c.index.result.now in
-    let lt = group.selector c.args.member phase in
-    let at : slice_get s.group.items c.args.member ≡ Some m = slice_get-get_or s.group.items c.args.member m lt ∙ ap (λ (x : Member). Some x) (sym c.index.ensures) in
-    let region = c.bucket_place-place.result in
-    let place = c.bucket_place-place.ensures.place in
-    let in_it = (group.members m (c.args.member, lt, sym c.index.ensures)).0 in
-    let wrote = wrote_selector g.D.Disk region (1 - m.current) c.selector_naming-selector.result s.disk c.write_at.new.disk place.len c.selector_naming-selector.ensures c.write_at.ensures.writes in
-    let behind : IsBehind c.args.member (length s.group.items) c.behind_selector-self-inside.result =
-    subst (λ (n : ℕ). IsBehind c.args.member n c.behind_selector-self-inside.result) (many_are s.group c.len.result c.len.ensures) c.behind_selector-self-inside.ensures in
-    let p = c.behind_selector-self-inside.result in
-    let many = length s.group.items in
-    let other = behind_not c.args.member many p behind in
-    rw (← c.self.view_is)
-    (keeps_quiet _ _ _ _ _ _ _ (λ n done. let e = done.1 in cc)
-    (λ known sound. selector_sound t _ (record {
-      name = refl;
-      head = refl;
-      buckets = refl;
-      twin = refl;
-      entries = refl;
-      group = refl;
-      written = refl;
-      framed = refl;
-      puts = puts;
-      puts_on = behind_puts c.args.member many p behind;
-      goes = goes;
-    })
-    c.args.member m region (g.D.Disk.size s.disk) known _ _ _ _ phase at group c.self.invariant.room place (wrote.bytes told) wrote.images
-    (λ i within apart. others_made c.args.member many p behind i within apart ∙ ap (λ (q : Phase). made_of q i) (sym phase)) sound
-    p other.0 other.1 other.2 refl (three_made c.args.member many p behind) (g.met.D.Disk.images_fit _ _ (g.met.D.Disk.read_is_image s.disk told)).0
-    (selector_bytes_are region (1 - m.current) c.selector_naming-selector.result _ _ place.len c.selector_naming-selector.ensures (c.in-Ok.ensures.written told)))
-    (λ score setup h known agrees. agrees_as score setup h _ _ known refl refl (inl (refl, λ entry way. (behind_puts c.args.member many p behind, way.1))) (λ entry way. (puts, way.1)) agrees))
-
-pub returns-in-Err-clause-sound : goal.returns-in-Err-clause-sound
-returns-in-Err-clause-sound g c told =
-    let s = c.self.inside in
-    let t = state_of s in
-    let phase = rw (← c.self.view_is) at c.requires.phase in
-    let goes = rw (← c.self.view_is) at c.requires.goes in
-    let puts : PutsEntries s.phase = subst PutsEntries (sym phase) tt in
-    let group = c.self.invariant.group puts in
-    let m = c.index.result.now in
-    let lt = group.selector c.args.member phase in
-    let at : slice_get s.group.items c.args.member ≡ Some m = slice_get-get_or s.group.items c.args.member m lt ∙ ap (λ (x : Member). Some x) (sym c.index.ensures) in
-    let region = c.bucket_place-place.result in
-    let place = c.bucket_place-place.ensures.place in
-    let in_it = (group.members m (c.args.member, lt, sym c.index.ensures)).0 in
-    let wrote = wrote_selector g.D.Disk region (1 - m.current) c.selector_naming-selector.result s.disk c.write_at.new.disk place.len c.selector_naming-selector.ensures c.write_at.ensures.writes in
-    rw (← c.self.view_is)
-    (keeps_quiet _ _ _ _ _ _ _ (λ n done. let e = done.0 in cc)
-    (λ known sound. selector_stops t _ (record {
-      name = refl;
-      head = refl;
-      buckets = refl;
-      twin = refl;
-      entries = refl;
-      group = refl;
-      written = refl;
-      framed = refl;
-      puts = puts;
-      puts_on = puts;
-      goes = goes;
-    })
-    c.args.member m region (g.D.Disk.size s.disk) known _ _ _ _ phase at group c.self.invariant.room place (wrote.bytes told) wrote.images (λ i within apart. refl) sound phase refl)
-    (λ score setup h known agrees. agrees_as score setup h _ _ known refl refl (inl (refl, λ entry way. way)) (λ entry way. way) agrees))
+    let it = its (state_of s) c.args.member c.index.result.now c.self.invariant.group phase c.index.ensures in
+    rw (← c.self.view_is) (record { makes = rw (phase, it.0) (rw (c.selector_write.ensures, c.selector_naming-selector.ensures) at c.in_ok-make.ensures); same = refl })

@@ -1,5 +1,6 @@
 -- One call of the disk is made, and each clause says what it leaves.
-use Rattle.std.proofs.Common.{◌+◌, List, Some, Ok, Err, length, set, drop, refl, ◌∙◌, ap, arith}
+use Rattle.std.proofs.Common.{◌+◌, List, Ok, Err, length, set, drop, refl, ◌∙◌, ap, arith}
+use Rattle.vt_disk.specs.declared.call.CallErr.{CallErr}
 use Rattle.vt_clump.specs.declared.packed.Packed.{Packed}
 use Rattle.vt_part.specs.declared.layout.ArenaRegion.{ArenaRegion}
 use Rattle.vt_arena.specs.declared.head.ArenaHead.{ArenaHead}
@@ -28,12 +29,12 @@ called_more g c = record {
     crash = c.in-Ok-More.ensures.crash g.S.Scorer.score_of;
     last = c.in-Ok-More.ensures.last g.S.Scorer.score_of;
     settled = c.in-Ok-More.ensures.settled;
-    steps = c.in-Ok-More.ensures.steps;
+    steps = c.in-Ok-More.ensures.steps (rw (← c.self.view_is) at c.requires.runs);
     left = c.in-Ok-More.ensures.left;
     done = λ is. (c.in-Ok-More.ensures.done).0 (cc);
-    stopped = λ n is. (c.in-Ok-More.ensures.stopped n).0 is;
-    faults = c.in-Ok-More.ensures.faults;
-    calls = c.in-Ok-More.ensures.calls;
+    n = c.self.inside.calls;
+    m = c.advance.new.calls;
+    makes = c.in-Ok-More.ensures.makes (rw (← c.self.view_is) at c.requires.runs);
     writes = c.in-Ok-More.ensures.writes;
   };
   there = arena_there g.D.Disk c.self.inside.parts.items c.index_mut.result.now (state_of c.self.inside) c.args.self.now c.as_slice.result.now
@@ -45,10 +46,11 @@ more : (g : _) (c : goal.In-Ok-More g)
     → MakesOneCall g.S.Scorer.score_of g.D.Disk c.args.self.now
     (with_disk c.self.inside.parts.items (region_at c.as_slice.result.now c.self.inside.committing).part c.index_mut.result.now c.advance.new.disk (record (state_of c.self.inside) {
       arena = c.advance.new.self;
-      calls = c.saturating_add-self-inside.result;
+      calls = c.advance.new.calls.made;
+      stopped = c.advance.new.calls.stopped;
     }))
     (Ok Step)
-more g c = more_in_parts (called_more g c) c.in-Ok-More.field-0-is c.saturating_add-self-inside.ensures
+more g c = more_in_parts (called_more g c) c.in-Ok-More.field-0-is (c.in-Ok-More.ensures.makes (rw (← c.self.view_is) at c.requires.runs)).counts
 
 pub invariant_of-self : goal.invariant_of-self
 invariant_of-self g c = (more g c).whole
@@ -70,12 +72,12 @@ called_ended g c = record {
     crash = c.in-Ok-Done.ensures.crash g.S.Scorer.score_of;
     last = c.in-Ok-Done.ensures.last g.S.Scorer.score_of;
     settled = c.in-Ok-Done.ensures.settled;
-    steps = c.in-Ok-Done.ensures.steps;
+    steps = c.in-Ok-Done.ensures.steps (rw (← c.self.view_is) at c.requires.runs);
     left = c.in-Ok-Done.ensures.left;
     done = λ is. (c.in-Ok-Done.ensures.done).0 (cc);
-    stopped = λ n is. (c.in-Ok-Done.ensures.stopped n).0 is;
-    faults = c.in-Ok-Done.ensures.faults;
-    calls = c.in-Ok-Done.ensures.calls;
+    n = c.self.inside.calls;
+    m = c.advance.new.calls;
+    makes = c.in-Ok-Done.ensures.makes (rw (← c.self.view_is) at c.requires.runs);
     writes = c.in-Ok-Done.ensures.writes;
   };
   there = arena_there g.D.Disk c.self.inside.parts.items c.index_mut.result.now (state_of c.self.inside) c.args.self.now c.as_slice.result.now
@@ -89,13 +91,13 @@ last_ended g c = last_call (called_ended g c).there c.index_mut-in-Ok-Done.ensur
 settles_ended : (g : _) (c : goal.Then-not-sealed g)
     → Settles (state_of c.self.inside) c.index_mut-in-Ok-Done.result.now c.advance.new.self
     (set c.self.inside.heads.items c.self.inside.committing (record c.index_mut-in-Ok-Done.result.now { head = c.head.result }))
-    c.drop_committed.new.self (c.self.inside.durable + length c.staged-blocks.result.now) c.saturating_add-self-inside.result
+    c.drop_committed.new.self (c.self.inside.durable + length c.staged-blocks.result.now) c.advance.new.calls
 settles_ended g c = record {
   heads_are = ap (λ (h : ArenaHead). set c.self.inside.heads.items c.self.inside.committing (record c.index_mut-in-Ok-Done.result.now { head = h })) c.head.ensures.head;
   waiting = c.drop_committed.ensures.waiting;
   places = c.drop_committed.ensures.places ∙ ap (λ (ps : List Packed). drop (length ps) c.self.inside.queue.places) c.staged-blocks.ensures.staged;
   durable_is = ap (λ (ps : List Packed). c.self.inside.durable + length ps) c.staged-blocks.ensures.staged;
-  calls_is = c.saturating_add-self-inside.ensures;
+  count_is = (c.in-Ok-Done.ensures.makes (rw (← c.self.view_is) at c.requires.runs)).counts;
 }
 
 done : (g : _) (c : goal.Then-not-sealed g)
@@ -105,7 +107,8 @@ done : (g : _) (c : goal.Then-not-sealed g)
       arena = c.advance.new.self;
       queue = c.drop_committed.new.self;
       durable = c.self.inside.durable + length c.staged-blocks.result.now;
-      calls = c.saturating_add-self-inside.result;
+      calls = c.advance.new.calls.made;
+      stopped = c.advance.new.calls.stopped;
     }))
     (Ok (Durable (c.self.inside.durable + length c.staged-blocks.result.now)))
 done g c =
@@ -120,17 +123,17 @@ returns-then-not-sealed g c = done g c
 -- where it does, the next arena is there
 pub bounds-as_slice-at-in-Ok-Done : goal.bounds-as_slice-at-in-Ok-Done
 bounds-as_slice-at-in-Ok-Done g c =
-    let sealed = seals_too c.self.inside.arena c.advance.new.self _ c.in-Ok-Done.ensures.steps c.in-Ok-Done.field-0-is (cc) in
+    let sealed = seals_too CallErr c.self.inside.arena c.advance.new.self _ (c.in-Ok-Done.ensures.steps (rw (← c.self.view_is) at c.requires.runs)) c.in-Ok-Done.field-0-is (cc) in
     omega (arith, next_there g.D.Disk (state_of c.self.inside) c.self.invariant sealed, ap (λ (rs : List ArenaRegion). length rs) c.as_slice-in-Ok-Done.ensures)
 
 pub index-requires : goal.index-requires
 index-requires g c =
-    let sealed = seals_too c.self.inside.arena c.advance.new.self _ c.in-Ok-Done.ensures.steps c.in-Ok-Done.field-0-is (cc) in
+    let sealed = seals_too CallErr c.self.inside.arena c.advance.new.self _ (c.in-Ok-Done.ensures.steps (rw (← c.self.view_is) at c.requires.runs)) c.in-Ok-Done.field-0-is (cc) in
     omega (arith, next_there g.D.Disk (state_of c.self.inside) c.self.invariant sealed, c.self.invariant.many, c.self.inside.heads.ok.0)
 
 next_before : (g : _) (c : goal.After-move_to-arg-in-Ok-Done-1 g) → IsNextArena (state_of c.self.inside) (region_at c.as_slice-in-Ok-Done.result.now (c.self.inside.committing + 1)) c.index.result.now
 next_before g c =
-    let sealed = seals_too c.self.inside.arena c.advance.new.self _ c.in-Ok-Done.ensures.steps c.in-Ok-Done.field-0-is (cc) in
+    let sealed = seals_too CallErr c.self.inside.arena c.advance.new.self _ (c.in-Ok-Done.ensures.steps (rw (← c.self.view_is) at c.requires.runs)) c.in-Ok-Done.field-0-is (cc) in
     next_arena_there g.D.Disk (state_of c.self.inside) c.as_slice-in-Ok-Done.result.now (region_at c.as_slice-in-Ok-Done.result.now (c.self.inside.committing + 1))
     (record c.index_mut-in-Ok-Done.result.now { head = c.head.result }) c.index.result.now c.self.invariant sealed c.as_slice-in-Ok-Done.ensures refl c.index.ensures
 
@@ -151,12 +154,12 @@ called_turned g c = record {
     crash = c.in-Ok-Done.ensures.crash g.S.Scorer.score_of;
     last = c.in-Ok-Done.ensures.last g.S.Scorer.score_of;
     settled = c.in-Ok-Done.ensures.settled;
-    steps = c.in-Ok-Done.ensures.steps;
+    steps = c.in-Ok-Done.ensures.steps (rw (← c.self.view_is) at c.requires.runs);
     left = c.in-Ok-Done.ensures.left;
     done = λ is. (c.in-Ok-Done.ensures.done).0 (cc);
-    stopped = λ n is. (c.in-Ok-Done.ensures.stopped n).0 is;
-    faults = c.in-Ok-Done.ensures.faults;
-    calls = c.in-Ok-Done.ensures.calls;
+    n = c.self.inside.calls;
+    m = c.advance.new.calls;
+    makes = c.in-Ok-Done.ensures.makes (rw (← c.self.view_is) at c.requires.runs);
     writes = c.in-Ok-Done.ensures.writes;
   };
   there = arena_there g.D.Disk c.self.inside.parts.items c.index_mut.result.now (state_of c.self.inside) c.args.self.now c.as_slice.result.now
@@ -170,18 +173,18 @@ last_turned g c = last_call (called_turned g c).there c.index_mut-in-Ok-Done.ens
 settles_turned : (g : _) (c : goal.After-move_to g)
     → Settles (state_of c.self.inside) c.index_mut-in-Ok-Done.result.now c.advance.new.self
     (set c.self.inside.heads.items c.self.inside.committing (record c.index_mut-in-Ok-Done.result.now { head = c.head.result }))
-    c.drop_committed.new.self (c.self.inside.durable + length c.staged-blocks.result.now) c.saturating_add-self-inside.result
+    c.drop_committed.new.self (c.self.inside.durable + length c.staged-blocks.result.now) c.advance.new.calls
 settles_turned g c = record {
   heads_are = ap (λ (h : ArenaHead). set c.self.inside.heads.items c.self.inside.committing (record c.index_mut-in-Ok-Done.result.now { head = h })) c.head.ensures.head;
   waiting = c.drop_committed.ensures.waiting;
   places = c.drop_committed.ensures.places ∙ ap (λ (ps : List Packed). drop (length ps) c.self.inside.queue.places) c.staged-blocks.ensures.staged;
   durable_is = ap (λ (ps : List Packed). c.self.inside.durable + length ps) c.staged-blocks.ensures.staged;
-  calls_is = c.saturating_add-self-inside.ensures;
+  count_is = (c.in-Ok-Done.ensures.makes (rw (← c.self.view_is) at c.requires.runs)).counts;
 }
 
 next_turned : (g : _) (c : goal.After-move_to g) → IsNextArena (state_of c.self.inside) (region_at c.as_slice-in-Ok-Done.result.now (c.self.inside.committing + 1)) c.index.result.now
 next_turned g c =
-    let sealed = seals_too c.self.inside.arena c.advance.new.self _ c.in-Ok-Done.ensures.steps c.in-Ok-Done.field-0-is (cc) in
+    let sealed = seals_too CallErr c.self.inside.arena c.advance.new.self _ (c.in-Ok-Done.ensures.steps (rw (← c.self.view_is) at c.requires.runs)) c.in-Ok-Done.field-0-is (cc) in
     next_arena_there g.D.Disk (state_of c.self.inside) c.as_slice-in-Ok-Done.result.now (region_at c.as_slice-in-Ok-Done.result.now (c.self.inside.committing + 1))
     (record c.index_mut-in-Ok-Done.result.now { head = c.head.result }) c.index.result.now c.self.invariant sealed c.as_slice-in-Ok-Done.ensures refl c.index.ensures
 
@@ -193,7 +196,8 @@ turns : (g : _) (c : goal.After-move_to g)
       arena = c.move_to.new.self;
       queue = c.drop_committed.new.self;
       durable = c.self.inside.durable + length c.staged-blocks.result.now;
-      calls = c.saturating_add-self-inside.result;
+      calls = c.advance.new.calls.made;
+      stopped = c.advance.new.calls.stopped;
     }))
     (Ok (Durable (c.self.inside.durable + length c.staged-blocks.result.now)))
 turns g c =
@@ -206,7 +210,7 @@ pub returns-else-not-sealed : goal.returns-else-not-sealed
 returns-else-not-sealed g c = turns g c
 
 -- one that failed
-called_fault : (g : _) (c : goal.After-self-in-Err-1 g)
+called_fault : (g : _) (c : goal.In-Err g)
     → IsCalledIn g.S.Scorer.score_of g.D.Disk
     c.self.inside.parts.items c.index_mut.result.now (state_of c.self.inside) c.args.self.now (region_at c.as_slice.result.now c.self.inside.committing)
     c.advance.new.disk c.advance.new.self (Err c.in-Err.field-0)
@@ -216,12 +220,12 @@ called_fault g c = record {
     crash = c.in-Err.ensures.crash g.S.Scorer.score_of;
     last = c.in-Err.ensures.last g.S.Scorer.score_of;
     settled = c.in-Err.ensures.settled;
-    steps = c.in-Err.ensures.steps;
+    steps = c.in-Err.ensures.steps (rw (← c.self.view_is) at c.requires.runs);
     left = c.in-Err.ensures.left;
     done = λ is. absurd (cc);
-    stopped = λ n is. (c.in-Err.ensures.stopped n).0 is;
-    faults = c.in-Err.ensures.faults;
-    calls = c.in-Err.ensures.calls;
+    n = c.self.inside.calls;
+    m = c.advance.new.calls;
+    makes = c.in-Err.ensures.makes (rw (← c.self.view_is) at c.requires.runs);
     writes = c.in-Err.ensures.writes;
   };
   there = arena_there g.D.Disk c.self.inside.parts.items c.index_mut.result.now (state_of c.self.inside) c.args.self.now c.as_slice.result.now
@@ -229,15 +233,15 @@ called_fault g c = record {
       c.as_slice.ensures refl c.index_mut.ensures.value;
 }
 
-failed : (g : _) (c : goal.After-self-in-Err-1 g)
+failed : (g : _) (c : goal.In-Err g)
     → MakesOneCall g.S.Scorer.score_of g.D.Disk c.args.self.now
     (with_disk c.self.inside.parts.items (region_at c.as_slice.result.now c.self.inside.committing).part c.index_mut.result.now c.advance.new.disk (record (state_of c.self.inside) {
       arena = c.advance.new.self;
-      calls = c.saturating_add-self-inside.result;
-      stopped = Some c.self.inside.calls;
+      calls = c.advance.new.calls.made;
+      stopped = c.advance.new.calls.stopped;
     }))
     (Err Fault)
-failed g c = fault_in_parts (called_fault g c) c.saturating_add-self-inside.ensures
+failed g c = fault_in_parts (called_fault g c) (c.in-Err.ensures.makes (rw (← c.self.view_is) at c.requires.runs)).counts
 
 pub invariant_of-self-in-Err : goal.invariant_of-self-in-Err
 invariant_of-self-in-Err g c = (failed g c).whole

@@ -1,5 +1,5 @@
 -- An arena's blocks end within 1 GiB.
-use Rattle.std.proofs.Common.{◌≡◌, ◌≤◌, ◌^◌, ap, subst, arith}
+use Rattle.std.proofs.Common.{ap, subst, arith}
 use Rattle.vt_log.specs.Back.{TailState}
 use Rattle.vt_log.specs.Whole.{IsWhole}
 use Rattle.vt_log.proofs.StepsBack.{tail_small}
