@@ -87,12 +87,14 @@ def quoted(cell):
 
 
 class Documents:
-    """What README.md and docs/PROVED.md say of the crates, held to what these have."""
+    """What the documents say of the crates, held to what these have."""
 
     def __init__(self):
         self.uses = uses()
         self.crates = {name: Crate(name) for name in self.uses}
         self.wrong, self.facts = [], 0
+        # Each call and clause of a row of docs/PROVED.md, under the crate's heading.
+        self.rows = set()
 
     def below(self, name):
         found = [name]
@@ -146,25 +148,39 @@ class Documents:
                     self.wrong.append(f"{place}: a row has four cells: call, promise, clause, definition")
                     continue
                 self.fact(place, crate, quoted(cells[0]), quoted(cells[2]), quoted(cells[3]))
+                self.rows |= {(crate, call, clause) for call in quoted(cells[0]) for clause in quoted(cells[2])}
 
-    def readme(self):
-        """README.md: in the table of what holds, the last cell names a crate, a call of it and its clauses, and so on
-        behind a semicolon."""
-        for number, _, head, cells in self.tables("README.md"):
+    def promises(self, name):
+        """A document for users: in the table of what holds, the last cell names a crate, a call of it and its clauses,
+        and so on behind a semicolon, each of which stands in a row of docs/PROVED.md."""
+        for number, _, head, cells in self.tables(name):
             if head[-1] == "Clause":
                 for part in cells[-1].split(";"):
                     crate, *names = quoted(part) or [""]
-                    self.fact(f"README.md:{number}", crate, names[:1], names[1:])
+                    self.fact(f"{name}:{number}", crate, names[:1], names[1:])
+                    self.wrong += [f"{name}:{number}: docs/PROVED.md has no row of {crate} with {names[0]} and {it}"
+                                   for it in names[1:] if (crate, names[0], it) not in self.rows]
+
+    def statuses(self, name):
+        """A document for users: its table of statuses has those that the program may end with, and no others."""
+        with open(os.path.join(CRATES, "run_base", "specs", "Failure.antt"), encoding="utf-8") as text:
+            known = {int(it) for it in re.findall(r"(?m)^(?:status_of|server_status) .* = (\d+)$", text.read())}
+        told = {cells[0] for _, _, head, cells in self.tables(name) if head[0] == "Status"}
+        if told != {str(it) for it in known}:
+            self.wrong.append(f"{name}: the statuses are {sorted(told)}, and not {sorted(known)}")
 
     def architecture(self):
-        """docs/ARCHITECTURE.md: in the table of structures, a row names files and laws of its crate, and a section of
-        docs/FORMATS.md."""
+        """docs/ARCHITECTURE.md: in the tables of structures, a row names files and laws of its crate, and a section of
+        docs/FORMATS.md; in the glossary the last cell names crates."""
         with open(os.path.join(TOP, "docs", "FORMATS.md"), encoding="utf-8") as text:
             sections = [line[3:].strip() for line in text if line.startswith("## ")]
         for number, _, head, cells in self.tables("docs/ARCHITECTURE.md"):
+            place = f"docs/ARCHITECTURE.md:{number}"
+            if head[0] == "Word":
+                self.wrong += [f"{place}: there is no crate {it}" for it in quoted(cells[-1]) if it not in self.crates]
             if head[0] != "Structure":
                 continue
-            place, crate = f"docs/ARCHITECTURE.md:{number}", quoted(cells[1])[0]
+            crate = quoted(cells[1])[0]
             files = [path for cell in cells for path in quoted(cell) if "/" in path]
             self.wrong += [f"{place}: {crate} has no {path}" for path in files
                            if not os.path.exists(os.path.join(CRATES, crate, path))]
@@ -174,11 +190,28 @@ class Documents:
             self.wrong += [f"{place}: {crate} has no law {law}" for law in laws
                            if self.crates[crate].clauses(law) is None]
 
+    def hops(self):
+        """docs/ARCHITECTURE.md: a line of its figures that has a file names a call, its crate, and the call's file."""
+        with open(os.path.join(TOP, "docs", "ARCHITECTURE.md"), encoding="utf-8") as lines:
+            for number, line in enumerate(lines, 1):
+                hop = re.match(r"\W*([\w:]+) +(\w+) +(src/\w+\.rt)\b", line)
+                if hop:
+                    self.hop(f"docs/ARCHITECTURE.md:{number}", *hop.groups())
+
+    def hop(self, place, call, crate, file):
+        self.facts += 1
+        if crate not in self.crates or self.crates[crate].clauses(call) is None:
+            self.wrong.append(f"{place}: {crate} has no call {call}")
+            return
+        with open(os.path.join(CRATES, crate, file), encoding="utf-8") as text:
+            if not re.search(rf"\bfn {call.rpartition('::')[2]}\b", text.read()):
+                self.wrong.append(f"{place}: {call} of {crate} doesn't stand in {file}")
+
     def paths(self, names):
         """Each path in backticks is there."""
         for name in names:
             with open(os.path.join(TOP, name), encoding="utf-8") as text:
                 for path in quoted(text.read()):
-                    is_path = re.match(r"(crates|docs|bench|checks|samples|\.ci)/[\w./-]+$", path)
+                    is_path = re.match(r"(crates|docs|bench|checks|samples|tools|examples|\.ci)/[\w./-]+$", path)
                     if is_path and not os.path.exists(os.path.join(TOP, path)):
                         self.wrong.append(f"{name}: there is no {path}")

@@ -3,6 +3,19 @@ program, as inetd does."""
 import socket
 import subprocess
 import threading
+import time
+
+
+def linked(port, seconds=30):
+    """A link to this port of this machine, which may still be about to be listened at."""
+    until = time.monotonic() + seconds
+    while True:
+        try:
+            return socket.create_connection(("127.0.0.1", port), timeout=60)
+        except ConnectionRefusedError:
+            if time.monotonic() > until:
+                raise
+        time.sleep(0.1)
 
 
 def frame_of(stream):
