@@ -1,18 +1,19 @@
 -- What a read of an open folder comes to, of which the files are kept.
 use Rattle.std.proofs.Common.{◌≡◌, ◌+◌, ◌==◌, ◌&&◌, ℕ, true, false, Option, Some, Ok, Err, List, length, drop, refl, sym, ◌∙◌, ap, subst}
-use Rattle.std.specs.Prelude.{nat_lt}
+use Rattle.std.specs.Prelude.{IfSome, nat_lt}
 use Rattle.std.specs.List.{flat_map}
 use Rattle.vac_read.specs.declared.node.Node.{Node}
 use Rattle.nine_wire.specs.Messages.{r_read}
 use Rattle.nine_view.specs.declared.failure.Denied.TheVariants.{Refused}
 use Rattle.nine_view.specs.declared.fid.Fid.{Fid}
 use Rattle.nine_view.specs.declared.fid.Reading.{Reading}
-use Rattle.nine_view.specs.declared.refusal.Refusal.TheVariants.{SmallCount}
+use Rattle.nine_view.specs.declared.refusal.Refusal.{Refusal}
 use Rattle.nine_view.specs.Answers.{first_file, fitting, reads_files}
 use Rattle.nine_view.specs.Files.{stat_in}
-use Rattle.nine_view.specs.Handling.{Says, Settles}
+use Rattle.nine_view.specs.Handling.{PutsNext, Says, Settles, TellsNext, has_no_room, told_next}
+use Rattle.nine_view.specs.Kept.{IsKept}
 use Rattle.nine_view.specs.Known.{Known, IsRight, fid_at, limit, with_fid}
-use Rattle.nine_view.proofs.Keeping.{right_fid, right_with, with_same}
+use Rattle.nine_view.proofs.Keeping.{kept_fid, kept_with, right_fid, right_with, with_same}
 
 -- what holds of the fid that is there holds of any that is
 pub told_same : (P : Fid → Reading → List Node → Type 0) (fid : ℕ) (fids : List (ℕ × Fid))
@@ -30,75 +31,134 @@ told_same P fid fids f g r q l m at now kept at' now' kept' is =
     (subst (λ (x : Reading). P g x l) same_reading
     (subst (λ (x : List Node). P g q x) same_files is))
 
-module _ (tag : ℕ) (known : Known) (out : List ℕ) (fid : ℕ) (f : Fid) (reading : Reading)
-    (files : List Node) (offset room : ℕ) (at : fid_at fid known.fids ≡ Some f)
+-- the files that were put into the buffer are those that the next read tells of
+pub put_is : (r : Reading) (files behind : List Node) (offset room from count all : ℕ)
+    → from ≡ first_file r offset → behind ≡ drop from files
+    → count ≡ length (fitting room behind) → all ≡ length files
+    → (fitting room behind ≡ told_next r files offset room)
+    × ((count == 0 && nat_lt from all) ≡ has_no_room r files offset room)
+    × (from + count ≡ first_file r offset + length (told_next r files offset room))
+put_is r files behind offset room from count all from_is behind_is count_is all_is =
+    let told : fitting room behind ≡ told_next r files offset room =
+    ap (λ (x : List Node). fitting room x) (behind_is ∙ ap (λ (n : ℕ). drop n files) from_is) in
+    let many : count ≡ length (told_next r files offset room) =
+    count_is ∙ ap (λ (x : List Node). length x) told in (
+      told,
+      ap (λ (n : ℕ). count == 0 && nat_lt from n) all_is
+          ∙ ap (λ (n : ℕ). n == 0 && nat_lt from (length files)) many
+          ∙ ap (λ (n : ℕ). length (told_next r files offset room) == 0
+          && nat_lt n (length files)) from_is,
+      ap (λ (n : ℕ). n + count) from_is ∙ ap (λ (n : ℕ). first_file r offset + n) many,
+    )
+
+-- how far a fid was read is set
+abbrev pub SetsReading : (old : List (ℕ × Fid)) → (fid : ℕ) → Reading → (new : List (ℕ × Fid))
+    → Type 0
+SetsReading old fid next new =
+    IfSome (fid_at fid old) (λ f. new ≡ with_fid fid (record f { reading = Some next }) old)
+
+set_here : (old new : List (ℕ × Fid)) (fid : ℕ) (f : Fid) (next : Reading)
+    → fid_at fid old ≡ Some f → SetsReading old fid next new
+    → new ≡ with_fid fid (record f { reading = Some next }) old
+set_here old new fid f next at set =
+    subst (λ (o : Option Fid). IfSome o (λ (h : Fid).
+    new ≡ with_fid fid (record h { reading = Some next }) old)) at set
+
+pub kept_reading : (known : Known) (fid : ℕ) (f : Fid) (next : Reading) (fids : List (ℕ × Fid))
+    → IsKept known → fid_at fid known.fids ≡ Some f → SetsReading known.fids fid next fids
+    → IsKept (record known { fids = fids })
+kept_reading known fid f next fids kept at set =
+    let old = kept_fid known fid f kept at in
+    subst (λ (x : List (ℕ × Fid)). IsKept (record known { fids = x }))
+    (sym (set_here known.fids fids fid f next at set))
+    (kept_with known fid (record f { reading = Some next }) kept
+    (record { node = old.node; above = old.above; files = old.files }))
+
+-- a folder that is open and of which the files are kept, in a view that is this one
+module _ (tag : ℕ) (known now : Known) (view : known ≡ now) (out : List ℕ)
+    (fid offset room : ℕ) (f : Fid) (reading : Reading) (files : List Node)
+    (at : fid_at fid now.fids ≡ Some f) (reads : f.reading ≡ Some reading)
     (kept : f.files ≡ Some files)
   where
-    pub folder_small :
-        (length (fitting room (drop (first_file reading offset) files)) == 0
-        && nat_lt (first_file reading offset) (length files)) ≡ true
-        → Settles tag known known out (Err (Refused SmallCount))
-        (reads_files known fid f reading offset room files)
-    folder_small small =
+    here : fid_at fid known.fids ≡ Some f
+    here = ap (λ (k : Known). fid_at fid k.fids) view ∙ at
+
+    pub folder_small : (buf : List ℕ) (why : Refusal)
+        → PutsNext known.fids fid offset room buf (Err why)
+        → Settles tag now known out (Err (Refused why))
+        (reads_files now fid f reading offset room files)
+    folder_small buf why none =
+        let it = none f reading files here reads kept in
         let same : known.fids ≡ with_fid fid (record f { files = Some files }) known.fids =
-        sym (with_same fid f known.fids at)
+        sym (with_same fid f known.fids here)
         ∙ ap (λ (o : Option (List Node)). with_fid fid (record f { files = o }) known.fids) kept in
-        rw small (record {
+        let small : (length (fitting room (drop (first_file reading offset) files)) == 0
+        && nat_lt (first_file reading offset) (length files)) ≡ true = it.0 in
+        subst (λ (k : Known). Settles tag k known out (Err (Refused why))
+        (reads_files k fid f reading offset room files)) view
+        (rw (it.1, small) (record {
           says = refl;
           known = ap (λ (l : List (ℕ × Fid)). record known { fids = l }) same;
           whole = refl;
           right = λ map right. right;
-        })
+        }))
 
-    pub folder_told : (fids : List (ℕ × Fid)) (next end len : ℕ) →
-        (length (fitting room (drop (first_file reading offset) files)) == 0
-        && nat_lt (first_file reading offset) (length files)) ≡ false
-        → next ≡ first_file reading offset
-        + length (fitting room (drop (first_file reading offset) files))
-        → end ≡ offset + length
-        (flat_map stat_in (fitting room (drop (first_file reading offset) files)))
-        → fids ≡ with_fid fid (record f { reading = Some (record { next = next; offset = end }) })
-        known.fids
-        → Says tag (limit known) out len (r_read
-        (flat_map stat_in (fitting room (drop (first_file reading offset) files))))
-        → Settles tag known (record known { fids = fids }) out (Ok len)
-        (reads_files known fid f reading offset room files)
-    folder_told fids next end len some next_is end_is set says =
-        let now : Fid =
-        record f { reading = Some (record { next = next; offset = end }) } in
-        let whole : fids ≡ with_fid fid (record f {
-          files = Some files;
+    -- where the fid that is there was told of
+    told_here : (fids : List (ℕ × Fid)) (buf : List ℕ) (next : Reading) (len total : ℕ)
+        (put : TellsNext known.fids fid offset room buf next len)
+        → SetsReading known.fids fid next fids
+        → Says tag (limit known) out total
+        (r_read (flat_map stat_in (told_next put.reading put.files offset room)))
+        → Settles tag known (record known { fids = fids }) out (Ok total)
+        (reads_files known fid put.f put.reading offset room put.files)
+    told_here fids buf next len total put sets says =
+        let set = set_here known.fids fids fid put.f next put.at sets in
+        let told : List Node = told_next put.reading put.files offset room in
+        let first : ℕ = first_file put.reading offset in
+        let whole : fids ≡ with_fid fid (record put.f {
+          files = Some put.files;
           reading = Some (record {
-            next = first_file reading offset
-                + length (fitting room (drop (first_file reading offset) files));
-            offset = offset + length
-                (flat_map stat_in (fitting room (drop (first_file reading offset) files)));
+            next = first + length told;
+            offset = offset + length (flat_map stat_in told);
           });
         }) known.fids =
         set
-        ∙ ap (λ (o : Option (List Node)). with_fid fid (record f {
+        ∙ ap (λ (o : Option (List Node)). with_fid fid (record put.f {
           files = o;
-          reading = Some (record { next = next; offset = end });
-        }) known.fids) kept
-        ∙ ap (λ (n : ℕ). with_fid fid (record f {
-          files = Some files;
-          reading = Some (record { next = n; offset = end });
-        }) known.fids) next_is
-        ∙ ap (λ (n : ℕ). with_fid fid (record f {
-          files = Some files;
-          reading = Some (record {
-            next = first_file reading offset
-                + length (fitting room (drop (first_file reading offset) files));
-            offset = n;
-          });
-        }) known.fids) end_is in
+          reading = Some next;
+        }) known.fids) put.kept
+        ∙ ap (λ (n : ℕ). with_fid fid (record put.f {
+          files = Some put.files;
+          reading = Some (record { next = n; offset = next.offset });
+        }) known.fids) put.next_is
+        ∙ ap (λ (n : ℕ). with_fid fid (record put.f {
+          files = Some put.files;
+          reading = Some (record { next = first + length told; offset = n });
+        }) known.fids) put.end_is in
+        let some : (length (fitting room (drop (first_file put.reading offset) put.files)) == 0
+        && nat_lt (first_file put.reading offset) (length put.files)) ≡ false = put.some in
         rw some (record {
           says = says;
           known = ap (λ (l : List (ℕ × Fid)). record known { fids = l }) whole;
           whole = refl;
           right = λ map right.
-              let old = right_fid map known fid f right at in
+              let old = right_fid map known fid put.f right put.at in
               subst (λ (l : List (ℕ × Fid)). IsRight map (record known { fids = l })) (sym set)
-              (right_with map known fid now right
+              (right_with map known fid (record put.f { reading = Some next }) right
               (record { way = old.way; files = old.files }));
         })
+
+    pub folder_told : (fids : List (ℕ × Fid)) (buf : List ℕ) (next : Reading) (len total : ℕ)
+        (put : TellsNext known.fids fid offset room buf next len)
+        → SetsReading known.fids fid next fids
+        → Says tag (limit known) out total
+        (r_read (flat_map stat_in (told_next put.reading put.files offset room)))
+        → Settles tag now (record known { fids = fids }) out (Ok total)
+        (reads_files now fid f reading offset room files)
+    folder_told fids buf next len total put sets says =
+        subst (λ (k : Known). Settles tag k (record known { fids = fids }) out (Ok total)
+        (reads_files k fid f reading offset room files)) view
+        (told_same (λ g q m. Settles tag known (record known { fids = fids }) out (Ok total)
+        (reads_files known fid g q offset room m)) fid known.fids
+        f put.f reading put.reading files put.files here reads kept put.at put.now put.kept
+        (told_here fids buf next len total put sets says))

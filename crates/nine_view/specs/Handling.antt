@@ -1,5 +1,6 @@
 -- What those do that answer one request each.
-use Rattle.std.specs.Prelude.{ℕ, ◌≡◌, ◌≢◌, ◌≤◌, IfSome, MatchOption, Option, Some, None, Result, Ok, Err, List, length, take}
+use Rattle.std.specs.Prelude.{ℕ, ◌≡◌, ◌≢◌, ◌≤◌, ◌+◌, ◌==◌, ◌&&◌, Bool, true, false, nat_lt, IfSome, MatchOption, Option, Some, None, Result, Ok, Err, List, length, take, drop}
+use Rattle.std.specs.List.{flat_map}
 use Rattle.vt_tree.specs.Calls.{Call}
 use Rattle.vt_tree.specs.Maps.{BlockMap, Maps}
 use Rattle.vac_read.specs.declared.err.VacBad.{VacBad}
@@ -13,9 +14,13 @@ use Rattle.nine_wire.specs.Messages.{RMessage, r_error, FitsReply}
 use Rattle.nine_view.specs.declared.failure.Denied.{Denied}
 use Rattle.nine_view.specs.declared.fid.Fid.{Fid}
 use Rattle.nine_view.specs.declared.failure.Denied.TheVariants.{Refused, Failed}
-use Rattle.nine_view.specs.Answers.{Answer, settled, sets, Outcome, stays, sets_fid}
+use Rattle.nine_view.specs.declared.fid.Reading.{Reading}
+use Rattle.nine_view.specs.declared.refusal.Refusal.{Refusal}
+use Rattle.nine_view.specs.declared.refusal.Refusal.TheVariants.{SmallCount}
+use Rattle.nine_view.specs.Answers.{Answer, settled, sets, Outcome, stays, sets_fid, first_file, fitting}
 use Rattle.nine_view.specs.Failures.{failure_words}
-use Rattle.nine_view.specs.Known.{Known, IsRight, limit, with_fid}
+use Rattle.nine_view.specs.Files.{stat_in}
+use Rattle.nine_view.specs.Known.{Known, IsRight, fid_at, limit, with_fid}
 use Rattle.nine_view.specs.Refusals.{words_of}
 use Rattle.nine_view.specs.Replies.{IsReply, AsksForBytes, AsksNothing, NeverFails, failed, fails}
 
@@ -65,6 +70,43 @@ abbrev pub SettlesSo : (tag : ℕ) → (old new : Known) → (out : List ℕ) �
     → Type 0
 SettlesSo tag old new out result (settled outcome) = Settles tag old new out result outcome
 SettlesSo tag old new out result answer = ⊥
+
+-- of the files of an open folder, those that the next read of it tells of
+abbrev pub told_next : Reading → List Node → (offset room : ℕ) → List Node
+told_next reading files offset room = fitting room (drop (first_file reading offset) files)
+
+-- there are files left, and not one of them has room
+abbrev pub has_no_room : Reading → List Node → (offset room : ℕ) → Bool
+has_no_room reading files offset room =
+    length (told_next reading files offset room) == 0
+    && nat_lt (first_file reading offset) (length files)
+
+-- What the next read of an open folder tells of its files stands in front of the buffer, in so
+-- many bytes, and the folder is read so far.
+pub record TellsNext (fids : List (ℕ × Fid)) (fid offset room : ℕ) (buf : List ℕ) (next : Reading)
+    (len : ℕ) : Type 0 where
+  pub f : Fid
+  pub reading : Reading
+  pub files : List Node
+  pub at : fid_at fid fids ≡ Some f
+  pub now : f.reading ≡ Some reading
+  pub kept : f.files ≡ Some files
+  pub some : has_no_room reading files offset room ≡ false
+  pub next_is : next.next
+      ≡ first_file reading offset + length (told_next reading files offset room)
+  pub end_is : next.offset
+      ≡ offset + length (flat_map stat_in (told_next reading files offset room))
+  pub len_is : len ≡ length (flat_map stat_in (told_next reading files offset room))
+  pub written : take len buf ≡ flat_map stat_in (told_next reading files offset room)
+
+-- what the next read tells was put into the buffer, or has no room there
+abbrev pub PutsNext : List (ℕ × Fid) → (fid offset room : ℕ) → (buf : List ℕ)
+    → Result (Reading × ℕ) Refusal → Type 0
+PutsNext fids fid offset room buf (Ok put) = TellsNext fids fid offset room buf put.0 put.1
+PutsNext fids fid offset room buf (Err why) =
+    (f : Fid) (reading : Reading) (files : List Node) → fid_at fid fids ≡ Some f
+    → f.reading ≡ Some reading → f.files ≡ Some files
+    → (has_no_room reading files offset room ≡ true) × (why ≡ SmallCount)
 
 -- what the fid's setting came to, for which memory was there, or wasn't
 pub record Sets (tag : ℕ) (old new : Known) (out : List ℕ) (result : Result ℕ Denied)

@@ -123,6 +123,7 @@ impl View {
             Request::Open { fid, mode } => self.open(tag, msize, *fid, *mode, out),
             Request::Create { fid, .. } => self.change(*fid),
             Request::Read { fid, offset, count } => {
+                // 24: room for the rest of a message round its data, as Plan 9's IOHDRSZ.
                 let room = (*count).min(msize - 24);
                 self.read(alloc, blocks, tag, *fid, *offset, room, out)
             }
@@ -229,6 +230,7 @@ impl View {
         }
         let qid = qid_of(&f.node);
         self.fids.set_reading(fid, Reading::new());
+        // 24: room for the rest of a message round its data, as Plan 9's IOHDRSZ.
         let iounit = msize - 24;
         Ok(encode(tag, &Reply::Open { qid, iounit }, out))
     }

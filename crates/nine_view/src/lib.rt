@@ -1,5 +1,6 @@
 //! An archive as a read-only tree of files, for a client that speaks 9P2000 (manual section 5;
 //! vacfs(4)).
+// Tests: crates/nine_tests/src/view.rt, crates/nine_tests/src/ends.rt.
 #![tactic(auto)]
 
 mod answering;

@@ -2,11 +2,13 @@
 
 ghost use Rattle.std.specs.Prelude.{◌≡◌, ◌≢◌, ◌==◌, ◌&&◌, ◌+◌, ◌≤◌, not, nat_lt, List, Some};
 ghost use Rattle.std.specs.Prelude.{IfNone, IfSome, IsSome, length, drop};
+ghost use Rattle.std.specs.List.{All};
 ghost use Rattle.vac_read.specs.declared.node.Node.{Node};
 ghost use Rattle.nine_view.specs.declared.fid.Fid.{Fid};
 ghost use Rattle.nine_view.specs.declared.fid.Reading.{Reading};
 ghost use Rattle.nine_view.specs.Answers.{first_file, of_fid, reads_files, to_folder, to_read};
-ghost use Rattle.nine_view.specs.Handling.{Handles, KeepsFiles, Settles};
+ghost use Rattle.nine_view.specs.Files.{IsTold};
+ghost use Rattle.nine_view.specs.Handling.{Handles, KeepsFiles, PutsNext, Settles};
 ghost use Rattle.nine_view.specs.Known.{fid_at, limit};
 
 use crate::failure::{Denied, first};
@@ -119,22 +121,38 @@ impl View {
             → Settles tag self.old self.new out.new result
             (reads_files self.old fid f r offset room files) }
     {
-        let Some((files, reading)) = listed(&self.fids, fid) else {
-            return Err(Refusal::FidNotOpen.into());
-        };
-        let all = count_of(files);
-        let from = first_file(&reading, offset);
-        let (count, len) = put_files(behind(files, from), room, &mut self.stats);
-        if is_small(count, from, all) {
-            return Err(Refusal::SmallCount.into());
-        }
-        let reading = Reading {
-            next: from + count,
-            offset: u128::from(offset) + len as u128,
-        };
+        let (reading, len) = put_next(&self.fids, fid, offset, room, &mut self.stats)?;
         self.fids.set_reading(fid, reading);
         Ok(encode(tag, &Reply::Read(&self.stats[..len]), out))
     }
+}
+
+/// Writes what a read tells of the files of an open folder to the front of the buffer, and says how
+/// far the folder is read then, and in how many bytes.
+fn put_next(
+    fids: &Fids,
+    fid: u32,
+    offset: u64,
+    room: usize,
+    buf: &mut [u8],
+) -> Result<(Reading, usize), Refusal>
+    requires told { (f : Fid) → fid_at fid fids.now ≡ Some f → IfSome f.files (All IsTold) }
+    requires room { room ≤ length buf.old }
+    ensures { PutsNext fids.now fid offset room buf.new result }
+{
+    let Some((files, reading)) = listed(fids, fid) else {
+        return Err(Refusal::FidNotOpen);
+    };
+    let from = first_file(&reading, offset);
+    let (count, len) = put_files(behind(files, from), room, buf);
+    if is_small(count, from, count_of(files)) {
+        return Err(Refusal::SmallCount);
+    }
+    let reading = Reading {
+        next: from + count,
+        offset: u128::from(offset) + len as u128,
+    };
+    Ok((reading, len))
 }
 
 /// The files of an open folder, where they are kept, and how far it was read.

@@ -116,6 +116,7 @@ pub fn put_stat(buf: &mut [u8], at: usize, stat: &Stat<'_>) -> usize
     requires room { at + length (stat_bytes (stat_of stat.now)) ≤ length buf.old }
     ensures { Writes at result buf.old buf.new (stat_bytes (stat_of stat.now)) }
 {
+    // 47: type 2, dev 4, qid 13, mode 4, two times of 4, length 8, four lengths of 2.
     let size = 47 + stat.name.len() + 2 * stat.uid.len() + stat.gid.len();
     let at = put_u16(buf, at, size as u16);
     let at = put_numbers(buf, at, stat);

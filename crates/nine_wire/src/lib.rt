@@ -1,5 +1,6 @@
 //! The messages of 9P2000 (manual section 5): what a client sends, read, and what a server sends,
 //! written. Nothing here takes memory.
+// Tests: crates/nine_tests/src/wire.rt.
 #![tactic(auto)]
 
 mod decoder;

@@ -1,4 +1,5 @@
 //! The commands that archive a folder and show an archive (vac(1), vacfs(4)).
+// Tests: crates/run_tests_archives/src.
 #![tactic(auto)]
 
 mod commands;

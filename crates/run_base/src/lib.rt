@@ -1,5 +1,6 @@
 //! What all commands of the program share: the host that they are lent, how one may fail and what is
 //! then told, its configuration and its words, and what it prints and shows.
+// Tests: crates/run_tests_sessions/src, crates/run_tests_stores/src, crates/run_tests_archives/src.
 #![tactic(auto)]
 
 mod block;

@@ -1,4 +1,5 @@
 //! The commands that serve a session, and that read and write one block (venti(6), venti(8)).
+// Tests: crates/run_tests_sessions/src.
 #![tactic(auto)]
 
 mod commands;

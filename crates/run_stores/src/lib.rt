@@ -1,5 +1,6 @@
 //! The commands that format partitions, rebuild an index, check arenas and rehearse a store in memory
 //! (venti(8)).
+// Tests: crates/run_tests_stores/src.
 #![tactic(auto)]
 
 mod commands;

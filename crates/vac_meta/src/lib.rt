@@ -1,5 +1,6 @@
 //! The metadata of archived folders (vac(1)): a record for each of a folder's items, and their
 //! bytes.
+// Tests: crates/vt_tree_tests/src/meta.rt.
 #![tactic(auto)]
 
 mod decoding;

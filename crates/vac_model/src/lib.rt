@@ -1,5 +1,6 @@
 //! Archives of folders (vac(1), vacfs(4)): which blocks a folder's archive has, and which folder a
 //! root stands for.
+// Tests: crates/vac_tests/src/archives.rt.
 #![tactic(auto)]
 
 pub mod laws;

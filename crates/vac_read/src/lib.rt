@@ -1,4 +1,5 @@
 //! Reading archives (vacfs(4)).
+// Tests: crates/vt_tree_tests/src/reading.rt, crates/vac_tests/src/round_trip.rt.
 #![tactic(auto)]
 
 mod archive;

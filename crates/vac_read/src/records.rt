@@ -62,5 +62,6 @@ pub(crate) fn record_len(item: &Record) -> usize
     requires { FitsRecord item.now }
     ensures { result ≡ length (spelled item.now) }
 {
+    // 27: three lengths of 2, kind 1, entry 4, mode 4, mtime 4, qid 8.
     27 + item.name.len() + item.uid.len() + item.gid.len()
 }

@@ -1,4 +1,5 @@
 //! Archiving a folder at a Venti server (vac(1), venti(6)).
+// Tests: crates/vt_wire_tests/src/sent.rt.
 #![tactic(auto)]
 
 mod laws;

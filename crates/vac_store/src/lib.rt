@@ -1,5 +1,6 @@
 //! Archiving a folder into a store on devices, and into the store that a configuration names, which
 //! is opened for it (vac(1)).
+// Tests: crates/vac_tests/src/stored.rt.
 #![tactic(auto)]
 
 mod laws;

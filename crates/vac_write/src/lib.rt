@@ -1,4 +1,5 @@
 //! Archiving folders (vac(1)).
+// Tests: crates/vac_tests/src/archives.rt, crates/vac_tests/src/round_trip.rt.
 #![tactic(auto)]
 
 mod archived;

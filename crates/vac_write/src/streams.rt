@@ -147,6 +147,7 @@ fn write_bytes<B: Blocks>(
 pub(crate) fn pointer_len(bsize: u16) -> u16
     ensures { result ≡ bsize / 20 * 20 }
 {
+    // 20: the bytes of a score.
     bsize / 20 * 20
 }
 
@@ -154,5 +155,6 @@ pub(crate) fn pointer_len(bsize: u16) -> u16
 fn leaf_len(bsize: u16, is_dir: bool) -> u16
     ensures { result ≡ (shape_of bsize is_dir).dsize }
 {
+    // 40: the bytes of an entry.
     if is_dir { bsize / 40 * 40 } else { bsize }
 }

@@ -1,4 +1,5 @@
 //! One session over a store on devices, whose use is then ended.
+// Tests: crates/run_tests_sessions/src/session_conf.rt.
 #![tactic(auto)]
 
 mod laws;

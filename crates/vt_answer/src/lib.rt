@@ -2,6 +2,7 @@
 //!
 //! A session hears, asks the store, and replies, one request at a time, as its input comes in: no
 //! reply waits for more of it.
+// Tests: crates/vt_wire_tests/src/answer.rt.
 #![tactic(auto)]
 
 mod answering;

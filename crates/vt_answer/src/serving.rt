@@ -298,6 +298,7 @@ fn feed_all(talker: &mut Talker, piece: &[u8])
 }
 
 /// What hears the input, and a buffer for pieces of it.
+// (the memory of a session; prepare of vt_log stages a commit, that of vt_turns makes its words)
 fn prepare(alloc: Global) -> Result<(Talker, Vec<u8>), AllocError>
     ensures talker { IfOk result (λ it. it.0 ≡ record { stage = at_line []; taken = 0 }) }
     ensures piece { IfOk result (λ it. 0 < length it.1.items) }

@@ -151,6 +151,7 @@ impl Arena {
         ensures left { result + calls_made self.now ≡ commit_calls self.now }
         ensures some { 0 < result }
     {
+        // 4: the head's frame, a sync, its selector, a sync.
         let calls = self.pieces() + 4;
         (calls - self.written) as u64 - u64::from(self.head_calls)
     }

@@ -119,6 +119,7 @@ fn decode(entry: &[u8; DIRECTORY_ENTRY_LEN], head: &ArenaHead, at: At) -> Result
         return Err(damaged(u64::from(size), u64::from(uncsize)));
     }
     let room = block_room(u32::from(size));
+    // (the first clump stands at the front: its size uses up what is left of the sum)
     if at.end < room || at.index == 1 && at.end != room {
         return Err(damaged(head.used, head.used - at.end + room));
     }

@@ -70,6 +70,7 @@ impl ArenaHead {
             return Err(ArenaBad::NotFormatted);
         }
         let mut chain = [0; 20];
+        // (the places of the fields: docs/FORMATS.md, Arenas)
         chain.copy_from_slice(&fields[23..]);
         let head = ArenaHead {
             version: u16_at(fields, 4),

@@ -1,6 +1,7 @@
 //! An arena: clumps one behind another, a directory of them, and a head that changes whole. A
 //! commit writes what is staged and then the head, one device call at a time, so that whatever a
 //! crash leaves is the arena as it was or, at the end, the arena with all that was staged.
+// Tests: crates/vt_log_tests/src/arena.rt.
 #![tactic(auto)]
 
 mod arena;

@@ -1,5 +1,6 @@
 //! What the whole store shares: scores and what computes them, block types, keys, places, bytes and
 //! text, what a store is asked and what it answers, and why a request was not done.
+// Tests: crates/vt_base_tests/src/base.rt.
 #![tactic(auto)]
 
 mod answer;

@@ -70,6 +70,7 @@ impl Bits {
         ensures clear { IfOk result (λ bits. (p : ℕ) → ¬ IsSet bits p) }
         ensures filter { IfOk result (λ bits. IsFilter bits) }
     {
+        // (2^m bits, in words of 2^6)
         let words = vec![in alloc; 0; 1usize << (m - 6)]?;
         Ok(Bits { m, k, words })
     }

@@ -1,5 +1,6 @@
 //! A Bloom filter over scores, and its saved form on a device: a pair of frames that changes whole,
 //! with the filter's bits and a mark.
+// Tests: crates/vt_disk_tests/src/bloom.rt.
 #![tactic(auto)]
 
 mod bad;

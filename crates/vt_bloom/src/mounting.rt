@@ -130,6 +130,7 @@ fn find<D: Disk>(alloc: Global, disk: &mut D) -> Result<Found, BloomBad>
     }
     let m = largest(len);
     let mut frame = vec![in alloc; 0; frame_len(m)]?;
+    // (2^m bits, in words of 2^6)
     let mut words = vec![in alloc; 0; 1 << (m - 6)]?;
     let region = region(m);
     let twin = vt_twin::mount(disk, region, frame.len() as u64)?;

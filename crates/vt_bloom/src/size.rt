@@ -26,6 +26,7 @@ pub fn largest(len: u64) -> u8
     ensures { IsLargest len result }
 {
     let mut m = 16;
+    // (from 2^16 bits, 8 KiB, to 2^23, 1 MiB)
     while m < 23 && region(m + 1).len <= len {
         m += 1;
     }

@@ -1,5 +1,6 @@
 //! A bucket of the index: up to 263 entries in the order of their keys, and the frame of 8,192
 //! bytes that it has on a disk. Nothing here takes memory.
+// Tests: crates/vt_disk_tests/src/bucket.rt.
 #![tactic(auto)]
 
 ghost use Rattle.std.specs.Prelude.{◌≤◌, take};

@@ -1,4 +1,5 @@
 //! Checking the arenas of a log (venti(8), checkarenas).
+// Tests: crates/vt_store_tests/src/check.rt.
 #![tactic(auto)]
 
 mod checking;

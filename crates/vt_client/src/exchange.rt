@@ -94,6 +94,7 @@ pub(crate) fn reply_in(frame: &[u8], tag: u8, wanted: u8) -> Result<Reply<'_>, C
     ensures bad { IfErr result (λ err. (place : ℕ) × (err ≡ ClientErr.BadReply place)
         × ((body : List ℕ) → IsFrame frame.now body → IsWrongAt tag wanted body place)) }
 {
+    // (a frame: size 2, type 1, tag 1; the order of the tests: docs/FORMATS.md, A connection)
     if frame.len() < 4 {
         return Err(ClientErr::BadReply(0));
     }

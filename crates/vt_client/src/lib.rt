@@ -1,4 +1,5 @@
 //! A client of a Venti server over a link (venti(6), version 02), which is a store of blocks too.
+// Tests: crates/vt_wire_tests/src/client.rt.
 #![tactic(auto)]
 
 mod blocks;

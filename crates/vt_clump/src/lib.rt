@@ -1,4 +1,5 @@
 //! Clumps: a block with its header, as it stands in an arena.
+// Tests: crates/vt_disk_tests/src/clump.rt.
 #![tactic(auto)]
 
 mod header;

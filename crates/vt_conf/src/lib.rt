@@ -1,5 +1,6 @@
 //! The configuration of a store (venti.conf(6)), numbers, sizes and addresses as text, and how much
 //! memory each shard of the index gets.
+// Tests: crates/vt_base_tests/src/conf.rt.
 #![tactic(auto)]
 
 mod address;

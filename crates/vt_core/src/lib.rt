@@ -2,6 +2,7 @@
 //! one event at a time (Quinlan and Dorward, "Venti: a new approach to archival storage", FAST
 //! 2002). After a crash at any moment it is found again with a prefix of its history that has every
 //! block that a sync covered.
+// Tests: crates/vt_core_tests/src.
 #![tactic(auto)]
 
 mod advancing;

@@ -189,6 +189,7 @@ fn hand_back<D: Disk, S: Scorer + Drop>(
 /// in, and its filter with its bits.
 struct Beside<D: Disk> {
     sections: Vec<Section<D>>,
+    // (the list that the devices came in, emptied: handing them back takes no memory)
     room: Vec<D>,
     bloom: Option<Bloom<D>>,
     bits: Bits,

@@ -37,6 +37,7 @@ pub struct Core<D: Disk, S: Scorer> {
     pub(crate) waiting: Vec<Option<u64>>,
     pub(crate) synced: u64,
     /// Where the sections' devices go when they are handed back.
+    /// (the list that they came in, emptied, so that it takes no memory)
     pub(crate) room: Vec<D>,
 }
 

@@ -1,4 +1,5 @@
 //! Links that are made to an address, as a trait, with their fake in memory.
+// Tests: crates/vt_base_tests/src/dial.rt.
 #![tactic(auto)]
 
 mod dialer;

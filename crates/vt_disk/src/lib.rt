@@ -1,4 +1,5 @@
 //! A disk: what a read gives, and what a crash may leave.
+// Tests: crates/vt_disk_tests/src/memdisk.rt.
 #![tactic(auto)]
 
 mod call;

@@ -1,4 +1,5 @@
 //! Writing and reading the fields of a frame at their places. Numbers have the high byte first.
+// Tests: crates/vt_base_tests/src/fields.rt.
 #![tactic(auto)]
 
 ghost use Rattle.std.specs.Prelude.{◌≡◌, ◌+◌, ◌^◌, ◌<◌, ◌≤◌, [], ◌∷◌, ◌++◌, length, take, drop};

@@ -1,4 +1,5 @@
 //! Folders of files, as a trait, with one in memory: what is listed and read of them.
+// Tests: crates/vt_base_tests/src/folder.rt.
 #![tactic(auto)]
 
 mod finding;

@@ -1,4 +1,5 @@
 //! Folders that are handed out by name, as a trait, with their fake in memory.
+// Tests: crates/vt_base_tests/src/folders.rt.
 #![tactic(auto)]
 
 mod folders;

@@ -1,5 +1,6 @@
 //! Formatting partitions, which are taken by name: what the commands of venti(8) do that make them,
 //! and the words of these commands.
+// Tests: crates/vt_store_tests/src/format.rt.
 #![tactic(auto)]
 
 mod arenas;

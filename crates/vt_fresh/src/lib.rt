@@ -1,5 +1,6 @@
 //! Stores without blocks: what formatting leaves on the devices of a store, that it can be opened,
 //! and such stores in memory.
+// Tests: crates/vt_store_tests/src/fresh.rt.
 #![tactic(auto)]
 
 mod devices;

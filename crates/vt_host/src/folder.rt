@@ -62,6 +62,7 @@ fn seconds(time: i64) -> u32 {
 }
 
 /// An item of which nothing is known but its name.
+// (its name isn't UTF-8: docs/DECISIONS.md, 205; no clause, since this folder tells nothing)
 fn unknown(alloc: Global, name: &[u8]) -> Result<Item, OutErr> {
     let copy = |bytes: &[u8]| Text::copy_of(alloc, bytes).map_err(|_| OutErr::NoMemory);
     Ok(Item {

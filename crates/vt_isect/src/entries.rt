@@ -66,6 +66,7 @@ fn turn(behind: Option<u32>, bucket: u32) -> u64
     ensures { result ≡ turn behind bucket }
 {
     match behind {
+        // (behind every number of a bucket, which has 32 bits)
         Some(last) if bucket <= last => u64::from(bucket) + (1 << 32),
         _ => u64::from(bucket),
     }

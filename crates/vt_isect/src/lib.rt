@@ -1,6 +1,7 @@
 //! A section of the index: a head, and buckets that hold the entries of blocks. Entries are written
 //! back to groups of buckets and the head's mark is raised behind them, one device call at a time,
 //! so that whatever a crash leaves has for each block below the mark its entry.
+// Tests: crates/vt_index_tests/src/isect.rt.
 #![tactic(auto)]
 
 mod bad;

@@ -50,6 +50,7 @@ pub struct Section<D: Disk> {
     pub(crate) head: Head,
     /// The head that it gets by what is under way.
     pub(crate) next: Head,
+    /// From here to `most`: what is under way, a writeback bucket by bucket and the head's change.
     pub(crate) phase: Phase,
     pub(crate) entries: Option<Entries>,
     /// How many of the entries are in their buckets: the first ones.
@@ -220,9 +221,11 @@ impl<D: Disk> Section<D> {
         let group = self.group.len() as u64;
         match self.phase {
             Phase::Rest => 0,
+            // 6: a later bucket's reads, writes and syncs, 2 each; 10: this one's and the head's 4.
             Phase::ReadSelector => 6 * self.later() + group + 10,
             Phase::ReadFrame(_) => 6 * self.later() + group + 9,
             Phase::WriteFrame(_) => 6 * self.later() + group + 8,
+            // group: a selector for each of its buckets; 6: its 2 syncs and the head's 4.
             Phase::SyncFrames => 6 * self.later() + group + 6,
             Phase::WriteSelector(member) => 6 * self.later() + (group - member as u64) + 5,
             Phase::SyncSelectors => 6 * self.later() + 5,

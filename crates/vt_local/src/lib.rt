@@ -1,4 +1,5 @@
 //! A store of this process, or a share of one, as a store of blocks for files and archives.
+// Tests: crates/vt_wire_tests/src/local.rt.
 #![tactic(auto)]
 
 pub mod laws;

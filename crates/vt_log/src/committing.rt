@@ -32,6 +32,7 @@ impl<D: Disk, S: Scorer> Log<D, S> {
         } else {
             0
         };
+        // 6: a commit of that block alone, its clump, its directory entry and the head's 4.
         commit + 6 * waiting + self.seal_calls()
     }
 
@@ -79,6 +80,7 @@ impl<D: Disk, S: Scorer> Log<D, S> {
     }
 
     /// Stages a commit, where none is under way.
+    // (a commit; prepare of vt_answer takes a session's memory, that of vt_turns makes its words)
     fn prepare(&mut self)
         requires { 0 < queued self.old }
         ensures prepares { Prepares self.old self.new }

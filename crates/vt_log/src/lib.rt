@@ -1,6 +1,7 @@
 //! A log: the arenas of all partitions, filled and committed one after another (Quinlan and
 //! Dorward, "Venti: a new approach to archival storage", FAST 2002), and before them a queue of
 //! blocks that are accepted and not yet committed.
+// Tests: crates/vt_log_tests/src/log.rt.
 #![tactic(auto)]
 
 mod back;

@@ -85,6 +85,7 @@ fn format_part<D: Disk>(part: &mut Part<D>) -> Result<(), Failed>
 /// Part refuses two partitions of one name, and Arena the first arena that can't be mounted. An
 /// arena with blocks that stands behind an unsealed one is refused by Order, and a sealed one there
 /// by Arena. Fault says that a device call failed, and NoMemory that there was no room.
+// (what is tested and found: specs/Mounting.antt, Faults.antt; the log: Logs.antt, Sound.antt)
 pub fn mount<D: Disk, S: Scorer + Drop>(
     alloc: Global,
     mut parts: Vec<Part<D>>,
@@ -193,6 +194,7 @@ fn blocks_in(heads: &[Found]) -> u64
 }
 
 /// Finds the log, and makes room.
+// (find_log syncs, find_all goes over all arenas, find_next tests their order, find_arena reads)
 fn find_log<D: Disk>(alloc: Global, parts: &mut [Part<D>]) -> Result<Opened, LogBad>
     requires many { length parts.old < 2 ^ 32 }
     requires few { arena_count (tables_of parts.old) < 2 ^ 32 }

@@ -134,6 +134,7 @@ impl Queue {
     }
 
     /// A block that isn't staged, counted from the first of these.
+    // (in the model: waiting_block of specs/Queue.antt; tests: crates/vt_log_tests/src/log.rt)
     pub fn waiting_block(&self, index: usize) -> &Packed
         requires { index < length self.now.waiting }
         ensures { slice_get (map (λ w. w.packed) self.now.waiting) index ≡ Some result.now }

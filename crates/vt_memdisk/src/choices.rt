@@ -12,6 +12,7 @@ fn next_byte(pending: bool, synced: u8, written: u8, choice: &[u16], next: usize
     } else {
         256
     };
+    // (what a choice means: `MemDisk::crash`)
     if pending && pick < 256 {
         pick as u8
     } else if pending && pick == 257 {
@@ -22,6 +23,7 @@ fn next_byte(pending: bool, synced: u8, written: u8, choice: &[u16], next: usize
 }
 
 /// The place in the list for the next byte.
+// (tests of crashes: crates/vt_disk_tests/src/memdisk.rt)
 fn next_place(pending: bool, next: usize) -> usize
     requires { next < 2 ^ 64 - 1 }
     ensures value { result ≡ (if pending then next + 1 else next) }

@@ -1,5 +1,6 @@
 //! A disk in memory. Between two syncs, a crash leaves any combination of the bytes that writes
 //! touched.
+// Tests: crates/vt_disk_tests/src/memdisk.rt.
 #![tactic(auto)]
 
 mod cells;

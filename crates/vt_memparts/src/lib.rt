@@ -1,4 +1,5 @@
 //! Partitions in memory by name, which are kept from one run to the next.
+// Tests: crates/vt_disk_tests/src/memparts.rt.
 #![tactic(auto)]
 
 mod faults;

@@ -33,6 +33,7 @@ impl<A: Allocator> Failing<A> {
 
     /// A disk of so many zero bytes.
     pub fn disk(&self, alloc: Global, len: u64) -> Result<MemDisk<Listed>, AllocError>
+        // (⟦X as T⟧: X's ghost members of the trait T, as one record; the words: specs/Named.antt)
         ensures made { IfOk result (IsMade ⟦<MemDisk<Listed> as Disk>⟧ [] len) }
         ensures listed { IfOk result (λ disk.
             ⟦<Listed as Plan>⟧.listed (memory_plan disk) ≡ failing_calls self.now) }

@@ -1,5 +1,6 @@
 //! What a write-once block store answers: laws over one list of blocks, and a store that is that
 //! list.
+// Tests: crates/vt_base_tests/src/model.rt.
 #![tactic(auto)]
 
 pub mod laws;

@@ -1,4 +1,5 @@
 //! Opening the store that a configuration names, and handing its partitions back.
+// Tests: crates/vt_store_tests/src/opening.rt.
 #![tactic(auto)]
 
 mod bad;

@@ -1,5 +1,6 @@
 //! What stands outside the store: byte streams, links, files by name and the clock, as traits, with
 //! fakes in memory; and what is told of a long call's progress.
+// Tests: crates/vt_base_tests/src/out.rt.
 #![tactic(auto)]
 
 mod clock;

@@ -1,5 +1,6 @@
 //! Partitions of arenas: a block that names a disk and says into how many arenas it is divided, and
 //! behind it their regions, one after another.
+// Tests: crates/vt_disk_tests/src/part.rt.
 #![tactic(auto)]
 
 mod bad;

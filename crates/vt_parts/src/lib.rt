@@ -1,4 +1,5 @@
 //! Partitions that are handed out by name, as a trait.
+// Tests: crates/vt_disk_tests/src/memparts.rt.
 #![tactic(auto)]
 
 mod laws;

@@ -1,4 +1,5 @@
 //! The index of a log, built anew from the log alone (venti(8), buildindex).
+// Tests: crates/vt_store_tests/src/upkeep.rt.
 #![tactic(auto)]
 
 mod bad;

@@ -1,5 +1,5 @@
 -- A log that is read back, block by block.
-use Rattle.std.proofs.Common.{◌≡◌, ◌≢◌, ◌⊎◌, ⊎_elim, inl, inr, ℕ, ◌+◌, ◌-◌, ◌<◌, ◌≤◌, List, [], ◌++◌, length, map, take, Some, None, refl, sym, ◌∙◌, ap, subst, arith}
+use Rattle.std.proofs.Common.{◌≡◌, ◌≢◌, ◌⊎◌, ⊎_elim, inl, inr, ℕ, ◌+◌, ◌-◌, ◌^◌, ◌<◌, ◌≤◌, List, [], ◌++◌, length, map, take, Some, None, refl, sym, ◌∙◌, ap, subst, arith}
 use Rattle.std.specs.Prelude.{slice_get, min, sum_by, IsTrue, OnOk, ⊤, Result, Ok, Err}
 use Rattle.std.specs.List.{All, AllPairs, Contains}
 use Rattle.std.proofs.lemmas.List.{length-map, map-append}
@@ -116,6 +116,10 @@ pub record IsReading {D : Type 0} (score : List ℕ → List ℕ) (disk : DiskOf
 -- a log that was just found has no queue
 pub no_queued : {D : Type 0} (l : LogState D) → IsMounted l → queued l ≡ 0
 no_queued l it = ap (λ (q : QueueState). length q.places) it.queue
+
+-- a block that comes next has a number below the greatest
+pub below_most : (number left before : ℕ) → number + 1 ≡ before → left ≡ before → left < 2 ^ 64 → number < 2 ^ 64 - 1
+below_most number left before next is fits = omega (arith, next, is, fits)
 
 -- One call of the log's disks was made for each block that was read back, and none of a block below this number.
 pub record ReadsEachOnce {D : Type 0} (disk : DiskOf D) (least : ℕ) (old now : Opened D) (t : TailState) : Type 0 where

@@ -1,6 +1,7 @@
 //! Finding a store again on what its devices hold: its sections and its filter are opened, and its
 //! log is read back for what these lack (Quinlan and Dorward, "Venti: a new approach to archival
 //! storage", FAST 2002).
+// Tests: crates/vt_core_tests/src/mounting.rt, crates/vt_core_tests/src/crashing.rt.
 #![tactic(auto)]
 
 mod devices;

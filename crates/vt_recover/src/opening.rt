@@ -58,6 +58,7 @@ pub fn open_sections<D: Disk>(
             }
         }
     }
+    // (this list is empty now: it is the room in which the devices are handed back)
     Ok((sections, devices))
 }
 
@@ -91,6 +92,7 @@ fn open_shards<D: Disk>(
     alloc: Global,
     mut sections: Vec<Section<D>>,
     sizes: Sizes,
+    // (the list that the devices came in, emptied: handing them back takes no memory)
     room: Vec<D>,
 ) -> Result<(Vec<Shard<D>>, Vec<D>), Vec<D>>
     requires lumps { 0 < sizes.lumps }
@@ -126,6 +128,7 @@ pub fn open_memory<D: Disk>(
     sections: Vec<Section<D>>,
     sizes: Sizes,
     sessions: u32,
+    // (the list that the devices came in, emptied: handing them back takes no memory)
     room: Vec<D>,
 ) -> Result<(Vec<Shard<D>>, Vec<D>, Vec<Option<u64>>), Vec<D>>
     requires lumps { 0 < sizes.lumps }

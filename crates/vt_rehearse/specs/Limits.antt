@@ -6,7 +6,7 @@ use Rattle.vt_rehearse.specs.declared.summary.Summary.{Summary}
 abbrev pub EVENTS_MOST : ℕ
 EVENTS_MOST = 2 ^ 12
 
--- how far a number comes in all rounds
+-- how far its numbers come in all rounds
 abbrev pub ROUNDS_MOST : ℕ
 ROUNDS_MOST = 2 ^ 62
 
@@ -18,20 +18,15 @@ MOST = 2 ^ 63
 abbrev pub LIMIT : ℕ
 LIMIT = 2 ^ 64 - 2 ^ 8
 
--- each number is this at most
-pub record AreAtMost (most : ℕ) (s : Summary) : Type 0 where
-  pub events : s.events ≤ most
-  pub writes : s.writes ≤ most
-  pub accepted : s.accepted ≤ most
-  pub held : s.held ≤ most
-  pub reads : s.reads ≤ most
-  pub found : s.found ≤ most
-  pub missing : s.missing ≤ most
-  pub syncs : s.syncs ≤ most
-  pub crashes : s.crashes ≤ most
-  pub lost : s.lost ≤ most
-  pub compared : s.compared ≤ most
+-- all its numbers together
+abbrev pub total : Summary → ℕ
+total s = s.events + s.writes + s.accepted + s.held + s.reads + s.found + s.missing + s.syncs
+    + s.crashes + s.lost + s.compared
 
--- by no more does one rise in a round
+-- its numbers are this together at most, and so is each of them
+abbrev pub AreAtMost : (most : ℕ) → Summary → Type 0
+AreAtMost most s = total s ≤ most
+
+-- by no more do they rise in a round
 abbrev pub Grows : (old new : Summary) → Type 0
 Grows old new = (most : ℕ) → AreAtMost most old → AreAtMost (most + 2 * EVENTS_MOST) new

@@ -1,5 +1,6 @@
 //! A rehearsal of a store: rounds that are drawn from a number, crashes among them, each answer of
 //! which is compared with a plain list.
+// Tests: crates/vt_store_tests/src/rehearse.rt.
 #![tactic(auto)]
 
 mod crashing;

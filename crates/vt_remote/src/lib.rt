@@ -1,4 +1,5 @@
 //! One block, read from a Venti server at an address or written to it.
+// Tests: crates/vt_wire_tests/src/remote.rt.
 #![tactic(auto)]
 
 mod laws;

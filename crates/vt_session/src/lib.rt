@@ -1,5 +1,6 @@
 //! What a whole link was, from its first byte to its last: what a server heard on it, what it said,
 //! and which history of blocks answered.
+// Tests: crates/vt_wire_tests/src/session.rt.
 #![tactic(auto)]
 
 mod laws;

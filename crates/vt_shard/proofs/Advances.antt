@@ -1,5 +1,5 @@
 -- A disk stays sound for a shard through a step of its writeback.
-use Rattle.std.proofs.Common.{◌≡◌, ◌≢◌, ◌⊎◌, inl, inr, ⊎_elim, ℕ, ◌≤◌, List, [], take, Option, Some, None, Result, refl, sym, ◌∙◌, ap, subst}
+use Rattle.std.proofs.Common.{◌≡◌, ◌≢◌, ◌⊎◌, inl, inr, ⊎_elim, ℕ, ◌≤◌, List, take, Option, Some, None, Result, refl, sym, ◌∙◌, ap, subst}
 use Rattle.std.specs.Prelude.{◌↔◌}
 use Rattle.std.specs.List.{Contains}
 use Rattle.vt_base.specs.declared.place.Entry.{Entry}
@@ -7,6 +7,7 @@ use Rattle.vt_base.specs.declared.place.Info.{Info}
 use Rattle.vt_disk.specs.Members.{DiskOf}
 use Rattle.vt_icache.specs.Index.{IndexState, entry_of}
 use Rattle.vt_isect.specs.Agreement.{IsOfBlock, HasBlock, IsInBucket, KnownAgrees}
+use Rattle.vt_isect.specs.Entries.{EntriesState}
 use Rattle.vt_isect.specs.Layout.{InRange}
 use Rattle.vt_isect.specs.Merging.{HasKey}
 use Rattle.vt_isect.specs.Section.{SectionState, IsOfGroup, IsTodo, bucket_number, entries_of}
@@ -15,7 +16,6 @@ use Rattle.vt_isect.specs.Writeback.{Advances, Completes, Follows, Keeps, Writes
 use Rattle.vt_isect.specs.declared.bad.ShardErr.{ShardErr}
 use Rattle.vt_isect.specs.declared.phase.Phase.TheVariants.{Rest}
 use Rattle.vt_isect.proofs.Crowd.{one_entry}
-use Rattle.lru.proofs.Splits.{Contains-nil}
 use Rattle.vt_isect.proofs.KnownAgrees.{agrees_idle}
 use Rattle.vt_isect.proofs.WithinCall.{completes_or}
 use Rattle.vt_model.specs.History.{History}
@@ -23,14 +23,15 @@ use Rattle.vt_model.specs.Places.{Setup, bucket_of}
 use Rattle.vt_twin.specs.declared.step.Step.{Step}
 use Rattle.vt_shard.specs.Shard.{ShardState, ReadBucket, IsDirty, IsUnderWay, IsWell, bucket_at}
 use Rattle.vt_shard.specs.Sound.{IsBucketOf, IsFiled, IsSoundFrom}
-use Rattle.vt_shard.specs.Writeback.{SettlesAll, WritesTo, written_back}
+use Rattle.vt_shard.specs.Writeback.{SettlesAll, written_back}
 use Rattle.vt_shard.proofs.Blocks.{of_block_of_front, its_bucket}
 use Rattle.vt_shard.proofs.IsSoundFrom.{known_at}
-use Rattle.vt_shard.proofs.KeepsPlace.{Stays, stays, ends_same, first_same, total_same, state_same, back, forth}
+use Rattle.vt_shard.proofs.IsWell.{rests, under_way_of}
+use Rattle.vt_shard.proofs.KeepsPlace.{Stays, stays, first_same, total_same, state_same, back, forth}
 use Rattle.vt_shard.proofs.Mounted.{holds_idle}
 use Rattle.vt_shard.proofs.Settles.{fewer, gone, went, clean_from}
-use Rattle.vt_shard.proofs.TakesStep.{some_written}
-use Rattle.vt_shard.proofs.UnderWay.{in_drop, none_between, written_within}
+use Rattle.vt_shard.proofs.TakesStep.{forgets_other, some_written}
+use Rattle.vt_shard.proofs.UnderWay.{in_drop, written_within}
 
 -- What the step put into its bucket may be clean and isn't dirty any more, and the rest is as it
 -- was, but that a bucket that was read is forgotten where the step put something into it.
@@ -198,68 +199,81 @@ module _ {D : Type 0} (score : List ℕ → List ℕ) (c : Setup) (disk : DiskOf
       let it = keeps s.known s.section in
       step_sound it.0 it.1 (it.3 score c (take durable h) s.agrees) it.2
 
--- ---- the last step, and the others
+-- ---- behind the step
 
 module _ {D : Type 0} (score : List ℕ → List ℕ) (c : Setup) (disk : DiskOf D) (t : ShardState D) (h : History) (durable from : ℕ)
     (s : IsSoundFrom score c disk t h durable from) (list : Option ℕ) (waiting : List ℕ) (w : IsWell t list waiting)
-    (below : ℕ) (under : t.writeback ≡ Some below) (it : IsUnderWay t below)
+    (below : ℕ) (under : t.writeback ≡ Some below)
     (result : Result Step ShardErr) (v : SectionState D) (steps : Advances result t.section v)
     (keeps : Keeps disk result t.section v)
     (wrote : (entry : Entry) → WritesBack t.section v entry
     ↔ (Completes result t.section (bucket_number t.section entry) × IsOfGroup t.section (bucket_number t.section entry) entry)) where
+  it : IsUnderWay t below
+  it = under_way_of t list waiting w below under
+
   each : (entry : Entry) → WritesBack t.section v entry → InRange t.section.head t.section.buckets (bucket_number t.section entry)
   each entry came = written_within t below it result v steps w.in_range entry came
 
   one : (n : ℕ) → Completes result t.section n → (entry : Entry) × WritesBack t.section v entry × (bucket_number t.section entry ≡ n)
   one n completes = some_written t below it result v steps n completes
 
-  none_moves : written_back t.section v ≡ [] → MovesOn t v t.index t.bucket
-  none_moves none = record {
-    fewer = λ info has. has;
-    gone = λ info has. inl has;
-    went = λ info entry has came. absurd (no entry came);
-    clean = λ entry has. inl has;
-    read = λ read is. (is, λ entry came. absurd (no entry came));
-  }
-    where
-      no : (entry : Entry) → ¬ WritesBack t.section v entry
-      no entry came = Contains-nil entry (subst (λ (l : List Entry). Contains l entry) none came)
+  -- the disk is sound with the section as it is then, of which at rest the list is taken back
+  module _ (written : List Entry) (are : written ≡ written_back t.section v) (index : IndexState) (settled : SettlesAll below written t.index index)
+      (total : ℕ) (total_is : total ≡ t.section.head.total) (bucket : Option ReadBucket)
+      (dropped : (read : ReadBucket) (entry : Entry) → t.bucket ≡ Some read → Contains written entry
+      → bucket_of total entry.key.score.0 ≡ read.number → bucket ≡ None)
+      (kept : ((read : ReadBucket) (entry : Entry) → t.bucket ≡ Some read → Contains written entry
+      → bucket_of total entry.key.score.0 ≢ read.number) → bucket ≡ t.bucket)
+      (writeback ended_at : Option ℕ) where
+    settles : SettlesAll below (written_back t.section v) t.index index
+    settles = subst (λ (l : List Entry). SettlesAll below l t.index index) are settled
 
-  pub sound_ended : (ended_at : Option ℕ) → v.phase ≡ Rest → t.section.phase ≢ Rest
-      → IsSoundFrom score c disk (record t { section = record v { entries = None }; writeback = None; ended_at = ended_at }) h durable from
-  sound_ended ended_at rest was =
-      let none = none_between (entries_of t.section) t.section.written v.written (sym (ends_same t.section v result rest was steps)) in
-      let at = stays_sound score c disk t h durable from s result v steps keeps wrote one each t.index t.bucket None ended_at (none_moves none) in
-      record {
-        keys = at.keys;
-        durable_fits = at.durable_fits;
-        known = at.known;
-        section = holds_idle disk v at.known rest at.section;
-        agrees = agrees_idle score c (take durable h) v at.known rest at.agrees;
-        live = at.live;
-        next = at.next;
-        filed = at.filed;
-        has = at.has;
-        dirty = at.dirty;
-        unfiled = at.unfiled;
-        clean = λ entry has.
-            let filed = at.clean entry has in
-            record { in_range = filed.in_range; entries = filed.entries; known_is = filed.known_is; has = filed.has };
-        bucket = at.bucket;
-        lumps = at.lumps;
-      }
+    abbrev pub then : Option EntriesState → ShardState D
+    then entries = record t {
+      section = record v { entries = entries };
+      index = index;
+      bucket = bucket;
+      writeback = writeback;
+      ended_at = ended_at;
+    }
 
-  pub sound_on : (index : IndexState) (bucket : Option ReadBucket) → SettlesAll below (written_back t.section v) t.index index
-      → ((read : ReadBucket) → bucket ≡ Some read → (t.bucket ≡ Some read) × (¬ WritesTo t.section v read.number))
-      → IsSoundFrom score c disk (record t { section = v; index = index; bucket = bucket }) h durable from
-  sound_on index bucket settles kept = stays_sound score c disk t h durable from s result v steps keeps wrote one each
-      index bucket t.writeback t.ended_at
-      (record {
-        fewer = fewer below (written_back t.section v) t.index index settles;
-        gone = gone below (written_back t.section v) t.index index settles;
-        went = went below (written_back t.section v) t.index index settles w.keys;
-        clean = clean_from below (written_back t.section v) t.index index settles;
-        read = λ read is.
-            let was = kept read is in
-            (was.0, λ entry came number. was.1 (entry, came, number));
-      })
+    moves : MovesOn t v index bucket
+    moves = record {
+      fewer = fewer below (written_back t.section v) t.index index settles;
+      gone = gone below (written_back t.section v) t.index index settles;
+      went = went below (written_back t.section v) t.index index settles w.keys;
+      clean = clean_from below (written_back t.section v) t.index index settles;
+      read = λ read is.
+          let was = forgets_other t v written are total total_is bucket dropped kept read is in
+          (was.0, λ entry came number. was.1 (entry, came, number));
+    }
+
+    at : IsSoundFrom score c disk (then v.entries) h durable from
+    at = stays_sound score c disk t h durable from s result v steps keeps wrote one each index bucket writeback ended_at moves
+
+    at_rest : v.phase ≡ Rest → IsSoundFrom score c disk (then None) h durable from
+    at_rest rest = record {
+      keys = at.keys;
+      durable_fits = at.durable_fits;
+      known = at.known;
+      section = holds_idle disk v at.known rest at.section;
+      agrees = agrees_idle score c (take durable h) v at.known rest at.agrees;
+      live = at.live;
+      next = at.next;
+      filed = at.filed;
+      has = at.has;
+      dirty = at.dirty;
+      unfiled = at.unfiled;
+      clean = λ entry has.
+          let filed = at.clean entry has in
+          record { in_range = filed.in_range; entries = filed.entries; known_is = filed.known_is; has = filed.has };
+      bucket = at.bucket;
+      lumps = at.lumps;
+    }
+
+    pub sound_then : (entries : Option EntriesState) → (v.phase ≡ Rest → entries ≡ None) → (v.phase ≢ Rest → entries ≡ v.entries)
+        → IsSoundFrom score c disk (then entries) h durable from
+    sound_then entries rest on = ⊎_elim
+        (λ (r : v.phase ≡ Rest). subst (λ (e : Option EntriesState). IsSoundFrom score c disk (then e) h durable from) (sym (rest r)) (at_rest r))
+        (λ (o : v.phase ≢ Rest). subst (λ (e : Option EntriesState). IsSoundFrom score c disk (then e) h durable from) (sym (on o)) at)
+        (rests v.phase)

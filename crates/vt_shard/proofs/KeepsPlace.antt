@@ -87,14 +87,6 @@ module _ {D : Type 0} (t v : SectionState D) where
       let next = ap (λ (x : SectionState D). x.next.mark) it.1 in
       (omega (arith, head), omega (arith, head, next, rises))
 
-  -- while something is under way the head is the same
-  pub head_stays : (result : Result Step ShardErr) → v.phase ≢ Rest → Advances result t v → (v.head ≡ t.head) × (v.next ≡ t.next)
-  head_stays (Ok More) on it = (it.0.head_is, it.0.next_is)
-  head_stays (Ok Done) on it = absurd (on it.2.phase)
-  head_stays (Err Fault) on it = ⊎_elim (λ end. absurd (on end.1.phase)) (λ stop. (stop.1.head_is, stop.1.next_is)) it
-  head_stays (Err (Damaged b w f)) on it = absurd (on it.1.phase)
-  head_stays (Err (Stopped n)) on it = (ap (λ (x : SectionState D). x.head) it.1, ap (λ (x : SectionState D). x.next) it.1)
-
   -- No more entries are in their buckets, and what is under way goes on.
   pub record SameEntries : Type 0 where
     pub written : v.written ≡ t.written

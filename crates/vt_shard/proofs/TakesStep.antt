@@ -1,10 +1,11 @@
 -- What a step of a writeback makes of a shard.
-use Rattle.std.proofs.Common.{◌≡◌, ◌≢◌, ℕ, ◌<◌, List, [], ◌∷◌, length, take, drop, Option, Some, None, Result, Ok, Err, refl, sym, ◌∙◌, ap, subst}
+use Rattle.std.proofs.Common.{◌≡◌, ◌≢◌, ⊎_elim, ℕ, ◌<◌, List, [], ◌∷◌, length, take, drop, Option, Some, None, Result, Ok, Err, refl, sym, ◌∙◌, ap, subst}
 use Rattle.std.specs.Prelude.{◌↔◌, IsSome, IfOk, OnOk}
 use Rattle.std.specs.List.{Contains}
 use Rattle.lru.proofs.Splits.{Contains-nil}
 use Rattle.vt_base.specs.declared.place.Entry.{Entry}
 use Rattle.vt_icache.specs.Index.{IndexState, entry_of}
+use Rattle.vt_isect.specs.Entries.{EntriesState}
 use Rattle.vt_isect.specs.Section.{SectionState, HasGroup, bucket_number, bucket_under_way, entries_of}
 use Rattle.vt_isect.specs.Writeback.{Advances as SectionAdvances, Completes, WritesBack, calls_left, most_calls}
 use Rattle.vt_isect.specs.declared.bad.ShardErr.{ShardErr}
@@ -17,8 +18,8 @@ use Rattle.vt_twin.specs.declared.step.Step.{Step}
 use Rattle.vt_twin.specs.declared.step.Step.TheVariants.{Done}
 use Rattle.vt_shard.specs.Shard.{ShardState, ReadBucket, HasBelow, IsUnderWay}
 use Rattle.vt_shard.specs.Writeback.{SettlesAll, TakesStep, WritesTo, without_list, written_back}
-use Rattle.vt_shard.proofs.KeepsPlace.{Stays, stays, marks, completes_begins, ends_same}
-use Rattle.vt_shard.proofs.Settles.{settles_none}
+use Rattle.vt_shard.proofs.IsWell.{rests}
+use Rattle.vt_shard.proofs.KeepsPlace.{Stays, stays, marks, completes_begins}
 use Rattle.vt_shard.proofs.UnderWay.{none_between, written_from}
 
 put_on : {D : Type 0} (p : Phase) (v : SectionState D) → p ≢ Rest → v ≡ without_list p v
@@ -37,6 +38,44 @@ none_left xs a is = subst (λ (n : ℕ). drop n xs ≡ []) (sym is) (all xs)
     all : {X : Type 0} (ys : List X) → drop (length ys) ys ≡ []
     all [] = refl
     all (y ∷ ys) = all ys
+
+-- the bucket that was read last, where it may be one that has some of these entries now
+module _ {D : Type 0} (t : ShardState D) (v : SectionState D) (written : List Entry) (are : written ≡ written_back t.section v)
+    (total : ℕ) (total_is : total ≡ t.section.head.total) (bucket : Option ReadBucket)
+    (dropped : (read : ReadBucket) (entry : Entry) → t.bucket ≡ Some read → Contains written entry
+    → bucket_of total entry.key.score.0 ≡ read.number → bucket ≡ None)
+    (kept : ((read : ReadBucket) (entry : Entry) → t.bucket ≡ Some read → Contains written entry
+    → bucket_of total entry.key.score.0 ≢ read.number) → bucket ≡ t.bucket) where
+  number_is : (entry : Entry) → bucket_of total entry.key.score.0 ≡ bucket_number t.section entry
+  number_is entry = ap (λ (k : ℕ). bucket_of k entry.key.score.0) total_is
+
+  forgets_read : (read : ReadBucket) → t.bucket ≡ Some read → WritesTo t.section v read.number → bucket ≡ None
+  forgets_read read has writes = dropped read writes.0 has
+      (subst (λ (l : List Entry). Contains l writes.0) (sym are) writes.1) (number_is writes.0 ∙ writes.2)
+
+  forgets_none : ((read : ReadBucket) → t.bucket ≡ Some read → ¬ WritesTo t.section v read.number) → bucket ≡ t.bucket
+  forgets_none none = kept (λ read entry has came number. none read has
+      (entry, subst (λ (l : List Entry). Contains l entry) are came, sym (number_is entry) ∙ number))
+
+  pub forgets_other : (read : ReadBucket) → bucket ≡ Some read → (t.bucket ≡ Some read) × (¬ WritesTo t.section v read.number)
+  forgets_other read is = by t.bucket refl
+    where
+      clash : (o : Option ReadBucket) (x : ReadBucket) → o ≡ None → o ≡ Some x → ⊥
+      clash o x none some = cc
+
+      one_read : (a b : ReadBucket) → Some a ≡ Some b → a ≡ b
+      one_read a b e = cc
+
+      by : (o : Option ReadBucket) → t.bucket ≡ o → (t.bucket ≡ Some read) × (¬ WritesTo t.section v read.number)
+      by None was = absurd (clash bucket read (kept (λ other entry has. absurd (clash t.bucket other was has)) ∙ was) is)
+      by (Some b) was =
+          let not : ¬ WritesTo t.section v b.number = λ writes. clash bucket read (forgets_read b was writes) is in
+          let still : bucket ≡ t.bucket =
+          forgets_none (λ x has writes. not (subst (λ (r : ReadBucket). WritesTo t.section v r.number) (sym (one_read b x (sym was ∙ has))) writes)) in
+          let before : t.bucket ≡ Some read = sym still ∙ is in (
+            before,
+            λ writes. not (subst (λ (r : ReadBucket). WritesTo t.section v r.number) (sym (one_read b read (sym was ∙ before))) writes),
+          )
 
 module _ {D : Type 0} (t : ShardState D) (below : ℕ) (under : t.writeback ≡ Some below) (it : IsUnderWay t below)
     (result : Result Step ShardErr) (v : SectionState D) (steps : SectionAdvances result t.section v)
@@ -58,40 +97,6 @@ module _ {D : Type 0} (t : ShardState D) (below : ℕ) (under : t.writeback ≡ 
 
   no_write : v.written ≡ t.section.written → (n : ℕ) → ¬ WritesTo t.section v n
   no_write equal n writes = Contains-nil writes.0 (subst (λ (l : List Entry). Contains l writes.0) (nothing equal) writes.1)
-
-  -- the writeback goes on
-  pub takes_on : (index : IndexState) (bucket : Option ReadBucket) → v.phase ≢ Rest
-      → SettlesAll below (written_back t.section v) t.index index
-      → (v.written ≡ t.section.written → index ≡ t.index)
-      → ((read : ReadBucket) → t.bucket ≡ Some read → WritesTo t.section v read.number → bucket ≡ None)
-      → (((read : ReadBucket) → t.bucket ≡ Some read → ¬ WritesTo t.section v read.number) → bucket ≡ t.bucket)
-      → TakesStep result t (record t { section = v; index = index; bucket = bucket })
-  takes_on index bucket on settles idle read kept = record {
-    advances = record {
-      section = (v, steps, put_on v.phase v on);
-      ends = λ rest. absurd (on rest);
-      goes_on = λ goes. refl;
-      ended_at = λ rest. absurd (on rest);
-      not_ended = λ goes. refl;
-      read = read;
-      kept = kept;
-      filed = refl;
-      lumps = refl;
-    };
-    settles = λ other is. subst (λ (b : ℕ). SettlesAll b (written_back t.section v) t.index index) (one other is) settles;
-    idle = idle;
-    done = done;
-    filed = λ other is writeback. absurd (on (subst (λ (r : Result Step ShardErr). SectionAdvances r t.section v) is steps).2.phase);
-    left = left;
-    stopped = stopped;
-    untouched = λ some.
-        let section_is : v ≡ t.section = untouched some in
-        let equal : v.written ≡ t.section.written = ap (λ (x : SectionState D). x.written) section_is in
-        let index_is : index ≡ t.index = idle equal in
-        let bucket_is : bucket ≡ t.bucket = kept (λ b has. no_write equal b.number) in
-        λ i. record t { section = section_is i; index = index_is i; bucket = bucket_is i };
-    place = record { name = same.name; buckets = same.buckets; head = same.head; mark = (marks t.section v result it.rises steps).0 };
-  }
 
   none_dirty : t.section.phase ≡ ChangeHead → ¬ HasBelow below t.index.dirty
   none_dirty head has =
@@ -116,38 +121,75 @@ module _ {D : Type 0} (t : ShardState D) (below : ℕ) (under : t.writeback ≡ 
       (let was : most_calls Rest v < calls_left t.section = subst (λ (p : Phase). most_calls p v < calls_left t.section) rest less in was)
   fewer_left (Err bad) rest less = less
 
-  -- it ended
-  pub takes_end : v.phase ≡ Rest → t.section.phase ≢ Rest
-      → TakesStep result t (record t {
-        section = record v { entries = None };
-        writeback = None;
-        ended_at = bucket_under_way t.section.phase t.section.bucket;
-      })
-  takes_end rest was =
-      let equal = ends_same t.section v result rest was steps in
-      record {
-        advances = record {
-          section = (v, steps, put_rest v.phase rest);
-          ends = λ at. refl;
-          goes_on = λ goes. absurd (goes rest);
-          ended_at = λ at. refl;
-          not_ended = λ goes. absurd (goes rest);
-          read = λ read has writes. absurd (no_write equal read.number writes);
-          kept = λ none_of. refl;
-          filed = refl;
-          lumps = refl;
-        };
-        settles = λ other is. subst (λ (l : List Entry). SettlesAll other l t.index t.index) (sym (nothing equal)) (settles_none other t.index);
-        idle = λ e. refl;
-        done = done;
-        filed = λ other is writeback.
-            subst (λ (b : ℕ). ¬ HasBelow b t.index.dirty) (one other writeback)
-            (none_dirty (subst (λ (r : Result Step ShardErr). SectionAdvances r t.section v) is steps).0);
-        left = fewer_left result rest left;
-        stopped = stopped;
-        untouched = λ some. absurd (was (sym (ap (λ (x : SectionState D). x.phase) (untouched some)) ∙ rest));
-        place = record { name = same.name; buckets = same.buckets; head = same.head; mark = (marks t.section v result it.rises steps).0 };
-      }
+  -- the shard behind the step, of which at rest the list is taken back
+  module _ (was : t.section.phase ≢ Rest) (written : List Entry) (are : written ≡ written_back t.section v)
+      (index : IndexState) (settles : SettlesAll below written t.index index) (none : written ≡ [] → index ≡ t.index)
+      (total : ℕ) (total_is : total ≡ t.section.head.total) (bucket : Option ReadBucket)
+      (dropped : (read : ReadBucket) (entry : Entry) → t.bucket ≡ Some read → Contains written entry
+      → bucket_of total entry.key.score.0 ≡ read.number → bucket ≡ None)
+      (kept : ((read : ReadBucket) (entry : Entry) → t.bucket ≡ Some read → Contains written entry
+      → bucket_of total entry.key.score.0 ≢ read.number) → bucket ≡ t.bucket)
+      (entries : Option EntriesState) (writeback ended_at : Option ℕ)
+      (rest : v.phase ≡ Rest → (entries ≡ None) × (writeback ≡ None) × (ended_at ≡ bucket_under_way t.section.phase t.section.bucket))
+      (on : v.phase ≢ Rest → (entries ≡ v.entries) × (writeback ≡ t.writeback) × (ended_at ≡ t.ended_at)) where
+    idle : v.written ≡ t.section.written → index ≡ t.index
+    idle equal = none (are ∙ nothing equal)
+
+    not_read : ((read : ReadBucket) → t.bucket ≡ Some read → ¬ WritesTo t.section v read.number) → bucket ≡ t.bucket
+    not_read = forgets_none t v written are total total_is bucket dropped kept
+
+    by_phase : (P : Option EntriesState → Type 0) → (v.phase ≡ Rest → P None) → (v.phase ≢ Rest → P v.entries) → P entries
+    by_phase P at_rest goes = ⊎_elim
+        (λ (r : v.phase ≡ Rest). subst P (sym (rest r).0) (at_rest r))
+        (λ (o : v.phase ≢ Rest). subst P (sym (on o).0) (goes o))
+        (rests v.phase)
+
+    pub takes : TakesStep result t
+        (record t { section = record v { entries = entries }; index = index; bucket = bucket; writeback = writeback; ended_at = ended_at })
+    takes = record {
+      advances = record {
+        section = (
+          v,
+          steps,
+          by_phase (λ (e : Option EntriesState). record v { entries = e } ≡ without_list v.phase v)
+              (put_rest v.phase) (put_on v.phase v),
+        );
+        ends = λ r. (rest r).1;
+        goes_on = λ o. (on o).1;
+        ended_at = λ r. (rest r).2;
+        not_ended = λ o. (on o).2;
+        read = forgets_read t v written are total total_is bucket dropped kept;
+        kept = not_read;
+        filed = refl;
+        lumps = refl;
+      };
+      settles = λ other is. subst (λ (b : ℕ). SettlesAll b (written_back t.section v) t.index index) (one other is)
+          (subst (λ (l : List Entry). SettlesAll below l t.index index) are settles);
+      idle = idle;
+      done = done;
+      filed = λ other is writeback.
+          let last = subst (λ (r : Result Step ShardErr). SectionAdvances r t.section v) is steps in
+          subst (λ (b : ℕ). ¬ HasBelow b index.dirty) (one other writeback)
+          (subst (λ (i : IndexState). ¬ HasBelow below i.dirty) (sym (idle last.2.written)) (none_dirty last.0));
+      left = by_phase (λ (e : Option EntriesState). OnOk result (calls_left (record v { entries = e }) < calls_left t.section))
+          (λ r. fewer_left result r left) (λ o. left);
+      stopped = stopped;
+      untouched = λ some.
+          let section_is : v ≡ t.section = untouched some in
+          let same = on (λ r. was (sym (ap (λ (x : SectionState D). x.phase) section_is) ∙ r)) in
+          let equal : v.written ≡ t.section.written = ap (λ (x : SectionState D). x.written) section_is in
+          let index_is : index ≡ t.index = idle equal in
+          let bucket_is : bucket ≡ t.bucket = not_read (λ b has. no_write equal b.number) in
+          let entries_is : entries ≡ t.section.entries = same.0 ∙ ap (λ (x : SectionState D). x.entries) section_is in
+          λ i. record t {
+            section = record (section_is i) { entries = entries_is i };
+            index = index_is i;
+            bucket = bucket_is i;
+            writeback = same.1 i;
+            ended_at = same.2 i;
+          };
+      place = record { name = same.name; buckets = same.buckets; head = same.head; mark = (marks t.section v result it.rises steps).0 };
+    }
 
 -- at least one entry is written to a bucket that is completed
 pub some_written : {D : Type 0} (t : ShardState D) (below : ℕ) (it : IsUnderWay t below)
@@ -164,41 +206,3 @@ some_written t below it result v steps n completes =
       subst (λ (k : ℕ). Contains (drop t.section.written (take k (entries_of t.section))) one.0) (sym last) one.1,
       one.2 ∙ completes.2.1.2,
     )
-
--- the bucket that was read last, where it may be one that has some of these entries now
-module _ {D : Type 0} (t : ShardState D) (v : SectionState D) (written : List Entry) (are : written ≡ written_back t.section v)
-    (total : ℕ) (total_is : total ≡ t.section.head.total) (bucket : Option ReadBucket)
-    (dropped : (read : ReadBucket) (entry : Entry) → t.bucket ≡ Some read → Contains written entry
-    → bucket_of total entry.key.score.0 ≡ read.number → bucket ≡ None)
-    (kept : ((read : ReadBucket) (entry : Entry) → t.bucket ≡ Some read → Contains written entry
-    → bucket_of total entry.key.score.0 ≢ read.number) → bucket ≡ t.bucket) where
-  number_is : (entry : Entry) → bucket_of total entry.key.score.0 ≡ bucket_number t.section entry
-  number_is entry = ap (λ (k : ℕ). bucket_of k entry.key.score.0) total_is
-
-  pub forgets_read : (read : ReadBucket) → t.bucket ≡ Some read → WritesTo t.section v read.number → bucket ≡ None
-  forgets_read read has writes = dropped read writes.0 has
-      (subst (λ (l : List Entry). Contains l writes.0) (sym are) writes.1) (number_is writes.0 ∙ writes.2)
-
-  pub forgets_none : ((read : ReadBucket) → t.bucket ≡ Some read → ¬ WritesTo t.section v read.number) → bucket ≡ t.bucket
-  forgets_none none = kept (λ read entry has came number. none read has
-      (entry, subst (λ (l : List Entry). Contains l entry) are came, sym (number_is entry) ∙ number))
-
-  pub forgets_other : (read : ReadBucket) → bucket ≡ Some read → (t.bucket ≡ Some read) × (¬ WritesTo t.section v read.number)
-  forgets_other read is = by t.bucket refl
-    where
-      clash : (o : Option ReadBucket) (x : ReadBucket) → o ≡ None → o ≡ Some x → ⊥
-      clash o x none some = cc
-
-      one_read : (a b : ReadBucket) → Some a ≡ Some b → a ≡ b
-      one_read a b e = cc
-
-      by : (o : Option ReadBucket) → t.bucket ≡ o → (t.bucket ≡ Some read) × (¬ WritesTo t.section v read.number)
-      by None was = absurd (clash bucket read (kept (λ other entry has. absurd (clash t.bucket other was has)) ∙ was) is)
-      by (Some b) was =
-          let not : ¬ WritesTo t.section v b.number = λ writes. clash bucket read (forgets_read b was writes) is in
-          let still : bucket ≡ t.bucket =
-          forgets_none (λ x has writes. not (subst (λ (r : ReadBucket). WritesTo t.section v r.number) (sym (one_read b x (sym was ∙ has))) writes)) in
-          let before : t.bucket ≡ Some read = sym still ∙ is in (
-            before,
-            λ writes. not (subst (λ (r : ReadBucket). WritesTo t.section v r.number) (sym (one_read b read (sym was ∙ before))) writes),
-          )

@@ -24,7 +24,8 @@ use Rattle.vt_shard.specs.Shard.{ShardState, ReadBucket, HasScore, IsDirtyBelow,
 use Rattle.vt_shard.specs.Writeback.{SettlesAll, written_back}
 use Rattle.vt_shard.specs.declared.TheConstants.{ROOM}
 use Rattle.vt_shard.proofs.IsFiling.{begins_filing}
-use Rattle.vt_shard.proofs.KeepsPlace.{Stays, EndsGroup, SameEntries, marks, stays, stays_few, steps_on}
+use Rattle.vt_shard.proofs.IsWell.{rests}
+use Rattle.vt_shard.proofs.KeepsPlace.{Stays, EndsGroup, SameEntries, ends_same, marks, stays, stays_few, steps_on}
 use Rattle.vt_shard.proofs.Lists.{AreApart, apart_front, apart_parts}
 use Rattle.vt_shard.proofs.Settles.{fewer, gone, went}
 
@@ -82,29 +83,32 @@ written_from from v begins = ⊎_elim (λ group. group.1) (λ head. head.1) begi
 -- what a step puts into a bucket
 module _ {D : Type 0} (t : ShardState D) (below : ℕ) (it : IsUnderWay t below)
     (result : Result Step ShardErr) (v : SectionState D) (steps : Advances result t.section v) where
-  pub steps_ahead : v.phase ≢ Rest → t.section.phase ≢ Rest
-      → (t.section.written ≤ v.written) × (v.written ≤ length (entries_of t.section))
-  steps_ahead on was = ⊎_elim
+  within : t.section.phase ≢ Rest → t.section.written ≤ length (entries_of t.section)
+  within was = ⊎_elim
+      (λ (has : PutsEntries t.section.phase). let order = (it.filing has).order in omega (arith, order))
+      (λ (head : t.section.phase ≡ ChangeHead). let b = it.behind head in omega (arith, b))
+      (either t.section.phase was)
+
+  pub steps_ahead : t.section.phase ≢ Rest → (t.section.written ≤ v.written) × (v.written ≤ length (entries_of t.section))
+  steps_ahead was =
+      let le = within was in ⊎_elim
+      (λ (rest : v.phase ≡ Rest). let e = ends_same t.section v result rest was steps in (omega (arith, e), omega (arith, e, le)))
+      (λ (on : v.phase ≢ Rest). ⊎_elim
       (λ (last : EndsGroup t.section v result).
       let order = (it.filing (subst PutsEntries (sym last.1) tt)).order in
       let e = written_from t.section.begun v last.2 in
       (omega (arith, e, order), omega (arith, e, order)))
-      (λ (stay : SameEntries t.section v).
-      let e = stay.written in
-      let within : t.section.written ≤ length (entries_of t.section) = ⊎_elim
-      (λ (has : PutsEntries t.section.phase). let order = (it.filing has).order in omega (arith, order))
-      (λ (head : t.section.phase ≡ ChangeHead). let b = it.behind head in omega (arith, b))
-      (either t.section.phase was) in
-      (omega (arith, e), omega (arith, e, within)))
-      (steps_on t.section v result on steps)
+      (λ (stay : SameEntries t.section v). let e = stay.written in (omega (arith, e), omega (arith, e, le)))
+      (steps_on t.section v result on steps))
+      (rests v.phase)
 
   pub written_dirty : (entry : Entry) → Contains (written_back t.section v) entry → IsDirtyBelow below t.index.dirty entry
   written_dirty entry has = (it.todo entry).0 (in_drop (entries_of t.section) t.section.written v.written entry has)
 
-  pub written_apart : v.phase ≢ Rest → t.section.phase ≢ Rest → AreApart (λ (x : Entry). x.key) (written_back t.section v)
-  written_apart on was =
+  pub written_apart : t.section.phase ≢ Rest → AreApart (λ (x : Entry). x.key) (written_back t.section v)
+  written_apart was =
       apart_front (λ (x : Entry). x.key) (written_back t.section v) (drop v.written (entries_of t.section))
-      (subst (AreApart (λ (x : Entry). x.key)) (drop_parts (entries_of t.section) t.section.written v.written (steps_ahead on was).0)
+      (subst (AreApart (λ (x : Entry). x.key)) (drop_parts (entries_of t.section) t.section.written v.written (steps_ahead was).0)
       (drop_apart (λ (x : Entry). x.key) (entries_of t.section) t.section.written it.apart))
 
   pub written_within : All (λ (info : Info). HasScore t info.key.score.0) t.index.dirty
@@ -164,8 +168,9 @@ module _ {D : Type 0} (t : ShardState D) (below : ℕ) (it : IsUnderWay t below)
         (subst (λ (l : List Entry). Contains l entry) parts todo)),
   )
 
-  pub under_way_still : (bucket : Option ReadBucket) → IsUnderWay (record t { section = v; index = index; bucket = bucket }) below
-  under_way_still bucket = record {
+  pub under_way_still : (bucket : Option ReadBucket) (writeback ended_at : Option ℕ)
+      → IsUnderWay (record t { section = v; index = index; bucket = bucket; writeback = writeback; ended_at = ended_at }) below
+  under_way_still bucket writeback ended_at = record {
     filed = it.filed;
     next = same.next;
     rises = (marks t.section v result it.rises steps).1;
@@ -197,9 +202,3 @@ range_is t v list a b from to is same =
     ∙ ap (λ (l : List Entry). drop a (take b l)) (is ∙ ap (λ (o : Option EntriesState). option_map_or (λ e. e.items) o []) same)
     ∙ ap (λ (n : ℕ). drop n (take b (entries_of t))) from
     ∙ ap (λ (n : ℕ). drop t.written (take n (entries_of t))) to
-
-module _ {D : Type 0} (t : ShardState D) (below : ℕ) (it : IsUnderWay t below)
-    (result : Result Step ShardErr) (v : SectionState D) (steps : Advances result t.section v)
-    (list : List Entry) (a b : ℕ) (from : a ≡ t.section.written) (to : b ≡ v.written) (is : list ≡ entries_of v) where
-  pub range_written : take (b - a) (drop a list) ≡ written_back t.section v
-  range_written = range_is t.section v list a b from to is (stays t.section v result it.next steps).entries

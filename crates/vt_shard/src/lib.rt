@@ -4,6 +4,7 @@
 //! it is the search in the blocks that it has.
 //!
 //! Only `mount` and `keep_lump` take memory.
+// Tests: crates/vt_index_tests/src/shard.rt.
 #![tactic(auto)]
 
 mod laws;

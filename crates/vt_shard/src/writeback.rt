@@ -113,20 +113,21 @@ impl<D: Disk> Shard<D> {
         let Some(below) = self.writeback else {
             unreachable!()
         };
+        let head = self.section.head();
         let before = self.section.written();
         let bucket = self.section.bucket_under_way();
         let answer = self.section.advance();
-        if !self.section.is_changing() {
-            self.list = take_back(&mut self.section);
-            self.writeback = None;
-            self.ended_at = bucket;
-            return answer;
-        }
         let written = &self.section.entries()[before..self.section.written()];
-        let head = self.section.head();
         settle(&mut self.index, written, below);
         count_off(&mut self.waiting, written, head);
         forget(&mut self.bucket, written, head.total);
+        end_at_rest(
+            &mut self.section,
+            &mut self.list,
+            &mut self.writeback,
+            &mut self.ended_at,
+            bucket,
+        );
         answer
     }
 
@@ -218,6 +219,31 @@ fn has_one_of(entries: &[Entry], total: u32, bucket: u32) -> bool
     entries
         .iter()
         .any(|entry| bucket_number(total, &entry.key.score) == bucket)
+}
+
+/// Once nothing is under way any more, the writeback has ended: at this bucket, if it ended early.
+/// The memory for its entries is handed back.
+fn end_at_rest<D: Disk>(
+    section: &mut Section<D>,
+    list: &mut Option<Vec<Entry>>,
+    writeback: &mut Option<u64>,
+    ended_at: &mut Option<u32>,
+    bucket: Option<u32>,
+)
+    ensures section { section.new ≡ record section.old { entries = section.new.entries } }
+    ensures rest { IsAtRest section.old → (section.new.entries ≡ None)
+        × (writeback.new ≡ None) × (ended_at.new ≡ bucket) }
+    ensures goes_on { ¬ IsAtRest section.old → (section.new.entries ≡ section.old.entries)
+        × (writeback.new ≡ writeback.old) × (ended_at.new ≡ ended_at.old) }
+    ensures room { IsAtRest section.old → option_map (λ list. vec_capacity list) list.new
+        ≡ option_map (λ list. list.room) section.old.entries }
+{
+    if section.is_changing() {
+        return;
+    }
+    *list = take_back(section);
+    *writeback = None;
+    *ended_at = bucket;
 }
 
 /// The memory for the entries of a writeback, which the section at rest hands back.

@@ -1,5 +1,6 @@
 //! One block, read from a store on devices or written to it, and the same with the store that a
 //! configuration names, which is opened for it.
+// Tests: crates/vt_store_tests/src/upkeep.rt, crates/run_tests_sessions/src/read.rt.
 #![tactic(auto)]
 
 mod laws;

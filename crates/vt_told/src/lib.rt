@@ -1,5 +1,6 @@
 //! Why a store can't be mounted, by the words in which its parts refuse: each part's own refusal as
 //! the store's, under the number of the part.
+// Tests: crates/vt_core_tests/src/refusals.rt.
 #![tactic(auto)]
 
 mod laws;

@@ -59,6 +59,7 @@ impl Entry {
         if let Some(bad) = entry.fault() {
             return Err(bad);
         }
+        // (the flag 0x40)
         if flags / 64 % 2 == 1 {
             return Err(BadEntry {
                 field: EntryField::Flags,
@@ -113,6 +114,7 @@ impl Entry {
         requires { FitsEntry self.now }
         ensures { result ≡ flags_of self.now }
     {
+        // (0x01 active, 0x02 a directory, 0x1c the depth)
         u8::from(self.active) + 2 * u8::from(self.is_dir) + 4 * self.depth
     }
 }

@@ -1,5 +1,6 @@
 //! Files and directories as trees of blocks (venti(6)): entries and roots, stores of blocks, and
 //! streams that are written to them and read back.
+// Tests: crates/vt_tree_tests/src/tree.rt, crates/vt_tree_tests/src/streams.rt.
 #![tactic(auto)]
 
 mod blocks;

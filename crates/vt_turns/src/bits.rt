@@ -19,6 +19,7 @@ impl<P: Held<B>, B> Turns<P, B> {
         ensures own { IsPassOf self.now pass.new }
         ensures view { view pass.new ≡ with_bits (place ∷ []) (view pass.old) }
     {
+        // (word 0 is the front, 1 + k that of part k, and the bits come behind: specs/Rule.antt)
         let word = self.parts + 1 + (place / 64) as usize;
         self.table
             .shared
@@ -55,6 +56,7 @@ impl<P: Held<B>, B> Turns<P, B> {
             (view pass.new ≡ with_bits (place ∷ []) (view pass.old))
             ((view pass.new ≡ view pass.old) × LacksBit P.means place (view pass.old)) }
     {
+        // (word 0 is the front, 1 + k that of part k, and the bits come behind: specs/Rule.antt)
         let word = self.parts + 1 + (place / 64) as usize;
         let found = self.table.shared.load::<LoadsBit<W>>(pass, word);
         (found >> (place % 64)) & 1 == 1

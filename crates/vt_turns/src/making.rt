@@ -58,6 +58,7 @@ struct Prepared<P, B> {
 }
 
 /// Makes it, for so many parts.
+// (words and slots; prepare of vt_answer takes a session's memory, that of vt_log stages a commit)
 fn prepare<P: Drop, B, J: Opened<P, B>>(
     alloc: Global,
     count: usize,

@@ -3,6 +3,7 @@
 //!
 //! A key has one value for ever. The log is a list of blocks, and a shard is a map from the keys of
 //! a range to the numbers of their blocks.
+// Tests: crates/vt_turns_example/src/tests.rt.
 #![tactic(auto)]
 
 mod link;

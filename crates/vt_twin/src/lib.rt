@@ -1,6 +1,7 @@
 //! A double-buffered frame: two frames and a selector, whose first byte names the current one by
 //! its parity. A change writes the idle frame, syncs, writes the selector and syncs, one device
 //! call at a time, so that whatever a crash leaves gives the old frame or the new one.
+// Tests: crates/vt_disk_tests/src/twin.rt.
 #![tactic(auto)]
 
 mod calls;

@@ -1,5 +1,6 @@
 //! Keeping the store that a configuration names: rebuilding its index from its log, and checking
 //! its arenas (venti(8), buildindex and checkarenas).
+// Tests: crates/vt_store_tests/src/upkeep.rt.
 #![tactic(auto)]
 
 mod bad;

@@ -28,6 +28,7 @@ pub(crate) struct Opened<D: Disk, S: Scorer> {
     /// How many buckets all sections have.
     pub(crate) buckets: u32,
     /// Memory to hand the sections' devices back in.
+    /// (the list that they came in, emptied, so that it takes none)
     pub(crate) room: Vec<D>,
     pub(crate) filter: Option<D>,
 }

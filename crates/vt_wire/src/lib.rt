@@ -1,4 +1,5 @@
 //! How a client and a Venti server spell what they say (venti(6), version 02).
+// Tests: crates/vt_wire_tests/src/wire.rt.
 #![tactic(auto)]
 
 mod decoder;

@@ -49,8 +49,11 @@ fn parameters_len(request: &Request) -> usize
 {
     match request {
         Request::Ping | Request::Goodbye | Request::Sync => 0,
+        // (two lengths of 2; strength and two empty lists, 1 each)
         Request::Hello { version } => 2 + version.len() + 2 + UID.len() + 3,
+        // (type 1, pad 1, count 2)
         Request::Read { score, .. } => score.0.len() + 4,
+        // (type 1, pad 3)
         Request::Write { bytes, .. } => 4 + bytes.len(),
     }
 }

@@ -1,4 +1,5 @@
 //! The words of the program's command line (venti(8)), as clap reads them.
+// Tests: crates/vt_base_tests/src/words.rt.
 #![tactic(auto)]
 
 mod asked;

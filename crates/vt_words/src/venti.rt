@@ -156,16 +156,25 @@ const NAME: &str = "1 to 64 letters, digits, '.', '-' and '_'";
 
 const LENGTH: &str = "how many bytes the file has at least";
 
+/// The command with the words of a partition that it makes of a file.
+fn with_partition<'a>(alloc: Global, command: Command<'a>) -> Result<Command<'a>, AllocError>
+    ensures app { IfOk result (λ it. app_of it ≡ with_word (with_word (with_word
+        (app_of command.entry) (codes "FILE")) (codes "NAME")) (codes "LENGTH")) }
+    ensures local { IfOk result (λ it.
+        (fields_of it).has_globals ≡ (fields_of command.entry).has_globals) }
+{
+    let command = with_word(alloc, command, "FILE", FILE)?;
+    let command = with_word(alloc, command, "NAME", NAME)?;
+    with_word(alloc, command, "LENGTH", LENGTH)
+}
+
 fn fmtarenas<'a>(alloc: Global) -> Result<Command<'a>, AllocError>
     ensures app { IfOk result (λ it. app_of it ≡ fmtarenas) }
     ensures local { IfOk result (λ it. (fields_of it).has_globals ≡ false) }
 {
     let about = "Makes a file a partition of arenas, which hold the blocks, and wipes what it held";
     let size = "how many bytes each arena has, a multiple of 8192";
-    let command = command_of(alloc, "fmtarenas", about);
-    let command = with_word(alloc, command, "FILE", FILE)?;
-    let command = with_word(alloc, command, "NAME", NAME)?;
-    let command = with_word(alloc, command, "LENGTH", LENGTH)?;
+    let command = with_partition(alloc, command_of(alloc, "fmtarenas", about))?;
     with_word(alloc, command, "ARENASIZE", size)
 }
 
@@ -174,10 +183,7 @@ fn fmtisect<'a>(alloc: Global) -> Result<Command<'a>, AllocError>
     ensures local { IfOk result (λ it. (fields_of it).has_globals ≡ false) }
 {
     let about = "Makes a file a section of the index, and wipes what it held";
-    let command = command_of(alloc, "fmtisect", about);
-    let command = with_word(alloc, command, "FILE", FILE)?;
-    let command = with_word(alloc, command, "NAME", NAME)?;
-    with_word(alloc, command, "LENGTH", LENGTH)
+    with_partition(alloc, command_of(alloc, "fmtisect", about))
 }
 
 fn fmtbloom<'a>(alloc: Global) -> Result<Command<'a>, AllocError>
@@ -252,6 +258,7 @@ fn write<'a>(alloc: Global) -> Result<Command<'a>, AllocError>
     with_word(alloc, command, "TYPE", TYPE)
 }
 
+// (a command stands in five places: docs/CONTRIBUTING.md, "To add a command")
 fn rehearse<'a>(alloc: Global) -> Result<Command<'a>, AllocError>
     ensures app { IfOk result (λ it. app_of it ≡ rehearse) }
     ensures local { IfOk result (λ it. (fields_of it).has_globals ≡ false) }

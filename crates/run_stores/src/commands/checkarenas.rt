@@ -128,6 +128,7 @@ fn state_text(sealed: bool) -> &'static [u8]
     if sealed { b"sealed" } else { b"unsealed" }
 }
 
+// (defined in specs/Checkarenas.antt; tests: crates/run_tests_stores/src/checkarenas.rt)
 fn result_text(damage: &Option<Damage>) -> &'static [u8]
     ensures { result.now ≡ result_text damage.now }
 {

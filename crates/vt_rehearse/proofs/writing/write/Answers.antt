@@ -102,4 +102,4 @@ returns-clause-grows g c = λ most it.
     let noted = subst (λ (b : Bool). new ≡ record judged { listed = listed_after b word judged.listed; summary = with_write b judged.summary }) told c.note_write.ensures in
     let whole = whole_write score disk c.args.session word old mid judged said c.history_len-before.result c.history_len-before.ensures c.ask_to_write-said.ensures.same c.judge_write.ensures right.0 right.1 right.2 new noted in
     subst (λ (s : Summary). AreAtMost (most + 8192) s) (sym (ap (λ (s : StageState g.row.D.Denot). s.summary) whole))
-    (more (most + 1 + 1) (most + 8192) (with_write right.0 (with_compared true old.summary)) (omega arith) (more_write right.0 (most + 1) (with_compared true old.summary) (more_compared most true old.summary it)))
+    (more (most + 1 + 3) (most + 8192) (with_write right.0 (with_compared true old.summary)) (omega arith) (more_write right.0 (most + 1) (with_compared true old.summary) (more_compared most true old.summary it)))
