@@ -1,165 +1,128 @@
-"""Reads which calls, clauses and definitions the crates have, and whether a document names others."""
+"""Holds what the documents name, such as calls, clauses, definitions and paths, to what the crates have."""
+import functools
 import os
 import re
 
-TOP = os.path.dirname(os.path.dirname(os.path.realpath(__file__)))
-CRATES = os.path.join(TOP, "crates")
-# What stands for a clause without a name.
-UNNAMED = "ensures"
-
-
-def texts(folder, ending):
-    """The texts of a folder's files with this ending."""
-    for at, _, names in os.walk(folder):
-        for name in sorted(names):
-            if name.endswith(ending):
-                with open(os.path.join(at, name), encoding="utf-8") as text:
-                    yield text.read()
-
-
-def uses():
-    """The lines of crates.txt: each crate of the repository, and what it uses."""
-    with open(os.path.join(TOP, "crates.txt"), encoding="utf-8") as lines:
-        rows = [line.partition("#")[0].partition(":") for line in lines]
-    return {name.strip(): used.split() for name, colon, used in rows if colon}
-
-
-def behind(text, at):
-    """The place behind the block that begins with the brace at this place."""
-    depth = 0
-    for place in range(at, len(text)):
-        depth += {"{": 1, "}": -1}.get(text[place], 0)
-        if depth == 0:
-            return place + 1
-    return len(text)
-
-
-def clauses_of(text, at):
-    """The names of what the function ensures whose head begins at this place."""
-    found = set()
-    while True:
-        stop = re.compile(r"[{;]").search(text, at)
-        # (a type such as [u8; 2] is inside the head)
-        while stop and stop[0] == ";" and text.count("[", at, stop.start()) > text.count("]", at, stop.start()):
-            stop = re.compile(r"[{;]").search(text, stop.end())
-        clause = stop and re.search(r"\b(ensures|requires)\s*([\w']*)\s*$", text[at:stop.start()])
-        if not clause:
-            return found
-        if clause[1] == "ensures":
-            found.add(clause[2] or UNNAMED)
-        at = behind(text, stop.start())
-
-
-class Crate:
-    """The calls of a crate with their clauses, and the definitions of its specs."""
-
-    def __init__(self, name):
-        self.calls, self.definitions = [], set()
-        for text in texts(f"{CRATES}/{name}/src", ".rt"):
-            self.read_code(re.sub(r"//[^\n]*", "", text))
-        for text in texts(f"{CRATES}/{name}/specs", ".antt"):
-            text = re.sub(r"--[^\n]*", "", text)
-            words = r"(?:(?:pub|abbrev|unfoldable|opaque|record|data)\s+)*"
-            named = rf"(?m)^\s*{words}([^\s:(){{}},]+)\s*(?:[({{][^\n]*)?:(?=\s)"
-            self.definitions |= set(re.findall(named, text))
-
-    def read_code(self, text):
-        """Notes each function: its owner's head, its name and its clauses."""
-        owner, until = "", 0
-        items = r"(?m)^(?:pub(?:\([^)]*\))?\s+)?(?:unsafe\s+)?((?:impl|trait)\b[^{;]*)\{|\bfn\s+(\w+)"
-        for item in re.finditer(items, text):
-            if item[1]:
-                owner, until = item[1], behind(text, item.end() - 1)
-            else:
-                inside = owner if item.start() < until else ""
-                self.calls.append((inside, item[2], clauses_of(text, item.end())))
-        self.definitions |= set(re.findall(r"(?m)^\s*(?:pub\s+)?(?:enum|struct|trait|type)\s+(\w+)", text))
-
-    def clauses(self, call):
-        """The clauses of the functions that this names, as `name` or `Type::name`, or None where there is none."""
-        owner, _, name = call.rpartition("::")
-        found = [had for of, it, had in self.calls if it == name and (not owner or re.search(rf"\b{owner}\b", of))]
-        return set().union(*found) if found else None
+import sources
+from sources import CRATES, TOP
 
 
 def quoted(cell):
     return re.findall(r"`([^`]+)`", cell)
 
 
+def tables(lines):
+    """Each row of the tables of these lines: its number, the crate that the heading above it names, the table's head
+    and the row's cells."""
+    crate, head = "", None
+    for number, line in enumerate(lines, 1):
+        if line.startswith("#"):
+            crate = (quoted(line) or [""])[0]
+        if not line.startswith("|"):
+            head = None
+            continue
+        cells = [it.strip() for it in line.strip().strip("|").split("|")]
+        if head is None:
+            head = cells
+        elif not set(line) <= set("|-: "):
+            yield number, crate, head, cells
+
+
+def facts(lines):
+    """Each row of the tables of facts: its number, its crate, whether it is in a table that is no crate's and has the
+    crate in front, and the names in its four cells: call, promise, clause and definition."""
+    for number, crate, head, cells in tables(lines):
+        is_first = head[0] == "crate"
+        if is_first:
+            crate, cells = (quoted(cells[0]) or [""])[0], cells[1:]
+        if is_first or head[0] == "call":
+            yield number, crate, is_first, [quoted(it) for it in cells]
+
+
+def functions(crate, call):
+    """The functions of a crate that a document names."""
+    return sources.crates()[crate].called(call) if crate in sources.crates() else []
+
+
+@functools.lru_cache(maxsize=None)
+def definitions(crate):
+    """The definitions of a crate's specs, its types and its traits, and those of the crates that it uses."""
+    found = set()
+    for path in sources.files(f"{CRATES}/{crate}/specs", ".antt"):
+        text = re.sub(r"--[^\n]*", "", sources.read(path))
+        words = r"(?:(?:pub|abbrev|unfoldable|opaque|record|data)\s+)*"
+        found.update(re.findall(rf"(?m)^\s*{words}([^\s:(){{}},]+)\s*(?:[({{][^\n]*)?:(?=\s)", text))
+    for path in sources.files(f"{CRATES}/{crate}/src", ".rt"):
+        found.update(re.findall(r"(?m)^\s*(?:pub\s+)?(?:enum|struct|trait|type)\s+(\w+)", sources.read(path)))
+    return found.union(*[definitions(it) for it in sources.uses()[crate] if it in sources.uses()])
+
+
 class Documents:
     """What the documents say of the crates, held to what these have."""
 
     def __init__(self):
-        self.uses = uses()
-        self.crates = {name: Crate(name) for name in self.uses}
+        self.crates = sources.crates()
         self.wrong, self.facts = [], 0
-        # Each call and clause of a row of docs/PROVED.md, under the crate's heading.
-        self.rows = set()
+        # Each crate, call and clause of a row of docs/PROVED.md, and those of its first part.
+        self.rows, self.first = set(), set()
 
-    def below(self, name):
-        found = [name]
-        for it in self.uses[name]:
-            if it in self.uses:
-                found += [lower for lower in self.below(it) if lower not in found]
-        return found
-
-    def fact(self, place, crate, calls, clauses, definitions=()):
+    def fact(self, place, crate, calls, clauses, names=()):
         """Holds one fact to the crate: each call has one of the clauses at least, each clause is one of them, and each
-        definition is the crate's or one of a crate below it."""
+        name is that of a definition of the crate or of one below it."""
         self.facts += 1
         if crate not in self.crates:
             self.wrong.append(f"{place}: there is no crate {crate}")
             return
-        had = [self.crates[crate].clauses(call) for call in calls]
+        had = [self.clauses(crate, call) for call in calls]
         self.wrong += [f"{place}: {crate} has no call {call}" for call, it in zip(calls, had) if it is None]
         self.wrong += [f"{place}: {call} of {crate} has no clause of {clauses}" for call, it in zip(calls, had)
                        if it is not None and not it & set(clauses)]
         every = set().union(*[it or set() for it in had])
         self.wrong += [f"{place}: {' and '.join(calls)} of {crate} lacks the clause {it}" for it in clauses
                        if it not in every]
-        known = set().union(*[self.crates[it].definitions for it in self.below(crate)])
-        self.wrong += [f"{place}: neither {crate} nor a crate below it defines {it}" for it in definitions
-                       if it.rpartition(".")[2] not in known]
+        self.wrong += [f"{place}: neither {crate} nor a crate below it defines {it}" for it in names
+                       if it.rpartition(".")[2] not in definitions(crate)]
         if not calls or not clauses:
             self.wrong.append(f"{place}: the row names no call, or no clause")
 
+    def clauses(self, crate, call):
+        """The names of what the functions ensure that this names, or None where there is none."""
+        found = functions(crate, call)
+        return set().union(*[it.promised() for it in found]) if found else None
+
     def tables(self, name):
-        """Each row of the document's tables: its line, the crate of the heading above it, its head, and its cells."""
-        crate, head = "", None
-        with open(os.path.join(TOP, name), encoding="utf-8") as lines:
-            for number, line in enumerate(lines, 1):
-                if line.startswith("#"):
-                    crate = (quoted(line) or [""])[0]
-                if not line.startswith("|"):
-                    head = None
-                    continue
-                cells = [it.strip() for it in line.strip().strip("|").split("|")]
-                if head is None:
-                    head = cells
-                elif not set(line) <= set("|-: \n"):
-                    yield number, crate, head, cells
+        return tables(sources.read(os.path.join(TOP, name)).split("\n"))
 
     def proved(self):
-        """docs/PROVED.md: under the heading of a crate, rows of calls, what they promise, clauses and definitions."""
-        for number, crate, head, cells in self.tables("docs/PROVED.md"):
-            if head[0] == "call":
-                place = f"docs/PROVED.md:{number}"
-                if len(cells) != 4:
-                    self.wrong.append(f"{place}: a row has four cells: call, promise, clause, definition")
-                    continue
-                self.fact(place, crate, quoted(cells[0]), quoted(cells[2]), quoted(cells[3]))
-                self.rows |= {(crate, call, clause) for call in quoted(cells[0]) for clause in quoted(cells[2])}
+        """docs/PROVED.md: rows of calls, what they promise, clauses and definitions."""
+        lines = sources.read(os.path.join(TOP, "docs", "PROVED.md")).split("\n")
+        self.wrong += [f"docs/PROVED.md:{number}: the row is in no table of calls"
+                       for number, _, head, _ in tables(lines) if head[0] not in ("call", "crate")]
+        self.wrong += [f"docs/PROVED.md:{number}: there is no crate {it}" for number, line in enumerate(lines, 1)
+                       if line.startswith("#") for it in quoted(line) if it not in self.crates]
+        for number, crate, is_first, names in facts(lines):
+            place = f"docs/PROVED.md:{number}"
+            if len(names) != 4:
+                self.wrong.append(f"{place}: a row has four cells: call, promise, clause, definition")
+                continue
+            calls, _, clauses, stated = names
+            self.fact(place, crate, calls, clauses, stated)
+            rows = {(crate, call, clause) for call in calls for clause in clauses}
+            self.rows |= rows
+            self.first |= rows if is_first else set()
 
     def promises(self, name):
         """A document for users: in the table of what holds, the last cell names a crate, a call of it and its clauses,
-        and so on behind a semicolon, each of which stands in a row of docs/PROVED.md."""
+        and so on behind a semicolon, each of which stands in a row of docs/PROVED.md; those of README.md in its first
+        part."""
+        rows, where = (self.first, "the first part of ") if name == "README.md" else (self.rows, "")
         for number, _, head, cells in self.tables(name):
             if head[-1] == "Clause":
                 for part in cells[-1].split(";"):
                     crate, *names = quoted(part) or [""]
                     self.fact(f"{name}:{number}", crate, names[:1], names[1:])
-                    self.wrong += [f"{name}:{number}: docs/PROVED.md has no row of {crate} with {names[0]} and {it}"
-                                   for it in names[1:] if (crate, names[0], it) not in self.rows]
+                    self.wrong += [f"{name}:{number}: {where}docs/PROVED.md has no row of {crate}, {names[0]}, {it}"
+                                   for it in names[1:] if (crate, names[0], it) not in rows]
 
     def statuses(self, name):
         """A document for users: its table of statuses has those that the program may end with, and no others."""
@@ -187,8 +150,19 @@ class Documents:
             if not any(it.startswith(cells[4]) for it in sections):
                 self.wrong.append(f"{place}: docs/FORMATS.md has no section {cells[4]}")
             laws = quoted(cells[5])
-            self.wrong += [f"{place}: {crate} has no law {law}" for law in laws
-                           if self.crates[crate].clauses(law) is None]
+            self.wrong += [f"{place}: {crate} has no law {law}" for law in laws if self.clauses(crate, law) is None]
+
+    def defined(self):
+        """docs/DEFINITIONS.md: the names in bold, but for plain words, are definitions, and its files are there."""
+        known = set().union(*[definitions(it) for it in self.crates])
+        specs = [path for it in self.crates for path in sources.files(f"{CRATES}/{it}/specs", ".antt")]
+        for number, line in enumerate(sources.read(os.path.join(TOP, "docs", "DEFINITIONS.md")).split("\n"), 1):
+            place = f"docs/DEFINITIONS.md:{number}"
+            names = [it for bold in re.findall(r"\*\*([^*]+)\*\*", line) for it in bold.split(", ")]
+            self.wrong += [f"{place}: no crate defines {it}" for it in names
+                           if re.search(r"[A-Z_]", it) and it.rpartition(".")[2] not in known]
+            self.wrong += [f"{place}: no crate has {it}" for it in re.findall(r"`([\w/]+\.antt)`", line)
+                           if not any(path.endswith(f"/{it}") for path in specs)]
 
     def hops(self):
         """docs/ARCHITECTURE.md: a line of its figures that has a file names a call, its crate, and the call's file."""
@@ -200,7 +174,7 @@ class Documents:
 
     def hop(self, place, call, crate, file):
         self.facts += 1
-        if crate not in self.crates or self.crates[crate].clauses(call) is None:
+        if crate not in self.crates or self.clauses(crate, call) is None:
             self.wrong.append(f"{place}: {crate} has no call {call}")
             return
         with open(os.path.join(CRATES, crate, file), encoding="utf-8") as text:

@@ -6,7 +6,7 @@ layer comes first.
 import os
 import re
 
-from contracts import TOP, uses
+from sources import TOP, uses
 
 
 def layers():
@@ -22,6 +22,11 @@ def layers():
             elif crate:
                 found[-1][1].append(crate[0])
     return found
+
+
+def tests():
+    """The crates that are tests and no part of the program."""
+    return dict(layers()).get("tests", [])
 
 
 def parts():

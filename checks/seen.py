@@ -4,7 +4,7 @@ import glob
 import hashlib
 import os
 
-from contracts import CRATES, TOP
+from sources import CRATES, TOP
 
 EDITS = os.path.join(TOP, "checks", "edits")
 SEEN = os.path.join(EDITS, "SEEN")
