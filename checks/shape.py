@@ -89,14 +89,15 @@ def repeated():
 
 # What is counted, how, and the most that it may be.
 COUNTS = [
-    ("clauses of commands that say only what stays", frames, 113),
+    ("clauses of commands that say only what stays", frames, 8),
     ("uses in crates.txt that the crate doesn't name", unnamed_uses, 0),
-    (f"functions of more than {LINES} lines", long_bodies, 2),
+    # (one of them is the list of all commands, a call for each)
+    (f"functions of more than {LINES} lines", long_bodies, 3),
     (f"contracts of more than {LINES} lines", long_contracts, 10),
     (f"proof files of more than {PROOF_LINES} lines", long_proofs, 1),
-    ("clauses with work_of", clauses_of_work, 59),
-    ("proof files with lent_again", proofs_of_lending, 33),
-    (f"texts of {LONG} characters that are clauses of more than {MANY} functions", repeated, 5),
+    ("clauses with work_of", clauses_of_work, 4),
+    ("proof files with lent_again", proofs_of_lending, 0),
+    (f"texts of {LONG} characters that are clauses of more than {MANY} functions", repeated, 4),
 ]
 
 

@@ -21,12 +21,12 @@ use Rattle.vac_store.specs.Stored.{ArchivesStored}
 use Rattle.vac_store.specs.Storing.{is_folder_fault}
 use Rattle.run_base.specs.declared.failure.Failure.{Failure}
 use Rattle.run_base.specs.declared.failure.Failure.TheVariants.{BadName, BadNumber, FolderFault, NoMemory, TooDeep, TooLong}
-use Rattle.run_base.specs.Blocks.{FindsNoConf, refusal_for}
-use Rattle.run_base.specs.Change.{AreUnused, FoldersChange, PartsChange, Work}
+use Rattle.run_base.specs.Blocks.{refusal_for}
+use Rattle.run_base.specs.Change.{AreUnused, Change, FilesChange, FoldersChange, IsUntouched, NoneHandedOut, NoneRead, PartsChange}
 use Rattle.run_base.specs.Unopened.{IsOpenRefusal}
-use Rattle.run_base.specs.Configurations.{ReadsConf}
+use Rattle.run_base.specs.Configurations.{ReadsConf, ReadsNone}
 use Rattle.run_base.specs.Failure.{Outcome}
-use Rattle.run_base.specs.Formatting.{Prints, RefusesWord}
+use Rattle.run_base.specs.Formatting.{Prints}
 use Rattle.run_archives.specs.Skipped.{skipped_lines}
 
 -- ---- its words
@@ -97,7 +97,7 @@ pub record FindsNoFolder {P D : Type 0} (failure : Failure) (folders : FoldersCh
     (parts : PartsChange P D) : Type 0 where
   pub none : HandsOutNone folders failure
   pub same : StandAgain folders
-  pub unused : parts.after ≡ parts.before
+  pub unused : NoneHandedOut parts
 
 -- why nothing was stored: there is no such folder, or it wasn't archived
 abbrev pub StoresNone : {P D : Type 0} → (List ℕ → List ℕ) → DiskOf D → (file name : List ℕ)
@@ -107,39 +107,61 @@ StoresNone score disk file name conf bsize failure folders parts =
     ⊎ ((bad : ArchiveBad) × StoresFolder score disk name conf bsize (Err bad) folders parts
     × IsArchiveRefusal file conf bad failure)
 
--- it is told why, and nothing is printed
-pub record TellsNone {R K I P D N L : Type 0} (score : List ℕ → List ℕ) (disk : DiskOf D)
-    (file name : List ℕ) (conf : Conf) (bsize : ℕ) (preface : List ℕ) (outcome : Outcome)
-    (work : Work R K I P D N L) : Type 0 where
+-- no folder was handed out, and no partition
+abbrev pub NoneOut : {P D : Type 0} → FoldersChange → PartsChange P D → Type 0
+NoneOut folders parts = AreUnused folders × NoneHandedOut parts
+
+-- why there is no archive: the word asks for no size; or no configuration was read; or nothing was
+-- stored in blocks of the size that is asked for
+abbrev pub ArchivesNone : {I P D : Type 0} → (List ℕ → List ℕ) → DiskOf D → (file name : List ℕ)
+    → (size_word : Option (List ℕ)) → Failure → FilesChange I → FoldersChange → PartsChange P D
+    → Type 0
+ArchivesNone score disk file name size_word failure files folders parts =
+    (AsksForNoSize size_word failure × NoneRead files × NoneOut folders parts)
+    ⊎ ((bsize : ℕ) × AsksForSize size_word bsize
+    × ((ReadsNone file failure files × NoneOut folders parts)
+    ⊎ ((conf : Conf) × ReadsConf file conf files
+    × StoresNone score disk file name conf bsize failure folders parts)))
+
+-- The folder was stored in blocks of the size that is asked for.
+pub record Archives {I P D : Type 0} (score : List ℕ → List ℕ) (disk : DiskOf D)
+    (file name : List ℕ) (size_word : Option (List ℕ)) (stored : StoredArchive)
+    (files : FilesChange I) (folders : FoldersChange) (parts : PartsChange P D) : Type 0 where
+  pub bsize : ℕ
+  pub asks : AsksForSize size_word bsize
+  pub conf : Conf
+  pub reads : ReadsConf file conf files
+  pub stores : StoresFolder score disk name conf bsize (Ok stored) folders parts
+
+-- it is told why there is none, and nothing is printed
+pub record TellsNone {I P D K : Type 0} (score : List ℕ → List ℕ) (disk : DiskOf D)
+    (file name : List ℕ) (size_word : Option (List ℕ)) (preface : List ℕ) (outcome : Outcome)
+    (files : FilesChange I) (folders : FoldersChange) (parts : PartsChange P D) (sink : Change K)
+    : Type 0 where
   pub failure : Failure
   pub outcome_is : outcome ≡ Err failure
-  pub none : StoresNone score disk file name conf bsize failure work.folders work.parts
+  pub none : ArchivesNone score disk file name size_word failure files folders parts
   pub nothing : preface ≡ []
-  pub unwritten : work.sink.after ≡ work.sink.before
+  pub unwritten : IsUntouched sink
 
 -- The folder was stored; each path that was left out is told, before the line on the fault sink,
 -- and what the archive is found by is printed.
-pub record TellsStored {R K I P D N L : Type 0} (score : List ℕ → List ℕ) (disk : DiskOf D)
-    (name : List ℕ) (conf : Conf) (bsize : ℕ) (preface : List ℕ) (outcome : Outcome)
-    (work : Work R K I P D N L) : Type 0 where
+pub record TellsStored {I P D K : Type 0} (score : List ℕ → List ℕ) (disk : DiskOf D)
+    (file name : List ℕ) (size_word : Option (List ℕ)) (preface : List ℕ) (outcome : Outcome)
+    (files : FilesChange I) (folders : FoldersChange) (parts : PartsChange P D) (sink : Change K)
+    : Type 0 where
   pub stored : StoredArchive
-  pub stores : StoresFolder score disk name conf bsize (Ok stored) work.folders work.parts
+  pub archives : Archives score disk file name size_word stored files folders parts
   pub left_out : preface ≡ skipped_lines stored.archived.skipped
-  pub printed : Prints (archive_line stored.archived.score.0) outcome work.sink
+  pub printed : Prints (archive_line stored.archived.score.0) outcome sink
 
--- Its word was refused; or no configuration was read; or the folder was stored in blocks of the
--- size that is asked for, or it is told why not.
-abbrev pub DoesVac : {R K I P D N L : Type 0} → (List ℕ → List ℕ) → DiskOf D
-    → (file name : List ℕ) → (size_word : Option (List ℕ)) → (preface : List ℕ) → Outcome
-    → Work R K I P D N L → Type 0
-DoesVac score disk file name size_word preface outcome work =
-    ((preface ≡ []) × AreUnused work.folders × RefusesWord (AsksForNoSize size_word) outcome work)
-    ⊎ ((bsize : ℕ) × AsksForSize size_word bsize
-    × (((preface ≡ []) × AreUnused work.folders × FindsNoConf file outcome work)
-    ⊎ ((conf : Conf) × ReadsConf file conf work.files
-    × (work.source.after ≡ work.source.before) × (work.dialer.after ≡ work.dialer.before)
-    × (TellsNone score disk file name conf bsize preface outcome work
-    ⊎ TellsStored score disk name conf bsize preface outcome work))))
+-- its folder was stored, or it is told why not
+abbrev pub DoesVac : {I P D K : Type 0} → (List ℕ → List ℕ) → DiskOf D → (file name : List ℕ)
+    → (size_word : Option (List ℕ)) → (preface : List ℕ) → Outcome → FilesChange I
+    → FoldersChange → PartsChange P D → Change K → Type 0
+DoesVac score disk file name size_word preface outcome files folders parts sink =
+    TellsNone score disk file name size_word preface outcome files folders parts sink
+    ⊎ TellsStored score disk file name size_word preface outcome files folders parts sink
 
 -- ---- what follows
 

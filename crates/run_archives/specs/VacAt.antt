@@ -5,7 +5,7 @@ use Rattle.vt_disk.specs.Members.{DiskOf}
 use Rattle.run_base.specs.declared.failure.Failure.TheVariants.{NoMemory}
 use Rattle.run_base.specs.declared.place.Place.{Place}
 use Rattle.run_base.specs.declared.place.Place.TheVariants.{Memory, Server, Conf}
-use Rattle.run_base.specs.Change.{AreUnused, Work}
+use Rattle.run_base.specs.Change.{AreUnused, Change, DialerChange, FilesChange, FoldersChange, NoneDialled, NoneHandedOut, NoneRead, PartsChange, UsesNothing}
 use Rattle.run_archives.specs.Vac.{DoesVac}
 use Rattle.run_archives.specs.VacServed.{DoesVacServed}
 use Rattle.run_base.specs.Failure.{Outcome}
@@ -13,21 +13,30 @@ use Rattle.run_base.specs.Members.{LinkOf}
 use Rattle.run_base.specs.Places.{EndsIdle, Names}
 
 -- a folder was archived in the store at this place, or it is told why not
-abbrev pub ArchivesAt : {R K I P D N L : Type 0} → (List ℕ → List ℕ) → DiskOf D → LinkOf L
+abbrev pub ArchivesAt : {I P D N L K : Type 0} → (List ℕ → List ℕ) → DiskOf D → LinkOf L
     → (store name : List ℕ) → (size_word : Option (List ℕ)) → (preface : List ℕ) → Outcome
-    → Work R K I P D N L → Place → Type 0
-ArchivesAt score disk link store name size_word preface outcome work (Server address) =
-    DoesVacServed link score address name size_word preface outcome work
-ArchivesAt score disk link store name size_word preface outcome work Memory =
-    DoesVac score disk store name size_word preface outcome work
-ArchivesAt score disk link store name size_word preface outcome work Conf =
-    DoesVac score disk store name size_word preface outcome work
+    → FilesChange I → FoldersChange → PartsChange P D → DialerChange N L → Change K → Place
+    → Type 0
+ArchivesAt score disk link store name size_word preface outcome files folders parts dialer sink
+    (Server address) =
+    DoesVacServed link score address name size_word preface outcome folders dialer sink
+    × NoneRead files × NoneHandedOut parts
+ArchivesAt score disk link store name size_word preface outcome files folders parts dialer sink
+    Memory =
+    DoesVac score disk store name size_word preface outcome files folders parts sink
+    × NoneDialled dialer
+ArchivesAt score disk link store name size_word preface outcome files folders parts dialer sink
+    Conf =
+    DoesVac score disk store name size_word preface outcome files folders parts sink
+    × NoneDialled dialer
 
 -- this was done with the store that the word names, or memory ran out before it was known which
-abbrev pub DoesVacAt : {R K I P D N L : Type 0} → (List ℕ → List ℕ) → DiskOf D → LinkOf L
+abbrev pub DoesVacAt : {I P D N L K : Type 0} → (List ℕ → List ℕ) → DiskOf D → LinkOf L
     → (store name : List ℕ) → (size_word : Option (List ℕ)) → (preface : List ℕ) → Outcome
-    → Work R K I P D N L → Type 0
-DoesVacAt score disk link store name size_word preface outcome work =
-    ((preface ≡ []) × AreUnused work.folders × EndsIdle (Err NoMemory) outcome work)
+    → FilesChange I → FoldersChange → PartsChange P D → DialerChange N L → Change K → Type 0
+DoesVacAt score disk link store name size_word preface outcome files folders parts dialer sink =
+    ((preface ≡ []) × EndsIdle (Err NoMemory) outcome
+    (AreUnused folders × UsesNothing files parts dialer sink))
     ⊎ ((place : Place) × Names store place
-    × ArchivesAt score disk link store name size_word preface outcome work place)
+    × ArchivesAt score disk link store name size_word preface outcome files folders parts dialer
+    sink place)

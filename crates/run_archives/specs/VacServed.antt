@@ -14,10 +14,10 @@ use Rattle.vac_remote.specs.declared.outcome.SentBad.TheVariants as bads
 use Rattle.vac_remote.specs.Sending.{SendsFolder, as_asked, is_folder_fault}
 use Rattle.run_base.specs.declared.failure.Failure.{Failure}
 use Rattle.run_base.specs.declared.failure.Failure.TheVariants.{Server}
-use Rattle.run_base.specs.Change.{AreUnused, DialerChange, FoldersChange, Work}
+use Rattle.run_base.specs.Change.{AreUnused, Change, DialerChange, FoldersChange, IsUntouched, NoneDialled}
 use Rattle.run_archives.specs.Vac.{AsksForNoSize, AsksForSize, HandsOutNone, StandAgain, archive_line, unfit_for}
 use Rattle.run_base.specs.Failure.{Outcome}
-use Rattle.run_base.specs.Formatting.{Prints, RefusesWord}
+use Rattle.run_base.specs.Formatting.{Prints}
 use Rattle.run_base.specs.Members.{LinkOf}
 use Rattle.run_archives.specs.Skipped.{skipped_lines}
 
@@ -46,7 +46,7 @@ pub record FindsNoneToSend {N L : Type 0} (failure : Failure) (folders : Folders
     (dialer : DialerChange N L) : Type 0 where
   pub none : HandsOutNone folders failure
   pub same : StandAgain folders
-  pub undialled : dialer.after ≡ dialer.before
+  pub undialled : NoneDialled dialer
 
 -- why nothing was archived: there is no such folder, or it wasn't
 abbrev pub SendsNone : {N L : Type 0} → LinkOf L → (List ℕ → List ℕ) → Address → (name : List ℕ)
@@ -56,35 +56,44 @@ SendsNone link score address name bsize failure folders dialer =
     ⊎ ((bad : SentBad) × SendsNamed link score address name bsize (Err bad) folders dialer
     × (failure ≡ refusal_for bad))
 
--- it is told why, and nothing is printed
-pub record TellsNoneSent {R K I P D N L : Type 0} (link : LinkOf L) (score : List ℕ → List ℕ)
-    (address : Address) (name : List ℕ) (bsize : ℕ) (preface : List ℕ) (outcome : Outcome)
-    (work : Work R K I P D N L) : Type 0 where
+-- why there is no archive: the word asks for no size; or nothing was archived in blocks of the size
+-- that is asked for
+abbrev pub ArchivesNoneAt : {N L : Type 0} → LinkOf L → (List ℕ → List ℕ) → Address
+    → (name : List ℕ) → (size_word : Option (List ℕ)) → Failure → FoldersChange
+    → DialerChange N L → Type 0
+ArchivesNoneAt link score address name size_word failure folders dialer =
+    (AsksForNoSize size_word failure × AreUnused folders × NoneDialled dialer)
+    ⊎ ((bsize : ℕ) × AsksForSize size_word bsize
+    × SendsNone link score address name bsize failure folders dialer)
+
+-- it is told why there is none, and nothing is printed
+pub record TellsNoneSent {N L K : Type 0} (link : LinkOf L) (score : List ℕ → List ℕ)
+    (address : Address) (name : List ℕ) (size_word : Option (List ℕ)) (preface : List ℕ)
+    (outcome : Outcome) (folders : FoldersChange) (dialer : DialerChange N L) (sink : Change K)
+    : Type 0 where
   pub failure : Failure
   pub outcome_is : outcome ≡ Err failure
-  pub none : SendsNone link score address name bsize failure work.folders work.dialer
+  pub none : ArchivesNoneAt link score address name size_word failure folders dialer
   pub nothing : preface ≡ []
-  pub unwritten : work.sink.after ≡ work.sink.before
+  pub unwritten : IsUntouched sink
 
--- The folder was archived; each path that was left out is told, before the line on the fault sink,
--- and what the archive is found by is printed.
-pub record TellsSent {R K I P D N L : Type 0} (link : LinkOf L) (score : List ℕ → List ℕ)
-    (address : Address) (name : List ℕ) (bsize : ℕ) (preface : List ℕ) (outcome : Outcome)
-    (work : Work R K I P D N L) : Type 0 where
+-- The folder was archived in blocks of the size that is asked for; each path that was left out is
+-- told, before the line on the fault sink, and what the archive is found by is printed.
+pub record TellsSent {N L K : Type 0} (link : LinkOf L) (score : List ℕ → List ℕ)
+    (address : Address) (name : List ℕ) (size_word : Option (List ℕ)) (preface : List ℕ)
+    (outcome : Outcome) (folders : FoldersChange) (dialer : DialerChange N L) (sink : Change K)
+    : Type 0 where
   pub sent : SentArchive
-  pub sends : SendsNamed link score address name bsize (Ok sent) work.folders work.dialer
+  pub bsize : ℕ
+  pub asks : AsksForSize size_word bsize
+  pub sends : SendsNamed link score address name bsize (Ok sent) folders dialer
   pub left_out : preface ≡ skipped_lines sent.archived.skipped
-  pub printed : Prints (archive_line sent.archived.score.0) outcome work.sink
+  pub printed : Prints (archive_line sent.archived.score.0) outcome sink
 
--- Its word was refused; or the folder was archived in blocks of the size that is asked for, or it
--- is told why not, and no file was read, and no partition handed out.
-abbrev pub DoesVacServed : {R K I P D N L : Type 0} → LinkOf L → (List ℕ → List ℕ) → Address
+-- its folder was archived there, or it is told why not
+abbrev pub DoesVacServed : {N L K : Type 0} → LinkOf L → (List ℕ → List ℕ) → Address
     → (name : List ℕ) → (size_word : Option (List ℕ)) → (preface : List ℕ) → Outcome
-    → Work R K I P D N L → Type 0
-DoesVacServed link score address name size_word preface outcome work =
-    ((preface ≡ []) × AreUnused work.folders × RefusesWord (AsksForNoSize size_word) outcome work)
-    ⊎ ((bsize : ℕ) × AsksForSize size_word bsize
-    × (work.source.after ≡ work.source.before) × (work.files.after ≡ work.files.before)
-    × (work.parts.after ≡ work.parts.before)
-    × (TellsNoneSent link score address name bsize preface outcome work
-    ⊎ TellsSent link score address name bsize preface outcome work))
+    → FoldersChange → DialerChange N L → Change K → Type 0
+DoesVacServed link score address name size_word preface outcome folders dialer sink =
+    TellsNoneSent link score address name size_word preface outcome folders dialer sink
+    ⊎ TellsSent link score address name size_word preface outcome folders dialer sink

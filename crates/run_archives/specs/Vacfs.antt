@@ -23,7 +23,7 @@ use Rattle.run_base.specs.declared.failure.Failure.TheVariants.{BadArchive, NoMe
 use Rattle.run_base.specs.declared.place.Place.{Place}
 use Rattle.run_base.specs.declared.place.Place.TheVariants.{Memory, Server, Conf as InFile}
 use Rattle.run_base.specs.Blocks.{FindsNoConf, SaysNoScore}
-use Rattle.run_base.specs.Change.{Change, PartsChange, Work, IsIdle}
+use Rattle.run_base.specs.Change.{Change, DialerChange, FilesChange, IsUntouched, NoneDialled, NoneHandedOut, NoneRead, PartsChange, PassesNothing, UsesNothing}
 use Rattle.run_base.specs.Unopened.{OpensNone}
 use Rattle.run_base.specs.Configurations.{ReadsConf}
 use Rattle.run_base.specs.Failure.{Outcome}
@@ -31,11 +31,6 @@ use Rattle.run_base.specs.Formatting.{RefusesWord}
 use Rattle.run_base.specs.Members.{LinkOf}
 use Rattle.run_base.specs.Places.{AtPlace}
 use Rattle.run_archives.specs.Viewed.{outcome_of_view, passed_over}
-
--- nothing was read or written
-pub record PassesNothing {R K : Type 0} (source : Change R) (sink : Change K) : Type 0 where
-  pub unread : source.after ≡ source.before
-  pub unwritten : sink.after ≡ sink.before
 
 -- ---- in memory
 
@@ -48,10 +43,10 @@ IsUnmade score_of s outcome =
 
 -- The store in memory has no block but that of no bytes, which is no root, so it has no archive of
 -- this score; or memory ran out before that was known. Nothing is done.
-pub record FindsNoArchive {R K I P D N L : Type 0} (score_of : List ℕ → List ℕ) (s : List ℕ)
-    (outcome : Outcome) (work : Work R K I P D N L) : Type 0 where
+pub record FindsNoArchive (score_of : List ℕ → List ℕ) (s : List ℕ) (outcome : Outcome)
+    (Idle : Type 0) : Type 0 where
   pub why : IsUnmade score_of s outcome
-  pub idle : IsIdle work
+  pub idle : Idle
 
 -- ---- over a configuration
 
@@ -81,19 +76,20 @@ pub record ServesView {R K P D : Type 0} (score_of : List ℕ → List ℕ) (dis
   pub outcome_is : outcome ≡ outcome_of_view result None
 
 -- the configuration was read, and its store was, or it isn't opened
-pub record ViewsFrom {R K I P D N L : Type 0} (score_of : List ℕ → List ℕ) (disk : DiskOf D)
-    (file s : List ℕ) (outcome : Outcome) (work : Work R K I P D N L) : Type 0 where
+pub record ViewsFrom {R K I P D : Type 0} (score_of : List ℕ → List ℕ) (disk : DiskOf D)
+    (file s : List ℕ) (outcome : Outcome) (source : Change R) (sink : Change K)
+    (files : FilesChange I) (parts : PartsChange P D) : Type 0 where
   pub conf : Conf
-  pub reads : ReadsConf file conf work.files
-  pub does : OpensNone score_of disk file conf outcome work.source work.sink work.parts
-      ⊎ ServesView score_of disk conf s outcome work.source work.sink work.parts
-  pub undialled : work.dialer.after ≡ work.dialer.before
+  pub reads : ReadsConf file conf files
+  pub does : OpensNone score_of disk file conf outcome source sink parts
+      ⊎ ServesView score_of disk conf s outcome source sink parts
 
 -- no configuration was read; or an archive was served
-abbrev pub ViewsKept : {R K I P D N L : Type 0} → (List ℕ → List ℕ) → DiskOf D
-    → (file s : List ℕ) → Outcome → Work R K I P D N L → Type 0
-ViewsKept score_of disk file s outcome work =
-    FindsNoConf file outcome work ⊎ ViewsFrom score_of disk file s outcome work
+abbrev pub ViewsKept : {R K I P D : Type 0} → (List ℕ → List ℕ) → DiskOf D → (file s : List ℕ)
+    → Outcome → Change R → Change K → FilesChange I → PartsChange P D → Type 0
+ViewsKept score_of disk file s outcome source sink files parts =
+    FindsNoConf file outcome files (PassesNothing source sink × NoneHandedOut parts)
+    ⊎ ViewsFrom score_of disk file s outcome source sink files parts
 
 -- ---- over an address
 
@@ -117,35 +113,36 @@ pub record ViewsMet {R K L : Type 0} (link : LinkOf L) (score_of : List ℕ → 
   pub parts : Parts link tells last old new
   pub told : TellsServed (Ok view) outcome source sink
 
--- The server at this address was asked for the blocks of an archive, which was served; no file was
--- read, and no partition handed out.
-pub record ViewsServed {R K I P D N L : Type 0} (link : LinkOf L) (score_of : List ℕ → List ℕ)
-    (address : Address) (s : List ℕ) (outcome : Outcome) (work : Work R K I P D N L) : Type 0
-  where
-    pub result : Result RemoteView RemoteBad
-    pub asks : AsksServer link score_of
-        (ViewsAt link score_of s (passed_over work.source work.sink)) (IsTrue work.dialer.tells)
-        address work.dialer.old work.dialer.new work.dialer.faults work.dialer.faults' result
-    pub told : TellsServed result outcome work.source work.sink
-    pub unopened : work.files.after ≡ work.files.before
-    pub unused : work.parts.after ≡ work.parts.before
+-- the server at this address was asked for the blocks of an archive, which was served
+pub record ViewsServed {R K N L : Type 0} (link : LinkOf L) (score_of : List ℕ → List ℕ)
+    (address : Address) (s : List ℕ) (outcome : Outcome) (source : Change R) (sink : Change K)
+    (dialer : DialerChange N L) : Type 0 where
+  pub result : Result RemoteView RemoteBad
+  pub asks : AsksServer link score_of (ViewsAt link score_of s (passed_over source sink))
+      (IsTrue dialer.tells) address dialer.old dialer.new dialer.faults dialer.faults' result
+  pub told : TellsServed result outcome source sink
 
 -- ---- the command
 
 -- the archive of this score, of the store at this place, was served, or it is told why not
 abbrev pub ViewsPlace : {R K I P D N L : Type 0} → (List ℕ → List ℕ) → DiskOf D → LinkOf L
-    → (store s : List ℕ) → Outcome → Work R K I P D N L → Place → Type 0
-ViewsPlace score_of disk link store s outcome work Memory =
-    FindsNoArchive score_of s outcome work
-ViewsPlace score_of disk link store s outcome work (Server address) =
-    ViewsServed link score_of address s outcome work
-ViewsPlace score_of disk link store s outcome work InFile =
-    ViewsKept score_of disk store s outcome work
+    → (store s : List ℕ) → Outcome → Change R → Change K → FilesChange I → PartsChange P D
+    → DialerChange N L → Place → Type 0
+ViewsPlace score_of disk link store s outcome source sink files parts dialer Memory =
+    FindsNoArchive score_of s outcome (IsUntouched source × UsesNothing files parts dialer sink)
+ViewsPlace score_of disk link store s outcome source sink files parts dialer (Server address) =
+    ViewsServed link score_of address s outcome source sink dialer
+    × NoneRead files × NoneHandedOut parts
+ViewsPlace score_of disk link store s outcome source sink files parts dialer InFile =
+    ViewsKept score_of disk store s outcome source sink files parts × NoneDialled dialer
 
 -- its word is no score, or the archive of that score was served
 abbrev pub DoesVacfs : {R K I P D N L : Type 0} → (List ℕ → List ℕ) → DiskOf D → LinkOf L
-    → (store score_word : List ℕ) → Outcome → Work R K I P D N L → Type 0
-DoesVacfs score_of disk link store score_word outcome work =
-    RefusesWord (SaysNoScore score_word) outcome work
+    → (store score_word : List ℕ) → Outcome → Change R → Change K → FilesChange I
+    → PartsChange P D → DialerChange N L → Type 0
+DoesVacfs score_of disk link store score_word outcome source sink files parts dialer =
+    RefusesWord (SaysNoScore score_word) outcome
+    (IsUntouched source × UsesNothing files parts dialer sink)
     ⊎ ((s : List ℕ) × SpellsScore s score_word
-    × AtPlace store (ViewsPlace score_of disk link store s outcome work) outcome work)
+    × AtPlace store (ViewsPlace score_of disk link store s outcome source sink files parts dialer)
+    outcome (IsUntouched source × UsesNothing files parts dialer sink))

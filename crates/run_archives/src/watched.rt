@@ -47,17 +47,17 @@ impl<F: Folder, K: Sink + Drop> Watched<F, K> {
         self.show(&[b" bytes, ", digits.format(blocks).as_bytes(), what]);
     }
 
-    /// The folder.
-    pub fn into_folder(self) -> F
-        ensures { result ≡ folder_in self }
+    /// The folder, and the terminal.
+    pub fn into_parts(self) -> (F, Option<K>)
+        ensures { result.0 ≡ folder_in self }
     {
         let Watched {
             folder,
-            terminal: _terminal,
+            terminal,
             files: _,
             bytes: _,
         } = self;
-        folder
+        (folder, terminal)
     }
 
     /// Counts what was read from this place of a file on.

@@ -2,64 +2,68 @@
 use Rattle.std.proofs.Common.{◌≡◌, ◌≢◌, ⊎_elim, inl, inr, ◌<◌, ◌≤◌, ◌-◌, ◌^◌, ℕ, List, sym, subst, Ok, Err, arith, ◌⊎◌}
 use Rattle.std.proofs.Math.Nat.{eq-or-lt_of_le}
 use Rattle.vt_base.specs.Faults.{HasRisen}
-use Rattle.vt_base.specs.declared.mount.MountBad.{MountBad}
-use Rattle.vt_base.specs.declared.mount.MountBad.TheVariants as mount_bad
-use Rattle.vt_disk.specs.Members.{DiskOf}
 use Rattle.run_base.specs.declared.failure.Failure.{Failure}
-use Rattle.run_base.specs.declared.failure.Failure.TheVariants.{WriteFault, BadConf, FileFault, NoMemory}
-use Rattle.run_base.specs.Change.{Change, Work, FilesChange}
-use Rattle.run_base.specs.Failure.{Outcome, HasCauseIn, HaveFailed, status_of}
+use Rattle.run_base.specs.declared.failure.Failure.TheVariants.{BadConf, BadWords, DiskFault, FileFault, FolderFault, NoMemory, ReadFault, Server, WriteFault}
+use Rattle.vt_client.specs.declared.err.ClientErr.TheVariants as errs
+use Rattle.vt_remote.specs.declared.remote.RemoteBad.{RemoteBad}
+use Rattle.vt_remote.specs.declared.remote.RemoteBad.TheVariants as remote
+use Rattle.run_base.specs.Change.{Change, FilesChange}
+use Rattle.run_base.specs.Failure.{Causes, Outcome, HasCauseIn, HaveFailed, server_status, status_of}
 use Rattle.run_base.specs.Formatting.{Prints}
-use Rattle.vt_conf.specs.declared.conf.PartFile.{PartFile}
-use Rattle.run_base.specs.Configurations.{ReadsNone, IsRefusalAmong}
-use Rattle.run_base.specs.Served.{first_of}
+use Rattle.run_base.specs.Configurations.{ReadsNone}
 
 pub have_failed : (old new : ℕ) → HasRisen old new → HaveFailed old new
 have_failed old new rose =
     let most : new ≤ 2 ^ 64 - 1 = omega (arith, rose) in
     ⊎_elim (λ is. inr is) (λ (below : new < 2 ^ 64 - 1). inl (omega (arith, rose, below))) (eq-or-lt_of_le most)
 
-pub printed_never : {K : Type 0} (text : List ℕ) (outcome : Outcome) (change : Change K) → Prints text outcome change → status_of outcome ≢ 1
-printed_never text (Ok done) change prints is = cc
-printed_never text (Err WriteFault) change prints is = cc
-printed_never text (Err failure) change prints is = absurd prints
+module _ (causes : Causes) where
+  pub as_told : (failure told : Failure) → failure ≡ told → HasCauseIn causes (Err told)
+      → HasCauseIn causes (Err failure)
+  as_told failure told is cause =
+      subst (λ (f : Failure). HasCauseIn causes (Err f)) (sym is) cause
 
-pub printed_has_cause : {R K I P D N L : Type 0} (disk : DiskOf D) (text : List ℕ) (outcome : Outcome) (work : Work R K I P D N L)
-    → Prints text outcome work.sink → HasCauseIn disk work outcome
-printed_has_cause disk text (Ok done) work prints = tt
-printed_has_cause disk text (Err WriteFault) work prints = prints.1
-printed_has_cause disk text (Err failure) work prints = absurd prints
+  pub printed_has_cause : {K : Type 0} (text : List ℕ) (outcome : Outcome) (sink : Change K)
+      → (HasRisen sink.faults sink.faults' → causes.sink) → Prints text outcome sink
+      → HasCauseIn causes outcome
+  printed_has_cause text (Ok done) sink rises prints = tt
+  printed_has_cause text (Err WriteFault) sink rises prints = rises prints.1
+  printed_has_cause text (Err failure) sink rises prints = absurd prints
 
--- so has what is told where no configuration is read
-pub none_has_cause : {R K I P D N L : Type 0} (disk : DiskOf D) (file : List ℕ) (work : Work R K I P D N L) (failure : Failure)
-    → ReadsNone file failure work.files → HasCauseIn disk work (Err failure)
-none_has_cause disk file work (BadConf bad) none = tt
-none_has_cause disk file work FileFault none = none
-none_has_cause disk file work NoMemory none = tt
-none_has_cause disk file work failure none = absurd none
+  -- so has what is told where no configuration is read
+  pub none_has_cause : {I : Type 0} (file : List ℕ) (files : FilesChange I) (failure : Failure)
+      → (HasRisen files.faults files.faults' → causes.files) → ReadsNone file failure files
+      → HasCauseIn causes (Err failure)
+  none_has_cause file files (BadConf bad) rises none = tt
+  none_has_cause file files FileFault rises none = rises none
+  none_has_cause file files NoMemory rises none = tt
+  none_has_cause file files failure rises none = absurd none
 
-abbrev pub IsOther : Failure → Type 0
-IsOther failure = status_of (Err failure) ≢ 1
+-- of more causes
+pub widened : (narrow wide : Causes) (outcome : Outcome) → (narrow.words → wide.words)
+    → (narrow.disks → wide.disks) → (narrow.source → wide.source) → (narrow.files → wide.files)
+    → (narrow.folders → wide.folders) → (narrow.sink → wide.sink)
+    → ((bad : RemoteBad) → narrow.server bad → wide.server bad) → HasCauseIn narrow outcome
+    → HasCauseIn wide outcome
+widened narrow wide (Err BadWords) words disks source files folders sink server cause = words cause
+widened narrow wide (Err DiskFault) words disks source files folders sink server cause = disks cause
+widened narrow wide (Err ReadFault) words disks source files folders sink server cause = source cause
+widened narrow wide (Err FileFault) words disks source files folders sink server cause = files cause
+widened narrow wide (Err FolderFault) words disks source files folders sink server cause =
+    folders cause
+widened narrow wide (Err WriteFault) words disks source files folders sink server cause = sink cause
+widened narrow wide (Err (Server bad)) words disks source files folders sink server cause =
+    server bad cause
+widened narrow wide outcome words disks source files folders sink server cause = cause
 
-pub other_as : (failure told : Failure) → failure ≡ told → IsOther told → IsOther failure
-other_as failure told is other = subst IsOther (sym is) other
+-- status 1 tells of words alone
+pub server_never : (bad : RemoteBad) → server_status bad ≢ 1
+server_never remote.Undialled is = cc
+server_never (remote.Refused errs.ReadFault) is = cc
+server_never (remote.Refused why) is = cc
 
-pub none_never : {I : Type 0} (file : List ℕ) (failure : Failure) (files : FilesChange I) → ReadsNone file failure files → IsOther failure
-none_never file (BadConf bad) files none is = cc
-none_never file FileFault files none is = cc
-none_never file NoMemory files none is = cc
-none_never file failure files none is = absurd none
-
-pub among_never : (file : List ℕ) (files : List PartFile) (bad : MountBad) (failure : Failure) → IsRefusalAmong file files bad failure → IsOther failure
-among_never file files mount_bad.Fault failure is = other_as failure _ is (λ one. cc)
-among_never file files (mount_bad.NotFormatted part) failure is = other_as failure _ is (λ one. cc)
-among_never file files (mount_bad.TooSmall part len need) failure is = other_as failure _ is (λ one. cc)
-among_never file files (mount_bad.DuplicateName first second) failure is = other_as failure _ is (λ one. cc)
-among_never file files (mount_bad.Disagree part field found want) failure is = other_as failure _ is (λ one. cc)
-among_never file files (mount_bad.Damaged site want found) failure is = other_as failure _ is (λ one. cc)
-among_never file files mount_bad.NoMemory failure is = other_as failure _ is (λ one. cc)
-
-pub first_never : (first second : Outcome) → status_of first ≢ 1 → status_of second ≢ 1
-    → status_of (first_of first second) ≢ 1
-first_never (Ok done) second x y = y
-first_never (Err failure) second x y = x
+pub never_words : (causes : Causes) (outcome : Outcome) → ¬ causes.words
+    → HasCauseIn causes outcome → status_of outcome ≢ 1
+never_words causes (Err BadWords) never cause is = never cause
+never_words causes (Err (Server bad)) never cause is = server_never bad is
+never_words causes outcome never cause is = cc

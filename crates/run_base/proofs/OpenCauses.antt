@@ -19,11 +19,11 @@ use Rattle.vt_open.specs.Taking.{RefusesTaking}
 use Rattle.vt_parts.specs.Parts.{HandsOut, Standing}
 use Rattle.run_base.specs.declared.failure.Failure.{Failure}
 use Rattle.run_base.specs.declared.failure.Failure.TheVariants.{DiskFault, NoMemory}
-use Rattle.run_base.specs.Change.{PartsChange, Work}
+use Rattle.run_base.specs.Change.{Change, PartsChange}
 use Rattle.run_base.specs.Unopened.{IsOpenRefusal, OpensNone}
 use Rattle.run_base.specs.Configurations.{IsRefusalAmong}
-use Rattle.run_base.specs.Failure.{HasCauseIn, HasFailed, HaveFailed, Outcome}
-use Rattle.run_base.proofs.Causes.{have_failed, IsOther, among_never, other_as}
+use Rattle.run_base.specs.Failure.{Causes, HasCauseIn, HasDiskCause, HasFailed, HaveFailed, Outcome}
+use Rattle.run_base.proofs.Causes.{as_told, have_failed}
 
 module _ {P D : Type 0} (disk : DiskOf D) (parts : PartsChange P D) where
   pub has_failed : (files : List PartFile) (before after : List D) (k : ℕ)
@@ -57,25 +57,24 @@ pub same_len : {X Y : Type 0} (these : PerDevice X) (those : PerDevice Y) → Ha
     → length (all_of these) ≡ length (all_of those)
 same_len these those it = simp length-append (omega (arith, it.partitions, it.sections, it.filter))
 
-module _ {R K I P D N L : Type 0} (score : List ℕ → List ℕ) (disk : DiskOf D) (file : List ℕ)
-    (conf : Conf) (work : Work R K I P D N L) where
-  as_told : (failure told : Failure) → failure ≡ told → HasCauseIn disk work (Err told)
-      → HasCauseIn disk work (Err failure)
-  as_told failure told is cause =
-      subst (λ (f : Failure). HasCauseIn disk work (Err f)) (sym is) cause
+module _ {P D : Type 0} (score : List ℕ → List ℕ) (disk : DiskOf D) (file : List ℕ) (conf : Conf)
+    (parts : PartsChange P D) where
+  abbrev Refuses : OpenBad → Type 0
+  Refuses = RefusesStore score disk (IsTrue parts.tells) conf parts.old parts.new parts.faults
+      parts.faults'
 
   -- a call of a partition failed while they were handed out, or while the store was mounted
   taking_fault : (bad : OpenBad)
-      → RefusesTaking disk (IsTrue work.parts.tells) 0 (length conf.arenas.items)
-      (all_of (files_of conf)) work.parts.old work.parts.new work.parts.faults work.parts.faults'
-      bad → bad ≡ Refused mount_bad.Fault → HasFailed disk work.parts
+      → RefusesTaking disk (IsTrue parts.tells) 0 (length conf.arenas.items)
+      (all_of (files_of conf)) parts.old parts.new parts.faults parts.faults' bad
+      → bad ≡ Refused mount_bad.Fault → HasFailed disk parts
   taking_fault (Missing part) it is = absurd (cc)
   taking_fault (Refused bad) it is =
       let same : bad ≡ mount_bad.Fault = cc in
       let rose : OneHasRisen (map disk.faults it.handed) (map disk.faults it.back) =
       subst (λ (b : MountBad). CountsRefusal b (map disk.faults it.handed)
       (map disk.faults it.back)) same it.cause.1 in
-      has_failed disk work.parts it.are.front it.handed it.back rose.which it.are.many
+      has_failed disk parts it.are.front it.handed it.back rose.which it.are.many
       (omega (
         arith,
         rose.many,
@@ -85,59 +84,52 @@ module _ {R K I P D N L : Type 0} (score : List ℕ → List ℕ) (disk : DiskOf
       )) it.are.stood it.are.stand
       (have_failed _ _ rose.rose)
 
-  finding_fault : (it : FindsNoStore score disk (IsTrue work.parts.tells) conf work.parts.old
-      work.parts.new mount_bad.Fault) → HasFailed disk work.parts
+  finding_fault : (it : FindsNoStore score disk (IsTrue parts.tells) conf parts.old parts.new
+      mount_bad.Fault) → HasFailed disk parts
   finding_fault it =
-      has_failed disk work.parts (all_of (files_of conf)) (all_of it.handed) (all_of it.back)
-      it.counts.which (same_len it.handed (files_of conf) it.shape) (same_len it.back (files_of conf) it.shape_back)
-      (λ tells. (it.stood tells).under) (λ tells. (it.stand tells).under)
-      (have_failed _ _ it.counts.rose)
+      has_failed disk parts (all_of (files_of conf)) (all_of it.handed) (all_of it.back)
+      it.counts.which (same_len it.handed (files_of conf) it.shape)
+      (same_len it.back (files_of conf) it.shape_back) (λ tells. (it.stood tells).under)
+      (λ tells. (it.stand tells).under) (have_failed _ _ it.counts.rose)
 
-  open_fault : RefusesStore score disk (IsTrue work.parts.tells) conf work.parts.old work.parts.new
-      work.parts.faults work.parts.faults' (Refused mount_bad.Fault) → HasCauseIn disk work (Err DiskFault)
+  open_fault : Refuses (Refused mount_bad.Fault) → HasDiskCause disk parts
   open_fault it = inr (⊎_elim
       (λ taking. taking_fault (Refused mount_bad.Fault) taking refl)
       (λ finding. finding_fault (subst (λ (b : MountBad). FindsNoStore score disk
-      (IsTrue work.parts.tells) conf work.parts.old work.parts.new b) (let is = finding.1 in cc) finding.3))
+      (IsTrue parts.tells) conf parts.old parts.new b) (let is = finding.1 in cc) finding.3))
       it)
 
-  missing : (part : ℕ) → RefusesStore score disk (IsTrue work.parts.tells) conf work.parts.old
-      work.parts.new work.parts.faults work.parts.faults' (Missing part)
-      → HasCauseIn disk work (Err DiskFault)
+  missing : (part : ℕ) → Refuses (Missing part) → HasDiskCause disk parts
   missing part it = ⊎_elim
       (λ taking. inl taking.cause.2)
       (λ finding. absurd (let no = finding.1 in cc)) it
 
-  among : (bad : MountBad) (failure : Failure)
-      → RefusesStore score disk (IsTrue work.parts.tells) conf work.parts.old work.parts.new
-      work.parts.faults work.parts.faults' (Refused bad) → NamesCause (Refused bad)
-      → IsRefusalAmong file (files_in conf) bad failure → HasCauseIn disk work (Err failure)
-  among mount_bad.Fault failure it names is = as_told failure DiskFault is (open_fault it)
-  among (mount_bad.NotFormatted part) failure it names is = as_told failure _ is tt
-  among (mount_bad.TooSmall part len need) failure it names is = as_told failure _ is names
-  among (mount_bad.DuplicateName first second) failure it names is = as_told failure _ is tt
-  among (mount_bad.Disagree part field found want) failure it names is = as_told failure _ is names
-  among (mount_bad.Damaged site want found) failure it names is = as_told failure _ is names
-  among mount_bad.NoMemory failure it names is = as_told failure _ is tt
+  module _ (causes : Causes) (tells : HasDiskCause disk parts → causes.disks) where
+    among : (bad : MountBad) (failure : Failure) → Refuses (Refused bad)
+        → NamesCause (Refused bad) → IsRefusalAmong file (files_in conf) bad failure
+        → HasCauseIn causes (Err failure)
+    among mount_bad.Fault failure it names is =
+        as_told causes failure DiskFault is (tells (open_fault it))
+    among (mount_bad.NotFormatted part) failure it names is = as_told causes failure _ is tt
+    among (mount_bad.TooSmall part len need) failure it names is =
+        as_told causes failure _ is names
+    among (mount_bad.DuplicateName first second) failure it names is =
+        as_told causes failure _ is tt
+    among (mount_bad.Disagree part field found want) failure it names is =
+        as_told causes failure _ is names
+    among (mount_bad.Damaged site want found) failure it names is =
+        as_told causes failure _ is names
+    among mount_bad.NoMemory failure it names is = as_told causes failure _ is tt
 
-  pub open_told : (bad : OpenBad) (failure : Failure)
-      → RefusesStore score disk (IsTrue work.parts.tells) conf work.parts.old work.parts.new
-      work.parts.faults work.parts.faults' bad → NamesCause bad
-      → IsOpenRefusal file conf bad failure → HasCauseIn disk work (Err failure)
-  open_told (Missing part) failure it names is = as_told failure DiskFault is (missing part it)
-  open_told (Refused bad) failure it names is = ⊎_elim
-      (λ refusal. among bad failure it names refusal)
-      (λ memory. as_told failure NoMemory memory tt) is
+    pub open_told : (bad : OpenBad) (failure : Failure) → Refuses bad → NamesCause bad
+        → IsOpenRefusal file conf bad failure → HasCauseIn causes (Err failure)
+    open_told (Missing part) failure it names is =
+        as_told causes failure DiskFault is (tells (missing part it))
+    open_told (Refused bad) failure it names is = ⊎_elim
+        (λ refusal. among bad failure it names refusal)
+        (λ memory. as_told causes failure NoMemory memory tt) is
 
-  pub none_opened : (outcome : Outcome)
-      → OpensNone score disk file conf outcome work.source work.sink work.parts
-      → HasCauseIn disk work outcome
-  none_opened outcome x = subst (λ (o : Outcome). HasCauseIn disk work o) (sym x.outcome_is)
-      (open_told x.bad x.failure x.refused x.differs x.told)
-
-pub open_never : (file : List ℕ) (conf : Conf) (bad : OpenBad) (failure : Failure)
-    → IsOpenRefusal file conf bad failure → IsOther failure
-open_never file conf (Missing part) failure is = other_as failure DiskFault is (λ one. cc)
-open_never file conf (Refused bad) failure is = ⊎_elim
-    (among_never file (files_in conf) bad failure)
-    (λ memory. other_as failure NoMemory memory (λ one. cc)) is
+    pub none_opened : {R K : Type 0} (outcome : Outcome) (source : Change R) (sink : Change K)
+        → OpensNone score disk file conf outcome source sink parts → HasCauseIn causes outcome
+    none_opened outcome source sink x = subst (λ (o : Outcome). HasCauseIn causes o)
+        (sym x.outcome_is) (open_told x.bad x.failure x.refused x.differs x.told)

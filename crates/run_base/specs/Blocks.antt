@@ -18,7 +18,7 @@ use Rattle.vt_single.specs.declared.stored.StoredBad.TheVariants as stored
 use Rattle.vt_single.specs.Stored.{UsesStore}
 use Rattle.run_base.specs.declared.failure.Failure.{Failure}
 use Rattle.run_base.specs.declared.failure.Failure.TheVariants.{ArenasFull, BadNumber, BadScore, IndexFull, Refused}
-use Rattle.run_base.specs.Change.{Change, PartsChange, Work, ReadsFiles}
+use Rattle.run_base.specs.Change.{Change, FilesChange, PartsChange}
 use Rattle.run_base.specs.Unopened.{IsOpenRefusal}
 use Rattle.run_base.specs.Configurations.{ReadsNone}
 use Rattle.run_base.specs.Failure.{Outcome}
@@ -50,12 +50,12 @@ SaysNoScore word failure =
 -- ---- refusals
 
 -- no configuration was read, and nothing else was done
-pub record FindsNoConf {R K I P D N L : Type 0} (file : List ℕ) (outcome : Outcome)
-    (work : Work R K I P D N L) : Type 0 where
+pub record FindsNoConf {I : Type 0} (file : List ℕ) (outcome : Outcome) (files : FilesChange I)
+    (Idle : Type 0) : Type 0 where
   pub failure : Failure
   pub outcome_is : outcome ≡ Err failure
-  pub none : ReadsNone file failure work.files
-  pub idle : ReadsFiles work
+  pub none : ReadsNone file failure files
+  pub idle : Idle
 
 -- why a store says no, or fails
 abbrev pub refusal_for : Why → Failure
@@ -115,15 +115,11 @@ TellsMade text (Ok value) outcome sink = Prints (text value) outcome sink
 TellsMade text (Err why) outcome sink =
     (outcome ≡ Err (refusal_for why)) × (sink.after ≡ sink.before)
 
--- The store in memory was asked this, and what it answered was told; no file was read, no partition
--- handed out, and no link made.
-pub record AsksMade {R K I P D N L T : Type 0} (score : List ℕ → List ℕ) (m : Operation)
-    (message : T → RMessage) (text : T → List ℕ) (outcome : Outcome) (work : Work R K I P D N L)
-    : Type 0 where
-  pub result : Result T Why
-  pub answers : AnswersInMemory score m (answered message result)
-  pub fails : IfErr result FailsInMemory
-  pub told : TellsMade text result outcome work.sink
-  pub unopened : work.files.after ≡ work.files.before
-  pub unused : work.parts.after ≡ work.parts.before
-  pub undialled : work.dialer.after ≡ work.dialer.before
+-- the store in memory was asked this, and what it answered was told
+pub record AsksMade {K T : Type 0} (score : List ℕ → List ℕ) (m : Operation)
+    (message : T → RMessage) (text : T → List ℕ) (outcome : Outcome) (sink : Change K) : Type 0
+  where
+    pub result : Result T Why
+    pub answers : AnswersInMemory score m (answered message result)
+    pub fails : IfErr result FailsInMemory
+    pub told : TellsMade text result outcome sink

@@ -1,11 +1,10 @@
--- What a run did to the streams, the files, the partitions, the folders and the links of its host.
+-- What was done to a stream, to files, partitions, folders or links, which a command is lent.
 use Rattle.std.specs.Prelude.{ℕ, ◌≡◌, ◌⊎◌, ◌++◌, Bool, IsTrue, List, [], Option}
 use Rattle.vt_base.specs.Faults.{HasRisen}
 use Rattle.vt_out.specs.Streams.{AppendsPrefix}
 use Rattle.vt_folders.specs.Standing.{Standing as FolderStanding}
 use Rattle.vt_parts.specs.Parts.{Standing}
 use Rattle.vt_dial.specs.Dialled.{Dialled}
-use Rattle.run_base.specs.Hosts.{Lent}
 use Rattle.run_base.specs.Members.{SourceOf, SinkOf, FilesOf, PartsOf, FoldersOf, DialerOf, LinkOf}
 
 -- A stream before the run and behind it: the stream itself; its bytes, left or written, where it
@@ -134,42 +133,47 @@ folders_change folders before after = record {
   faults' = folders.faults after;
 }
 
--- none was handed out, and no call of one failed
+-- ---- nothing was done to it
+
+-- a stream is as it was
+abbrev pub IsUntouched : {S : Type 0} → Change S → Type 0
+IsUntouched stream = stream.after ≡ stream.before
+
+-- nothing was read of a stream, and nothing written to another
+pub record PassesNothing {R K : Type 0} (source : Change R) (sink : Change K) : Type 0 where
+  pub unread : IsUntouched source
+  pub unwritten : IsUntouched sink
+
+-- no file was read
+abbrev pub NoneRead : {I : Type 0} → FilesChange I → Type 0
+NoneRead files = files.after ≡ files.before
+
+-- no partition was handed out
+abbrev pub NoneHandedOut : {P D : Type 0} → PartsChange P D → Type 0
+NoneHandedOut parts = parts.after ≡ parts.before
+
+-- no link was made
+abbrev pub NoneDialled : {N L : Type 0} → DialerChange N L → Type 0
+NoneDialled dialer = dialer.after ≡ dialer.before
+
+-- no folder was handed out, and no call of one failed
 abbrev pub AreUnused : FoldersChange → Type 0
 AreUnused folders = (folders.new ≡ folders.old) × (folders.faults' ≡ folders.faults)
 
--- what a run did before its line on the fault sink
-pub record Work (R K I P D N L : Type 0) : Type 0 where
-  pub source : Change R
-  pub sink : Change K
-  pub files : FilesChange I
-  pub parts : PartsChange P D
-  pub dialer : DialerChange N L
-  pub folders : FoldersChange
+-- no partition was handed out, and nothing was written
+pub record MakesNothing {P D K : Type 0} (parts : PartsChange P D) (sink : Change K) : Type 0 where
+  pub unused : NoneHandedOut parts
+  pub unwritten : IsUntouched sink
 
-abbrev pub work_of : {R K F I P D G E N L : Type 0} → SourceOf R → SinkOf K → FilesOf I
-    → PartsOf P D → FoldersOf G E → DialerOf N L → LinkOf L
-    → (before after : Lent R K F I P N G) → Work R K I P D N L
-work_of source sink files parts folders dialer link before after = record {
-  source = source_change source before.source after.source;
-  sink = sink_change sink before.sink after.sink;
-  files = files_change files before.files after.files;
-  parts = parts_change parts before.parts after.parts;
-  dialer = dialer_change dialer link before.dialer after.dialer;
-  folders = folders_change folders before.folders after.folders;
-}
+-- nor was a file read, or a link made
+pub record UsesNothing {I P D N L K : Type 0} (files : FilesChange I) (parts : PartsChange P D)
+    (dialer : DialerChange N L) (sink : Change K) : Type 0 where
+  pub unopened : NoneRead files
+  pub unused : NoneHandedOut parts
+  pub undialled : NoneDialled dialer
+  pub unwritten : IsUntouched sink
 
--- nothing but files was read, nothing was written or handed out, and no link was made
-pub record ReadsFiles {R K I P D N L : Type 0} (work : Work R K I P D N L) : Type 0 where
-  pub unread : work.source.after ≡ work.source.before
-  pub unwritten : work.sink.after ≡ work.sink.before
-  pub unused : work.parts.after ≡ work.parts.before
-  pub undialled : work.dialer.after ≡ work.dialer.before
-
--- nor was a file read
-pub record IsIdle {R K I P D N L : Type 0} (work : Work R K I P D N L) : Type 0 where
-  pub rest : ReadsFiles work
-  pub unopened : work.files.after ≡ work.files.before
+-- ---- a line
 
 -- Where the stream tells what was written, the line was; or the write failed behind a front of it.
 abbrev pub Attempts : {F : Type 0} → Change F → (line : List ℕ) → Type 0

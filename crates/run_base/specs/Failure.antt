@@ -14,7 +14,7 @@ use Rattle.vt_disk.specs.Members.{DiskOf}
 use Rattle.vt_parts.specs.Parts.{there, HandsOut}
 use Rattle.run_base.specs.declared.failure.Failure.{Failure}
 use Rattle.run_base.specs.declared.failure.Failure.TheVariants.{BadWords, BadConf, NotFormatted, TooSmall, Disagree, SameName, DiskFault, BadNumber, BadName, BadScore, BadArchive, TooDeep, TooLong, Cut, Malformed, Spent, ReadFault, FileFault, FolderFault, WriteFault, NoMemory, Damaged, IndexFull, ArenasFull, Refused, NoBlock, Server}
-use Rattle.run_base.specs.Change.{DialerChange, PartsChange, Work}
+use Rattle.run_base.specs.Change.{Change, DialerChange, FilesChange, FoldersChange, PartsChange}
 use Rattle.run_base.specs.Fields.{field_name, value_text}
 use Rattle.vt_remote.specs.declared.remote.RemoteBad.{RemoteBad}
 use Rattle.vt_remote.specs.declared.remote.RemoteBad.TheVariants as remote
@@ -149,18 +149,64 @@ HasServerCause dialer (remote.Refused errs.WriteFault) =
 HasServerCause dialer (remote.Refused (errs.WrongScore want found)) = want.0 ≢ found.0
 HasServerCause dialer (remote.Refused why) = ⊤
 
--- A fault is told only where the count of that stream rose, or that of the files, of the folders,
--- of a disk or of the partitions; and of a partition that is refused, or damaged, two values are
--- told that differ.
-abbrev pub HasCauseIn : {R K I P D N L : Type 0} → DiskOf D → Work R K I P D N L → Outcome → Type 0
-HasCauseIn disk work (Err (TooSmall file len need)) = len < need
-HasCauseIn disk work (Err (Disagree file field found want)) = found ≢ want
-HasCauseIn disk work (Err DiskFault) =
-    HasRisen work.parts.faults work.parts.faults' ⊎ HasFailed disk work.parts
-HasCauseIn disk work (Err ReadFault) = HasRisen work.source.faults work.source.faults'
-HasCauseIn disk work (Err FileFault) = HasRisen work.files.faults work.files.faults'
-HasCauseIn disk work (Err FolderFault) = HasRisen work.folders.faults work.folders.faults'
-HasCauseIn disk work (Err WriteFault) = HasRisen work.sink.faults work.sink.faults'
-HasCauseIn disk work (Err (Damaged want found)) = Differ want found
-HasCauseIn disk work (Err (Server bad)) = HasServerCause work.dialer bad
-HasCauseIn disk work outcome = ⊤
+-- a call of a partition failed, or what hands them out counted one
+abbrev pub HasDiskCause : {P D : Type 0} → DiskOf D → PartsChange P D → Type 0
+HasDiskCause disk parts = HasRisen parts.faults parts.faults' ⊎ HasFailed disk parts
+
+-- What is told comes of this, by its kind: that the words are no command, and a fault of a partition,
+-- of the stream that is read, of a file, of a folder, of the stream that is written, or of a server.
+pub record Causes : Type 1 where
+  pub words : Type 0
+  pub disks : Type 0
+  pub source : Type 0
+  pub files : Type 0
+  pub folders : Type 0
+  pub sink : Type 0
+  pub server : RemoteBad → Type 0
+
+-- of a command, whose words are known, that is lent nothing: none of these is told
+abbrev pub no_cause : Causes
+no_cause = record {
+  words = ⊥;
+  disks = ⊥;
+  source = ⊥;
+  files = ⊥;
+  folders = ⊥;
+  sink = ⊥;
+  server = λ bad. ⊥;
+}
+
+-- ..but of what it is lent: its count rose, or that of a partition, or a server is why
+abbrev pub with_parts : {P D : Type 0} → DiskOf D → PartsChange P D → Causes → Causes
+with_parts disk parts causes = record causes { disks = HasDiskCause disk parts }
+
+abbrev pub with_source : {R : Type 0} → Change R → Causes → Causes
+with_source source causes = record causes { source = HasRisen source.faults source.faults' }
+
+abbrev pub with_files : {I : Type 0} → FilesChange I → Causes → Causes
+with_files files causes = record causes { files = HasRisen files.faults files.faults' }
+
+abbrev pub with_folders : FoldersChange → Causes → Causes
+with_folders folders causes = record causes { folders = HasRisen folders.faults folders.faults' }
+
+abbrev pub with_sink : {K : Type 0} → Change K → Causes → Causes
+with_sink sink causes = record causes { sink = HasRisen sink.faults sink.faults' }
+
+abbrev pub with_dialer : {N L : Type 0} → DialerChange N L → Causes → Causes
+with_dialer dialer causes = record causes { server = HasServerCause dialer }
+
+-- A fault is told only where it comes of one of these, and so never of what isn't lent, and no command
+-- tells that it is none; and of a partition that is refused, or damaged, two values are told that
+-- differ.
+abbrev pub HasCauseIn : Causes → Outcome → Type 0
+HasCauseIn causes (Err BadWords) = causes.words
+HasCauseIn causes (Err (TooSmall file len need)) = len < need
+HasCauseIn causes (Err (Disagree file field found want)) = found ≢ want
+HasCauseIn causes (Err DiskFault) = causes.disks
+HasCauseIn causes (Err ReadFault) = causes.source
+HasCauseIn causes (Err FileFault) = causes.files
+HasCauseIn causes (Err FolderFault) = causes.folders
+HasCauseIn causes (Err WriteFault) = causes.sink
+HasCauseIn causes (Err (Damaged want found)) = Differ want found
+HasCauseIn causes (Err (Server bad)) = causes.server bad
+HasCauseIn causes outcome = ⊤

@@ -8,7 +8,7 @@ use Rattle.vt_format.specs.Worked.{WorksOn}
 use Rattle.vt_out.specs.Streams.{AppendsPrefix}
 use Rattle.run_base.specs.declared.failure.Failure.{Failure}
 use Rattle.run_base.specs.declared.failure.Failure.TheVariants.{NotFormatted, TooSmall, Disagree, DiskFault, WriteFault, NoMemory}
-use Rattle.run_base.specs.Change.{Change, Work, IsIdle}
+use Rattle.run_base.specs.Change.{Change, PartsChange}
 use Rattle.run_base.specs.Failure.{Outcome}
 
 -- what is told where the partition of this file is refused, which is the only one
@@ -45,23 +45,19 @@ Tells file text result outcome change = MatchResult result
     × (change.after ≡ change.before))
 
 -- This was done to the partition of the file, with so many bytes at least, and to no other.
-pub record FormatsFile {R K I P D N L T : Type 0} (disk : DiskOf D) (file : List ℕ) (len : ℕ)
+pub record FormatsFile {P D K T : Type 0} (disk : DiskOf D) (file : List ℕ) (len : ℕ)
     (Formats : Result T MountBad → D → D → Type 0) (text : T → List ℕ) (outcome : Outcome)
-    (work : Work R K I P D N L) : Type 0 where
+    (parts : PartsChange P D) (sink : Change K) : Type 0 where
   pub result : Result T MountBad
-  pub worked : WorksOn disk work.parts.tells len Formats work.parts.faults work.parts.faults'
-      (work.parts.old file) (work.parts.new file) result
-  pub others : IsTrue work.parts.tells → (other : List ℕ) → other ≢ file
-      → work.parts.new other ≡ work.parts.old other
-  pub told : Tells file text result outcome work.sink
-  pub unread : work.source.after ≡ work.source.before
-  pub unopened : work.files.after ≡ work.files.before
-  pub undialled : work.dialer.after ≡ work.dialer.before
+  pub worked : WorksOn disk parts.tells len Formats parts.faults parts.faults' (parts.old file)
+      (parts.new file) result
+  pub others : IsTrue parts.tells → (other : List ℕ) → other ≢ file
+      → parts.new other ≡ parts.old other
+  pub told : Tells file text result outcome sink
 
 -- a word was refused, for this cause, and nothing was done
-pub record RefusesWord {R K I P D N L : Type 0} (IsWhy : Failure → Type 0) (outcome : Outcome)
-    (work : Work R K I P D N L) : Type 0 where
+pub record RefusesWord (IsWhy : Failure → Type 0) (outcome : Outcome) (Idle : Type 0) : Type 0 where
   pub failure : Failure
   pub why : IsWhy failure
   pub outcome_is : outcome ≡ Err failure
-  pub idle : IsIdle work
+  pub idle : Idle

@@ -1,4 +1,3 @@
-pub mod Hosts
 pub mod Members
 pub mod Change
 pub mod Configurations

@@ -5,7 +5,6 @@ use Rattle.vt_conf.specs.Addresses.{SpellsAddress}
 use Rattle.run_base.specs.declared.failure.Failure.TheVariants.{NoMemory}
 use Rattle.run_base.specs.declared.place.Place.{Place}
 use Rattle.run_base.specs.declared.place.Place.TheVariants.{Memory, Server, Conf}
-use Rattle.run_base.specs.Change.{Work, IsIdle}
 use Rattle.run_base.specs.Failure.{Outcome}
 
 -- the name of a store in memory
@@ -20,13 +19,11 @@ Names word (Server address) = SpellsAddress address word
 Names word Conf = (word ≢ in_memory) × ((address : Address) → ¬ SpellsAddress address word)
 
 -- it ends so, and nothing is done
-pub record EndsIdle {R K I P D N L : Type 0} (end outcome : Outcome) (work : Work R K I P D N L)
-    : Type 0 where
+pub record EndsIdle (end outcome : Outcome) (Idle : Type 0) : Type 0 where
   pub is : outcome ≡ end
-  pub idle : IsIdle work
+  pub idle : Idle
 
 -- this was done with the store that the word names, or memory ran out before it was known which
-abbrev pub AtPlace : {R K I P D N L : Type 0} → (word : List ℕ) → (Does : Place → Type 0)
-    → Outcome → Work R K I P D N L → Type 0
-AtPlace word Does outcome work =
-    EndsIdle (Err NoMemory) outcome work ⊎ ((place : Place) × Names word place × Does place)
+abbrev pub AtPlace : (word : List ℕ) → (Does : Place → Type 0) → Outcome → (Idle : Type 0) → Type 0
+AtPlace word Does outcome Idle =
+    EndsIdle (Err NoMemory) outcome Idle ⊎ ((place : Place) × Names word place × Does place)

@@ -5,12 +5,12 @@ ghost use Rattle.vt_base.specs.ScoreText.{SpellsScore};
 ghost use Rattle.run_base.specs.Blocks.{IsStoredRefusal, SaysNoScore, SaysNoType, SaysType, refusal_for};
 
 use crate::failure::Failure;
-use crate::host::Host;
 use crate::served::failure_for;
 use crate::unopened::told;
 use std::alloc::Global;
 use vt_base::{Kind, Score, Text, Why, parse_score};
 use vt_conf::{Conf, parse_number};
+use vt_out::Sink;
 use vt_single::StoredBad;
 
 /// The score that a word spells.
@@ -37,18 +37,17 @@ pub fn type_in(word: &Text) -> Result<Kind, Failure>
 }
 
 /// What is told where a block of a configuration's store isn't read or written.
-pub fn told_stored<H: Host>(
+pub fn told_stored<T: Sink + Drop>(
     alloc: Global,
-    host: &mut H,
+    terminal: Option<T>,
     file: &Text,
     conf: &Conf,
     bad: StoredBad,
 ) -> Failure
-    ensures told { IsStoredRefusal file.now conf.now bad result }
-    ensures same { H.lent host.new ≡ H.lent host.old }
+    ensures { IsStoredRefusal file.now conf.now bad result }
 {
     match bad {
-        StoredBad::Unopened(bad) => told(alloc, host, file, conf, bad),
+        StoredBad::Unopened(bad) => told(alloc, terminal, file, conf, bad),
         StoredBad::Refused(why) => refusal_for(why),
     }
 }

@@ -1,5 +1,5 @@
-//! What all commands of the program share: the host that they are lent, how one may fail and what is
-//! then told, its configuration and its words, and what it prints and shows.
+//! What all commands of the program share: what they are lent, how one may fail and what is then told,
+//! its configuration and its words, and what it prints and shows.
 // Tests: crates/run_tests_sessions/src, crates/run_tests_stores/src, crates/run_tests_archives/src.
 #![tactic(auto)]
 
@@ -19,7 +19,7 @@ pub use block::{refusal_for, score_in, told_stored, type_in};
 pub use complaint::{complain_of, hexadecimal, put_line};
 pub use configuration::read_conf;
 pub use failure::{Failure, status};
-pub use host::{Host, Outside};
+pub use host::Outside;
 pub use memory::{memory_store, read_made, write_made};
 pub use place::{Place, is_in_memory, place_of};
 pub use printing::{print, put_pieces};

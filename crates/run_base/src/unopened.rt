@@ -6,7 +6,6 @@ ghost use Rattle.run_base.specs.Configurations.{IsRefusalAmong, name_at};
 ghost use Rattle.run_base.specs.Unopened.{IsOpenRefusal};
 
 use crate::failure::Failure;
-use crate::host::Host;
 use crate::shown::{Shown, Unit};
 use std::alloc::{AllocError, Global};
 use vt_base::{MountBad, Text};
@@ -15,11 +14,16 @@ use vt_open::OpenBad;
 use vt_out::Sink;
 
 /// What is told where the store isn't opened. A file that can't be had is named on the terminal.
-pub fn told<H: Host>(alloc: Global, host: &mut H, file: &Text, conf: &Conf, bad: OpenBad) -> Failure
-    ensures told { IsOpenRefusal file.now conf.now bad result }
-    ensures same { H.lent host.new ≡ H.lent host.old }
+pub fn told<T: Sink + Drop>(
+    alloc: Global,
+    terminal: Option<T>,
+    file: &Text,
+    conf: &Conf,
+    bad: OpenBad,
+) -> Failure
+    ensures { IsOpenRefusal file.now conf.now bad result }
 {
-    let mut shown = Shown::new(host.terminal(), Unit::Buckets);
+    let mut shown = Shown::new(terminal, Unit::Buckets);
     told_on(alloc, &mut shown, file, conf, bad)
 }
 

@@ -1,229 +1,161 @@
 -- Why a block of a store isn't read or written.
-use Rattle.std.proofs.Common.{◌≡◌, ◌≢◌, ⊎_elim, ℕ, Bool, List, None, Result, Ok, Err, sym, ◌∙◌, ap, subst}
+use Rattle.std.proofs.Common.{◌≡◌, ⊎_elim, ℕ, Bool, List, None, Result, Ok, Err, sym, subst}
 use Rattle.std.specs.List.{All}
 use Rattle.std.specs.Prelude.{IfErr}
+use Rattle.vt_base.specs.Faults.{HasRisen}
+use Rattle.vt_base.specs.declared.score.Score.{Score}
 use Rattle.vt_base.specs.declared.why.Why.{Why}
 use Rattle.vt_base.specs.declared.why.Why.TheVariants as whys
 use Rattle.vt_client.specs.declared.err.ClientErr.{ClientErr}
-use Rattle.vt_conf.specs.declared.address.Address.{Address}
-use Rattle.vt_conf.specs.declared.conf.Conf.{Conf}
 use Rattle.vt_disk.specs.Members.{DiskOf}
 use Rattle.vt_answer.specs.Serving.{tells_failure}
 use Rattle.vt_core.specs.Core.{CoreState, stops_of}
 use Rattle.vt_alone.specs.Sessions.{FailsFor}
-use Rattle.vt_remote.specs.declared.remote.RemoteBad.{RemoteBad}
 use Rattle.vt_remote.specs.Refused.{HasCauseOver}
 use Rattle.vt_remote.specs.Remote.{AsksForBlock, MeetsInVain, PutsBlock, Talks}
-use Rattle.vt_single.specs.declared.stored.StoredBad.{StoredBad}
-use Rattle.vt_single.specs.declared.stored.StoredBad.TheVariants.{Unopened, Refused}
 use Rattle.vt_single.specs.Single.{ReadsBlock, WritesBlock}
 use Rattle.run_base.specs.declared.failure.Failure.{Failure}
 use Rattle.run_base.specs.declared.failure.Failure.TheVariants.{NoMemory, ReadFault, Refused as RefusedBy}
 use Rattle.run_base.specs.declared.place.Place.{Place}
 use Rattle.run_base.specs.declared.place.Place.TheVariants.{Memory, Server, Conf as InFile}
-use Rattle.run_base.specs.Blocks.{FailsInMemory, SaysNoType, TellsMade, TellsStored, refusal_for}
-use Rattle.run_base.specs.Change.{Change, Work}
-use Rattle.run_sessions.specs.Read.{DoesRead, PrintsBlock, PrintsKept, PrintsMade, PrintsServed, SaysNoBlock}
-use Rattle.run_sessions.specs.Write.{DoesWrite, KeepsInput, MakesInput, PutsInput, TakesNoBlock, TakesNone, WritesInput, score_line}
-use Rattle.run_base.specs.Failure.{HasCauseIn, Outcome, status_of}
+use Rattle.run_base.specs.Blocks.{FailsInMemory, SaysNoType, TellsMade, refusal_for}
+use Rattle.run_base.specs.Change.{Change, DialerChange, FilesChange, PartsChange}
+use Rattle.run_sessions.specs.Read.{DoesRead, PrintsBlock, SaysNoBlock}
+use Rattle.run_sessions.specs.Write.{DoesWrite, TakesNoBlock, TakesNone, WritesInput, score_line}
+use Rattle.run_base.specs.Failure.{Causes, HasCauseIn, Outcome, no_cause, with_dialer, with_files, with_parts, with_sink, with_source}
 use Rattle.run_base.specs.Members.{LinkOf}
-use Rattle.run_base.specs.Servers.{TellsServed}
-use Rattle.run_base.proofs.Causes.{printed_never, IsOther, other_as, printed_has_cause}
-use Rattle.run_base.proofs.OpenCauses.{open_never}
-use Rattle.run_base.proofs.StoredCauses.{done_cause, asked_cause, no_conf_cause, refusal_never, server_never, no_conf, refused_never, at_place}
+use Rattle.run_base.proofs.Causes.{as_told, printed_has_cause}
+use Rattle.run_base.proofs.StoredCauses.{done_cause, asked_cause, no_conf_cause, place_cause, word_cause}
 
--- ---- where no block is taken, or no configuration is read
+-- ---- where a word is refused, or no block is taken
 
-pub takes_cause : {R K I P D N L : Type 0} (disk : DiskOf D) (outcome : Outcome)
-    (work : Work R K I P D N L) → TakesNoBlock outcome work → HasCauseIn disk work outcome
-takes_cause disk outcome work it =
-    subst (HasCauseIn disk work) (sym it.outcome_is) (of it.failure it.takes)
+type_cause : (causes : Causes) (word : List ℕ) (failure : Failure) → SaysNoType word failure
+    → HasCauseIn causes (Err failure)
+type_cause causes word failure why = ⊎_elim
+    (λ number. as_told causes failure _ number.1 tt) (λ kind. as_told causes failure _ kind.3 tt) why
+
+block_cause : (causes : Causes) (score_word type_word : List ℕ) (failure : Failure)
+    → SaysNoBlock score_word type_word failure → HasCauseIn causes (Err failure)
+block_cause causes score_word type_word failure why = ⊎_elim
+    (λ score. as_told causes failure _ score.1 tt)
+    (λ kind. type_cause causes type_word failure kind.1) why
+
+takes_cause : {R K : Type 0} (causes : Causes) (outcome : Outcome) (source : Change R)
+    (sink : Change K) → (HasRisen source.faults source.faults' → causes.source)
+    → TakesNoBlock outcome source sink → HasCauseIn causes outcome
+takes_cause causes outcome source sink rises it =
+    subst (HasCauseIn causes) (sym it.outcome_is) (of it.failure it.takes)
   where
-    of : (failure : Failure) → TakesNone failure work.source → HasCauseIn disk work (Err failure)
+    of : (failure : Failure) → TakesNone failure source → HasCauseIn causes (Err failure)
     of (RefusedBy why) takes = tt
-    of ReadFault takes = takes.1
+    of ReadFault takes = rises takes.1
     of NoMemory takes = tt
     of failure takes = absurd takes
 
 -- ---- in memory
 
-made_told_cause : {R K I P D N L T : Type 0} (disk : DiskOf D) (text : T → List ℕ)
-    (result : Result T Why) (outcome : Outcome) (work : Work R K I P D N L)
-    → TellsMade text result outcome work.sink → IfErr result FailsInMemory
-    → HasCauseIn disk work outcome
-made_told_cause disk text (Ok value) outcome work told fails =
-    printed_has_cause disk (text value) outcome work told
-made_told_cause disk text (Err why) outcome work told fails =
-    subst (HasCauseIn disk work) (sym told.0) (of why fails)
+made_told_cause : {K T : Type 0} (causes : Causes) (text : T → List ℕ) (result : Result T Why)
+    (outcome : Outcome) (sink : Change K) → (HasRisen sink.faults sink.faults' → causes.sink)
+    → TellsMade text result outcome sink → IfErr result FailsInMemory → HasCauseIn causes outcome
+made_told_cause causes text (Ok value) outcome sink rises told fails =
+    printed_has_cause causes (text value) outcome sink rises told
+made_told_cause causes text (Err why) outcome sink rises told fails =
+    subst (HasCauseIn causes) (sym told.0) (of why fails)
   where
-    of : (why : Why) → FailsInMemory why → HasCauseIn disk work (Err (refusal_for why))
+    of : (why : Why) → FailsInMemory why → HasCauseIn causes (Err (refusal_for why))
     of whys.DiskFault fails = absurd fails
     of (whys.Stopped call) fails = absurd fails
     of (whys.Damaged site want found) fails = fails
-    of whys.NoMemory fails = tt
-    of whys.BadType fails = tt
-    of whys.TooBig fails = tt
-    of whys.TooSmall fails = tt
-    of whys.Absent fails = tt
-    of whys.Collision fails = tt
-    of whys.IndexFull fails = tt
-    of whys.ArenasFull fails = tt
+    of why fails = tt
 
 -- ---- the commands
 
-module _ {R K I P D N L : Type 0} (score : List ℕ → List ℕ) (disk : DiskOf D)
-    (outcome : Outcome) (work : Work R K I P D N L) where
-  pub made_read_cause : (s : List ℕ) (kind : ℕ) → PrintsMade score s kind outcome work
-      → HasCauseIn disk work outcome
-  made_read_cause s kind it = made_told_cause disk (λ (bytes : List ℕ). bytes) it.does.result
-      outcome work it.does.told it.does.fails
+module _ {D L : Type 0} (score : List ℕ → List ℕ) (disk : DiskOf D) (link : LinkOf L)
+    (met : (why : ClientErr) (back : L) → MeetsInVain link score why back
+    → HasCauseOver link why back) where
+  module _ (fails : (kind : ℕ) (s : List ℕ) (result : Result (List ℕ) Why)
+      (old new : CoreState D) → ReadsBlock score disk kind s result old new
+      → All (λ stop. stop ≡ None) (stops_of old)
+      → IfErr result (λ why. tells_failure why ≡ Bool.true → FailsFor disk why old new))
+      (asks : (kind : ℕ) (s : List ℕ) (why : ClientErr) (back : L)
+      → Talks link score (AsksForBlock link score kind s (Err why)) back
+      → HasCauseOver link why back) {I P N K : Type 0} (store score_word type_word : List ℕ)
+      (outcome : Outcome) (files : FilesChange I) (parts : PartsChange P D)
+      (dialer : DialerChange N L) (sink : Change K)
+      (reads : dialer.read_faults ≡ link.read_faults)
+      (writes : dialer.write_faults ≡ link.write_faults) where
+    abbrev read_causes : Causes
+    read_causes =
+        with_files files (with_parts disk parts (with_dialer dialer (with_sink sink no_cause)))
 
-  pub made_write_cause : (kind : ℕ) → MakesInput score kind outcome work
-      → HasCauseIn disk work outcome
-  made_write_cause kind it = ⊎_elim
-      (λ none. takes_cause disk outcome work none.0)
-      (λ done. made_told_cause disk score_line done.does.result outcome work done.does.told
-      done.does.fails) it
+    printed_cause : (s : List ℕ) (kind : ℕ) (place : Place)
+        → PrintsBlock score disk link store s kind outcome files parts dialer sink place
+        → HasCauseIn read_causes outcome
+    printed_cause s kind Memory it = made_told_cause read_causes (λ (bytes : List ℕ). bytes)
+        it.0.result outcome sink (λ rose. rose) it.0.told it.0.fails
+    printed_cause s kind (Server address) it = asked_cause link score address dialer reads writes
+        met (AsksForBlock link score kind s) (asks kind s) read_causes (λ (bytes : List ℕ). bytes)
+        outcome sink (λ bad why. why) (λ rose. rose) it.0.does
+    printed_cause s kind InFile it = ⊎_elim
+        (no_conf_cause read_causes store outcome files (λ rose. rose))
+        (λ done. done_cause score disk store done.conf parts read_causes (λ why. why)
+        (ReadsBlock score disk kind s)
+        (λ why opened left none does. fails kind s (Err why) opened left does none)
+        (λ (bytes : List ℕ). bytes) outcome sink (λ rose. rose) done.does) it.0
 
-  pub kept_read_cause : (file s : List ℕ) (kind : ℕ)
-      → ((why : Why) (opened left : CoreState D) → All (λ stop. stop ≡ None) (stops_of opened)
-      → ReadsBlock score disk kind s (Err why) opened left → tells_failure why ≡ Bool.true
-      → FailsFor disk why opened left)
-      → PrintsKept score disk file s kind outcome work → HasCauseIn disk work outcome
-  kept_read_cause file s kind causes it = ⊎_elim
-      (no_conf_cause disk file outcome work)
-      (λ done. done_cause score disk file done.conf work (ReadsBlock score disk kind s) causes
-      (λ (bytes : List ℕ). bytes) outcome done.does) it
+    pub read_cause
+        : DoesRead score disk link store score_word type_word outcome files parts dialer sink
+        → HasCauseIn read_causes outcome
+    read_cause does = ⊎_elim
+        (word_cause read_causes (SaysNoBlock score_word type_word) outcome
+        (block_cause read_causes score_word type_word))
+        (λ it. place_cause read_causes store
+        (PrintsBlock score disk link store it.0 it.1 outcome files parts dialer sink) outcome
+        (printed_cause it.0 it.1) it.3)
+        does
 
-  pub kept_write_cause : (file : List ℕ) (kind : ℕ)
-      → ((now : ℕ) (bytes : List ℕ) (why : Why) (opened left : CoreState D)
-      → All (λ stop. stop ≡ None) (stops_of opened)
-      → WritesBlock score disk now kind bytes (Err why) opened left
-      → tells_failure why ≡ Bool.true → FailsFor disk why opened left)
-      → KeepsInput score disk file kind outcome work → HasCauseIn disk work outcome
-  kept_write_cause file kind causes it = ⊎_elim
-      (no_conf_cause disk file outcome work)
-      (λ read. ⊎_elim
-      (takes_cause disk outcome work)
-      (λ done. done_cause score disk file read.0 work
-      (WritesBlock score disk done.now kind done.bytes) (causes done.now done.bytes) score_line
-      outcome done.does) read.2) it
+  module _ (fails : (now kind : ℕ) (bytes : List ℕ) (result : Result Score Why)
+      (old new : CoreState D) → WritesBlock score disk now kind bytes result old new
+      → All (λ stop. stop ≡ None) (stops_of old)
+      → IfErr result (λ why. tells_failure why ≡ Bool.true → FailsFor disk why old new))
+      (asks : (kind : ℕ) (bytes : List ℕ) (why : ClientErr) (back : L)
+      → Talks link score (PutsBlock link score kind bytes (Err why)) back
+      → HasCauseOver link why back) {R K I P N : Type 0} (store type_word : List ℕ)
+      (outcome : Outcome) (source : Change R) (sink : Change K) (files : FilesChange I)
+      (parts : PartsChange P D) (dialer : DialerChange N L)
+      (reads : dialer.read_faults ≡ link.read_faults)
+      (writes : dialer.write_faults ≡ link.write_faults) where
+    abbrev write_causes : Causes
+    write_causes = with_source source (with_sink sink (with_files files (with_parts disk parts
+        (with_dialer dialer no_cause))))
 
-  module _ (link : LinkOf L) (address : Address)
-      (reads : work.dialer.read_faults ≡ link.read_faults)
-      (writes : work.dialer.write_faults ≡ link.write_faults)
-      (met : (why : ClientErr) (back : L) → MeetsInVain link score why back
-      → HasCauseOver link why back) where
-    pub served_read_cause : (s : List ℕ) (kind : ℕ)
-        → ((why : ClientErr) (back : L)
-        → Talks link score (AsksForBlock link score kind s (Err why)) back
-        → HasCauseOver link why back)
-        → PrintsServed link score address s kind outcome work → HasCauseIn disk work outcome
-    served_read_cause s kind causes it = asked_cause link score disk address work reads writes met
-        (AsksForBlock link score kind s) causes (λ (bytes : List ℕ). bytes) outcome
-        it.does
+    none_cause : TakesNoBlock outcome source sink → HasCauseIn write_causes outcome
+    none_cause = takes_cause write_causes outcome source sink (λ rose. rose)
 
-    pub served_write_cause : (kind : ℕ)
-        → ((bytes : List ℕ) (why : ClientErr) (back : L)
-        → Talks link score (PutsBlock link score kind bytes (Err why)) back
-        → HasCauseOver link why back)
-        → PutsInput link score address kind outcome work → HasCauseIn disk work outcome
-    served_write_cause kind causes it = ⊎_elim
-        (λ none. takes_cause disk outcome work none.0)
-        (λ done. asked_cause link score disk address work reads writes met
-        (PutsBlock link score kind done.bytes) (causes done.bytes) score_line outcome
-        done.does) it
+    written_cause : (kind : ℕ) (place : Place)
+        → WritesInput score disk link store kind outcome source sink files parts dialer place
+        → HasCauseIn write_causes outcome
+    written_cause kind Memory it = ⊎_elim none_cause
+        (λ done. made_told_cause write_causes score_line done.does.result outcome sink
+        (λ rose. rose) done.does.told done.does.fails) it.0
+    written_cause kind (Server address) it = ⊎_elim (λ none. none_cause none.0)
+        (λ done. asked_cause link score address dialer reads writes met
+        (PutsBlock link score kind done.bytes) (asks kind done.bytes) write_causes score_line
+        outcome sink (λ bad why. why) (λ rose. rose) done.does) it.0
+    written_cause kind InFile it = ⊎_elim
+        (no_conf_cause write_causes store outcome files (λ rose. rose))
+        (λ read. ⊎_elim (λ none. none_cause none.0)
+        (λ done. done_cause score disk store read.0 parts write_causes (λ why. why)
+        (WritesBlock score disk done.now kind done.bytes)
+        (λ why opened left none does. fails done.now kind done.bytes (Err why) opened left does
+        none) score_line outcome sink (λ rose. rose) done.does) read.2) it.0
 
--- ---- neither command ends as other words do
-
-printed : {K T : Type 0} (file : List ℕ) (conf : Conf) (text : T → List ℕ)
-    (result : Result T StoredBad) (outcome : Outcome) (sink : Change K)
-    → TellsStored file conf text result outcome sink → status_of outcome ≢ 1
-printed file conf text (Ok value) outcome sink told = printed_never (text value) outcome sink told
-printed file conf text (Err (Unopened bad)) outcome sink told = λ one.
-    open_never file conf bad told.0.0 told.0.2 (ap status_of (sym told.0.1) ∙ one)
-printed file conf text (Err (Refused why)) outcome sink told = λ one.
-    refusal_never why (ap (λ (f : Failure). status_of (Err f)) (sym told.0.2)
-    ∙ ap status_of (sym told.0.1) ∙ one)
-
--- what the store in memory says
-made : {K T : Type 0} (text : T → List ℕ) (result : Result T Why) (outcome : Outcome)
-    (sink : Change K) → TellsMade text result outcome sink → status_of outcome ≢ 1
-made text (Ok value) outcome sink told = printed_never (text value) outcome sink told
-made text (Err why) outcome sink told = λ one.
-    refusal_never why (ap status_of (sym told.0) ∙ one)
-
-no_type : (word : List ℕ) (failure : Failure) → SaysNoType word failure → IsOther failure
-no_type word failure why = ⊎_elim
-    (λ number. other_as failure _ number.1 (λ one. cc))
-    (λ kind. other_as failure _ kind.3 (λ one. cc)) why
-
-no_block : (score_word type_word : List ℕ) (failure : Failure)
-    → SaysNoBlock score_word type_word failure → IsOther failure
-no_block score_word type_word failure why = ⊎_elim
-    (λ score. other_as failure _ score.1 (λ one. cc))
-    (λ kind. no_type type_word failure kind.1) why
-
-takes_never : {R : Type 0} (failure : Failure) (source : Change R) → TakesNone failure source
-    → IsOther failure
-takes_never (RefusedBy why) source none is = cc
-takes_never ReadFault source none is = cc
-takes_never NoMemory source none is = cc
-takes_never failure source none is = absurd none
-
-served : {K T : Type 0} (text : T → List ℕ) (result : Result T RemoteBad) (outcome : Outcome)
-    (sink : Change K) → TellsServed text result outcome sink → status_of outcome ≢ 1
-served text (Ok value) outcome sink told = printed_never (text value) outcome sink told
-served text (Err bad) outcome sink told = λ one.
-    server_never bad (ap status_of (sym told.0) ∙ one)
-
-module _ {R K I P D N L : Type 0} (score : List ℕ → List ℕ) (disk : DiskOf D) (link : LinkOf L)
-    (store : List ℕ) (kind : ℕ) (outcome : Outcome) (work : Work R K I P D N L) where
-  printed_at : (s : List ℕ) (place : Place)
-      → PrintsBlock score disk link store s kind outcome work place → status_of outcome ≢ 1
-  printed_at s Memory does =
-      made (λ (bytes : List ℕ). bytes) does.does.result outcome work.sink does.does.told
-  printed_at s (Server address) does =
-      served (λ (bytes : List ℕ). bytes) does.does.result outcome work.sink does.does.told
-  printed_at s InFile does = ⊎_elim
-      (no_conf store outcome work)
-      (λ done. printed store done.conf (λ (bytes : List ℕ). bytes) done.does.result outcome
-      work.sink done.does.told) does
-
-  none_taken : TakesNoBlock outcome work → status_of outcome ≢ 1
-  none_taken it one = takes_never it.failure work.source it.takes
-      (ap status_of (sym it.outcome_is) ∙ one)
-
-  written_at : (place : Place) → WritesInput score disk link store kind outcome work place
-      → status_of outcome ≢ 1
-  written_at Memory does = ⊎_elim
-      (λ none. none_taken none.0)
-      (λ done. made score_line done.does.result outcome work.sink done.does.told) does
-  written_at (Server address) does = ⊎_elim
-      (λ none. none_taken none.0)
-      (λ done. served score_line done.does.result outcome work.sink done.does.told) does
-  written_at InFile does = ⊎_elim
-      (no_conf store outcome work)
-      (λ read. ⊎_elim
-      none_taken
-      (λ done. printed store read.0 score_line done.does.result outcome work.sink done.does.told)
-      read.2) does
-
-pub read_never : {R K I P D N L : Type 0} (score : List ℕ → List ℕ) (disk : DiskOf D)
-    (link : LinkOf L) (store score_word type_word : List ℕ) (outcome : Outcome) (work : Work R K I P D N L)
-    → DoesRead score disk link store score_word type_word outcome work → status_of outcome ≢ 1
-read_never score disk link store score_word type_word outcome work does = ⊎_elim
-    (refused_never (SaysNoBlock score_word type_word) outcome work
-    (no_block score_word type_word))
-    (λ it. at_place store (PrintsBlock score disk link store it.0 it.1 outcome work) outcome work
-    (printed_at score disk link store it.1 outcome work it.0) it.3)
-    does
-
-pub write_never : {R K I P D N L : Type 0} (score : List ℕ → List ℕ) (disk : DiskOf D)
-    (link : LinkOf L) (store type_word : List ℕ) (outcome : Outcome) (work : Work R K I P D N L)
-    → DoesWrite score disk link store type_word outcome work → status_of outcome ≢ 1
-write_never score disk link store type_word outcome work does = ⊎_elim
-    (refused_never (SaysNoType type_word) outcome work (no_type type_word))
-    (λ it. at_place store (WritesInput score disk link store it.0 outcome work) outcome work
-    (written_at score disk link store it.0 outcome work) it.2)
-    does
+    pub write_cause
+        : DoesWrite score disk link store type_word outcome source sink files parts dialer
+        → HasCauseIn write_causes outcome
+    write_cause does = ⊎_elim
+        (word_cause write_causes (SaysNoType type_word) outcome (type_cause write_causes type_word))
+        (λ it. place_cause write_causes store
+        (WritesInput score disk link store it.0 outcome source sink files parts dialer) outcome
+        (written_cause it.0) it.2)
+        does

@@ -12,7 +12,7 @@ use Rattle.run_base.specs.declared.failure.Failure.{Failure}
 use Rattle.run_base.specs.declared.place.Place.{Place}
 use Rattle.run_base.specs.declared.place.Place.TheVariants.{Memory, Server, Conf as InFile}
 use Rattle.run_base.specs.Blocks.{AsksMade, DoesStored, FindsNoConf, SaysNoScore, SaysNoType, SaysType}
-use Rattle.run_base.specs.Change.{Work}
+use Rattle.run_base.specs.Change.{Change, DialerChange, FilesChange, MakesNothing, NoneDialled, NoneHandedOut, NoneRead, PartsChange, UsesNothing}
 use Rattle.run_base.specs.Configurations.{ReadsConf}
 use Rattle.run_base.specs.Failure.{Outcome}
 use Rattle.run_base.specs.Formatting.{RefusesWord}
@@ -34,59 +34,62 @@ SaysNoBlock score_word type_word failure =
 -- ---- in memory
 
 -- the store in memory was asked for a block
-pub record PrintsMade {R K I P D N L : Type 0} (score : List ℕ → List ℕ) (s : List ℕ) (kind : ℕ)
-    (outcome : Outcome) (work : Work R K I P D N L) : Type 0 where
-  pub does : AsksMade score (read s kind MAX_BLOCK) (λ (bytes : List ℕ). r_read bytes)
-      (λ (bytes : List ℕ). bytes) outcome work
-  pub unread : work.source.after ≡ work.source.before
+abbrev pub PrintsMade : {K : Type 0} → (List ℕ → List ℕ) → (s : List ℕ) → (kind : ℕ) → Outcome
+    → Change K → Type 0
+PrintsMade score s kind outcome sink = AsksMade score (read s kind MAX_BLOCK)
+    (λ (bytes : List ℕ). r_read bytes) (λ (bytes : List ℕ). bytes) outcome sink
 
 -- ---- over a configuration
 
 -- the store that the configuration of this file names was asked for a block, which was printed, or
 -- it is told why not
-pub record ReadsFrom {R K I P D N L : Type 0} (score : List ℕ → List ℕ) (disk : DiskOf D)
-    (file s : List ℕ) (kind : ℕ) (outcome : Outcome) (work : Work R K I P D N L) : Type 0 where
+pub record ReadsFrom {I P D K : Type 0} (score : List ℕ → List ℕ) (disk : DiskOf D)
+    (file s : List ℕ) (kind : ℕ) (outcome : Outcome) (files : FilesChange I)
+    (parts : PartsChange P D) (sink : Change K) : Type 0 where
   pub conf : Conf
-  pub reads : ReadsConf file conf work.files
+  pub reads : ReadsConf file conf files
   pub does : DoesStored score disk file conf (ReadsBlock score disk kind s)
-      (λ (bytes : List ℕ). bytes) outcome work.sink work.parts
-  pub unread : work.source.after ≡ work.source.before
-  pub undialled : work.dialer.after ≡ work.dialer.before
+      (λ (bytes : List ℕ). bytes) outcome sink parts
 
 -- no configuration was read; or a block was read
-abbrev pub PrintsKept : {R K I P D N L : Type 0} → (List ℕ → List ℕ) → DiskOf D
-    → (file s : List ℕ) → (kind : ℕ) → Outcome → Work R K I P D N L → Type 0
-PrintsKept score disk file s kind outcome work =
-    FindsNoConf file outcome work ⊎ ReadsFrom score disk file s kind outcome work
+abbrev pub PrintsKept : {I P D K : Type 0} → (List ℕ → List ℕ) → DiskOf D → (file s : List ℕ)
+    → (kind : ℕ) → Outcome → FilesChange I → PartsChange P D → Change K → Type 0
+PrintsKept score disk file s kind outcome files parts sink =
+    FindsNoConf file outcome files (MakesNothing parts sink)
+    ⊎ ReadsFrom score disk file s kind outcome files parts sink
 
 -- ---- over an address
 
 -- The server at this address was asked for a block, which was printed, or it is told why not.
 -- Whatever the server sent, what is printed has that score.
-pub record PrintsServed {R K I P D N L : Type 0} (link : LinkOf L) (score : List ℕ → List ℕ)
-    (address : Address) (s : List ℕ) (kind : ℕ) (outcome : Outcome)
-    (work : Work R K I P D N L) : Type 0 where
+pub record PrintsServed {N L K : Type 0} (link : LinkOf L) (score : List ℕ → List ℕ)
+    (address : Address) (s : List ℕ) (kind : ℕ) (outcome : Outcome) (dialer : DialerChange N L)
+    (sink : Change K) : Type 0 where
   pub does : AsksAt link score address (AsksForBlock link score kind s)
-      (λ (bytes : List ℕ). bytes) outcome work
+      (λ (bytes : List ℕ). bytes) outcome dialer sink
   pub scored : IfOk does.result (λ (bytes : List ℕ). score bytes ≡ s)
-  pub unread : work.source.after ≡ work.source.before
 
 -- ---- the command
 
 -- a block of the store at this place was printed, or it is told why not
-abbrev pub PrintsBlock : {R K I P D N L : Type 0} → (List ℕ → List ℕ) → DiskOf D → LinkOf L
-    → (store s : List ℕ) → (kind : ℕ) → Outcome → Work R K I P D N L → Place → Type 0
-PrintsBlock score disk link store s kind outcome work Memory =
-    PrintsMade score s kind outcome work
-PrintsBlock score disk link store s kind outcome work (Server address) =
-    PrintsServed link score address s kind outcome work
-PrintsBlock score disk link store s kind outcome work InFile =
-    PrintsKept score disk store s kind outcome work
+abbrev pub PrintsBlock : {I P D N L K : Type 0} → (List ℕ → List ℕ) → DiskOf D → LinkOf L
+    → (store s : List ℕ) → (kind : ℕ) → Outcome → FilesChange I → PartsChange P D
+    → DialerChange N L → Change K → Place → Type 0
+PrintsBlock score disk link store s kind outcome files parts dialer sink Memory =
+    PrintsMade score s kind outcome sink
+    × NoneRead files × NoneHandedOut parts × NoneDialled dialer
+PrintsBlock score disk link store s kind outcome files parts dialer sink (Server address) =
+    PrintsServed link score address s kind outcome dialer sink
+    × NoneRead files × NoneHandedOut parts
+PrintsBlock score disk link store s kind outcome files parts dialer sink InFile =
+    PrintsKept score disk store s kind outcome files parts sink × NoneDialled dialer
 
 -- its words were refused, or the block that they ask for was printed
-abbrev pub DoesRead : {R K I P D N L : Type 0} → (List ℕ → List ℕ) → DiskOf D → LinkOf L
-    → (store score_word type_word : List ℕ) → Outcome → Work R K I P D N L → Type 0
-DoesRead score disk link store score_word type_word outcome work =
-    RefusesWord (SaysNoBlock score_word type_word) outcome work
+abbrev pub DoesRead : {I P D N L K : Type 0} → (List ℕ → List ℕ) → DiskOf D → LinkOf L
+    → (store score_word type_word : List ℕ) → Outcome → FilesChange I → PartsChange P D
+    → DialerChange N L → Change K → Type 0
+DoesRead score disk link store score_word type_word outcome files parts dialer sink =
+    RefusesWord (SaysNoBlock score_word type_word) outcome (UsesNothing files parts dialer sink)
     ⊎ ((s : List ℕ) × (kind : ℕ) × SaysBlock score_word type_word s kind
-    × AtPlace store (PrintsBlock score disk link store s kind outcome work) outcome work)
+    × AtPlace store (PrintsBlock score disk link store s kind outcome files parts dialer sink)
+    outcome (UsesNothing files parts dialer sink))

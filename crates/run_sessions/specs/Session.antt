@@ -9,7 +9,7 @@ use Rattle.vt_answer.specs.Links.{ReadCause}
 use Rattle.vt_answer.specs.Sessions.{SinkCause}
 use Rattle.vt_alone.specs.declared.serving.StoreServed.{StoreServed}
 use Rattle.vt_alone.specs.Sessions.{AreUnsaid, NeedsMemory, OnlyMemory}
-use Rattle.run_base.specs.Change.{Change, Work, IsIdle}
+use Rattle.run_base.specs.Change.{Change, PassesNothing}
 use Rattle.run_base.specs.Failure.{Outcome}
 use Rattle.run_base.specs.Memory.{memory}
 use Rattle.run_base.specs.Served.{PassesOver, outcome_of}
@@ -40,14 +40,11 @@ pub record ServesMemory {R K : Type 0} (score : List ℕ → List ℕ) (end : St
   pub read : ReadCause end.ended source.faults source.faults'
   pub write : SinkCause end.ended sink.faults sink.faults'
 
--- One session was served in memory, whose end gives the outcome, and nothing else was done.
-pub record DoesSession {R K I P D N L : Type 0} (score : List ℕ → List ℕ) (outcome : Outcome)
-    (work : Work R K I P D N L) : Type 0 where
+-- one session was served in memory, whose end gives the outcome
+pub record DoesSession {R K : Type 0} (score : List ℕ → List ℕ) (outcome : Outcome)
+    (source : Change R) (sink : Change K) : Type 0 where
   pub end : StoreServed
-  pub serves : ServesMemory score end work.source work.sink
+  pub serves : ServesMemory score end source sink
   pub outcome_is : outcome ≡ outcome_of end
   -- where there is no memory for a session, nothing is done
-  pub idle : end.ended ≡ ends.NoMemory → IsIdle work
-  pub unopened : work.files.after ≡ work.files.before
-  pub unused : work.parts.after ≡ work.parts.before
-  pub undialled : work.dialer.after ≡ work.dialer.before
+  pub idle : end.ended ≡ ends.NoMemory → PassesNothing source sink

@@ -1,9 +1,7 @@
 -- The command `session CONF`: one session over the store that a configuration names (venti(8)).
-use Rattle.std.specs.Prelude.{ℕ, ◌≡◌, ◌⊎◌, ◌≤◌, ◌++◌, ◌&&◌, IsTrue, Some, List, length, map, Err}
+use Rattle.std.specs.Prelude.{ℕ, ◌≡◌, ◌⊎◌, ◌≤◌, ◌++◌, ◌&&◌, IsTrue, List, length, map}
 use Rattle.std.specs.List.{AllByRecursion}
-use Rattle.vt_base.specs.Faults.{HasRisen}
 use Rattle.vt_conf.specs.declared.conf.Conf.{Conf}
-use Rattle.vt_conf.specs.Configuration.{Configures}
 use Rattle.vt_disk.specs.Members.{DiskOf}
 use Rattle.vt_model.specs.History.{History}
 use Rattle.vt_model.specs.Places.{Setup}
@@ -16,17 +14,17 @@ use Rattle.vt_session.specs.Talk.{Alone}
 use Rattle.vt_session.specs.Turns.{Turn, causes_of, synced_numbers}
 use Rattle.vt_core.specs.Core.{CoreState, devices_of}
 use Rattle.vt_core.specs.Files.{PerDevice, all_of}
-use Rattle.vt_core.specs.Mounting.{AllStandFor, EachStands, IsLogOf, KeepsLimits}
+use Rattle.vt_core.specs.Mounting.{AllStandFor, EachStands}
 use Rattle.vt_open.specs.Names.{AreUnder, files_of, HaveOneShape}
 use Rattle.vt_open.specs.Opening.{Opens}
 use Rattle.vt_open.specs.Taking.{AreGiven}
 use Rattle.vt_parts.specs.Parts.{Standing}
 use Rattle.vt_alone.specs.declared.serving.StoreServed.{StoreServed}
 use Rattle.vt_alone.specs.Sessions.{AreMarkedOn, AreUnsaid, OnlyMemory, ServesStore}
-use Rattle.run_base.specs.declared.failure.Failure.{Failure}
-use Rattle.run_base.specs.Change.{Change, PartsChange, Work, ReadsFiles}
-use Rattle.run_base.specs.Configurations.{ReadsConf, ReadsNone}
-use Rattle.run_base.specs.Failure.{HasFailed, Outcome}
+use Rattle.run_base.specs.Blocks.{FindsNoConf}
+use Rattle.run_base.specs.Change.{Change, FilesChange, NoneHandedOut, PartsChange, PassesNothing}
+use Rattle.run_base.specs.Configurations.{ReadsConf}
+use Rattle.run_base.specs.Failure.{Outcome}
 use Rattle.run_base.specs.Served.{PassesOver, outcome_of}
 use Rattle.run_base.specs.Unopened.{OpensNone}
 
@@ -63,15 +61,13 @@ pub record ServesConf {R K P D : Type 0} (score : List ℕ → List ℕ) (disk :
 
 -- The configuration was read, and a session was served over its store, or it is told why that isn't
 -- opened; or it is told why none was read, and nothing else is done.
-abbrev pub DoesSessionConf : {R K I P D N L : Type 0} → (score : List ℕ → List ℕ) → DiskOf D
-    → (file : List ℕ) → Outcome → Work R K I P D N L → Type 0
-DoesSessionConf score disk file outcome work =
-    ((failure : Failure) × (outcome ≡ Err failure) × ReadsNone file failure work.files
-    × ReadsFiles work)
-    ⊎ ((conf : Conf) × ReadsConf file conf work.files
-    × (OpensNone score disk file conf outcome work.source work.sink work.parts
-    ⊎ ServesConf score disk conf outcome work.source work.sink work.parts)
-    × (work.dialer.after ≡ work.dialer.before))
+abbrev pub DoesSessionConf : {R K I P D : Type 0} → (List ℕ → List ℕ) → DiskOf D
+    → (file : List ℕ) → Outcome → Change R → Change K → FilesChange I → PartsChange P D → Type 0
+DoesSessionConf score disk file outcome source sink files parts =
+    FindsNoConf file outcome files (PassesNothing source sink × NoneHandedOut parts)
+    ⊎ ((conf : Conf) × ReadsConf file conf files
+    × (OpensNone score disk file conf outcome source sink parts
+    ⊎ ServesConf score disk conf outcome source sink parts))
 
 -- ---- the promise
 
@@ -106,35 +102,3 @@ pub record KeepsConf {D : Type 0} (score : List ℕ → List ℕ) (disk : DiskOf
   pub synced : AllByRecursion (λ n. n ≤ least) (synced_numbers (turns ++ unsaid))
   pub quiet : ¬ OneRose (map disk.faults (all_of devices)) (map disk.faults (all_of back))
       → EndsQuietly score disk c tables (causes_of (turns ++ unsaid)) last back
-
--- All that is handed in tells what it holds: the file of this name is a configuration, of what
--- stands under its names every combination of images stands for a prefix of one legal history,
--- within the limits of a store.
-pub record IsWellHandedIn {R K I P D N L : Type 0} (score : List ℕ → List ℕ) (disk : DiskOf D)
-    (file : List ℕ) (work : Work R K I P D N L) : Type 0 where
-  pub streams : IsTrue (work.source.tells && work.sink.tells)
-  pub files : IsTrue work.files.tells
-  pub parts : IsTrue work.parts.tells
-  pub disks : IsTrue disk.tells
-  pub text : List ℕ
-  pub content : work.files.content file ≡ Some text
-  pub conf : Conf
-  pub says : Configures text conf
-  pub tables : List Table
-  pub devices : PerDevice D
-  pub under : AreUnder work.parts.old conf devices
-  pub c : Setup
-  pub h : History
-  pub g : History
-  pub base : ℕ
-  pub log : IsLogOf score disk tables devices c h g base
-  pub limits : KeepsLimits tables c
-
--- no call failed: no count rose, of the streams, the files, the partitions or a disk of these
-pub record NoneFails {R K I P D N L : Type 0} (disk : DiskOf D) (work : Work R K I P D N L)
-    : Type 0 where
-  pub source : ¬ HasRisen work.source.faults work.source.faults'
-  pub sink : ¬ HasRisen work.sink.faults work.sink.faults'
-  pub files : ¬ HasRisen work.files.faults work.files.faults'
-  pub parts : ¬ HasRisen work.parts.faults work.parts.faults'
-  pub disks : ¬ HasFailed disk work.parts

@@ -17,7 +17,7 @@ use Rattle.run_base.specs.declared.failure.Failure.TheVariants.{NoMemory, ReadFa
 use Rattle.run_base.specs.declared.place.Place.{Place}
 use Rattle.run_base.specs.declared.place.Place.TheVariants.{Memory, Server, Conf as InFile}
 use Rattle.run_base.specs.Blocks.{AsksMade, DoesStored, FindsNoConf, SaysNoType, SaysType}
-use Rattle.run_base.specs.Change.{Change, Work}
+use Rattle.run_base.specs.Change.{Change, DialerChange, FilesChange, IsUntouched, NoneDialled, NoneHandedOut, NoneRead, PartsChange, PassesNothing, UsesNothing}
 use Rattle.run_base.specs.Configurations.{ReadsConf}
 use Rattle.run_base.specs.Failure.{Outcome}
 use Rattle.run_base.specs.Formatting.{RefusesWord}
@@ -45,7 +45,7 @@ TakesNone (Refused why) source =
     (why ≡ TooBig) × TakesFront (λ n. n ≡ MAX_BLOCK + 1) source × (source.faults' ≡ source.faults)
 TakesNone ReadFault source =
     TakesFront (λ n. n ≤ MAX_BLOCK) source × HasRisen source.faults source.faults'
-TakesNone NoMemory source = source.after ≡ source.before
+TakesNone NoMemory source = IsUntouched source
 TakesNone failure source = ⊥
 
 -- ---- what is done
@@ -54,93 +54,97 @@ TakesNone failure source = ⊥
 abbrev pub score_line : Score → List ℕ
 score_line score = encode_lower score.0 ++ 10 ∷ []
 
--- no block was taken, and nothing was handed out or written
-pub record TakesNoBlock {R K I P D N L : Type 0} (outcome : Outcome) (work : Work R K I P D N L)
+-- no block was taken, and nothing was written
+pub record TakesNoBlock {R K : Type 0} (outcome : Outcome) (source : Change R) (sink : Change K)
     : Type 0 where
   pub failure : Failure
-  pub takes : TakesNone failure work.source
+  pub takes : TakesNone failure source
   pub outcome_is : outcome ≡ Err failure
-  pub unwritten : work.sink.after ≡ work.sink.before
-  pub unused : work.parts.after ≡ work.parts.before
-  pub undialled : work.dialer.after ≡ work.dialer.before
+  pub unwritten : IsUntouched sink
 
 -- ---- in memory
 
 -- the store in memory was given the block that came in
-pub record WritesMade {R K I P D N L : Type 0} (score : List ℕ → List ℕ) (kind : ℕ)
-    (outcome : Outcome) (work : Work R K I P D N L) : Type 0 where
+pub record WritesMade {R K : Type 0} (score : List ℕ → List ℕ) (kind : ℕ) (outcome : Outcome)
+    (source : Change R) (sink : Change K) : Type 0 where
   pub bytes : List ℕ
-  pub takes : TakesBlock bytes work.source
+  pub takes : TakesBlock bytes source
   pub does : AsksMade score (write kind bytes) (λ (given : Score). r_write given.0) score_line
-      outcome work
+      outcome sink
   pub scored : IfOk does.result (λ (given : Score). given.0 ≡ score bytes)
 
--- no block was taken, and no file read; or one was written
-abbrev pub MakesInput : {R K I P D N L : Type 0} → (List ℕ → List ℕ) → (kind : ℕ) → Outcome
-    → Work R K I P D N L → Type 0
-MakesInput score kind outcome work =
-    (TakesNoBlock outcome work × (work.files.after ≡ work.files.before))
-    ⊎ WritesMade score kind outcome work
+-- no block was taken; or one was written
+abbrev pub MakesInput : {R K : Type 0} → (List ℕ → List ℕ) → (kind : ℕ) → Outcome → Change R
+    → Change K → Type 0
+MakesInput score kind outcome source sink =
+    TakesNoBlock outcome source sink ⊎ WritesMade score kind outcome source sink
 
 -- ---- over a configuration
 
 -- the store that this configuration names was given the block that came in, committed it, and its
 -- score was printed, or it is told why not
-pub record WritesTo {R K I P D N L : Type 0} (score : List ℕ → List ℕ) (disk : DiskOf D)
-    (file : List ℕ) (conf : Conf) (kind : ℕ) (outcome : Outcome) (work : Work R K I P D N L)
-    : Type 0 where
+pub record WritesTo {R K P D : Type 0} (score : List ℕ → List ℕ) (disk : DiskOf D)
+    (file : List ℕ) (conf : Conf) (kind : ℕ) (outcome : Outcome) (source : Change R)
+    (sink : Change K) (parts : PartsChange P D) : Type 0 where
   pub bytes : List ℕ
-  pub takes : TakesBlock bytes work.source
+  pub takes : TakesBlock bytes source
   -- the time that a clump was stamped with, which no clause ties to a clock
   pub now : ℕ
   pub does : DoesStored score disk file conf (WritesBlock score disk now kind bytes) score_line
-      outcome work.sink work.parts
+      outcome sink parts
   pub scored : IfOk does.result (λ (given : Score). given.0 ≡ score bytes)
-  pub undialled : work.dialer.after ≡ work.dialer.before
 
--- no configuration was read; or no block was taken; or one was written
-abbrev pub KeepsInput : {R K I P D N L : Type 0} → (List ℕ → List ℕ) → DiskOf D
-    → (file : List ℕ) → (kind : ℕ) → Outcome → Work R K I P D N L → Type 0
-KeepsInput score disk file kind outcome work =
-    FindsNoConf file outcome work
-    ⊎ ((conf : Conf) × ReadsConf file conf work.files
-    × (TakesNoBlock outcome work ⊎ WritesTo score disk file conf kind outcome work))
+-- no configuration was read; or no block was taken, and no partition handed out; or one was written
+abbrev pub KeepsInput : {R K I P D : Type 0} → (List ℕ → List ℕ) → DiskOf D → (file : List ℕ)
+    → (kind : ℕ) → Outcome → Change R → Change K → FilesChange I → PartsChange P D → Type 0
+KeepsInput score disk file kind outcome source sink files parts =
+    FindsNoConf file outcome files (PassesNothing source sink × NoneHandedOut parts)
+    ⊎ ((conf : Conf) × ReadsConf file conf files
+    × ((TakesNoBlock outcome source sink × NoneHandedOut parts)
+    ⊎ WritesTo score disk file conf kind outcome source sink parts))
 
 -- ---- over an address
 
 -- The server at this address was given the block that came in, and committed it, and its score was
 -- printed, or it is told why not. Whatever the server sent, that is the block's score.
-pub record PutsTo {R K I P D N L : Type 0} (link : LinkOf L) (score : List ℕ → List ℕ)
-    (address : Address) (kind : ℕ) (outcome : Outcome) (work : Work R K I P D N L) : Type 0 where
+pub record PutsTo {R K N L : Type 0} (link : LinkOf L) (score : List ℕ → List ℕ)
+    (address : Address) (kind : ℕ) (outcome : Outcome) (source : Change R) (sink : Change K)
+    (dialer : DialerChange N L) : Type 0 where
   pub bytes : List ℕ
-  pub takes : TakesBlock bytes work.source
-  pub does : AsksAt link score address (PutsBlock link score kind bytes) score_line outcome
-      work
+  pub takes : TakesBlock bytes source
+  pub does : AsksAt link score address (PutsBlock link score kind bytes) score_line outcome dialer
+      sink
   pub scored : IfOk does.result (λ (given : Score). given.0 ≡ score bytes)
 
--- no block was taken, and no file read; or one was written
-abbrev pub PutsInput : {R K I P D N L : Type 0} → LinkOf L → (List ℕ → List ℕ) → Address
-    → (kind : ℕ)
-    → Outcome → Work R K I P D N L → Type 0
-PutsInput link score address kind outcome work =
-    (TakesNoBlock outcome work × (work.files.after ≡ work.files.before))
-    ⊎ PutsTo link score address kind outcome work
+-- no block was taken, and no link made; or one was written
+abbrev pub PutsInput : {R K N L : Type 0} → LinkOf L → (List ℕ → List ℕ) → Address → (kind : ℕ)
+    → Outcome → Change R → Change K → DialerChange N L → Type 0
+PutsInput link score address kind outcome source sink dialer =
+    (TakesNoBlock outcome source sink × NoneDialled dialer)
+    ⊎ PutsTo link score address kind outcome source sink dialer
 
 -- ---- the command
 
 -- what came in was written to the store at this place, or it is told why not
 abbrev pub WritesInput : {R K I P D N L : Type 0} → (List ℕ → List ℕ) → DiskOf D → LinkOf L
-    → (store : List ℕ) → (kind : ℕ) → Outcome → Work R K I P D N L → Place → Type 0
-WritesInput score disk link store kind outcome work Memory = MakesInput score kind outcome work
-WritesInput score disk link store kind outcome work (Server address) =
-    PutsInput link score address kind outcome work
-WritesInput score disk link store kind outcome work InFile =
-    KeepsInput score disk store kind outcome work
+    → (store : List ℕ) → (kind : ℕ) → Outcome → Change R → Change K → FilesChange I
+    → PartsChange P D → DialerChange N L → Place → Type 0
+WritesInput score disk link store kind outcome source sink files parts dialer Memory =
+    MakesInput score kind outcome source sink
+    × NoneRead files × NoneHandedOut parts × NoneDialled dialer
+WritesInput score disk link store kind outcome source sink files parts dialer (Server address) =
+    PutsInput link score address kind outcome source sink dialer
+    × NoneRead files × NoneHandedOut parts
+WritesInput score disk link store kind outcome source sink files parts dialer InFile =
+    KeepsInput score disk store kind outcome source sink files parts × NoneDialled dialer
 
 -- its word was refused, or what came in was written as a block of its type
 abbrev pub DoesWrite : {R K I P D N L : Type 0} → (List ℕ → List ℕ) → DiskOf D → LinkOf L
-    → (store type_word : List ℕ) → Outcome → Work R K I P D N L → Type 0
-DoesWrite score disk link store type_word outcome work =
-    RefusesWord (SaysNoType type_word) outcome work
+    → (store type_word : List ℕ) → Outcome → Change R → Change K → FilesChange I
+    → PartsChange P D → DialerChange N L → Type 0
+DoesWrite score disk link store type_word outcome source sink files parts dialer =
+    RefusesWord (SaysNoType type_word) outcome
+    (IsUntouched source × UsesNothing files parts dialer sink)
     ⊎ ((kind : ℕ) × SaysType type_word kind
-    × AtPlace store (WritesInput score disk link store kind outcome work) outcome work)
+    × AtPlace store (WritesInput score disk link store kind outcome source sink files parts dialer)
+    outcome (IsUntouched source × UsesNothing files parts dialer sink))

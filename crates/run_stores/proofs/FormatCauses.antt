@@ -1,5 +1,5 @@
 -- Why a command that formats a file ends with a status other than 0.
-use Rattle.std.proofs.Common.{◌≡◌, ◌≢◌, ⊎_elim, inl, inr, ◌<◌, ℕ, Bool, List, refl, sym, ◌∙◌, ap, subst, Some, Ok, Err, Result}
+use Rattle.std.proofs.Common.{◌≡◌, ◌≢◌, ⊎_elim, inl, inr, ◌<◌, ℕ, Bool, List, refl, sym, ◌∙◌, subst, Some, Err, Result}
 use Rattle.std.specs.Prelude.{⊤}
 use Rattle.vt_base.specs.Faults.{HasRisen}
 use Rattle.vt_base.specs.declared.mount.MountBad.{MountBad}
@@ -9,11 +9,10 @@ use Rattle.vt_format.specs.Arenas.{FormatsArenas, RefusesArenas, RefusesTable}
 use Rattle.vt_format.specs.Worked.{WorksOn}
 use Rattle.vt_parts.specs.Parts.{Standing}
 use Rattle.run_base.specs.declared.failure.Failure.{Failure}
-use Rattle.run_base.specs.declared.failure.Failure.TheVariants.{DiskFault}
-use Rattle.run_base.specs.Change.{Change, Work}
-use Rattle.run_base.specs.Failure.{Outcome, HasCauseIn, status_of}
-use Rattle.run_base.specs.Formatting.{FormatsFile, IsOfOneFile, IsRefusalOf, Tells}
-use Rattle.run_base.proofs.Causes.{have_failed, printed_never}
+use Rattle.run_base.specs.Change.{Change, PartsChange}
+use Rattle.run_base.specs.Failure.{Causes, HasCauseIn, HasDiskCause, no_cause, with_parts, with_sink}
+use Rattle.run_base.specs.Formatting.{IsOfOneFile, IsRefusalOf}
+use Rattle.run_base.proofs.Causes.{as_told, have_failed}
 
 -- what a refusal tells of the partition that was worked on
 abbrev pub Shows : {D : Type 0} → DiskOf D → MountBad → (old new : D) → Type 0
@@ -71,12 +70,18 @@ of_one_file disk tells len Formats faults faults' old new bad shows worked = ⊎
     (λ not_had. fault_alone bad (Err bad) refl not_had.2)
     worked
 
-module _ {R K I P D N L T : Type 0} (disk : DiskOf D) (file : List ℕ) (len : ℕ) (Formats : Result T MountBad → D → D → Type 0) (work : Work R K I P D N L)
-    (shows : (bad : MountBad) (before after : D) → Formats (Err bad) before after → Shows disk bad before after) where
-  abbrev Worked : Result T MountBad → Type 0
-  Worked result = WorksOn disk work.parts.tells len Formats work.parts.faults work.parts.faults' (work.parts.old file) (work.parts.new file) result
+module _ {P D K T : Type 0} (disk : DiskOf D) (file : List ℕ) (len : ℕ)
+    (Formats : Result T MountBad → D → D → Type 0)
+    (shows : (bad : MountBad) (before after : D) → Formats (Err bad) before after
+    → Shows disk bad before after) (parts : PartsChange P D) (sink : Change K) where
+  abbrev causes : Causes
+  causes = with_parts disk parts (with_sink sink no_cause)
 
-  of_fault : Worked (Err mount_bad.Fault) → HasCauseIn disk work (Err DiskFault)
+  abbrev Worked : Result T MountBad → Type 0
+  Worked result = WorksOn disk parts.tells len Formats parts.faults parts.faults' (parts.old file)
+      (parts.new file) result
+
+  of_fault : Worked (Err mount_bad.Fault) → HasDiskCause disk parts
   of_fault worked = ⊎_elim
       (λ w. inr (record {
         name = file;
@@ -90,36 +95,18 @@ module _ {R K I P D N L T : Type 0} (disk : DiskOf D) (file : List ℕ) (len : �
       (λ not_had. inl not_had.1)
       worked
 
-  pub refused : (bad : MountBad) (failure : Failure) → IsRefusalOf file bad failure → Worked (Err bad) → HasCauseIn disk work (Err failure)
-  refused mount_bad.Fault failure is worked = subst (λ (f : Failure). HasCauseIn disk work (Err f)) (sym is) (of_fault worked)
-  refused (mount_bad.NotFormatted part) failure is worked = subst (λ (f : Failure). HasCauseIn disk work (Err f)) (sym is) tt
-  refused (mount_bad.TooSmall part n need) failure is worked =
-      subst (λ (f : Failure). HasCauseIn disk work (Err f)) (sym is)
-      (⊎_elim (λ w. shows (mount_bad.TooSmall part n need) w.0.before w.0.after w.0.work) (λ not_had. absurd (let wrong = not_had.2 in cc)) worked)
+  pub refused : (bad : MountBad) (failure : Failure) → IsRefusalOf file bad failure
+      → Worked (Err bad) → HasCauseIn causes (Err failure)
+  refused mount_bad.Fault failure is worked = as_told causes failure _ is (of_fault worked)
+  refused (mount_bad.NotFormatted part) failure is worked = as_told causes failure _ is tt
+  refused (mount_bad.TooSmall part n need) failure is worked = as_told causes failure _ is
+      (⊎_elim
+      (λ w. shows (mount_bad.TooSmall part n need) w.0.before w.0.after w.0.work)
+      (λ not_had. absurd (let wrong = not_had.2 in cc)) worked)
   refused (mount_bad.Disagree part field found want) failure is worked =
-      subst (λ (f : Failure). HasCauseIn disk work (Err f)) (sym is)
-      (⊎_elim (λ w. shows (mount_bad.Disagree part field found want) w.0.before w.0.after w.0.work) (λ not_had. absurd (let wrong = not_had.2 in cc)) worked)
-  refused mount_bad.NoMemory failure is worked = subst (λ (f : Failure). HasCauseIn disk work (Err f)) (sym is) tt
+      as_told causes failure _ is (⊎_elim
+      (λ w. shows (mount_bad.Disagree part field found want) w.0.before w.0.after w.0.work)
+      (λ not_had. absurd (let wrong = not_had.2 in cc)) worked)
+  refused mount_bad.NoMemory failure is worked = as_told causes failure _ is tt
   refused (mount_bad.DuplicateName first second) failure is worked = absurd is
   refused (mount_bad.Damaged site want found) failure is worked = absurd is
-
--- ---- it never ends as other words do
-
-refusal_never : (file : List ℕ) (bad : MountBad) (failure : Failure) → IsRefusalOf file bad failure → status_of (Err failure) ≢ 1
-refusal_never file mount_bad.Fault failure is one = let wrong = ap (λ (f : Failure). status_of (Err f)) (sym is) ∙ one in cc
-refusal_never file (mount_bad.NotFormatted part) failure is one = let wrong = ap (λ (f : Failure). status_of (Err f)) (sym is) ∙ one in cc
-refusal_never file (mount_bad.TooSmall part n need) failure is one = let wrong = ap (λ (f : Failure). status_of (Err f)) (sym is) ∙ one in cc
-refusal_never file (mount_bad.Disagree part field found want) failure is one = let wrong = ap (λ (f : Failure). status_of (Err f)) (sym is) ∙ one in cc
-refusal_never file mount_bad.NoMemory failure is one = let wrong = ap (λ (f : Failure). status_of (Err f)) (sym is) ∙ one in cc
-refusal_never file (mount_bad.DuplicateName first second) failure is one = absurd is
-refusal_never file (mount_bad.Damaged site want found) failure is one = absurd is
-
-told_never : {K T : Type 0} (file : List ℕ) (text : T → List ℕ) (result : Result T MountBad) (outcome : Outcome) (change : Change K)
-    → Tells file text result outcome change → status_of outcome ≢ 1
-told_never file text (Ok made) outcome change tells = printed_never (text made) outcome change tells
-told_never file text (Err bad) outcome change tells =
-    λ one. refusal_never file bad tells.0.0 tells.0.2 (ap status_of (sym tells.0.1) ∙ one)
-
-pub formats_never : {R K I P D N L T : Type 0} (disk : DiskOf D) (file : List ℕ) (len : ℕ) (Formats : Result T MountBad → D → D → Type 0) (text : T → List ℕ)
-    (outcome : Outcome) (work : Work R K I P D N L) → FormatsFile disk file len Formats text outcome work → status_of outcome ≢ 1
-formats_never disk file len Formats text outcome work formats = told_never file text formats.result outcome work.sink formats.told

@@ -1,5 +1,5 @@
 -- Why the command that formats an index ends with a status other than 0.
-use Rattle.std.proofs.Common.{◌≡◌, ◌≢◌, ⊎_elim, inl, inr, ℕ, List, Some, None, refl, sym, ◌∙◌, ap, subst, Ok, Err, Result, arith}
+use Rattle.std.proofs.Common.{⊎_elim, inl, inr, ℕ, List, Some, None, refl, sym, subst, Ok, Err, Result, arith}
 use Rattle.std.specs.Prelude.{IsTrue}
 use Rattle.vt_base.specs.declared.mount.MountBad.{MountBad}
 use Rattle.vt_base.specs.declared.mount.MountBad.TheVariants as mount_bad
@@ -14,16 +14,29 @@ use Rattle.vt_format.specs.Opening.{NamesCause}
 use Rattle.vt_parts.specs.Parts.{HandsOut, Standing}
 use Rattle.run_base.specs.declared.failure.Failure.{Failure}
 use Rattle.run_base.specs.declared.failure.Failure.TheVariants.{DiskFault, NoMemory}
-use Rattle.run_base.specs.Change.{Change, Work}
+use Rattle.run_base.specs.Change.{Change, FilesChange, PartsChange}
 use Rattle.run_stores.specs.Fmtindex.{DoesFmtindex, FormatsIndex, IndexesConf, IsIndexRefusal, TellsIndex, index_line}
 use Rattle.run_base.specs.Configurations.{IsRefusalAmong}
-use Rattle.run_base.specs.Failure.{Outcome, HasCauseIn, status_of}
-use Rattle.run_base.proofs.Causes.{have_failed, printed_never, printed_has_cause, IsOther, other_as, among_never, none_never}
+use Rattle.run_base.specs.Failure.{Causes, Outcome, HasCauseIn, HasDiskCause, no_cause, with_files, with_parts, with_sink}
+use Rattle.run_base.proofs.Causes.{as_told, have_failed, printed_has_cause}
+use Rattle.run_base.proofs.StoredCauses.{no_conf_cause}
 
 -- ---- what a fault comes of
 
-module _ {R K I P D N L : Type 0} (disk : DiskOf D) (files : List PartFile) (work : Work R K I P D N L) where
-  failed : (part : ℕ) → FailsAt disk (IsTrue work.parts.tells) 0 files work.parts.old work.parts.new part → HasCauseIn disk work (Err DiskFault)
+-- what it is lent
+abbrev causes_in : {I P D K : Type 0} → DiskOf D → FilesChange I → PartsChange P D → Change K → Causes
+causes_in disk files parts sink = with_files files (with_parts disk parts (with_sink sink no_cause))
+
+module _ {I P D K : Type 0} (disk : DiskOf D) (file : List ℕ) (conf : Conf)
+    (files : FilesChange I) (parts : PartsChange P D) (sink : Change K) where
+  abbrev causes : Causes
+  causes = causes_in disk files parts sink
+
+  abbrev named : List PartFile
+  named = files_of conf
+
+  failed : (part : ℕ) → FailsAt disk (IsTrue parts.tells) 0 named parts.old parts.new part
+      → HasDiskCause disk parts
   failed part it = inr (record {
     name = it.file.name;
     before = it.before;
@@ -35,65 +48,49 @@ module _ {R K I P D N L : Type 0} (disk : DiskOf D) (files : List PartFile) (wor
     rose = have_failed _ _ it.rose;
   })
 
-  abbrev Failed : IndexBad → Type 0
-  Failed bad = Fails disk (IsTrue work.parts.tells) 0 files work.parts.old work.parts.new work.parts.faults work.parts.faults' bad
+  among : (bad : MountBad) (failure : Failure) → NamesCause (index_bad.Refused bad)
+      → IsRefusalAmong file named bad failure → HasCauseIn causes (Err failure)
+  among mount_bad.Fault failure names is = absurd names
+  among (mount_bad.NotFormatted part) failure names is = as_told causes failure _ is tt
+  among (mount_bad.TooSmall part len need) failure names is = as_told causes failure _ is names
+  among (mount_bad.DuplicateName first second) failure names is = as_told causes failure _ is tt
+  among (mount_bad.Disagree part field found want) failure names is =
+      as_told causes failure _ is names
+  among (mount_bad.Damaged site want found) failure names is = absurd names
+  among mount_bad.NoMemory failure names is = as_told causes failure _ is tt
 
-  as_told : (failure told : Failure) → failure ≡ told → HasCauseIn disk work (Err told) → HasCauseIn disk work (Err failure)
-  as_told failure told is cause = subst (λ (f : Failure). HasCauseIn disk work (Err f)) (sym is) cause
+  -- what is told of an index that isn't formatted has its cause
+  index_has_cause : (bad : IndexBad) (failure : Failure)
+      → Fails disk (IsTrue parts.tells) 0 named parts.old parts.new parts.faults parts.faults' bad
+      → NamesCause bad → IsIndexRefusal file conf bad failure → HasCauseIn causes (Err failure)
+  index_has_cause (index_bad.Fault None) failure fails names is =
+      as_told causes failure DiskFault is (failed fails.1 fails.2)
+  index_has_cause (index_bad.Fault (Some part)) failure fails names is =
+      as_told causes failure DiskFault is
+      (⊎_elim (λ outside. inl outside.0) (λ inside. failed part inside.1) fails)
+  index_has_cause (index_bad.Refused bad) failure fails names is = ⊎_elim
+      (λ refusal. among bad failure names refusal)
+      (λ memory. as_told causes failure NoMemory memory tt)
+      is
+  index_has_cause (index_bad.Stopped part) failure fails names is =
+      as_told causes failure DiskFault is (failed part fails.1)
 
-  among : (file : List ℕ) (bad : MountBad) (failure : Failure) → NamesCause (index_bad.Refused bad) → IsRefusalAmong file files bad failure
-      → HasCauseIn disk work (Err failure)
-  among file mount_bad.Fault failure names is = absurd names
-  among file (mount_bad.NotFormatted part) failure names is = as_told failure _ is tt
-  among file (mount_bad.TooSmall part len need) failure names is = as_told failure _ is names
-  among file (mount_bad.DuplicateName first second) failure names is = as_told failure _ is tt
-  among file (mount_bad.Disagree part field found want) failure names is = as_told failure _ is names
-  among file (mount_bad.Damaged site want found) failure names is = absurd names
-  among file mount_bad.NoMemory failure names is = as_told failure _ is tt
+  indexed_has_cause : (outcome : Outcome) → IndexesConf disk file conf outcome parts sink
+      → HasCauseIn causes outcome
+  indexed_has_cause outcome it = by it.result it.formats it.told
+    where
+      by : (result : Result Index IndexBad) → FormatsIndex disk conf parts result
+          → TellsIndex file conf result outcome sink → HasCauseIn causes outcome
+      by (Ok index) formats told =
+          printed_has_cause causes (index_line conf.index index) outcome sink (λ rose. rose) told
+      by (Err bad) formats told = subst (HasCauseIn causes) (sym told.0.1)
+          (index_has_cause bad told.0.0 formats.cause formats.differs told.0.2)
 
--- what is told of an index that isn't formatted has its cause
-index_has_cause : {R K I P D N L : Type 0} (disk : DiskOf D) (file : List ℕ) (conf : Conf) (work : Work R K I P D N L) (bad : IndexBad) (failure : Failure)
-    → Fails disk (IsTrue work.parts.tells) 0 (files_of conf) work.parts.old work.parts.new work.parts.faults work.parts.faults' bad
-    → NamesCause bad → IsIndexRefusal file conf bad failure → HasCauseIn disk work (Err failure)
-index_has_cause disk file conf work (index_bad.Fault None) failure fails names is =
-    as_told disk (files_of conf) work failure DiskFault is (failed disk (files_of conf) work fails.1 fails.2)
-index_has_cause disk file conf work (index_bad.Fault (Some part)) failure fails names is =
-    as_told disk (files_of conf) work failure DiskFault is
-    (⊎_elim (λ outside. inl outside.0) (λ inside. failed disk (files_of conf) work part inside.1) fails)
-index_has_cause disk file conf work (index_bad.Refused bad) failure fails names is = ⊎_elim
-    (λ refusal. among disk (files_of conf) work file bad failure names refusal)
-    (λ memory. as_told disk (files_of conf) work failure NoMemory memory tt)
-    is
-index_has_cause disk file conf work (index_bad.Stopped part) failure fails names is =
-    as_told disk (files_of conf) work failure DiskFault is (failed disk (files_of conf) work part fails.1)
-
-told_has_cause : {R K I P D N L : Type 0} (disk : DiskOf D) (file : List ℕ) (conf : Conf) (work : Work R K I P D N L) (result : Result Index IndexBad)
-    (outcome : Outcome) → FormatsIndex disk conf work.parts result → TellsIndex file conf result outcome work.sink → HasCauseIn disk work outcome
-told_has_cause disk file conf work (Ok index) outcome formats tells = printed_has_cause disk (index_line conf.index index) outcome work tells
-told_has_cause disk file conf work (Err bad) outcome formats tells = subst (HasCauseIn disk work) (sym tells.0.1)
-    (index_has_cause disk file conf work bad tells.0.0 formats.cause formats.differs tells.0.2)
-
-pub indexed_has_cause : {R K I P D N L : Type 0} (disk : DiskOf D) (file : List ℕ) (conf : Conf) (work : Work R K I P D N L) (outcome : Outcome)
-    → IndexesConf disk file conf outcome work.parts work.sink → HasCauseIn disk work outcome
-indexed_has_cause disk file conf work outcome it = told_has_cause disk file conf work it.result outcome it.formats it.told
-
--- ---- it never ends as other words do
-
-refusal_never : (file : List ℕ) (conf : Conf) (bad : IndexBad) (failure : Failure) → IsIndexRefusal file conf bad failure → IsOther failure
-refusal_never file conf (index_bad.Fault part) failure is = other_as failure DiskFault is (λ one. cc)
-refusal_never file conf (index_bad.Refused bad) failure is = ⊎_elim
-    (among_never file (files_of conf) bad failure) (λ memory. other_as failure NoMemory memory (λ one. cc)) is
-refusal_never file conf (index_bad.Stopped part) failure is = other_as failure DiskFault is (λ one. cc)
-
-told_never : {K : Type 0} (file : List ℕ) (conf : Conf) (result : Result Index IndexBad) (outcome : Outcome) (change : Change K)
-    → TellsIndex file conf result outcome change → status_of outcome ≢ 1
-told_never file conf (Ok index) outcome change tells = printed_never (index_line conf.index index) outcome change tells
-told_never file conf (Err bad) outcome change tells =
-    λ one. refusal_never file conf bad tells.0.0 tells.0.2 (ap status_of (sym tells.0.1) ∙ one)
-
-pub index_never : {R K I P D N L : Type 0} (disk : DiskOf D) (file : List ℕ) (outcome : Outcome) (work : Work R K I P D N L)
-    → DoesFmtindex disk file outcome work → status_of outcome ≢ 1
-index_never disk file outcome work does = ⊎_elim
-    (λ none one. none_never file none.0 work.files none.2 (ap status_of (sym none.1) ∙ one))
-    (λ it. told_never file it.0 it.2.result outcome work.sink it.2.told)
+pub index_cause : {I P D K : Type 0} (disk : DiskOf D) (file : List ℕ) (outcome : Outcome)
+    (files : FilesChange I) (parts : PartsChange P D) (sink : Change K)
+    → DoesFmtindex disk file outcome files parts sink
+    → HasCauseIn (causes_in disk files parts sink) outcome
+index_cause disk file outcome files parts sink does = ⊎_elim
+    (no_conf_cause (causes_in disk files parts sink) file outcome files (λ rose. rose))
+    (λ it. indexed_has_cause disk file it.0 files parts sink outcome it.2)
     does

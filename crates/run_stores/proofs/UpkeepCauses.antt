@@ -1,5 +1,5 @@
 -- Why an index isn't rebuilt, or arenas aren't checked.
-use Rattle.std.proofs.Common.{◌≡◌, ◌≢◌, ⊎_elim, inl, inr, ℕ, suc, List, [], ◌∷◌, Option, None, Some, Result, Ok, Err, refl, sym, ◌∙◌, ap, subst}
+use Rattle.std.proofs.Common.{◌≡◌, ⊎_elim, inl, inr, ℕ, suc, List, [], ◌∷◌, Option, None, Some, Result, Ok, Err, refl, sym, ◌∙◌, subst}
 use Rattle.std.specs.Prelude.{IfSome, IsTrue, MatchResult, slice_get, slice_index}
 use Rattle.std.specs.Option.{option_or}
 use Rattle.vt_base.specs.declared.mount.MountBad.{MountBad}
@@ -34,37 +34,45 @@ use Rattle.vt_upkeep.specs.Rebuilding.{Rebuilds, StopsOn}
 use Rattle.vt_upkeep.specs.Stores.{NamesUnopened, OnStore, UsesStore}
 use Rattle.run_base.specs.declared.failure.Failure.{Failure}
 use Rattle.run_base.specs.declared.failure.Failure.TheVariants.{DiskFault, NoMemory, WriteFault}
-use Rattle.run_base.specs.Change.{Change, Work}
+use Rattle.run_base.specs.Blocks.{FindsNoConf}
+use Rattle.run_base.specs.Change.{Change, FilesChange, MakesNothing, PartsChange}
 use Rattle.run_stores.specs.Buildindex.{DoesBuildindex, IsRebuildRefusal, RebuildsConf, blocks_line, failure_of as rebuild_failure}
 use Rattle.run_stores.specs.Checkarenas.{ChecksConf, DoesCheckarenas, IsCheckRefusal, TellsReports, arena_lines, failure_of as check_failure, first_of, outcome_of}
 use Rattle.run_base.specs.Unopened.{IsOpenRefusal}
 use Rattle.run_base.specs.Configurations.{IsRefusalAmong}
-use Rattle.run_base.specs.Failure.{HasCauseIn, HaveFailed, Outcome, status_of}
+use Rattle.run_base.specs.Failure.{Causes, HasCauseIn, HaveFailed, Outcome, no_cause, with_files, with_parts, with_sink}
 use Rattle.run_base.specs.Formatting.{Prints}
-use Rattle.run_base.proofs.Causes.{have_failed, printed_never, IsOther, none_never, other_as, printed_has_cause}
-use Rattle.run_base.proofs.OpenCauses.{has_failed, open_never, open_told, same_len}
+use Rattle.run_base.proofs.Causes.{as_told, have_failed, printed_has_cause}
+use Rattle.run_base.proofs.OpenCauses.{has_failed, open_told, same_len}
+use Rattle.run_base.proofs.StoredCauses.{no_conf_cause}
 
 -- ---- a store that isn't found, or on which a call failed
 
-module _ {R K I P D N L : Type 0} (score : List ℕ → List ℕ) (disk : DiskOf D) (file : List ℕ)
-    (conf : Conf) (work : Work R K I P D N L) where
-  as_told : (failure told : Failure) → failure ≡ told → HasCauseIn disk work (Err told)
-      → HasCauseIn disk work (Err failure)
-  as_told failure told is cause =
-      subst (λ (f : Failure). HasCauseIn disk work (Err f)) (sym is) cause
+-- what they are lent
+abbrev causes_in : {I P D K : Type 0} → DiskOf D → FilesChange I → PartsChange P D → Change K → Causes
+causes_in disk files parts sink = with_files files (with_parts disk parts (with_sink sink no_cause))
+
+module _ {I P D K : Type 0} (score : List ℕ → List ℕ) (disk : DiskOf D) (file : List ℕ)
+    (conf : Conf) (files : FilesChange I) (parts : PartsChange P D) (sink : Change K) where
+  abbrev causes : Causes
+  causes = causes_in disk files parts sink
 
   abbrev IsOn : ((devices back : Devices D) → Type 0) → Type 0
-  IsOn Does = OnStore disk (IsTrue work.parts.tells) conf Does work.parts.old work.parts.new
+  IsOn Does = OnStore disk (IsTrue parts.tells) conf Does parts.old parts.new
+
+  abbrev Uses : {T E : Type 0} → (Devices D → MountBad → Type 0)
+      → (Result T E → (devices back : Devices D) → Type 0) → Result T (UpkeepBad E) → Type 0
+  Uses Cause Does = UsesStore disk (IsTrue parts.tells) conf Cause Does parts.old parts.new
+      parts.faults parts.faults'
 
   store_fault : (Does : (devices back : Devices D) → Type 0) (on : IsOn Does)
       → OneHasRisen (faults_of disk on.devices) (faults_of disk on.back)
-      → HasCauseIn disk work (Err DiskFault)
+      → HasCauseIn causes (Err DiskFault)
   store_fault Does on rose =
       let all = on.taken in
-      let same = same_faults disk (IsTrue work.parts.tells) conf work.parts.old on.during on.devices
-      all in
+      let same = same_faults disk (IsTrue parts.tells) conf parts.old on.during on.devices all in
       let risen = have_failed _ _ rose.rose in
-      inr (has_failed disk work.parts (all_of (files_of conf)) (all_of all.handed)
+      inr (has_failed disk parts (all_of (files_of conf)) (all_of all.handed)
       (all_of (devices_in on.back)) rose.which
       (same_len all.handed (files_of conf) all.shape)
       (same_len (devices_in on.back) (files_of conf) on.shape) all.taken.stood
@@ -74,94 +82,89 @@ module _ {R K I P D N L : Type 0} (score : List ℕ → List ℕ) (disk : DiskOf
 
   refused_told : (Cause : Devices D → MountBad → Type 0) (why : MountBad) (failure : Failure)
       → IsOn (λ devices. Refuses (Cause devices) disk devices why) → NamesCause (Refused why)
-      → IsRefusalAmong file (files_in conf) why failure → HasCauseIn disk work (Err failure)
+      → IsRefusalAmong file (files_in conf) why failure → HasCauseIn causes (Err failure)
   refused_told Cause mount_bad.Fault failure on names is =
-      as_told failure DiskFault is (store_fault _ on on.does.counts)
-  refused_told Cause (mount_bad.NotFormatted part) failure on names is = as_told failure _ is tt
+      as_told causes failure DiskFault is (store_fault _ on on.does.counts)
+  refused_told Cause (mount_bad.NotFormatted part) failure on names is =
+      as_told causes failure _ is tt
   refused_told Cause (mount_bad.TooSmall part len need) failure on names is =
-      as_told failure _ is names
+      as_told causes failure _ is names
   refused_told Cause (mount_bad.DuplicateName first second) failure on names is =
-      as_told failure _ is tt
+      as_told causes failure _ is tt
   refused_told Cause (mount_bad.Disagree part field found want) failure on names is =
-      as_told failure _ is names
+      as_told causes failure _ is names
   refused_told Cause (mount_bad.Damaged site want found) failure on names is =
-      as_told failure _ is names
-  refused_told Cause mount_bad.NoMemory failure on names is = as_told failure _ is tt
+      as_told causes failure _ is names
+  refused_told Cause mount_bad.NoMemory failure on names is = as_told causes failure _ is tt
 
   found_told : (Cause : Devices D → MountBad → Type 0) (why : MountBad) (bad : OpenBad)
       (failure : Failure) → bad ≡ Refused why
       → IsOn (λ devices. Refuses (Cause devices) disk devices why) → NamesCause bad
-      → IsOpenRefusal file conf bad failure → HasCauseIn disk work (Err failure)
+      → IsOpenRefusal file conf bad failure → HasCauseIn causes (Err failure)
   found_told Cause why bad failure is on names told =
       let two : NamesCause (Refused why) = subst NamesCause is names in
       ⊎_elim
       (λ among. refused_told Cause why failure on two among)
-      (λ memory. as_told failure NoMemory memory tt)
+      (λ memory. as_told causes failure NoMemory memory tt)
       (subst (λ (b : OpenBad). IsOpenRefusal file conf b failure) is told)
 
   unopened_told : {T E : Type 0} (Cause : Devices D → MountBad → Type 0)
       (Does : Result T E → (devices back : Devices D) → Type 0) (bad : OpenBad) (failure : Failure)
-      → UsesStore disk (IsTrue work.parts.tells) conf Cause Does work.parts.old work.parts.new
-      work.parts.faults work.parts.faults' (Err (Unopened bad))
-      → NamesCause bad → IsOpenRefusal file conf bad failure → HasCauseIn disk work (Err failure)
+      → Uses Cause Does (Err (Unopened bad)) → NamesCause bad
+      → IsOpenRefusal file conf bad failure → HasCauseIn causes (Err failure)
   unopened_told Cause Does bad failure uses names told = ⊎_elim
-      (λ taking. open_told score disk file conf work bad failure (inl taking) names told)
+      (λ taking. open_told score disk file conf parts causes (λ it. it) bad failure (inl taking)
+      names told)
       (λ found. found_told Cause found.0 bad failure found.1 found.3 names told)
       uses
 
   -- ---- an index that isn't rebuilt
 
   rebuild_ended : (bad : RebuildBad) → IsOn (StopsOn score disk bad)
-      → HasCauseIn disk work (Err (rebuild_failure bad))
+      → HasCauseIn causes (Err (rebuild_failure bad))
   rebuild_ended rebuild_bad.Fault on = store_fault _ on on.does.counts
   rebuild_ended (rebuild_bad.IndexFull bucket) on = tt
   rebuild_ended (rebuild_bad.Damaged place want found) on = on.does.damage
   rebuild_ended rebuild_bad.NoMemory on = tt
 
   rebuild_told : (bad : UpkeepBad RebuildBad) (failure : Failure)
-      → UsesStore disk (IsTrue work.parts.tells) conf (RefusesOpening disk) (Rebuilds score disk)
-      work.parts.old work.parts.new work.parts.faults work.parts.faults' (Err bad)
-      → NamesUnopened bad → IsRebuildRefusal file conf bad failure
-      → HasCauseIn disk work (Err failure)
+      → Uses (RefusesOpening disk) (Rebuilds score disk) (Err bad) → NamesUnopened bad
+      → IsRebuildRefusal file conf bad failure → HasCauseIn causes (Err failure)
   rebuild_told (Unopened bad) failure uses names told =
       unopened_told (RefusesOpening disk) (Rebuilds score disk) bad failure uses names told
   rebuild_told (Ended bad) failure uses names told =
-      as_told failure (rebuild_failure bad) told (rebuild_ended bad uses.0)
+      as_told causes failure (rebuild_failure bad) told (rebuild_ended bad uses.0)
 
-  pub rebuilt_has_cause : (outcome : Outcome)
-      → RebuildsConf score disk file conf outcome work.parts work.sink
-      → HasCauseIn disk work outcome
+  rebuilt_has_cause : (outcome : Outcome)
+      → RebuildsConf score disk file conf outcome parts sink → HasCauseIn causes outcome
   rebuilt_has_cause outcome it = by it.result it.uses it.differs it.told
     where
       by : (result : Result ℕ (UpkeepBad RebuildBad))
-          → UsesStore disk (IsTrue work.parts.tells) conf (RefusesOpening disk)
-          (Rebuilds score disk) work.parts.old work.parts.new work.parts.faults work.parts.faults'
-          result → MatchResult result (λ _. Unit {0}) NamesUnopened
-          → MatchResult result (λ blocks. Prints (blocks_line blocks) outcome work.sink)
+          → Uses (RefusesOpening disk) (Rebuilds score disk) result
+          → MatchResult result (λ _. Unit {0}) NamesUnopened
+          → MatchResult result (λ blocks. Prints (blocks_line blocks) outcome sink)
           (λ bad. ((failure : Failure) × (outcome ≡ Err failure)
-          × IsRebuildRefusal file conf bad failure) × (work.sink.after ≡ work.sink.before))
-          → HasCauseIn disk work outcome
+          × IsRebuildRefusal file conf bad failure) × (sink.after ≡ sink.before))
+          → HasCauseIn causes outcome
       by (Ok blocks) uses names told =
-          printed_has_cause disk (blocks_line blocks) outcome work told
-      by (Err bad) uses names told = subst (HasCauseIn disk work) (sym told.0.1)
+          printed_has_cause causes (blocks_line blocks) outcome sink (λ rose. rose) told
+      by (Err bad) uses names told = subst (HasCauseIn causes) (sym told.0.1)
           (rebuild_told bad told.0.0 uses names told.0.2)
 
   -- ---- arenas that aren't checked, or are damaged
 
   check_ended : (bad : CheckErr) → IsOn (ChecksOn score disk (Err bad))
-      → HasCauseIn disk work (Err (check_failure bad))
+      → HasCauseIn causes (Err (check_failure bad))
   check_ended check_err.Fault on = store_fault _ on on.does.counts
   check_ended check_err.NoMemory on = tt
 
   check_told : (bad : UpkeepBad CheckErr) (failure : Failure)
-      → UsesStore disk (IsTrue work.parts.tells) conf (RefusesUse score disk) (ChecksOn score disk)
-      work.parts.old work.parts.new work.parts.faults work.parts.faults' (Err bad)
-      → NamesUnopened bad → IsCheckRefusal file conf bad failure
-      → HasCauseIn disk work (Err failure)
+      → Uses (RefusesUse score disk) (ChecksOn score disk) (Err bad) → NamesUnopened bad
+      → IsCheckRefusal file conf bad failure → HasCauseIn causes (Err failure)
   check_told (Unopened bad) failure uses names told =
       unopened_told (RefusesUse score disk) (ChecksOn score disk) bad failure uses names told
   check_told (Ended bad) failure uses names told =
-      as_told failure (check_failure bad) told (check_ended bad uses.0)
+      as_told causes failure (check_failure bad) told (check_ended bad uses.0)
 
   -- a damage that is told has two values
   either_differs : (own : Option Damage) (rest : Option Damage) (damage : Damage)
@@ -191,110 +194,53 @@ module _ {R K I P D N L : Type 0} (score : List ℕ → List ℕ) (disk : DiskOf
 
   outcome_told : (first : Option Damage)
       → ((damage : Damage) → first ≡ Some damage → DamageDiffers damage)
-      → HasCauseIn disk work (outcome_of first)
+      → HasCauseIn causes (outcome_of first)
   outcome_told None differs = tt
   outcome_told (Some damage) differs = differs damage refl
 
   reports_told : (reports : List ArenaReport) (outcome : Outcome)
       → ((damage : Damage) → first_of reports ≡ Some damage → DamageDiffers damage)
-      → TellsReports reports outcome work.sink → HasCauseIn disk work outcome
+      → TellsReports reports outcome sink → HasCauseIn causes outcome
   reports_told reports outcome differs told = by told.0 told.1 told.2
     where
-      by : (printed : Outcome) → Prints (arena_lines reports) printed work.sink
+      by : (printed : Outcome) → Prints (arena_lines reports) printed sink
           → MatchResult printed (λ _. outcome ≡ outcome_of (first_of reports))
-          (λ failure. outcome ≡ Err failure) → HasCauseIn disk work outcome
-      by (Ok done) prints is = subst (HasCauseIn disk work) (sym is)
+          (λ failure. outcome ≡ Err failure) → HasCauseIn causes outcome
+      by (Ok done) prints is = subst (HasCauseIn causes) (sym is)
           (outcome_told (first_of reports) differs)
-      by (Err WriteFault) prints is = subst (HasCauseIn disk work) (sym is) prints.1
+      by (Err WriteFault) prints is = subst (HasCauseIn causes) (sym is) prints.1
       by (Err failure) prints is = absurd prints
 
-  pub checked_has_cause : (outcome : Outcome)
-      → ChecksConf score disk file conf outcome work.parts work.sink
-      → HasCauseIn disk work outcome
+  checked_has_cause : (outcome : Outcome)
+      → ChecksConf score disk file conf outcome parts sink → HasCauseIn causes outcome
   checked_has_cause outcome it = by it.result it.uses it.differs it.told
     where
       by : (result : Result Report (UpkeepBad CheckErr))
-          → UsesStore disk (IsTrue work.parts.tells) conf (RefusesUse score disk)
-          (ChecksOn score disk) work.parts.old work.parts.new work.parts.faults work.parts.faults'
-          result → MatchResult result (λ _. Unit {0}) NamesUnopened
-          → MatchResult result (λ report. TellsReports report.arenas.items outcome work.sink)
+          → Uses (RefusesUse score disk) (ChecksOn score disk) result
+          → MatchResult result (λ _. Unit {0}) NamesUnopened
+          → MatchResult result (λ report. TellsReports report.arenas.items outcome sink)
           (λ bad. ((failure : Failure) × (outcome ≡ Err failure)
-          × IsCheckRefusal file conf bad failure) × (work.sink.after ≡ work.sink.before))
-          → HasCauseIn disk work outcome
+          × IsCheckRefusal file conf bad failure) × (sink.after ≡ sink.before))
+          → HasCauseIn causes outcome
       by (Ok report) uses names told = reports_told report.arenas.items outcome
           (first_differs report.arenas.items (each_differs report uses.0)) told
-      by (Err bad) uses names told = subst (HasCauseIn disk work) (sym told.0.1)
+      by (Err bad) uses names told = subst (HasCauseIn causes) (sym told.0.1)
           (check_told bad told.0.0 uses names told.0.2)
 
--- ---- neither ends as other words do
+-- ---- by what was done
 
-rebuild_failure_never : (bad : RebuildBad) → IsOther (rebuild_failure bad)
-rebuild_failure_never rebuild_bad.Fault is = cc
-rebuild_failure_never (rebuild_bad.IndexFull bucket) is = cc
-rebuild_failure_never (rebuild_bad.Damaged place want found) is = cc
-rebuild_failure_never rebuild_bad.NoMemory is = cc
+module _ {I P D K : Type 0} (score : List ℕ → List ℕ) (disk : DiskOf D) (file : List ℕ)
+    (outcome : Outcome) (files : FilesChange I) (parts : PartsChange P D) (sink : Change K) where
+  none_cause : FindsNoConf file outcome files (MakesNothing parts sink)
+      → HasCauseIn (causes_in disk files parts sink) outcome
+  none_cause = no_conf_cause (causes_in disk files parts sink) file outcome files (λ rose. rose)
 
-rebuild_refusal_never : (file : List ℕ) (conf : Conf) (bad : UpkeepBad RebuildBad)
-    (failure : Failure) → IsRebuildRefusal file conf bad failure → IsOther failure
-rebuild_refusal_never file conf (Unopened bad) failure told = open_never file conf bad failure told
-rebuild_refusal_never file conf (Ended bad) failure told =
-    other_as failure (rebuild_failure bad) told (rebuild_failure_never bad)
+  pub rebuild_cause : DoesBuildindex score disk file outcome files parts sink
+      → HasCauseIn (causes_in disk files parts sink) outcome
+  rebuild_cause does = ⊎_elim none_cause
+      (λ it. rebuilt_has_cause score disk file it.0 files parts sink outcome it.2) does
 
-pub rebuild_never : {R K I P D N L : Type 0} (score : List ℕ → List ℕ) (disk : DiskOf D)
-    (file : List ℕ) (outcome : Outcome) (work : Work R K I P D N L)
-    → DoesBuildindex score disk file outcome work → status_of outcome ≢ 1
-rebuild_never score disk file outcome work does = ⊎_elim
-    (λ none one. none_never file none.0 work.files none.2 (ap status_of (sym none.1) ∙ one))
-    (λ it. told it.0 it.2.result it.2.told)
-    does
-  where
-    told : (conf : Conf) (result : Result ℕ (UpkeepBad RebuildBad))
-        → MatchResult result (λ blocks. Prints (blocks_line blocks) outcome work.sink)
-        (λ bad. ((failure : Failure) × (outcome ≡ Err failure)
-        × IsRebuildRefusal file conf bad failure) × (work.sink.after ≡ work.sink.before))
-        → status_of outcome ≢ 1
-    told conf (Ok blocks) it = printed_never (blocks_line blocks) outcome work.sink it
-    told conf (Err bad) it = λ one.
-        rebuild_refusal_never file conf bad it.0.0 it.0.2 (ap status_of (sym it.0.1) ∙ one)
-
-check_failure_never : (bad : CheckErr) → IsOther (check_failure bad)
-check_failure_never check_err.Fault is = cc
-check_failure_never check_err.NoMemory is = cc
-
-check_refusal_never : (file : List ℕ) (conf : Conf) (bad : UpkeepBad CheckErr) (failure : Failure)
-    → IsCheckRefusal file conf bad failure → IsOther failure
-check_refusal_never file conf (Unopened bad) failure told = open_never file conf bad failure told
-check_refusal_never file conf (Ended bad) failure told =
-    other_as failure (check_failure bad) told (check_failure_never bad)
-
-outcome_never : (first : Option Damage) → status_of (outcome_of first) ≢ 1
-outcome_never None one = cc
-outcome_never (Some damage) one = cc
-
-reports_never : {K : Type 0} (reports : List ArenaReport) (outcome printed : Outcome)
-    (sink : Change K) → Prints (arena_lines reports) printed sink
-    → MatchResult printed (λ _. outcome ≡ outcome_of (first_of reports))
-    (λ failure. outcome ≡ Err failure) → status_of outcome ≢ 1
-reports_never reports outcome (Ok done) sink prints is = λ one.
-    outcome_never (first_of reports) (ap status_of (sym is) ∙ one)
-reports_never reports outcome (Err WriteFault) sink prints is = λ one.
-    let wrong = ap status_of (sym is) ∙ one in cc
-reports_never reports outcome (Err failure) sink prints is = absurd prints
-
-pub check_never : {R K I P D N L : Type 0} (score : List ℕ → List ℕ) (disk : DiskOf D)
-    (file : List ℕ) (outcome : Outcome) (work : Work R K I P D N L)
-    → DoesCheckarenas score disk file outcome work → status_of outcome ≢ 1
-check_never score disk file outcome work does = ⊎_elim
-    (λ none one. none_never file none.0 work.files none.2 (ap status_of (sym none.1) ∙ one))
-    (λ it. told it.0 it.2.result it.2.told)
-    does
-  where
-    told : (conf : Conf) (result : Result Report (UpkeepBad CheckErr))
-        → MatchResult result (λ report. TellsReports report.arenas.items outcome work.sink)
-        (λ bad. ((failure : Failure) × (outcome ≡ Err failure)
-        × IsCheckRefusal file conf bad failure) × (work.sink.after ≡ work.sink.before))
-        → status_of outcome ≢ 1
-    told conf (Ok report) it =
-        reports_never report.arenas.items outcome it.0 work.sink it.1 it.2
-    told conf (Err bad) it = λ one.
-        check_refusal_never file conf bad it.0.0 it.0.2 (ap status_of (sym it.0.1) ∙ one)
+  pub check_cause : DoesCheckarenas score disk file outcome files parts sink
+      → HasCauseIn (causes_in disk files parts sink) outcome
+  check_cause does = ⊎_elim none_cause
+      (λ it. checked_has_cause score disk file it.0 files parts sink outcome it.2) does

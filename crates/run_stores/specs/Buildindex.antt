@@ -13,9 +13,10 @@ use Rattle.vt_upkeep.specs.Rebuilding.{Rebuilds}
 use Rattle.vt_upkeep.specs.Stores.{NamesUnopened, UsesStore}
 use Rattle.run_base.specs.declared.failure.Failure.{Failure}
 use Rattle.run_base.specs.declared.failure.Failure.TheVariants.{DiskFault, IndexFull, Damaged, NoMemory}
-use Rattle.run_base.specs.Change.{Change, PartsChange, Work, ReadsFiles}
+use Rattle.run_base.specs.Blocks.{FindsNoConf}
+use Rattle.run_base.specs.Change.{Change, FilesChange, MakesNothing, PartsChange}
 use Rattle.run_base.specs.Unopened.{IsOpenRefusal}
-use Rattle.run_base.specs.Configurations.{ReadsConf, ReadsNone}
+use Rattle.run_base.specs.Configurations.{ReadsConf}
 use Rattle.run_base.specs.Failure.{Outcome}
 use Rattle.run_base.specs.Formatting.{Prints}
 
@@ -50,12 +51,9 @@ pub record RebuildsConf {K P D : Type 0} (score : List ℕ → List ℕ) (disk :
 
 -- The configuration was read, and the index of its store rebuilt; or it is told why none was read,
 -- and nothing is done.
-abbrev pub DoesBuildindex : {R K I P D N L : Type 0} → (List ℕ → List ℕ) → DiskOf D
-    → (file : List ℕ) → Outcome → Work R K I P D N L → Type 0
-DoesBuildindex score disk file outcome work =
-    ((failure : Failure) × (outcome ≡ Err failure) × ReadsNone file failure work.files
-    × ReadsFiles work)
-    ⊎ ((conf : Conf) × ReadsConf file conf work.files
-    × RebuildsConf score disk file conf outcome work.parts work.sink
-    × (work.source.after ≡ work.source.before)
-    × (work.dialer.after ≡ work.dialer.before))
+abbrev pub DoesBuildindex : {I P D K : Type 0} → (List ℕ → List ℕ) → DiskOf D → (file : List ℕ)
+    → Outcome → FilesChange I → PartsChange P D → Change K → Type 0
+DoesBuildindex score disk file outcome files parts sink =
+    FindsNoConf file outcome files (MakesNothing parts sink)
+    ⊎ ((conf : Conf) × ReadsConf file conf files
+    × RebuildsConf score disk file conf outcome parts sink)

@@ -8,7 +8,7 @@ use Rattle.vt_format.specs.Words.{wrong_name}
 use Rattle.vt_part.specs.Table.{IsName}
 use Rattle.run_base.specs.declared.failure.Failure.{Failure}
 use Rattle.run_base.specs.declared.failure.Failure.TheVariants.{BadNumber, BadName}
-use Rattle.run_base.specs.Change.{Work}
+use Rattle.run_base.specs.Change.{Change, MakesNothing, PartsChange}
 use Rattle.run_base.specs.Failure.{Outcome}
 use Rattle.run_base.specs.Formatting.{FormatsFile, RefusesWord}
 use Rattle.run_stores.specs.Words.{IsLength, SaysArenaSize}
@@ -36,10 +36,10 @@ arenas_line name size count =
     ∷ decimal size ∷ codes " bytes\n" ∷ [])
 
 -- its words were refused, or the file was made a partition of arenas, of this name
-abbrev pub DoesFmtarenas : {R K I P D N L : Type 0} → DiskOf D
-    → (file name length arena_size : List ℕ)
-    → Outcome → Work R K I P D N L → Type 0
-DoesFmtarenas disk file name length arena_size outcome work =
-    RefusesWord (AsksForNoArenas name length arena_size) outcome work
+abbrev pub DoesFmtarenas : {P D K : Type 0} → DiskOf D → (file name length arena_size : List ℕ)
+    → Outcome → PartsChange P D → Change K → Type 0
+DoesFmtarenas disk file name length arena_size outcome parts sink =
+    RefusesWord (AsksForNoArenas name length arena_size) outcome (MakesNothing parts sink)
     ⊎ ((len size : ℕ) × AsksForArenas name length arena_size len size
-    × FormatsFile disk file len (FormatsArenas disk name size) (arenas_line name size) outcome work)
+    × FormatsFile disk file len (FormatsArenas disk name size) (arenas_line name size) outcome parts
+    sink)

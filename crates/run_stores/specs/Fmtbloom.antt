@@ -7,7 +7,7 @@ use Rattle.vt_disk.specs.Members.{DiskOf}
 use Rattle.vt_format.specs.Filters.{FormatsFilter}
 use Rattle.run_base.specs.declared.failure.Failure.{Failure}
 use Rattle.run_base.specs.declared.failure.Failure.TheVariants.{BadNumber}
-use Rattle.run_base.specs.Change.{Work}
+use Rattle.run_base.specs.Change.{Change, MakesNothing, PartsChange}
 use Rattle.run_base.specs.Failure.{Outcome}
 use Rattle.run_base.specs.Formatting.{FormatsFile, RefusesWord}
 use Rattle.run_stores.specs.Words.{SaysSize, SaysPositions}
@@ -31,11 +31,10 @@ filter_line bytes bits =
     ∷ codes " positions\n" ∷ [])
 
 -- its words were refused, or the file was made a filter
-abbrev pub DoesFmtbloom : {R K I P D N L : Type 0} → DiskOf D
-    → (file size positions : List ℕ) → Outcome
-    → Work R K I P D N L → Type 0
-DoesFmtbloom disk file size positions outcome work =
-    RefusesWord (AsksForNoFilter size positions) outcome work
+abbrev pub DoesFmtbloom : {P D K : Type 0} → DiskOf D → (file size positions : List ℕ) → Outcome
+    → PartsChange P D → Change K → Type 0
+DoesFmtbloom disk file size positions outcome parts sink =
+    RefusesWord (AsksForNoFilter size positions) outcome (MakesNothing parts sink)
     ⊎ ((m bytes bits : ℕ) × AsksForFilter size positions m bytes bits
     × FormatsFile disk file (filter_len m) (FormatsFilter disk m bits)
-    (λ _. filter_line bytes bits) outcome work)
+    (λ _. filter_line bytes bits) outcome parts sink)

@@ -11,8 +11,9 @@ use Rattle.vt_format.specs.Opening.{FindsArenas, NamesCause}
 use Rattle.vt_parts.specs.Parts.{StaysThere}
 use Rattle.run_base.specs.declared.failure.Failure.{Failure}
 use Rattle.run_base.specs.declared.failure.Failure.TheVariants.{DiskFault, NoMemory}
-use Rattle.run_base.specs.Change.{Change, PartsChange, Work, ReadsFiles}
-use Rattle.run_base.specs.Configurations.{ReadsConf, ReadsNone, IsRefusalAmong}
+use Rattle.run_base.specs.Blocks.{FindsNoConf}
+use Rattle.run_base.specs.Change.{Change, FilesChange, MakesNothing, PartsChange}
+use Rattle.run_base.specs.Configurations.{ReadsConf, IsRefusalAmong}
 use Rattle.run_base.specs.Failure.{Outcome}
 use Rattle.run_base.specs.Formatting.{Prints}
 
@@ -67,12 +68,8 @@ pub record IndexesConf {K P D : Type 0} (disk : DiskOf D) (file : List ℕ) (con
 
 -- The configuration was read, and its index formatted; or it is told why none was read, and nothing
 -- is done.
-abbrev pub DoesFmtindex : {R K I P D N L : Type 0} → DiskOf D → (file : List ℕ) → Outcome
-    → Work R K I P D N L → Type 0
-DoesFmtindex disk file outcome work =
-    ((failure : Failure) × (outcome ≡ Err failure) × ReadsNone file failure work.files
-    × ReadsFiles work)
-    ⊎ ((conf : Conf) × ReadsConf file conf work.files
-    × IndexesConf disk file conf outcome work.parts work.sink
-    × (work.source.after ≡ work.source.before)
-    × (work.dialer.after ≡ work.dialer.before))
+abbrev pub DoesFmtindex : {I P D K : Type 0} → DiskOf D → (file : List ℕ) → Outcome
+    → FilesChange I → PartsChange P D → Change K → Type 0
+DoesFmtindex disk file outcome files parts sink =
+    FindsNoConf file outcome files (MakesNothing parts sink)
+    ⊎ ((conf : Conf) × ReadsConf file conf files × IndexesConf disk file conf outcome parts sink)

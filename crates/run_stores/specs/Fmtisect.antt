@@ -8,7 +8,7 @@ use Rattle.vt_format.specs.Words.{wrong_name}
 use Rattle.vt_part.specs.Table.{IsName}
 use Rattle.run_base.specs.declared.failure.Failure.{Failure}
 use Rattle.run_base.specs.declared.failure.Failure.TheVariants.{BadNumber, BadName}
-use Rattle.run_base.specs.Change.{Work}
+use Rattle.run_base.specs.Change.{Change, MakesNothing, PartsChange}
 use Rattle.run_base.specs.Failure.{Outcome}
 use Rattle.run_base.specs.Formatting.{FormatsFile, RefusesWord}
 use Rattle.run_stores.specs.Words.{IsLength}
@@ -31,10 +31,9 @@ section_line name count =
     concat (codes "fmtisect " ∷ name ∷ codes ": " ∷ decimal count ∷ codes " buckets\n" ∷ [])
 
 -- its words were refused, or the file was made a section, of this name
-abbrev pub DoesFmtisect : {R K I P D N L : Type 0} → DiskOf D
-    → (file name length : List ℕ) → Outcome
-    → Work R K I P D N L → Type 0
-DoesFmtisect disk file name length outcome work =
-    RefusesWord (AsksForNoSection name length) outcome work
+abbrev pub DoesFmtisect : {P D K : Type 0} → DiskOf D → (file name length : List ℕ) → Outcome
+    → PartsChange P D → Change K → Type 0
+DoesFmtisect disk file name length outcome parts sink =
+    RefusesWord (AsksForNoSection name length) outcome (MakesNothing parts sink)
     ⊎ ((len : ℕ) × AsksForSection name length len
-    × FormatsFile disk file len (FormatsSection disk name) (section_line name) outcome work)
+    × FormatsFile disk file len (FormatsSection disk name) (section_line name) outcome parts sink)

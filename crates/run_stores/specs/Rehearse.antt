@@ -7,7 +7,7 @@ use Rattle.vt_rehearse.specs.Rounds.{rounds_from}
 use Rattle.vt_rehearse.specs.Summary.{AddsUp, IsRehearsalOf}
 use Rattle.run_base.specs.declared.failure.Failure.{Failure}
 use Rattle.run_base.specs.declared.failure.Failure.TheVariants.{BadNumber, NoMemory}
-use Rattle.run_base.specs.Change.{Work}
+use Rattle.run_base.specs.Change.{Change, IsUntouched}
 use Rattle.run_base.specs.Failure.{Outcome}
 use Rattle.run_base.specs.Formatting.{Prints, RefusesWord}
 use Rattle.run_stores.specs.Words.{SaysCount, SaysSeed}
@@ -43,21 +43,16 @@ summary_text s =
     ∷ codes "\ncheck " ∷ check_text s.ok ∷ codes "\n" ∷ [])
 
 -- Just the rounds were made that the seed draws, and what they came to is printed; or memory ran
--- out, and nothing is. Nothing else of the host is touched.
-pub record Rehearses {R K I P D N L : Type 0} (seed rounds : ℕ) (outcome : Outcome)
-    (work : Work R K I P D N L) : Type 0 where
-  pub told : ((s : Summary) × IsRehearsalOf seed rounds s × AddsUp (rounds_from seed rounds) s
-      × Prints (summary_text s) outcome work.sink)
-      ⊎ ((outcome ≡ Err NoMemory) × (work.sink.after ≡ work.sink.before))
-  pub unread : work.source.after ≡ work.source.before
-  pub unopened : work.files.after ≡ work.files.before
-  pub unused : work.parts.after ≡ work.parts.before
-  pub undialled : work.dialer.after ≡ work.dialer.before
+-- out, and nothing is.
+abbrev pub Rehearses : {K : Type 0} → (seed rounds : ℕ) → Outcome → Change K → Type 0
+Rehearses seed rounds outcome sink =
+    ((s : Summary) × IsRehearsalOf seed rounds s × AddsUp (rounds_from seed rounds) s
+    × Prints (summary_text s) outcome sink)
+    ⊎ ((outcome ≡ Err NoMemory) × IsUntouched sink)
 
 -- its words were refused, or the store was rehearsed
-abbrev pub DoesRehearse : {R K I P D N L : Type 0} → (seed count : List ℕ) → Outcome
-    → Work R K I P D N L → Type 0
-DoesRehearse seed count outcome work =
-    RefusesWord (AsksForNoRehearsal seed count) outcome work
+abbrev pub DoesRehearse : {K : Type 0} → (seed count : List ℕ) → Outcome → Change K → Type 0
+DoesRehearse seed count outcome sink =
+    RefusesWord (AsksForNoRehearsal seed count) outcome (IsUntouched sink)
     ⊎ ((x : ℕ) × (rounds : ℕ) × AsksToRehearse seed count x rounds
-    × Rehearses x rounds outcome work)
+    × Rehearses x rounds outcome sink)

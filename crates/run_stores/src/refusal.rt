@@ -1,30 +1,22 @@
 //! Why the partition of a file is refused.
 
-ghost use Rattle.std.specs.Prelude.{◌≡◌};
 ghost use Rattle.run_base.specs.Formatting.{IsOfOneFile, IsRefusalOf};
 
-use run_base::{Failure, Host, Shown, Unit};
+use run_base::{Failure, Shown, Unit};
 use vt_base::{MountBad, Text};
+use vt_out::Sink;
 
 /// What is told where the partition of this file is refused, which is the only one. A file of which
 /// a call failed is named on the terminal.
-pub fn refused<H: Host>(host: &mut H, file: Text, bad: MountBad) -> Failure
+pub fn refused<T: Sink + Drop>(terminal: Option<T>, file: Text, bad: MountBad) -> Failure
     requires { IsOfOneFile bad }
-    ensures told { IsRefusalOf file bad result }
-    ensures same { H.lent host.new ≡ H.lent host.old }
+    ensures { IsRefusalOf file bad result }
 {
     if let MountBad::Fault = bad {
-        name_failed(host, &file);
+        Shown::new(terminal, Unit::Buckets).name(file.as_slice());
         return Failure::DiskFault;
     }
     refusal_of(file, bad)
-}
-
-/// Names the file of which a call failed on the terminal, if there is one.
-pub fn name_failed<H: Host>(host: &mut H, file: &Text)
-    ensures { H.lent host.new ≡ H.lent host.old }
-{
-    Shown::new(host.terminal(), Unit::Buckets).name(file.as_slice());
 }
 
 /// What is told where the partition of this file is refused.

@@ -30,13 +30,13 @@ use Rattle.run_base.specs.declared.place.Place.{Place}
 use Rattle.run_base.specs.declared.place.Place.TheVariants.{Memory, Server, Conf}
 use Rattle.vt_commands.specs.Answers.{TellsReply, TellsReplyOrMemory, WhereOpened}
 use Rattle.run_base.specs.Blocks.{DoesStored, TellsStored, refusal_for}
-use Rattle.run_base.specs.Change.{Work}
-use Rattle.run_sessions.specs.SessionConf.{NoneFails}
 use Rattle.run_sessions.specs.Write.{TakesNoBlock, TakesNone}
 use Rattle.run_base.specs.Failure.{HasCauseIn, Outcome}
 use Rattle.run_base.specs.Formatting.{Prints}
 use Rattle.run_base.specs.Places.{Names}
 use Rattle.run_base.proofs.StoredCauses.{used_rises}
+use Rattle.vt_commands.specs.HandedIn.{NoneFails}
+use Rattle.vt_commands.specs.Work.{Work, causes_of}
 use Rattle.vt_commands.proofs.CompleteConf.{none_opened_well}
 
 -- ---- by whether the store was opened
@@ -80,26 +80,20 @@ module _ {R K I P D N L : Type 0} (score : List ℕ → List ℕ) (disk : DiskOf
         → outcome ≡ Err NoMemory
     failed_well whys.NoMemory outcome is x failed undamaged = is
     failed_well whys.DiskFault outcome is x failed undamaged =
-        absurd (fails.disks (used_rises score disk file conf work (Does (Err whys.DiskFault)) x
+        absurd (fails.disks (used_rises score disk conf work.parts (Does (Err whys.DiskFault)) x
         (causes whys.DiskFault x.opened x.left x.opens.mounts.fresh.stops x.does failed)))
     failed_well (whys.Stopped call) outcome is x failed undamaged =
-        absurd (fails.disks (used_rises score disk file conf work (Does (Err (whys.Stopped call))) x
+        absurd (fails.disks (used_rises score disk conf work.parts (Does (Err (whys.Stopped call))) x
         (causes (whys.Stopped call) x.opened x.left x.opens.mounts.fresh.stops x.does failed)))
     failed_well (whys.Damaged site want found) outcome is x failed undamaged = absurd undamaged
-    failed_well whys.BadType outcome is x failed undamaged = absurd (cc)
-    failed_well whys.TooBig outcome is x failed undamaged = absurd (cc)
-    failed_well whys.TooSmall outcome is x failed undamaged = absurd (cc)
-    failed_well whys.Absent outcome is x failed undamaged = absurd (cc)
-    failed_well whys.Collision outcome is x failed undamaged = absurd (cc)
-    failed_well whys.IndexFull outcome is x failed undamaged = absurd (cc)
-    failed_well whys.ArenasFull outcome is x failed undamaged = absurd (cc)
+    failed_well why outcome is x failed undamaged = absurd (cc)
 
     module _ (answers : (result : Result T Why)
         → Uses score disk (IsTrue work.parts.tells) conf (Does result) work.parts.old work.parts.new
         → IsAnswer score c h m (answered message result))
         (found : (bad : OpenBad) → RefusesStore score disk (IsTrue work.parts.tells) conf
         work.parts.old work.parts.new work.parts.faults work.parts.faults' bad
-        → IsFaultOrMemory bad) (outcome : Outcome) (cause : HasCauseIn disk work outcome) where
+        → IsFaultOrMemory bad) (outcome : Outcome) (cause : HasCauseIn (causes_of disk work) outcome) where
       told_well : (result : Result T StoredBad)
           → UsesStore score disk (IsTrue work.parts.tells) conf Does work.parts.old work.parts.new
           work.parts.faults work.parts.faults' result
@@ -118,7 +112,7 @@ module _ {R K I P D N L : Type 0} (score : List ℕ → List ℕ) (disk : DiskOf
           (answers (Err why) uses.0)
       told_well (Err (stored.Unopened bad)) uses told = inl (told.0.1 ∙ ap Err
           (none_opened_well disk work fails file conf bad told.0.0 (found bad uses.0) told.0.2
-          (subst (HasCauseIn disk work) told.0.1 cause)))
+          (subst (HasCauseIn (causes_of disk work)) told.0.1 cause)))
 
       pub stored_well : DoesStored score disk file conf Does text outcome work.sink work.parts
           → TellsReplyOrMemory (answer score c h m).reply outcome work.sink
@@ -140,10 +134,10 @@ first_tells Bool.false b both = both
 
 module _ {R K I P D N L : Type 0} (score : List ℕ → List ℕ) (disk : DiskOf D)
     (outcome : Outcome) (work : Work R K I P D N L) (fails : NoneFails disk work)
-    (cause : HasCauseIn disk work outcome) where
+    (cause : HasCauseIn (causes_of disk work) outcome) where
   -- why no block came in, where no read failed
   pub none_taken : (c : Setup) (h : History) (kind : ℕ) → is_kind kind ≡ Bool.true
-      → IsTrue work.source.tells → TakesNoBlock outcome work
+      → IsTrue work.source.tells → TakesNoBlock outcome work.source work.sink
       → TellsReplyOrMemory (answer score c h (write kind work.source.old)).reply outcome work.sink
   none_taken c h kind is tells it = of it.failure it.takes it.outcome_is
     where

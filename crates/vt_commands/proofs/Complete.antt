@@ -16,7 +16,7 @@ use Rattle.vt_answer.specs.Sessions.{SinkCause}
 use Rattle.vt_alone.specs.declared.serving.StoreServed.{StoreServed}
 use Rattle.vt_alone.specs.Sessions.{NeedsMemory}
 use Rattle.run_base.specs.declared.failure.Failure.TheVariants as failures
-use Rattle.run_base.specs.Change.{Change, Work}
+use Rattle.run_base.specs.Change.{Change}
 use Rattle.run_sessions.specs.Session.{DoesSession}
 use Rattle.run_base.specs.Failure.{Outcome}
 use Rattle.run_base.specs.Served.{EndsWell, PassesOver, closed_with, failed_in, failure_for, first_of, outcome_of, outcome_of_end}
@@ -89,16 +89,16 @@ served_well end input output turns source sink needs passes carried read write w
     (inl (ap closed_with needs.closed)))
 
 -- in memory
-pub memory_well : {R K I P D N L : Type 0} (score : List ℕ → List ℕ) (outcome : Outcome)
-    (work : Work R K I P D N L) → DoesSession score outcome work
-    → IsTrue (work.source.tells && work.sink.tells) → EndsWell work.source.old
-    → ¬ HasRisen work.source.faults work.source.faults'
-    → ¬ HasRisen work.sink.faults work.sink.faults' → IsWell outcome
-memory_well score outcome work x tells well no_read no_write =
+pub memory_well : {R K : Type 0} (score : List ℕ → List ℕ) (outcome : Outcome)
+    (source : Change R) (sink : Change K) → DoesSession score outcome source sink
+    → IsTrue (source.tells && sink.tells) → EndsWell source.old
+    → ¬ HasRisen source.faults source.faults' → ¬ HasRisen sink.faults sink.faults'
+    → IsWell outcome
+memory_well score outcome source sink x tells well no_read no_write =
     let s = x.serves in
     let session = s.session tells in
-    subst IsWell (sym x.outcome_is) (served_well x.end s.input s.output session.turns work.source
-    work.sink s.needs (s.passes tells) session.alone.carried s.read s.write well no_read no_write)
+    subst IsWell (sym x.outcome_is) (served_well x.end s.input s.output session.turns source sink
+    s.needs (s.passes tells) session.alone.carried s.read s.write well no_read no_write)
 
 -- streams that tell both
 pub both_tell : (a b : Bool) → IsTrue a → IsTrue b → IsTrue (a && b)

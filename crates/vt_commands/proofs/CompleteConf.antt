@@ -18,11 +18,12 @@ use Rattle.vt_open.specs.Opening.{IsFaultOrMemory}
 use Rattle.vt_parts.specs.Parts.{Standing}
 use Rattle.run_base.specs.declared.failure.Failure.{Failure}
 use Rattle.run_base.specs.declared.failure.Failure.TheVariants.{BadConf, DiskFault, FileFault, NoMemory}
-use Rattle.run_base.specs.Change.{FilesChange, Work}
+use Rattle.run_base.specs.Change.{FilesChange}
 use Rattle.run_base.specs.Unopened.{IsOpenRefusal}
-use Rattle.run_sessions.specs.SessionConf.{NoneFails}
 use Rattle.run_base.specs.Configurations.{IsRefusalAmong, IsWrong, ReadsNone}
 use Rattle.run_base.specs.Failure.{HasCauseIn}
+use Rattle.vt_commands.specs.HandedIn.{NoneFails}
+use Rattle.vt_commands.specs.Work.{Work, causes_of}
 
 -- ---- the configuration
 
@@ -82,13 +83,13 @@ none_read file text conf failure files says never tells content none no_fault = 
 
 module _ {R K I P D N L : Type 0} (disk : DiskOf D) (work : Work R K I P D N L)
     (fails : NoneFails disk work) where
-  no_disk_fault : (failure : Failure) → failure ≡ DiskFault → HasCauseIn disk work (Err failure) → ⊥
+  no_disk_fault : (failure : Failure) → failure ≡ DiskFault → HasCauseIn (causes_of disk work) (Err failure) → ⊥
   no_disk_fault failure is cause = ⊎_elim fails.parts fails.disks
-      (subst (λ (f : Failure). HasCauseIn disk work (Err f)) is cause)
+      (subst (λ (f : Failure). HasCauseIn (causes_of disk work) (Err f)) is cause)
 
   among_well : (file : List ℕ) (files : List PartFile) (bad : MountBad) (failure : Failure)
       → (bad ≡ mount_bad.Fault) ⊎ (bad ≡ mount_bad.NoMemory)
-      → IsRefusalAmong file files bad failure → HasCauseIn disk work (Err failure)
+      → IsRefusalAmong file files bad failure → HasCauseIn (causes_of disk work) (Err failure)
       → failure ≡ NoMemory
   among_well file files bad failure found told cause = ⊎_elim
       (λ fault. absurd (no_disk_fault failure
@@ -98,7 +99,7 @@ module _ {R K I P D N L : Type 0} (disk : DiskOf D) (work : Work R K I P D N L)
 
   pub none_opened_well : (file : List ℕ) (conf : Conf) (bad : OpenBad) (failure : Failure)
       → IsFaultOrMemory bad → IsOpenRefusal file conf bad failure
-      → HasCauseIn disk work (Err failure) → failure ≡ NoMemory
+      → HasCauseIn (causes_of disk work) (Err failure) → failure ≡ NoMemory
   none_opened_well file conf (Missing part) failure found told cause =
       absurd (no_disk_fault failure told cause)
   none_opened_well file conf (Refused bad) failure found told cause = ⊎_elim

@@ -2,4 +2,4 @@ pub mod CompleteConf
 pub mod Answered
 pub mod Complete
 pub mod DidTells
-pub mod Silent
+pub mod Only

@@ -1,2 +1,4 @@
 pub mod Answers
+pub mod HandedIn
 pub mod Run
+pub mod Work

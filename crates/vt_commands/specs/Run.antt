@@ -7,7 +7,7 @@ use Rattle.vt_words.specs.declared.asked.Asked.TheVariants.{Do, Help, Version, F
 use Rattle.vt_words.specs.declared.command.Command.{Command}
 use Rattle.vt_words.specs.declared.command.Command.TheVariants.{Session, FormatArenas, FormatSection, FormatFilter, FormatIndex, RebuildIndex, CheckArenas, Read, Write, Rehearse, Vac, View}
 use Rattle.vt_words.specs.Words.{Asks}
-use Rattle.run_base.specs.Change.{AreUnused, Change, FoldersChange, Work, Attempts}
+use Rattle.run_base.specs.Change.{AreUnused, Change, FoldersChange, Attempts}
 use Rattle.run_base.specs.Failure.{Outcome, status_of, line_of, HasCauseIn}
 use Rattle.run_base.specs.Formatting.{Prints}
 use Rattle.run_base.specs.Members.{LinkOf}
@@ -26,37 +26,49 @@ use Rattle.run_sessions.specs.SessionAt.{DoesSessionAt}
 use Rattle.run_archives.specs.VacAt.{DoesVacAt}
 use Rattle.run_archives.specs.Vacfs.{DoesVacfs}
 use Rattle.run_sessions.specs.Write.{DoesWrite}
+use Rattle.vt_commands.specs.Work.{IsIdle, NoFolder, NoSource, OnlyParts, OnlyReading, OnlyServing, OnlySink, OnlyStore, Work, causes_of}
 
+-- What a command did with what it is lent, and that nothing else was touched.
 abbrev pub Does : {R K I P D N L : Type 0} → DiskOf D → LinkOf L → (score : List ℕ → List ℕ)
     → Command → Outcome → Work R K I P D N L → Type 0
-Does disk link score (Session store) outcome work = DoesSessionAt score disk store outcome work
+Does disk link score (Session store) outcome work =
+    DoesSessionAt score disk store outcome work.source work.sink work.files work.parts
+    × OnlyServing disk outcome work
 Does disk link score (FormatArenas file name length arena_size) outcome work =
-    DoesFmtarenas disk file name length arena_size outcome work
+    DoesFmtarenas disk file name length arena_size outcome work.parts work.sink
+    × OnlyParts disk outcome work
 Does disk link score (FormatSection file name length) outcome work =
-    DoesFmtisect disk file name length outcome work
+    DoesFmtisect disk file name length outcome work.parts work.sink × OnlyParts disk outcome work
 Does disk link score (FormatFilter file size positions) outcome work =
-    DoesFmtbloom disk file size positions outcome work
-Does disk link score (FormatIndex file) outcome work = DoesFmtindex disk file outcome work
-Does disk link score (RebuildIndex file) outcome work = DoesBuildindex score disk file outcome work
-Does disk link score (CheckArenas file) outcome work = DoesCheckarenas score disk file outcome work
+    DoesFmtbloom disk file size positions outcome work.parts work.sink
+    × OnlyParts disk outcome work
+Does disk link score (FormatIndex file) outcome work =
+    DoesFmtindex disk file outcome work.files work.parts work.sink × OnlyStore disk outcome work
+Does disk link score (RebuildIndex file) outcome work =
+    DoesBuildindex score disk file outcome work.files work.parts work.sink
+    × OnlyStore disk outcome work
+Does disk link score (CheckArenas file) outcome work =
+    DoesCheckarenas score disk file outcome work.files work.parts work.sink
+    × OnlyStore disk outcome work
 Does disk link score (Read store score_word kind) outcome work =
-    DoesRead score disk link store score_word kind outcome work
+    DoesRead score disk link store score_word kind outcome work.files work.parts work.dialer
+    work.sink × OnlyReading disk outcome work
 Does disk link score (Write store kind) outcome work =
-    DoesWrite score disk link store kind outcome work
-Does disk link score (Rehearse seed count) outcome work = DoesRehearse seed count outcome work
-Does disk link score (Vac store folder size) outcome work =
-    (preface : List ℕ) × DoesVacAt score disk link store folder size preface outcome work
+    DoesWrite score disk link store kind outcome work.source work.sink work.files work.parts
+    work.dialer × NoFolder disk outcome work
+Does disk link score (Rehearse seed count) outcome work =
+    DoesRehearse seed count outcome work.sink × OnlySink outcome work
+Does disk link score (Vac store folder size) outcome work = (preface : List ℕ)
+    × DoesVacAt score disk link store folder size preface outcome work.files work.folders
+    work.parts work.dialer work.sink × NoSource disk outcome work
 Does disk link score (View store score_word) outcome work =
-    DoesVacfs score disk link store score_word outcome work
+    DoesVacfs score disk link store score_word outcome work.source work.sink work.files work.parts
+    work.dialer × NoFolder disk outcome work
 
 -- a text is printed, and nothing else is done
-pub record Shows {R K I P D N L : Type 0} (text : List ℕ) (outcome : Outcome)
-    (work : Work R K I P D N L) : Type 0 where
-  pub printed : Prints text outcome work.sink
-  pub unread : work.source.after ≡ work.source.before
-  pub unopened : work.files.after ≡ work.files.before
-  pub unused : work.parts.after ≡ work.parts.before
-  pub undialled : work.dialer.after ≡ work.dialer.before
+abbrev pub Shows : {R K I P D N L : Type 0} → (text : List ℕ) → Outcome → Work R K I P D N L
+    → Type 0
+Shows text outcome work = Prints text outcome work.sink × OnlySink outcome work
 
 -- what words ask for is done
 abbrev pub DoesAsked : {R K I P D N L : Type 0} → DiskOf D → LinkOf L
@@ -64,7 +76,8 @@ abbrev pub DoesAsked : {R K I P D N L : Type 0} → DiskOf D → LinkOf L
 DoesAsked disk link score (Do command) outcome work = Does disk link score command outcome work
 DoesAsked disk link score (Help text) outcome work = Shows (string_bytes text) outcome work
 DoesAsked disk link score (Version text) outcome work = Shows (string_bytes text) outcome work
-DoesAsked disk link score (Faulty text) outcome work = EndsIdle (Err BadWords) outcome work
+DoesAsked disk link score (Faulty text) outcome work =
+    EndsIdle (Err BadWords) outcome (IsIdle work)
 
 -- what stands before the line on the fault sink: the short help, where there is no command, and
 -- what an archive leaves out
@@ -82,7 +95,7 @@ abbrev pub DoesWords : {R K I P D N L : Type 0} → DiskOf D → LinkOf L → (s
 DoesWords disk link score words preface outcome work =
     ((asked : Asked) × Asks words asked × (does : DoesAsked disk link score asked outcome work)
     × (preface ≡ preface_of disk link score asked outcome work does))
-    ⊎ ((preface ≡ []) × EndsIdle (Err NoMemory) outcome work)
+    ⊎ ((preface ≡ []) × EndsIdle (Err NoMemory) outcome (IsIdle work))
 
 -- a command was done, and what goes before the line was said
 abbrev pub SaysAndDoes : {R K F I P D N L : Type 0} → DiskOf D → LinkOf L
@@ -108,7 +121,7 @@ pub record Did {R K F I P D N L : Type 0} (disk : DiskOf D) (link : LinkOf L)
     (complaint : Change F) : Type 0 where
   pub outcome : Outcome
   pub status_is : status ≡ status_of outcome
-  pub cause : HasCauseIn disk work outcome
+  pub cause : HasCauseIn (causes_of disk work) outcome
   pub preface : List ℕ
   pub does : DoesWords disk link score words preface outcome work
   pub folders : OnlyForArchives words work.folders

@@ -10,8 +10,8 @@ ghost use Rattle.vt_words.specs.declared.command.Command.TheVariants.{Session, R
 ghost use Rattle.vt_words.specs.declared.asked.Asked.TheVariants.{Do};
 ghost use Rattle.vt_words.specs.Words.{Asks, AreFaulty, session_words};
 ghost use Rattle.run_base.specs.declared.failure.Failure.TheVariants.{NoMemory};
-ghost use Rattle.run_base.specs.Change.{Change, FoldersChange, PartsChange, Work, IsIdle, Attempts};
-ghost use Rattle.run_sessions.specs.SessionConf.{IsWellHandedIn, KeepsConf, NoneFails, ServesConf};
+ghost use Rattle.run_base.specs.Change.{Change, FoldersChange, PartsChange, Attempts};
+ghost use Rattle.run_sessions.specs.SessionConf.{KeepsConf, ServesConf};
 ghost use Rattle.run_base.specs.Unopened.{OpensNone};
 ghost use Rattle.vt_conf.specs.declared.conf.Conf.{Conf};
 ghost use Rattle.vt_core.specs.Files.{PerDevice};
@@ -35,7 +35,9 @@ ghost use Rattle.vac_write.specs.Archiving.{IsSeen};
 ghost use Rattle.run_base.specs.Formatting.{RefusesWord};
 ghost use Rattle.run_base.specs.Failure.{Outcome, HasFailed, HasLinkFailed, status_of, line};
 ghost use Rattle.run_base.specs.Places.{EndsIdle, Names, in_memory};
+ghost use Rattle.vt_commands.specs.HandedIn.{IsWellHandedIn, NoneFails};
 ghost use Rattle.vt_commands.specs.Run.{Did, Does};
+ghost use Rattle.vt_commands.specs.Work.{IsIdle, Work};
 ghost use Rattle.run_base.specs.Served.{EndsWell};
 
 use vac_store::stores_keep_archives;
@@ -70,7 +72,8 @@ pub fn did_tells<R: Source, K: Sink, F: Sink, I: Files, P: Parts, N: Dialer>()
         (work : Work R K I P P.Disk N N.Link) (complaint : Change F)
         → Did P.Disk.Disk N.Link.Link score words status work complaint → (command : Command)
         → Asks words (Do command) → (outcome : Outcome) × (status ≡ status_of outcome)
-        × (Does P.Disk.Disk N.Link.Link score command outcome work ⊎ EndsIdle (Err NoMemory) outcome work) }
+        × (Does P.Disk.Disk N.Link.Link score command outcome work
+        ⊎ EndsIdle (Err NoMemory) outcome (IsIdle work)) }
     ensures good_words { (score : List ℕ → List ℕ) (words : List (List ℕ)) (status : ℕ)
         (work : Work R K I P P.Disk N N.Link) (complaint : Change F)
         → Did P.Disk.Disk N.Link.Link score words status work complaint → (command : Command)
@@ -192,7 +195,7 @@ pub fn blocks_are_answered<R: Source, K: Sink, F: Sink, I: Files, P: Parts, N: D
         (did : Did P.Disk.Disk N.Link.Link score words status work complaint)
         → Asks words (Do (Read file score_word type_word)) → Names file place.Conf
         → (it : IsWellHandedIn score P.Disk.Disk file work) → NoneFails P.Disk.Disk work
-        → RefusesWord (SaysNoBlock score_word type_word) did.outcome work
+        → RefusesWord (SaysNoBlock score_word type_word) did.outcome (IsIdle work)
         ⊎ (did.outcome ≡ Err NoMemory)
         ⊎ ((s : List ℕ) × (kind : ℕ) × SaysBlock score_word type_word s kind
         × TellsReplyOrMemory (answer score (record it.c { base = it.base }) it.g
@@ -202,7 +205,7 @@ pub fn blocks_are_answered<R: Source, K: Sink, F: Sink, I: Files, P: Parts, N: D
         (did : Did P.Disk.Disk N.Link.Link score words status work complaint)
         → Asks words (Do (Write file type_word)) → Names file place.Conf
         → (it : IsWellHandedIn score P.Disk.Disk file work) → NoneFails P.Disk.Disk work
-        → RefusesWord (SaysNoType type_word) did.outcome work
+        → RefusesWord (SaysNoType type_word) did.outcome (IsIdle work)
         ⊎ (did.outcome ≡ Err NoMemory)
         ⊎ ((kind : ℕ) × SaysType type_word kind
         × TellsReplyOrMemory (answer score (record it.c { base = it.base }) it.g

@@ -1,21 +1,25 @@
 //! The top call.
 
 ghost use Rattle.sha1.specs.Sha1.{sha1};
-ghost use Rattle.std.specs.Prelude.{◌≡◌, ◌⊎◌, ℕ, List, map, OnErr, OnOk};
-ghost use Rattle.run_base.specs.Change.{Attempts, folders_change, sink_change, work_of};
-ghost use Rattle.run_base.specs.Failure.{HasCauseIn, status_of, line_of};
-ghost use Rattle.vt_commands.specs.Run.{Did, DoesWords, IsArchive, OnlyForArchives, SaysAndDoes};
+ghost use Rattle.std.specs.Prelude.{◌≡◌, ℕ, List, map, OnErr, OnOk};
+ghost use Rattle.run_base.specs.Change.{Attempts, sink_change};
+ghost use Rattle.run_base.specs.Failure.{status_of, line_of};
 ghost use Rattle.run_base.specs.Said.{Said};
+ghost use Rattle.vt_commands.specs.Run.{Did, DoesWords, SaysAndDoes};
+ghost use Rattle.vt_commands.specs.Work.{work_of};
 
 use run_archives::{vac_at, vacfs};
-use run_base::{Failure, Host, complain_of, print, status};
+use run_base::{Failure, Outside, complain_of, print, status};
 use run_sessions::{read, session_at, write};
 use run_stores::{buildindex, checkarenas, fmtarenas, fmtbloom, fmtindex, fmtisect, rehearse};
 use std::alloc::{AllocError, Global};
 use std::convert::AsStr;
 use std::thread::Threads;
 use vt_base::{Failed, Scorer, Sha1Scorer};
-use vt_out::Sink;
+use vt_dial::Dialer;
+use vt_folders::Folders;
+use vt_out::{Clock, Files, Sink, Source};
+use vt_parts::Parts;
 use vt_words::{Asked, Command, ask};
 
 /// Does what the words of the command line say, and answers the exit status (venti(8)). A status
@@ -33,39 +37,58 @@ use vt_words::{Asked, Command, ask};
 /// found by. `vacfs` shows an archive as a tree of files to a client that speaks 9P2000 on the
 /// source and the sink. Help and the version are printed on the sink; where there is no command,
 /// short help goes to the fault sink, in front of the line.
-pub fn run<R: Threads + Sync, H: Host, W: AsStr>(
-    rt: &R,
+pub fn run<
+    R: Source,
+    K: Sink,
+    F: Sink,
+    I: Files,
+    P: Parts,
+    N: Dialer,
+    G: Folders,
+    C: Clock,
+    T: Sink + Drop,
+    W: AsStr,
+>(
+    rt: &(impl Threads + Sync),
     alloc: Global,
     words: &[W],
-    host: &mut H,
+    host: &mut Outside<R, K, F, I, P, N, G, C, T>,
 ) -> u8
-    ensures did { Did H.Parts.Disk.Disk H.Dialer.Link.Link sha1 (map W.text words.now) result
-        (work_of H.Source.Source H.Sink.Sink
-        H.Files.Files H.Parts.Parts H.Folders.Folders H.Dialer.Dialer H.Dialer.Link.Link
-        (H.lent host.old) (H.lent host.new))
-        (sink_change H.FaultSink.Sink
-        (H.lent host.old).fault_sink (H.lent host.new).fault_sink) }
+    ensures did { Did P.Disk.Disk N.Link.Link sha1 (map W.text words.now) result
+        (work_of R.Source K.Sink I.Files P.Parts G.Folders N.Dialer
+        N.Link.Link host.old host.new)
+        (sink_change F.Sink host.old.fault_sink host.new.fault_sink) }
 {
     run_with(rt, alloc, words, host, &Sha1Scorer)
 }
 
 /// The same, with scores by any scorer.
-pub fn run_with<R: Threads + Sync, H: Host, S: Scorer + Sync, W: AsStr>(
-    rt: &R,
+pub fn run_with<
+    R: Source,
+    K: Sink,
+    F: Sink,
+    I: Files,
+    P: Parts,
+    N: Dialer,
+    G: Folders,
+    C: Clock,
+    T: Sink + Drop,
+    S: Scorer + Sync,
+    W: AsStr,
+>(
+    rt: &(impl Threads + Sync),
     alloc: Global,
     words: &[W],
-    host: &mut H,
+    host: &mut Outside<R, K, F, I, P, N, G, C, T>,
     scorer: &S,
 ) -> u8
-    ensures did { Did H.Parts.Disk.Disk H.Dialer.Link.Link S.score_of (map W.text words.now) result
-        (work_of H.Source.Source H.Sink.Sink
-        H.Files.Files H.Parts.Parts H.Folders.Folders H.Dialer.Dialer H.Dialer.Link.Link
-        (H.lent host.old) (H.lent host.new))
-        (sink_change H.FaultSink.Sink
-        (H.lent host.old).fault_sink (H.lent host.new).fault_sink) }
+    ensures did { Did P.Disk.Disk N.Link.Link S.score_of (map W.text words.now) result
+        (work_of R.Source K.Sink I.Files P.Parts G.Folders N.Dialer
+        N.Link.Link host.old host.new)
+        (sink_change F.Sink host.old.fault_sink host.new.fault_sink) }
 {
     let (said, outcome) = do_words(rt, alloc, words, host, scorer);
-    end(host.fault_sink(), said, &outcome)
+    end(&mut host.fault_sink, said, &outcome)
 }
 
 /// Says why a command did not end well, if it didn't, where the fault sink took what was said
@@ -87,58 +110,84 @@ pub fn end<F: Sink>(
 }
 
 /// Does what these words ask for, and says whether the fault sink took what goes before the line.
-fn do_words<R: Threads + Sync, H: Host, S: Scorer + Sync, W: AsStr>(
-    rt: &R,
+fn do_words<
+    R: Source,
+    K: Sink,
+    F: Sink,
+    I: Files,
+    P: Parts,
+    N: Dialer,
+    G: Folders,
+    C: Clock,
+    T: Sink + Drop,
+    S: Scorer + Sync,
+    W: AsStr,
+>(
+    rt: &(impl Threads + Sync),
     alloc: Global,
     words: &[W],
-    host: &mut H,
+    host: &mut Outside<R, K, F, I, P, N, G, C, T>,
     scorer: &S,
 ) -> (Result<(), Failed>, Result<(), Failure>)
-    ensures cause { HasCauseIn H.Parts.Disk.Disk (work_of H.Source.Source H.Sink.Sink
-        H.Files.Files H.Parts.Parts H.Folders.Folders H.Dialer.Dialer H.Dialer.Link.Link
-        (H.lent host.old) (H.lent host.new)) result.1 }
-    ensures does { (preface : List ℕ) × DoesWords H.Parts.Disk.Disk H.Dialer.Link.Link S.score_of
-        (map W.text words.now) preface result.1 (work_of H.Source.Source H.Sink.Sink
-        H.Files.Files H.Parts.Parts H.Folders.Folders H.Dialer.Dialer H.Dialer.Link.Link
-        (H.lent host.old) (H.lent host.new)) × Said result.0 (sink_change H.FaultSink.Sink
-        (H.lent host.old).fault_sink (H.lent host.new).fault_sink) preface }
-    ensures folders { OnlyForArchives (map W.text words.now) (folders_change H.Folders.Folders
-        (H.lent host.old).folders (H.lent host.new).folders) }
+    ensures { (preface : List ℕ) × DoesWords P.Disk.Disk N.Link.Link S.score_of
+        (map W.text words.now) preface result.1
+        (work_of R.Source K.Sink I.Files P.Parts G.Folders N.Dialer
+        N.Link.Link host.old host.new)
+        × Said result.0 (sink_change F.Sink host.old.fault_sink host.new.fault_sink) preface }
 {
     match ask(alloc, words) {
         Ok(Asked::Do(command)) => do_command(rt, alloc, command, host, scorer),
-        Ok(Asked::Help(text) | Asked::Version(text)) => {
-            (Ok(()), print(host.sink(), &[text.as_bytes()]))
-        }
-        Ok(Asked::Faulty(text)) => (
-            host.fault_sink().put(text.as_bytes()),
-            Err(Failure::BadWords),
+        Ok(Asked::Help(text) | Asked::Version(text)) => (
+            Ok(()),
+            print(&mut host.streams.sink, &[text.as_bytes()]),
         ),
+        Ok(Asked::Faulty(text)) => (host.fault_sink.put(text.as_bytes()), Err(Failure::BadWords)),
         Err(AllocError) => (Ok(()), Err(Failure::NoMemory)),
     }
 }
 
-/// Does a command: one line for each.
-fn do_command<R: Threads + Sync, H: Host, S: Scorer + Sync>(
-    rt: &R,
+/// Does a command: lends each what it touches.
+fn do_command<
+    R: Source,
+    K: Sink,
+    F: Sink,
+    I: Files,
+    P: Parts,
+    N: Dialer,
+    G: Folders,
+    C: Clock,
+    T: Sink + Drop,
+    S: Scorer + Sync,
+>(
+    rt: &(impl Threads + Sync),
     alloc: Global,
     command: Command,
-    host: &mut H,
+    host: &mut Outside<R, K, F, I, P, N, G, C, T>,
     scorer: &S,
 ) -> (Result<(), Failed>, Result<(), Failure>)
-    ensures cause { HasCauseIn H.Parts.Disk.Disk (work_of H.Source.Source H.Sink.Sink
-        H.Files.Files H.Parts.Parts H.Folders.Folders H.Dialer.Dialer H.Dialer.Link.Link
-        (H.lent host.old) (H.lent host.new)) result.1 }
-    ensures does { SaysAndDoes H.Parts.Disk.Disk H.Dialer.Link.Link S.score_of command result.0
-        result.1 (work_of H.Source.Source H.Sink.Sink H.Files.Files H.Parts.Parts
-        H.Folders.Folders H.Dialer.Dialer H.Dialer.Link.Link (H.lent host.old) (H.lent host.new))
-        (sink_change H.FaultSink.Sink
-        (H.lent host.old).fault_sink (H.lent host.new).fault_sink) }
-    ensures folders { IsArchive command
-        ⊎ ((H.lent host.new).folders ≡ (H.lent host.old).folders) }
+    ensures { SaysAndDoes P.Disk.Disk N.Link.Link S.score_of command result.0 result.1
+        (work_of R.Source K.Sink I.Files P.Parts G.Folders N.Dialer
+        N.Link.Link host.old host.new)
+        (sink_change F.Sink host.old.fault_sink host.new.fault_sink) }
 {
+    let terminal = host.terminal.take();
     match command {
-        Command::Session { store } => (Ok(()), session_at(alloc, host, &store, scorer)),
+        Command::Session { store } => {
+            let now = host.clock.now();
+            (
+                Ok(()),
+                session_at(
+                    alloc,
+                    &mut host.streams,
+                    &mut host.files,
+                    &mut host.parts,
+                    terminal,
+                    now,
+                    &store,
+                    scorer,
+                ),
+            )
+        }
         Command::FormatArenas {
             file,
             name,
@@ -146,29 +195,152 @@ fn do_command<R: Threads + Sync, H: Host, S: Scorer + Sync>(
             arena_size,
         } => (
             Ok(()),
-            fmtarenas(alloc, host, file, &name, &length, &arena_size),
+            fmtarenas(
+                alloc,
+                &mut host.parts,
+                &mut host.streams.sink,
+                terminal,
+                file,
+                &name,
+                &length,
+                &arena_size,
+            ),
         ),
-        Command::FormatSection { file, name, length } => {
-            (Ok(()), fmtisect(alloc, host, file, &name, &length))
-        }
+        Command::FormatSection { file, name, length } => (
+            Ok(()),
+            fmtisect(
+                alloc,
+                &mut host.parts,
+                &mut host.streams.sink,
+                terminal,
+                file,
+                &name,
+                &length,
+            ),
+        ),
         Command::FormatFilter {
             file,
             size,
             positions,
-        } => (Ok(()), fmtbloom(alloc, host, file, &size, &positions)),
-        Command::FormatIndex { file } => (Ok(()), fmtindex(alloc, host, &file, scorer)),
-        Command::RebuildIndex { file } => (Ok(()), buildindex(alloc, host, &file, scorer)),
-        Command::CheckArenas { file } => (Ok(()), checkarenas(rt, alloc, host, &file, scorer)),
-        Command::Read { store, score, kind } => {
-            (Ok(()), read(alloc, host, &store, &score, &kind, scorer))
-        }
-        Command::Write { store, kind } => (Ok(()), write(alloc, host, &store, &kind, scorer)),
-        Command::Rehearse { seed, count } => (Ok(()), rehearse(alloc, host, &seed, &count)),
-        Command::View { store, score } => (Ok(()), vacfs(alloc, host, &store, &score, scorer)),
+        } => (
+            Ok(()),
+            fmtbloom(
+                alloc,
+                &mut host.parts,
+                &mut host.streams.sink,
+                terminal,
+                file,
+                &size,
+                &positions,
+            ),
+        ),
+        Command::FormatIndex { file } => (
+            Ok(()),
+            fmtindex(
+                alloc,
+                &mut host.files,
+                &mut host.parts,
+                &mut host.streams.sink,
+                terminal,
+                &file,
+                scorer,
+            ),
+        ),
+        Command::RebuildIndex { file } => (
+            Ok(()),
+            buildindex(
+                alloc,
+                &mut host.files,
+                &mut host.parts,
+                &mut host.streams.sink,
+                terminal,
+                &file,
+                scorer,
+            ),
+        ),
+        Command::CheckArenas { file } => (
+            Ok(()),
+            checkarenas(
+                rt,
+                alloc,
+                &mut host.files,
+                &mut host.parts,
+                &mut host.streams.sink,
+                terminal,
+                &file,
+                scorer,
+            ),
+        ),
+        Command::Read { store, score, kind } => (
+            Ok(()),
+            read(
+                alloc,
+                &mut host.files,
+                &mut host.parts,
+                &mut host.dialer,
+                &mut host.streams.sink,
+                terminal,
+                &store,
+                &score,
+                &kind,
+                scorer,
+            ),
+        ),
+        Command::Write { store, kind } => (
+            Ok(()),
+            write(
+                alloc,
+                &mut host.streams.source,
+                &mut host.streams.sink,
+                &mut host.files,
+                &mut host.parts,
+                &mut host.dialer,
+                &mut host.clock,
+                terminal,
+                &store,
+                &kind,
+                scorer,
+            ),
+        ),
+        Command::Rehearse { seed, count } => (
+            Ok(()),
+            rehearse(alloc, &mut host.streams.sink, terminal, &seed, &count),
+        ),
+        Command::View { store, score } => (
+            Ok(()),
+            vacfs(
+                alloc,
+                &mut host.streams,
+                &mut host.files,
+                &mut host.parts,
+                &mut host.dialer,
+                terminal,
+                &store,
+                &score,
+                scorer,
+            ),
+        ),
         Command::Vac {
             store,
             folder,
             size,
-        } => vac_at(alloc, host, &store, &folder, &size, scorer),
+        } => {
+            let now = host.clock.now();
+            vac_at(
+                alloc,
+                &mut host.files,
+                &mut host.folders,
+                &mut host.parts,
+                &mut host.dialer,
+                &mut host.streams.sink,
+                &mut host.fault_sink,
+                terminal,
+                now,
+                &store,
+                &folder,
+                &size,
+                scorer,
+            )
+        }
     }
 }

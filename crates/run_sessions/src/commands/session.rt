@@ -1,52 +1,51 @@
 //! The command `session :memory:`: one session over a store in memory.
 
 ghost use Rattle.std.specs.Prelude.{◌≡◌};
-ghost use Rattle.run_base.specs.Change.{IsIdle, sink_change, source_change, work_of};
+ghost use Rattle.run_base.specs.Change.{PassesNothing, sink_change, source_change};
 ghost use Rattle.run_sessions.specs.Session.{DoesSession, ServesMemory};
-ghost use Rattle.run_base.specs.Failure.{HasCauseIn};
+ghost use Rattle.run_base.specs.Failure.{HasCauseIn, no_cause, with_sink, with_source};
 
-use run_base::{Failure, Host, memory_store, outcome_of};
+use run_base::{Failure, memory_store, outcome_of};
 use std::alloc::Global;
 use vt_alone::{StoreServed, serve_store, sound_stores_need_memory};
+use vt_answer::Streams;
 use vt_base::Scorer;
 use vt_fresh::laws::memory_never_fails;
 use vt_memdisk::MemDisk;
+use vt_out::{Sink, Source};
 use vt_session::Ended;
 
-/// Serves one session over a store that begins empty. What can be answered is answered, and has gone
-/// out, before more is read.
-pub fn session<H: Host, S: Scorer>(alloc: Global, host: &mut H, scorer: &S) -> Result<(), Failure>
-    ensures does { DoesSession S.score_of result (work_of H.Source.Source H.Sink.Sink
-        H.Files.Files H.Parts.Parts H.Folders.Folders H.Dialer.Dialer H.Dialer.Link.Link
-        (H.lent host.old) (H.lent host.new)) }
-    ensures cause { HasCauseIn H.Parts.Disk.Disk (work_of H.Source.Source H.Sink.Sink
-        H.Files.Files H.Parts.Parts H.Folders.Folders H.Dialer.Dialer H.Dialer.Link.Link
-        (H.lent host.old) (H.lent host.new)) result }
-    ensures quiet { (H.lent host.new).fault_sink ≡ (H.lent host.old).fault_sink }
-    ensures folders { (H.lent host.new).folders ≡ (H.lent host.old).folders }
+/// Serves one session over a store that begins empty, from this second on. What can be answered is
+/// answered, and has gone out, before more is read.
+pub fn session<R: Source, K: Sink, S: Scorer>(
+    alloc: Global,
+    streams: &mut Streams<R, K>,
+    now: u32,
+    scorer: &S,
+) -> Result<(), Failure>
+    ensures does { DoesSession S.score_of result
+        (source_change R.Source streams.old.source streams.new.source)
+        (sink_change K.Sink streams.old.sink streams.new.sink) }
+    ensures cause { HasCauseIn
+        (with_source (source_change R.Source streams.old.source streams.new.source)
+        (with_sink (sink_change K.Sink streams.old.sink streams.new.sink) no_cause)) result }
 {
-    let now = host.now();
-    outcome_of(serve_memory(alloc, host, scorer, now))
+    outcome_of(serve_memory(alloc, streams, now, scorer))
 }
 
-/// Makes the store, and serves the session, which begins at this second.
-fn serve_memory<H: Host, S: Scorer>(
+/// Makes the store, and serves the session.
+fn serve_memory<R: Source, K: Sink, S: Scorer>(
     alloc: Global,
-    host: &mut H,
-    scorer: &S,
+    streams: &mut Streams<R, K>,
     now: u32,
+    scorer: &S,
 ) -> StoreServed
     ensures serves { ServesMemory S.score_of result
-        (source_change H.Source.Source (H.lent host.old).source (H.lent host.new).source)
-        (sink_change H.Sink.Sink (H.lent host.old).sink (H.lent host.new).sink) }
-    ensures idle { result.ended ≡ Ended.NoMemory → IsIdle (work_of H.Source.Source H.Sink.Sink
-        H.Files.Files H.Parts.Parts H.Folders.Folders H.Dialer.Dialer H.Dialer.Link.Link
-        (H.lent host.old) (H.lent host.new)) }
-    ensures fault_sink { (H.lent host.new).fault_sink ≡ (H.lent host.old).fault_sink }
-    ensures folders { (H.lent host.new).folders ≡ (H.lent host.old).folders }
-    ensures files { (H.lent host.new).files ≡ (H.lent host.old).files }
-    ensures parts { (H.lent host.new).parts ≡ (H.lent host.old).parts }
-    ensures dialer { (H.lent host.new).dialer ≡ (H.lent host.old).dialer }
+        (source_change R.Source streams.old.source streams.new.source)
+        (sink_change K.Sink streams.old.sink streams.new.sink) }
+    ensures idle { result.ended ≡ Ended.NoMemory → PassesNothing
+        (source_change R.Source streams.old.source streams.new.source)
+        (sink_change K.Sink streams.old.sink streams.new.sink) }
 {
     memory_never_fails();
     sound_stores_need_memory::<MemDisk>();
@@ -58,6 +57,6 @@ fn serve_memory<H: Host, S: Scorer>(
             closed: Ok(()),
         };
     };
-    let (served, _) = serve_store(alloc, core, now, host.streams());
+    let (served, _) = serve_store(alloc, core, now, streams);
     served
 }

@@ -2,74 +2,86 @@
 
 ghost use Rattle.std.specs.Prelude.{◌≡◌, ◌≤◌, ◌<◌, ◌++◌, ℕ, List, [], IfErr, IfOk, OnErr, IsTrue, length, take};
 ghost use Rattle.vt_base.specs.Faults.{HasCause};
-ghost use Rattle.run_base.specs.Change.{sink_change, source_change, work_of};
+ghost use Rattle.run_base.specs.Change.{dialer_change, files_change, parts_change, sink_change, source_change};
 ghost use Rattle.run_sessions.specs.Write.{DoesWrite, KeepsInput, MakesInput, PutsInput, TakesBlock, TakesNone, score_line};
-ghost use Rattle.run_base.specs.Failure.{HasCauseIn};
+ghost use Rattle.run_base.specs.Failure.{HasCauseIn, no_cause, with_dialer, with_files, with_parts, with_sink, with_source};
 ghost use Rattle.run_base.specs.Formatting.{Prints};
 
 use run_base::{
-    Failure, Host, Place, hexadecimal, place_of, print, read_conf, refusal_for, told_stored,
-    type_in, write_made,
+    Failure, Place, hexadecimal, place_of, print, read_conf, refusal_for, told_stored, type_in,
+    write_made,
 };
 use std::alloc::Global;
-use vt_answer::Streams;
 use vt_base::{Bytes, Failed, Kind, MAX_BLOCK, Score, Scorer, Text, Why};
 use vt_conf::Address;
 use vt_dial::Dialer;
 use vt_open::configurations_can_be_opened;
-use vt_out::{Sink, Source};
+use vt_out::{Clock, Files, Sink, Source};
 use vt_parts::Parts;
 use vt_remote::{refusals_have_causes, write_remote};
 use vt_single::{failures_have_causes, write_stored};
 
 /// Reads the word, and stores what comes in as a block of this type.
-pub fn write<H: Host, S: Scorer>(
+pub fn write<
+    R: Source,
+    K: Sink,
+    I: Files,
+    P: Parts,
+    N: Dialer,
+    C: Clock,
+    T: Sink + Drop,
+    S: Scorer,
+>(
     alloc: Global,
-    host: &mut H,
+    source: &mut R,
+    sink: &mut K,
+    files: &mut I,
+    parts: &mut P,
+    dialer: &mut N,
+    clock: &mut C,
+    terminal: Option<T>,
     store: &Text,
     kind: &Text,
     scorer: &S,
 ) -> Result<(), Failure>
-    ensures does { DoesWrite S.score_of H.Parts.Disk.Disk H.Dialer.Link.Link store.now kind.now
-        result
-        (work_of H.Source.Source H.Sink.Sink H.Files.Files
-        H.Parts.Parts H.Folders.Folders H.Dialer.Dialer H.Dialer.Link.Link
-        (H.lent host.old) (H.lent host.new)) }
-    ensures cause { HasCauseIn H.Parts.Disk.Disk (work_of H.Source.Source H.Sink.Sink H.Files.Files
-        H.Parts.Parts H.Folders.Folders H.Dialer.Dialer H.Dialer.Link.Link
-        (H.lent host.old) (H.lent host.new)) result }
-    ensures quiet { (H.lent host.new).fault_sink ≡ (H.lent host.old).fault_sink }
-    ensures folders { (H.lent host.new).folders ≡ (H.lent host.old).folders }
+    ensures does { DoesWrite S.score_of P.Disk.Disk N.Link.Link store.now kind.now result
+        (source_change R.Source source.old source.new) (sink_change K.Sink sink.old sink.new)
+        (files_change I.Files files.old files.new) (parts_change P.Parts parts.old parts.new)
+        (dialer_change N.Dialer N.Link.Link dialer.old dialer.new) }
+    ensures cause { HasCauseIn (with_source (source_change R.Source source.old source.new)
+        (with_sink (sink_change K.Sink sink.old sink.new)
+        (with_files (files_change I.Files files.old files.new)
+        (with_parts P.Disk.Disk (parts_change P.Parts parts.old parts.new)
+        (with_dialer (dialer_change N.Dialer N.Link.Link dialer.old dialer.new) no_cause)))))
+        result }
 {
+    failures_have_causes::<P::Disk>();
+    refusals_have_causes::<N::Link>();
     let kind = type_in(kind)?;
     match place_of(alloc, store)? {
-        Place::Memory => make_input(alloc, host, kind, scorer),
-        Place::Server(address) => put_input(alloc, host, &address, kind, scorer),
-        Place::Conf => keep_input(alloc, host, store, kind, scorer),
+        Place::Memory => make_input(alloc, source, sink, clock, kind, scorer),
+        Place::Server(address) => put_input(alloc, source, sink, dialer, &address, kind, scorer),
+        Place::Conf => keep_input(
+            alloc, source, sink, files, parts, clock, terminal, store, kind, scorer,
+        ),
     }
 }
 
 /// Reads what comes in to its end, and hands that to the store in memory, which is gone behind it.
-fn make_input<H: Host, S: Scorer>(
+fn make_input<R: Source, K: Sink, C: Clock, S: Scorer>(
     alloc: Global,
-    host: &mut H,
+    source: &mut R,
+    sink: &mut K,
+    clock: &mut C,
     kind: Kind,
     scorer: &S,
 ) -> Result<(), Failure>
-    ensures does { MakesInput S.score_of kind result
-        (work_of H.Source.Source H.Sink.Sink H.Files.Files
-        H.Parts.Parts H.Folders.Folders H.Dialer.Dialer H.Dialer.Link.Link
-        (H.lent host.old) (H.lent host.new)) }
-    ensures cause { HasCauseIn H.Parts.Disk.Disk (work_of H.Source.Source H.Sink.Sink H.Files.Files
-        H.Parts.Parts H.Folders.Folders H.Dialer.Dialer H.Dialer.Link.Link
-        (H.lent host.old) (H.lent host.new)) result }
-    ensures quiet { (H.lent host.new).fault_sink ≡ (H.lent host.old).fault_sink }
-    ensures folders { (H.lent host.new).folders ≡ (H.lent host.old).folders }
+    ensures { MakesInput S.score_of kind result (source_change R.Source source.old source.new)
+        (sink_change K.Sink sink.old sink.new) }
 {
-    let block = take_block(alloc, host.streams())?;
-    let now = host.now();
-    match write_made(alloc, scorer, now, kind, block.as_slice()) {
-        Ok(score) => print_score(host.sink(), &score),
+    let block = take_block(alloc, source)?;
+    match write_made(alloc, scorer, clock.now(), kind, block.as_slice()) {
+        Ok(score) => print_score(sink, &score),
         Err(why) => Err(refusal_for(why)),
     }
 }
@@ -77,107 +89,65 @@ fn make_input<H: Host, S: Scorer>(
 /// Reads a configuration, and then what comes in to its end; hands that to the store as one block,
 /// and prints its score when it is committed and the store is closed. The store isn't opened before
 /// the block is there, so that one command may read what another writes.
-fn keep_input<H: Host, S: Scorer>(
+fn keep_input<R: Source, K: Sink, I: Files, P: Parts, C: Clock, T: Sink + Drop, S: Scorer>(
     alloc: Global,
-    host: &mut H,
+    source: &mut R,
+    sink: &mut K,
+    files: &mut I,
+    parts: &mut P,
+    clock: &mut C,
+    terminal: Option<T>,
     file: &Text,
     kind: Kind,
     scorer: &S,
 ) -> Result<(), Failure>
-    ensures does { KeepsInput S.score_of H.Parts.Disk.Disk file.now kind result
-        (work_of H.Source.Source H.Sink.Sink H.Files.Files
-        H.Parts.Parts H.Folders.Folders H.Dialer.Dialer H.Dialer.Link.Link
-        (H.lent host.old) (H.lent host.new)) }
-    ensures cause { HasCauseIn H.Parts.Disk.Disk (work_of H.Source.Source H.Sink.Sink H.Files.Files
-        H.Parts.Parts H.Folders.Folders H.Dialer.Dialer H.Dialer.Link.Link
-        (H.lent host.old) (H.lent host.new)) result }
-    ensures quiet { (H.lent host.new).fault_sink ≡ (H.lent host.old).fault_sink }
-    ensures folders { (H.lent host.new).folders ≡ (H.lent host.old).folders }
+    ensures { KeepsInput S.score_of P.Disk.Disk file.now kind result
+        (source_change R.Source source.old source.new) (sink_change K.Sink sink.old sink.new)
+        (files_change I.Files files.old files.new) (parts_change P.Parts parts.old parts.new) }
 {
     configurations_can_be_opened();
-    failures_have_causes::<<H::Parts as Parts>::Disk>();
-    let conf = read_conf(alloc, host.files(), file)?;
-    let block = take_input(alloc, host)?;
-    let now = host.now();
-    match write_stored(
-        alloc,
-        host.parts(),
-        &conf,
-        scorer,
-        now,
-        kind,
-        block.as_slice(),
-    ) {
-        Ok(score) => print_score(host.sink(), &score),
-        Err(bad) => Err(told_stored(alloc, host, file, &conf, bad)),
+    let conf = read_conf(alloc, files, file)?;
+    let block = take_block(alloc, source)?;
+    let now = clock.now();
+    match write_stored(alloc, parts, &conf, scorer, now, kind, block.as_slice()) {
+        Ok(score) => print_score(sink, &score),
+        Err(bad) => Err(told_stored(alloc, terminal, file, &conf, bad)),
     }
 }
 
 /// Reads what comes in to its end, hands that to the server at an address as one block, and prints
 /// its score when the server has committed it and the link is closed.
-fn put_input<H: Host, S: Scorer>(
+fn put_input<R: Source, K: Sink, N: Dialer, S: Scorer>(
     alloc: Global,
-    host: &mut H,
+    source: &mut R,
+    sink: &mut K,
+    dialer: &mut N,
     address: &Address,
     kind: Kind,
     scorer: &S,
 ) -> Result<(), Failure>
-    ensures does { PutsInput H.Dialer.Link.Link S.score_of address.now kind result
-        (work_of H.Source.Source H.Sink.Sink H.Files.Files
-        H.Parts.Parts H.Folders.Folders H.Dialer.Dialer H.Dialer.Link.Link
-        (H.lent host.old) (H.lent host.new)) }
-    ensures cause { HasCauseIn H.Parts.Disk.Disk (work_of H.Source.Source H.Sink.Sink H.Files.Files
-        H.Parts.Parts H.Folders.Folders H.Dialer.Dialer H.Dialer.Link.Link
-        (H.lent host.old) (H.lent host.new)) result }
-    ensures quiet { (H.lent host.new).fault_sink ≡ (H.lent host.old).fault_sink }
-    ensures folders { (H.lent host.new).folders ≡ (H.lent host.old).folders }
+    ensures { PutsInput N.Link.Link S.score_of address.now kind result
+        (source_change R.Source source.old source.new) (sink_change K.Sink sink.old sink.new)
+        (dialer_change N.Dialer N.Link.Link dialer.old dialer.new) }
 {
-    refusals_have_causes::<<H::Dialer as Dialer>::Link>();
-    let block = take_block(alloc, host.streams())?;
-    match write_remote(
-        alloc,
-        host.dialer(),
-        address,
-        scorer,
-        kind,
-        block.as_slice(),
-    ) {
-        Ok(score) => print_score(host.sink(), &score),
+    let block = take_block(alloc, source)?;
+    match write_remote(alloc, dialer, address, scorer, kind, block.as_slice()) {
+        Ok(score) => print_score(sink, &score),
         Err(bad) => Err(Failure::Server(bad)),
     }
 }
 
-/// What comes in from the host to its end, if it isn't more than a block.
-fn take_input<H: Host>(alloc: Global, host: &mut H) -> Result<Bytes, Failure>
-    ensures taken { IfOk result (λ bytes. TakesBlock bytes
-        (source_change H.Source.Source (H.lent host.old).source (H.lent host.new).source)) }
-    ensures none { IfErr result (λ failure. TakesNone failure
-        (source_change H.Source.Source (H.lent host.old).source (H.lent host.new).source)) }
-    ensures sink { (H.lent host.new).sink ≡ (H.lent host.old).sink }
-    ensures files { (H.lent host.new).files ≡ (H.lent host.old).files }
-    ensures parts { (H.lent host.new).parts ≡ (H.lent host.old).parts }
-    ensures dialer { (H.lent host.new).dialer ≡ (H.lent host.old).dialer }
-    ensures fault_sink { (H.lent host.new).fault_sink ≡ (H.lent host.old).fault_sink }
-    ensures folders { (H.lent host.new).folders ≡ (H.lent host.old).folders }
-{
-    take_block(alloc, host.streams())
-}
-
 /// What comes in to its end, if it isn't more than a block.
-fn take_block<R: Source, K: Sink>(
-    alloc: Global,
-    streams: &mut Streams<R, K>,
-) -> Result<Bytes, Failure>
-    ensures taken { IfOk result (λ bytes. TakesBlock bytes
-        (source_change R.Source streams.old.source streams.new.source)) }
-    ensures none { IfErr result (λ failure. TakesNone failure
-        (source_change R.Source streams.old.source streams.new.source)) }
-    ensures sink { streams.new.sink ≡ streams.old.sink }
+fn take_block<R: Source>(alloc: Global, source: &mut R) -> Result<Bytes, Failure>
+    ensures taken { IfOk result (λ bytes.
+        TakesBlock bytes (source_change R.Source source.old source.new)) }
+    ensures none { IfErr result (λ failure.
+        TakesNone failure (source_change R.Source source.old source.new)) }
 {
     let Ok(mut buf) = vec![in alloc; 0u8; MAX_BLOCK + 1] else {
         return Err(Failure::NoMemory);
     };
-    let Ok(len) = fill(&mut streams.source, &mut buf) else {
+    let Ok(len) = fill(source, &mut buf) else {
         return Err(Failure::ReadFault);
     };
     if len > MAX_BLOCK {

@@ -2,65 +2,62 @@
 //! arenas.
 
 ghost use Rattle.std.specs.Prelude.{◌≡◌, ◌+◌, ◌<◌, ◌^◌, length};
-ghost use Rattle.run_base.specs.Change.{parts_change, sink_change, work_of};
+ghost use Rattle.run_base.specs.Change.{files_change, parts_change, sink_change};
 ghost use Rattle.run_stores.specs.Buildindex.{DoesBuildindex, IsRebuildRefusal, RebuildsConf, blocks_line, failure_of};
-ghost use Rattle.run_base.specs.Failure.{HasCauseIn};
+ghost use Rattle.run_base.specs.Failure.{HasCauseIn, no_cause, with_files, with_parts, with_sink};
 ghost use Rattle.run_base.specs.Formatting.{Prints};
 
 use itoa::Buffer;
-use run_base::{Failure, Host, Shown, Unit, print, read_conf, told_on};
+use run_base::{Failure, Shown, Unit, print, read_conf, told_on};
 use std::alloc::Global;
 use vt_base::{Scorer, Text};
 use vt_conf::Conf;
 use vt_open::configurations_can_be_opened;
-use vt_out::Sink;
+use vt_out::{Files, Sink};
+use vt_parts::Parts;
 use vt_rebuild::RebuildBad;
 use vt_upkeep::{UpkeepBad, rebuild_store};
 
 /// Reads the configuration, rebuilds the index of its store, and prints how many blocks it has.
-pub fn buildindex<H: Host, S: Scorer>(
+pub fn buildindex<I: Files, P: Parts, K: Sink, T: Sink + Drop, S: Scorer>(
     alloc: Global,
-    host: &mut H,
+    files: &mut I,
+    parts: &mut P,
+    sink: &mut K,
+    terminal: Option<T>,
     file: &Text,
     scorer: &S,
 ) -> Result<(), Failure>
-    ensures does { DoesBuildindex S.score_of H.Parts.Disk.Disk file.now result (work_of H.Source.Source H.Sink.Sink
-        H.Files.Files H.Parts.Parts H.Folders.Folders H.Dialer.Dialer H.Dialer.Link.Link
-        (H.lent host.old) (H.lent host.new)) }
-    ensures cause { HasCauseIn H.Parts.Disk.Disk (work_of H.Source.Source H.Sink.Sink
-        H.Files.Files H.Parts.Parts H.Folders.Folders H.Dialer.Dialer H.Dialer.Link.Link
-        (H.lent host.old) (H.lent host.new)) result }
-    ensures quiet { (H.lent host.new).fault_sink ≡ (H.lent host.old).fault_sink }
-    ensures folders { (H.lent host.new).folders ≡ (H.lent host.old).folders }
+    ensures does { DoesBuildindex S.score_of P.Disk.Disk file.now result
+        (files_change I.Files files.old files.new) (parts_change P.Parts parts.old parts.new)
+        (sink_change K.Sink sink.old sink.new) }
+    ensures cause { HasCauseIn (with_files (files_change I.Files files.old files.new)
+        (with_parts P.Disk.Disk (parts_change P.Parts parts.old parts.new)
+        (with_sink (sink_change K.Sink sink.old sink.new) no_cause))) result }
 {
     configurations_can_be_opened();
-    let conf = read_conf(alloc, host.files(), file)?;
-    let mut shown = Shown::new(host.terminal(), Unit::Buckets);
-    rebuild_conf(alloc, host, file, scorer, &conf, &mut shown)
+    let conf = read_conf(alloc, files, file)?;
+    let mut shown = Shown::new(terminal, Unit::Buckets);
+    rebuild_conf(alloc, parts, sink, &mut shown, file, scorer, &conf)
 }
 
 /// Rebuilds the index of a configuration's store, and prints how many blocks it has.
-fn rebuild_conf<H: Host, S: Scorer, T: Sink>(
+fn rebuild_conf<P: Parts, K: Sink, T: Sink, S: Scorer>(
     alloc: Global,
-    host: &mut H,
+    parts: &mut P,
+    sink: &mut K,
+    shown: &mut Shown<T>,
     file: &Text,
     scorer: &S,
     conf: &Conf,
-    shown: &mut Shown<T>,
 ) -> Result<(), Failure>
     requires few { length conf.now.arenas.items + length conf.now.sections.items + 1 < 2 ^ 32 }
     requires some_section { 0 < length conf.now.sections.items }
-    ensures rebuilds { RebuildsConf S.score_of H.Parts.Disk.Disk file.now conf.now result
-        (parts_change H.Parts.Parts (H.lent host.old).parts (H.lent host.new).parts)
-        (sink_change H.Sink.Sink (H.lent host.old).sink (H.lent host.new).sink) }
-    ensures source { (H.lent host.new).source ≡ (H.lent host.old).source }
-    ensures dialer { (H.lent host.new).dialer ≡ (H.lent host.old).dialer }
-    ensures files { (H.lent host.new).files ≡ (H.lent host.old).files }
-    ensures fault_sink { (H.lent host.new).fault_sink ≡ (H.lent host.old).fault_sink }
-    ensures folders { (H.lent host.new).folders ≡ (H.lent host.old).folders }
+    ensures { RebuildsConf S.score_of P.Disk.Disk file.now conf.now result
+        (parts_change P.Parts parts.old parts.new) (sink_change K.Sink sink.old sink.new) }
 {
-    match rebuild_store(alloc, host.parts(), conf, scorer, shown) {
-        Ok(blocks) => print_blocks(host.sink(), blocks),
+    match rebuild_store(alloc, parts, conf, scorer, shown) {
+        Ok(blocks) => print_blocks(sink, blocks),
         Err(UpkeepBad::Unopened(bad)) => Err(told_on(alloc, shown, file, conf, bad)),
         Err(UpkeepBad::Ended(bad)) => Err(failure_of(bad)),
     }

@@ -1,44 +1,42 @@
 //! The command `fmtarenas FILE NAME LENGTH ARENASIZE`: makes a file a partition of arenas.
 
-ghost use Rattle.std.specs.Prelude.{◌≡◌, IfErr, IfOk};
-ghost use Rattle.run_base.specs.Change.{sink_change, work_of};
+ghost use Rattle.std.specs.Prelude.{IfErr, IfOk};
+ghost use Rattle.run_base.specs.Change.{parts_change, sink_change};
 ghost use Rattle.run_stores.specs.Fmtarenas.{AsksForArenas, AsksForNoArenas};
 ghost use Rattle.run_stores.specs.Fmtarenas.{DoesFmtarenas, arenas_line};
-ghost use Rattle.run_base.specs.Failure.{HasCauseIn};
+ghost use Rattle.run_base.specs.Failure.{HasCauseIn, no_cause, with_parts, with_sink};
 ghost use Rattle.run_base.specs.Formatting.{Prints};
 
 use crate::refusal::refused;
 use itoa::Buffer;
-use run_base::{Failure, Host, print};
+use run_base::{Failure, print};
 use std::alloc::Global;
 use vt_base::Text;
 use vt_format::{format_arenas, parse_arena_size, parse_len, parse_name};
 use vt_out::Sink;
+use vt_parts::Parts;
 
 /// Reads the words, makes the file a partition of this name whose arenas have no blocks, and prints
 /// how many they are.
-pub fn fmtarenas<H: Host>(
+pub fn fmtarenas<P: Parts, K: Sink, T: Sink + Drop>(
     alloc: Global,
-    host: &mut H,
+    parts: &mut P,
+    sink: &mut K,
+    terminal: Option<T>,
     file: Text,
     name: &Text,
     length: &Text,
     arena_size: &Text,
 ) -> Result<(), Failure>
-    ensures does { DoesFmtarenas H.Parts.Disk.Disk file name.now length.now arena_size.now result
-        (work_of H.Source.Source H.Sink.Sink
-        H.Files.Files H.Parts.Parts H.Folders.Folders H.Dialer.Dialer H.Dialer.Link.Link
-        (H.lent host.old) (H.lent host.new)) }
-    ensures cause { HasCauseIn H.Parts.Disk.Disk (work_of H.Source.Source H.Sink.Sink
-        H.Files.Files H.Parts.Parts H.Folders.Folders H.Dialer.Dialer H.Dialer.Link.Link
-        (H.lent host.old) (H.lent host.new)) result }
-    ensures quiet { (H.lent host.new).fault_sink ≡ (H.lent host.old).fault_sink }
-    ensures folders { (H.lent host.new).folders ≡ (H.lent host.old).folders }
+    ensures does { DoesFmtarenas P.Disk.Disk file name.now length.now arena_size.now result
+        (parts_change P.Parts parts.old parts.new) (sink_change K.Sink sink.old sink.new) }
+    ensures cause { HasCauseIn (with_parts P.Disk.Disk (parts_change P.Parts parts.old parts.new)
+        (with_sink (sink_change K.Sink sink.old sink.new) no_cause)) result }
 {
     let (len, size) = read_words(name, length, arena_size)?;
-    match format_arenas(alloc, host.parts(), &file, name, len, size) {
-        Ok(count) => print_arenas(host.sink(), name, size, count),
-        Err(bad) => Err(refused(host, file, bad)),
+    match format_arenas(alloc, parts, &file, name, len, size) {
+        Ok(count) => print_arenas(sink, name, size, count),
+        Err(bad) => Err(refused(terminal, file, bad)),
     }
 }
 

@@ -1,42 +1,40 @@
 //! The command `fmtbloom FILE SIZE POSITIONS`: makes a file a Bloom filter.
 
-ghost use Rattle.std.specs.Prelude.{◌≡◌, ℕ, IfErr, IfOk};
-ghost use Rattle.run_base.specs.Change.{sink_change, work_of};
+ghost use Rattle.std.specs.Prelude.{ℕ, IfErr, IfOk};
+ghost use Rattle.run_base.specs.Change.{parts_change, sink_change};
 ghost use Rattle.run_stores.specs.Fmtbloom.{AsksForFilter, AsksForNoFilter};
 ghost use Rattle.run_stores.specs.Fmtbloom.{DoesFmtbloom, filter_line};
-ghost use Rattle.run_base.specs.Failure.{HasCauseIn};
+ghost use Rattle.run_base.specs.Failure.{HasCauseIn, no_cause, with_parts, with_sink};
 ghost use Rattle.run_base.specs.Formatting.{Prints};
 
 use crate::refusal::refused;
 use itoa::Buffer;
-use run_base::{Failure, Host, print};
+use run_base::{Failure, print};
 use std::alloc::Global;
 use vt_base::Text;
 use vt_format::{format_filter, parse_filter_size, parse_positions};
 use vt_out::Sink;
+use vt_parts::Parts;
 
 /// Reads the words, makes the file a Bloom filter of this size without a bit, and prints it.
-pub fn fmtbloom<H: Host>(
+pub fn fmtbloom<P: Parts, K: Sink, T: Sink + Drop>(
     alloc: Global,
-    host: &mut H,
+    parts: &mut P,
+    sink: &mut K,
+    terminal: Option<T>,
     file: Text,
     size: &Text,
     positions: &Text,
 ) -> Result<(), Failure>
-    ensures does { DoesFmtbloom H.Parts.Disk.Disk file size.now positions.now result
-        (work_of H.Source.Source H.Sink.Sink
-        H.Files.Files H.Parts.Parts H.Folders.Folders H.Dialer.Dialer H.Dialer.Link.Link
-        (H.lent host.old) (H.lent host.new)) }
-    ensures cause { HasCauseIn H.Parts.Disk.Disk (work_of H.Source.Source H.Sink.Sink
-        H.Files.Files H.Parts.Parts H.Folders.Folders H.Dialer.Dialer H.Dialer.Link.Link
-        (H.lent host.old) (H.lent host.new)) result }
-    ensures quiet { (H.lent host.new).fault_sink ≡ (H.lent host.old).fault_sink }
-    ensures folders { (H.lent host.new).folders ≡ (H.lent host.old).folders }
+    ensures does { DoesFmtbloom P.Disk.Disk file size.now positions.now result
+        (parts_change P.Parts parts.old parts.new) (sink_change K.Sink sink.old sink.new) }
+    ensures cause { HasCauseIn (with_parts P.Disk.Disk (parts_change P.Parts parts.old parts.new)
+        (with_sink (sink_change K.Sink sink.old sink.new) no_cause)) result }
 {
     let (bytes, bits) = read_words(size, positions)?;
-    match format_filter(alloc, host.parts(), &file, bytes, bits) {
-        Ok(()) => print_filter(host.sink(), bytes, bits),
-        Err(bad) => Err(refused(host, file, bad)),
+    match format_filter(alloc, parts, &file, bytes, bits) {
+        Ok(()) => print_filter(sink, bytes, bits),
+        Err(bad) => Err(refused(terminal, file, bad)),
     }
 }
 

@@ -1,65 +1,61 @@
 //! The command `fmtindex CONF`: puts the sections that a configuration names to use as an index.
 
-ghost use Rattle.std.specs.Prelude.{◌≡◌, ◌<◌, ◌^◌, length};
+ghost use Rattle.std.specs.Prelude.{◌<◌, ◌^◌, length};
 ghost use Rattle.vt_format.specs.Index.{files_of};
-ghost use Rattle.run_base.specs.Change.{parts_change, sink_change, work_of};
+ghost use Rattle.run_base.specs.Change.{files_change, parts_change, sink_change};
 ghost use Rattle.run_stores.specs.Fmtindex.{DoesFmtindex, IndexesConf, IsIndexRefusal, index_line};
-ghost use Rattle.run_base.specs.Failure.{HasCauseIn};
+ghost use Rattle.run_base.specs.Failure.{HasCauseIn, no_cause, with_files, with_parts, with_sink};
 ghost use Rattle.run_base.specs.Formatting.{Prints};
 
 use itoa::Buffer;
-use run_base::{Failure, Host, Shown, Unit, name_at, print, read_conf, refusal_among};
+use run_base::{Failure, Shown, Unit, name_at, print, read_conf, refusal_among};
 use std::alloc::{AllocError, Global};
 use vt_base::{Scorer, Text};
 use vt_conf::Conf;
 use vt_format::laws::configurations_number_their_files;
 use vt_format::{Index, IndexBad, format_index};
-use vt_out::Sink;
+use vt_out::{Files, Sink};
+use vt_parts::Parts;
 
 /// Reads the configuration, puts all its sections to use, and prints how many buckets they have.
-pub fn fmtindex<H: Host, S: Scorer>(
+pub fn fmtindex<I: Files, P: Parts, K: Sink, T: Sink + Drop, S: Scorer>(
     alloc: Global,
-    host: &mut H,
+    files: &mut I,
+    parts: &mut P,
+    sink: &mut K,
+    terminal: Option<T>,
     file: &Text,
     scorer: &S,
 ) -> Result<(), Failure>
-    ensures does { DoesFmtindex H.Parts.Disk.Disk file.now result
-        (work_of H.Source.Source H.Sink.Sink H.Files.Files
-        H.Parts.Parts H.Folders.Folders H.Dialer.Dialer H.Dialer.Link.Link
-        (H.lent host.old) (H.lent host.new)) }
-    ensures cause { HasCauseIn H.Parts.Disk.Disk (work_of H.Source.Source H.Sink.Sink
-        H.Files.Files H.Parts.Parts H.Folders.Folders H.Dialer.Dialer H.Dialer.Link.Link
-        (H.lent host.old) (H.lent host.new)) result }
-    ensures quiet { (H.lent host.new).fault_sink ≡ (H.lent host.old).fault_sink }
-    ensures folders { (H.lent host.new).folders ≡ (H.lent host.old).folders }
+    ensures does { DoesFmtindex P.Disk.Disk file.now result
+        (files_change I.Files files.old files.new) (parts_change P.Parts parts.old parts.new)
+        (sink_change K.Sink sink.old sink.new) }
+    ensures cause { HasCauseIn (with_files (files_change I.Files files.old files.new)
+        (with_parts P.Disk.Disk (parts_change P.Parts parts.old parts.new)
+        (with_sink (sink_change K.Sink sink.old sink.new) no_cause))) result }
 {
     configurations_number_their_files();
-    let conf = read_conf(alloc, host.files(), file)?;
-    let mut shown = Shown::new(host.terminal(), Unit::Buckets);
-    index_conf(alloc, host, file, scorer, &conf, &mut shown)
+    let conf = read_conf(alloc, files, file)?;
+    let mut shown = Shown::new(terminal, Unit::Buckets);
+    index_conf(alloc, parts, sink, &mut shown, file, scorer, &conf)
 }
 
 /// Puts the sections of a configuration to use, and prints how many buckets they have.
-fn index_conf<H: Host, S: Scorer, T: Sink>(
+fn index_conf<P: Parts, K: Sink, T: Sink, S: Scorer>(
     alloc: Global,
-    host: &mut H,
+    parts: &mut P,
+    sink: &mut K,
+    shown: &mut Shown<T>,
     file: &Text,
     scorer: &S,
     conf: &Conf,
-    shown: &mut Shown<T>,
 ) -> Result<(), Failure>
     requires { length (files_of conf.now) < 2 ^ 32 }
-    ensures indexes { IndexesConf H.Parts.Disk.Disk file.now conf.now result
-        (parts_change H.Parts.Parts (H.lent host.old).parts (H.lent host.new).parts)
-        (sink_change H.Sink.Sink (H.lent host.old).sink (H.lent host.new).sink) }
-    ensures source { (H.lent host.new).source ≡ (H.lent host.old).source }
-    ensures dialer { (H.lent host.new).dialer ≡ (H.lent host.old).dialer }
-    ensures files { (H.lent host.new).files ≡ (H.lent host.old).files }
-    ensures fault_sink { (H.lent host.new).fault_sink ≡ (H.lent host.old).fault_sink }
-    ensures folders { (H.lent host.new).folders ≡ (H.lent host.old).folders }
+    ensures { IndexesConf P.Disk.Disk file.now conf.now result
+        (parts_change P.Parts parts.old parts.new) (sink_change K.Sink sink.old sink.new) }
 {
-    match format_index(alloc, host.parts(), scorer, shown, conf) {
-        Ok(index) => print_index(host.sink(), &conf.index, index),
+    match format_index(alloc, parts, scorer, shown, conf) {
+        Ok(index) => print_index(sink, &conf.index, index),
         Err(bad) => Err(told(alloc, shown, file, conf, bad)),
     }
 }

@@ -1,43 +1,41 @@
 //! The command `fmtisect FILE NAME LENGTH`: makes a file an index section.
 
-ghost use Rattle.std.specs.Prelude.{◌≡◌, IfErr, IfOk};
-ghost use Rattle.run_base.specs.Change.{sink_change, work_of};
+ghost use Rattle.std.specs.Prelude.{IfErr, IfOk};
+ghost use Rattle.run_base.specs.Change.{parts_change, sink_change};
 ghost use Rattle.run_stores.specs.Fmtisect.{AsksForSection, AsksForNoSection};
 ghost use Rattle.run_stores.specs.Fmtisect.{DoesFmtisect, section_line};
-ghost use Rattle.run_base.specs.Failure.{HasCauseIn};
+ghost use Rattle.run_base.specs.Failure.{HasCauseIn, no_cause, with_parts, with_sink};
 ghost use Rattle.run_base.specs.Formatting.{Prints};
 
 use crate::refusal::refused;
 use itoa::Buffer;
-use run_base::{Failure, Host, print};
+use run_base::{Failure, print};
 use std::alloc::Global;
 use vt_base::Text;
 use vt_format::{format_section, parse_len, parse_name};
 use vt_out::Sink;
+use vt_parts::Parts;
 
 /// Reads the words, makes the file an index section of this name that isn't in use yet, and prints
 /// how many buckets it has.
-pub fn fmtisect<H: Host>(
+pub fn fmtisect<P: Parts, K: Sink, T: Sink + Drop>(
     alloc: Global,
-    host: &mut H,
+    parts: &mut P,
+    sink: &mut K,
+    terminal: Option<T>,
     file: Text,
     name: &Text,
     length: &Text,
 ) -> Result<(), Failure>
-    ensures does { DoesFmtisect H.Parts.Disk.Disk file name.now length.now result
-        (work_of H.Source.Source H.Sink.Sink
-        H.Files.Files H.Parts.Parts H.Folders.Folders H.Dialer.Dialer H.Dialer.Link.Link
-        (H.lent host.old) (H.lent host.new)) }
-    ensures cause { HasCauseIn H.Parts.Disk.Disk (work_of H.Source.Source H.Sink.Sink
-        H.Files.Files H.Parts.Parts H.Folders.Folders H.Dialer.Dialer H.Dialer.Link.Link
-        (H.lent host.old) (H.lent host.new)) result }
-    ensures quiet { (H.lent host.new).fault_sink ≡ (H.lent host.old).fault_sink }
-    ensures folders { (H.lent host.new).folders ≡ (H.lent host.old).folders }
+    ensures does { DoesFmtisect P.Disk.Disk file name.now length.now result
+        (parts_change P.Parts parts.old parts.new) (sink_change K.Sink sink.old sink.new) }
+    ensures cause { HasCauseIn (with_parts P.Disk.Disk (parts_change P.Parts parts.old parts.new)
+        (with_sink (sink_change K.Sink sink.old sink.new) no_cause)) result }
 {
     let len = read_words(name, length)?;
-    match format_section(alloc, host.parts(), &file, name, len) {
-        Ok(count) => print_section(host.sink(), name, count),
-        Err(bad) => Err(refused(host, file, bad)),
+    match format_section(alloc, parts, &file, name, len) {
+        Ok(count) => print_section(sink, name, count),
+        Err(bad) => Err(refused(terminal, file, bad)),
     }
 }
 

@@ -1,14 +1,14 @@
 //! The command `rehearse SEED COUNT`: rehearses crashes of a store in memory.
 
 ghost use Rattle.std.specs.Prelude.{◌≡◌, IfErr, IfOk};
-ghost use Rattle.run_base.specs.Change.{sink_change, work_of};
+ghost use Rattle.run_base.specs.Change.{sink_change};
 ghost use Rattle.run_stores.specs.Rehearse.{AsksForNoRehearsal, AsksToRehearse};
 ghost use Rattle.run_stores.specs.Rehearse.{DoesRehearse, check_text, summary_text};
-ghost use Rattle.run_base.specs.Failure.{HasCauseIn};
+ghost use Rattle.run_base.specs.Failure.{HasCauseIn, no_cause, with_sink};
 ghost use Rattle.run_base.specs.Formatting.{Prints};
 
 use itoa::Buffer;
-use run_base::{Failure, Host, Shown, Unit, print};
+use run_base::{Failure, Shown, Unit, print};
 use std::alloc::{AllocError, Global};
 use vt_base::Text;
 use vt_conf::parse_number;
@@ -16,26 +16,20 @@ use vt_out::Sink;
 use vt_rehearse::Summary;
 
 /// Reads the words, makes just so many rounds, which the seed draws, and prints what they came to.
-pub fn rehearse<H: Host>(
+pub fn rehearse<K: Sink, T: Sink + Drop>(
     alloc: Global,
-    host: &mut H,
+    sink: &mut K,
+    terminal: Option<T>,
     seed: &Text,
     count: &Text,
 ) -> Result<(), Failure>
-    ensures does { DoesRehearse seed.now count.now result
-        (work_of H.Source.Source H.Sink.Sink H.Files.Files
-        H.Parts.Parts H.Folders.Folders H.Dialer.Dialer H.Dialer.Link.Link
-        (H.lent host.old) (H.lent host.new)) }
-    ensures cause { HasCauseIn H.Parts.Disk.Disk (work_of H.Source.Source H.Sink.Sink H.Files.Files
-        H.Parts.Parts H.Folders.Folders H.Dialer.Dialer H.Dialer.Link.Link
-        (H.lent host.old) (H.lent host.new)) result }
-    ensures quiet { (H.lent host.new).fault_sink ≡ (H.lent host.old).fault_sink }
-    ensures folders { (H.lent host.new).folders ≡ (H.lent host.old).folders }
+    ensures does { DoesRehearse seed.now count.now result (sink_change K.Sink sink.old sink.new) }
+    ensures cause { HasCauseIn (with_sink (sink_change K.Sink sink.old sink.new) no_cause) result }
 {
     let (seed, rounds) = read_words(seed, count)?;
-    let mut shown = Shown::new(host.terminal(), Unit::Rounds);
+    let mut shown = Shown::new(terminal, Unit::Rounds);
     match vt_rehearse::rehearse(alloc, &mut shown, seed, rounds) {
-        Ok(summary) => print_summary(host.sink(), &summary),
+        Ok(summary) => print_summary(sink, &summary),
         Err(AllocError) => Err(Failure::NoMemory),
     }
 }

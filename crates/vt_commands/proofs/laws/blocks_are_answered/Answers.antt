@@ -9,12 +9,15 @@ use Rattle.vt_single.specs.Single.{ReadsBlock, WritesBlock}
 use Rattle.vt_words.specs.declared.command.Command.TheVariants.{Read, Write}
 use Rattle.run_base.specs.declared.failure.Failure.{Failure}
 use Rattle.vt_commands.specs.Answers.{TellsReplyOrMemory}
-use Rattle.run_sessions.specs.Read.{PrintsBlock}
+use Rattle.vt_commands.specs.Work.{causes_of}
+use Rattle.run_base.specs.Blocks.{SaysNoType}
+use Rattle.run_sessions.specs.Read.{PrintsBlock, SaysNoBlock}
 use Rattle.run_sessions.specs.Write.{WritesInput, score_line}
 use Rattle.run_base.specs.Failure.{HasCauseIn, Outcome}
 use Rattle.vt_commands.proofs.Answered.{first_tells, in_file, none_taken, printed_well, stored_well}
 use Rattle.vt_commands.proofs.CompleteConf.{none_read, under_same}
 use Rattle.vt_commands.proofs.DidTells.{done}
+use Rattle.vt_commands.proofs.Only.{reading_idle, writing_idle}
 use Rattle.vt_commands.proofs.laws.blocks_are_answered.Goals as goal
 
 pub returns-clause-read : goal.returns-clause-read
@@ -24,9 +27,10 @@ returns-clause-read g c score words status work complaint file score_word type_w
     let outcome = did.outcome in
     let setup = record it.c { base = it.base } in
     let cause_of = λ (failure : Failure) (is : outcome ≡ Err failure).
-    subst (λ (o : Outcome). HasCauseIn disk work o) is did.cause in
+    subst (λ (o : Outcome). HasCauseIn (causes_of disk work) o) is did.cause in
     ⊎_elim
-    (λ does. ⊎_elim (λ refused. inl refused)
+    (λ does. ⊎_elim
+    (λ word. inl (reading_idle disk outcome work (SaysNoBlock score_word type_word) does.1 word))
     (λ said.
     let s : List ℕ = said.0 in
     let kind : ℕ = said.1 in
@@ -35,12 +39,12 @@ returns-clause-read g c score words status work complaint file score_word type_w
       kind,
       said.2,
       ⊎_elim (λ idle. inl idle.is)
-          (λ at. in_file file (PrintsBlock score disk link file s kind outcome work) names
+          (λ at. in_file file (PrintsBlock score disk link file s kind outcome work.files work.parts work.dialer work.sink) names
           (λ does. ⊎_elim
           (λ none. inl (none.outcome_is ∙ ap Err (none_read file it.text it.conf none.failure work.files it.says
           (λ line why. c.configurations_have_one_meaning.ensures.accepted it.text it.conf line why it.says)
           it.files it.content none.none
-          (λ fault. fails.files (subst (λ (f : Failure). HasCauseIn disk work (Err f)) fault
+          (λ fault. fails.files (subst (λ (f : Failure). HasCauseIn (causes_of disk work) (Err f)) fault
           (cause_of none.failure none.outcome_is))))))
           (λ x.
           let text_is : x.reads.text ≡ it.text = (let is = sym (x.reads.content it.files) ∙ it.content in cc) in
@@ -58,11 +62,11 @@ returns-clause-read g c score words status work complaint file score_word type_w
           work.parts.new work.parts.faults work.parts.faults' bad it.tables it.devices it.c it.h it.g it.base
           it.parts it.disks refuses under it.log it.limits)
           outcome did.cause x.does)
-          does)
+          does.0)
           at.0 at.1 at.2) said.3,
-    ))) does)
+    ))) does.0)
     (λ idle. inr (inl idle.is))
-    (done disk link score words did.preface outcome work (Read file score_word type_word) asks did.does)
+    (done disk link score outcome work words did.preface did.does (Read file score_word type_word) asks)
 
 pub returns-clause-written : goal.returns-clause-written
 returns-clause-written g c score words status work complaint file type_word did asks names it fails =
@@ -72,21 +76,22 @@ returns-clause-written g c score words status work complaint file type_word did 
     let setup = record it.c { base = it.base } in
     let tells = first_tells work.source.tells work.sink.tells it.streams in
     let cause_of = λ (failure : Failure) (is : outcome ≡ Err failure).
-    subst (λ (o : Outcome). HasCauseIn disk work o) is did.cause in
+    subst (λ (o : Outcome). HasCauseIn (causes_of disk work) o) is did.cause in
     ⊎_elim
-    (λ does. ⊎_elim (λ refused. inl refused)
+    (λ does. ⊎_elim
+    (λ word. inl (writing_idle disk outcome work (SaysNoType type_word) does.1 word))
     (λ said.
     let kind : ℕ = said.0 in
     inr (inr (
       kind,
       said.1,
       ⊎_elim (λ idle. inl idle.is)
-          (λ at. in_file file (WritesInput score disk link file kind outcome work) names
+          (λ at. in_file file (WritesInput score disk link file kind outcome work.source work.sink work.files work.parts work.dialer) names
           (λ does. ⊎_elim
           (λ none. inl (none.outcome_is ∙ ap Err (none_read file it.text it.conf none.failure work.files it.says
           (λ line why. c.configurations_have_one_meaning.ensures.accepted it.text it.conf line why it.says)
           it.files it.content none.none
-          (λ fault. fails.files (subst (λ (f : Failure). HasCauseIn disk work (Err f)) fault
+          (λ fault. fails.files (subst (λ (f : Failure). HasCauseIn (causes_of disk work) (Err f)) fault
           (cause_of none.failure none.outcome_is))))))
           (λ had.
           let conf = had.0 in
@@ -95,7 +100,7 @@ returns-clause-written g c score words status work complaint file type_word did 
           (subst (λ t. Configures t it.conf) (sym text_is) it.says) had.1.says in
           let under = under_same work.parts.old it.conf conf it.devices same it.under in
           ⊎_elim
-          (λ none. none_taken score disk outcome work fails did.cause setup it.g kind said.1.1 tells none)
+          (λ none. none_taken score disk outcome work fails did.cause setup it.g kind said.1.1 tells none.0)
           (λ x. subst (λ (bytes : List ℕ). TellsReplyOrMemory (answer score setup it.g (write kind bytes)).reply
           outcome work.sink) (sym (x.takes.all tells).0)
           (stored_well score disk file conf work fails (WritesBlock score disk x.now kind x.bytes)
@@ -111,8 +116,8 @@ returns-clause-written g c score words status work complaint file type_word did 
           it.parts it.disks refuses under it.log it.limits)
           outcome did.cause x.does))
           had.2)
-          does)
+          does.0)
           at.0 at.1 at.2) said.2,
-    ))) does)
+    ))) does.0)
     (λ idle. inr (inl idle.is))
-    (done disk link score words did.preface outcome work (Write file type_word) asks did.does)
+    (done disk link score outcome work words did.preface did.does (Write file type_word) asks)

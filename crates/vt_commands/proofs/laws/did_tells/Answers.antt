@@ -15,12 +15,12 @@ pub returns-clause-bad_words : goal.returns-clause-bad_words
 returns-clause-bad_words g c score words status work complaint did faulty = ⊎_elim
     (λ bad. inl (did.status_is ∙ ap status_of bad.is))
     (λ short. inr (did.status_is ∙ ap status_of short.is))
-    (refused g.P.Disk.Disk g.N.Link.Link score words did.preface did.outcome work faulty did.does)
+    (refused g.P.Disk.Disk g.N.Link.Link score did.outcome work words did.preface did.does faulty)
 
 pub returns-clause-idle : goal.returns-clause-idle
 returns-clause-idle g c score words status work complaint did faulty = ⊎_elim
     (λ bad. bad.idle) (λ short. short.idle)
-    (refused g.P.Disk.Disk g.N.Link.Link score words did.preface did.outcome work faulty did.does)
+    (refused g.P.Disk.Disk g.N.Link.Link score did.outcome work words did.preface did.does faulty)
 
 pub returns-clause-complained : goal.returns-clause-complained
 returns-clause-complained g c score words status work complaint did one = (
@@ -31,12 +31,12 @@ returns-clause-complained g c score words status work complaint did one = (
 
 pub returns-clause-command : goal.returns-clause-command
 returns-clause-command g c score words status work complaint did command asks =
-    (did.outcome, did.status_is, done g.P.Disk.Disk g.N.Link.Link score words did.preface did.outcome work command asks did.does)
+    (did.outcome, did.status_is, done g.P.Disk.Disk g.N.Link.Link score did.outcome work words did.preface did.does command asks)
 
 pub returns-clause-good_words : goal.returns-clause-good_words
 returns-clause-good_words g c score words status work complaint did command asks one =
-    never_bad g.P.Disk.Disk g.N.Link.Link score command did.outcome work
-    (done g.P.Disk.Disk g.N.Link.Link score words did.preface did.outcome work command asks did.does) (sym did.status_is ∙ one)
+    never_bad g.P.Disk.Disk g.N.Link.Link score did.outcome work words did.preface did.does command
+    asks (sym did.status_is ∙ one)
 
 pub returns-clause-disk_fault : goal.returns-clause-disk_fault
 returns-clause-disk_fault g c score words status work complaint did is =
@@ -53,6 +53,7 @@ returns-clause-write_fault g c score words status work complaint did is =
 pub returns-clause-complete : goal.returns-clause-complete
 returns-clause-complete g c score words status work complaint did is tells tells' well no_read no_write =
     well_status did.outcome status did.status_is
-    (session_well g.P.Disk.Disk g.N.Link.Link score did.outcome work (λ x. memory_well score did.outcome work x (both_tell _ _ tells tells') well no_read no_write)
-    (done g.P.Disk.Disk g.N.Link.Link score words did.preface did.outcome work (Session in_memory)
-    (subst (λ said. Asks said (Do (Session in_memory))) (sym is) (session_taken, session_spoken)) did.does))
+    (session_well g.P.Disk.Disk g.N.Link.Link score did.outcome work
+    (λ x. memory_well score did.outcome work.source work.sink x (both_tell _ _ tells tells') well no_read no_write)
+    (done g.P.Disk.Disk g.N.Link.Link score did.outcome work words did.preface did.does (Session in_memory)
+    (subst (λ said. Asks said (Do (Session in_memory))) (sym is) (session_taken, session_spoken))))

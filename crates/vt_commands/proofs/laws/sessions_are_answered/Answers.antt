@@ -6,6 +6,7 @@ use Rattle.vt_words.specs.declared.command.Command.TheVariants.{Session}
 use Rattle.run_base.specs.Failure.{HasCauseIn, Outcome}
 use Rattle.run_sessions.specs.SessionConf.{DoesSessionConf}
 use Rattle.run_base.specs.declared.failure.Failure.{Failure}
+use Rattle.vt_commands.specs.Work.{causes_of}
 use Rattle.vt_commands.proofs.Complete.{IsWell, served_well}
 use Rattle.vt_commands.proofs.CompleteConf.{none_opened_well, none_read, under_same}
 use Rattle.vt_commands.proofs.DidTells.{conf_well, done, well_status}
@@ -18,13 +19,13 @@ returns g c score words status work complaint file did asks other it well_ended 
     let link = g.N.Link.Link in
     let outcome = did.outcome in
     let cause_of = λ (failure : Failure) (is : outcome ≡ Err failure).
-    subst (λ (o : Outcome). HasCauseIn disk work o) is did.cause in
-    let well = λ (does : DoesSessionConf score disk file outcome work). ⊎_elim
-    (λ none. inr (none.1 ∙ ap Err (none_read file it.text it.conf none.0 work.files it.says
+    subst (λ (o : Outcome). HasCauseIn (causes_of disk work) o) is did.cause in
+    let well = λ (does : DoesSessionConf score disk file outcome work.source work.sink work.files work.parts). ⊎_elim
+    (λ none. inr (none.outcome_is ∙ ap Err (none_read file it.text it.conf none.failure work.files it.says
     (λ line why. c.configurations_have_one_meaning.ensures.accepted it.text it.conf line why it.says)
-    it.files it.content none.2
-    (λ fault. fails.files (subst (λ (f : Failure). HasCauseIn disk work (Err f)) fault
-    (cause_of none.0 none.1))))))
+    it.files it.content none.none
+    (λ fault. fails.files (subst (λ (f : Failure). HasCauseIn (causes_of disk work) (Err f)) fault
+    (cause_of none.failure none.outcome_is))))))
     (λ read.
     let conf = read.0 in
     let text_is : read.1.text ≡ it.text = (let is = sym (read.1.content it.files) ∙ it.content in cc) in
@@ -47,7 +48,8 @@ returns g c score words status work complaint file did asks other it well_ended 
     (work.source.tells && work.sink.tells) s.input s.output it.g s.serves it.disks recalls.sound
     (record {
       goes_on = x.opens.mounts.fresh.stops;
-      none_rose = λ rose. fails.disks (served_rises score disk file conf work outcome x rose);
+      none_rose = λ rose. fails.disks (served_rises score disk conf outcome work.source
+          work.sink work.parts x rose);
     }) in
     let session = s.serves.session it.g it.disks recalls.sound it.streams in
     subst IsWell (sym s.outcome_is) (served_well s.end s.input s.output session.turns work.source
@@ -56,5 +58,5 @@ returns g c score words status work complaint file did asks other it well_ended 
     read.2)
     does in
     well_status outcome status did.status_is
-    (conf_well disk link score file outcome work other well
-    (done disk link score words did.preface outcome work (Session file) asks did.does))
+    (conf_well disk link score outcome work file other well
+    (done disk link score outcome work words did.preface did.does (Session file) asks))

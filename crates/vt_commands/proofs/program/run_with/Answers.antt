@@ -1,34 +1,33 @@
 -- what was done, and then what goes to the fault sink
-use Rattle.std.proofs.Common.{subst}
-use Rattle.std.specs.Prelude.{OnErr, OnOk, ◌≡◌}
-use Rattle.run_base.specs.Change.{sink_change, Attempts}
+use Rattle.std.specs.Prelude.{map}
 use Rattle.run_base.specs.Failure.{line_of}
 use Rattle.run_base.proofs.SaidBefore.{said_before}
+use Rattle.vt_commands.specs.Work.{work_of}
+use Rattle.vt_commands.proofs.Only.{for_archives, words_caused}
 use Rattle.vt_commands.proofs.program.run_with.Goals as goal
 
 pub returns : goal.returns
 returns g c =
-    let again = g.met.H.Host.lent_again in
-    let sink = g.H.FaultSink.Sink in
+    let disk = g.P.Disk.Disk in
+    let link = g.N.Link.Link in
+    let score = g.S.Scorer.score_of in
+    let words = map g.W.AsStr.text c.args.words.now in
     let said = c.do_words-said.result.0 in
     let outcome = c.do_words-said.result.1 in
-    let mid = (g.H.Host.lent c.do_words-said.new.host).fault_sink in
-    let new = c.end.new.fault_sink in
-    let does = c.do_words-said.ensures.does in
-    let line = subst (λ s. OnOk said (Attempts (sink_change sink s new) (line_of outcome)))
-    c.fault_sink.ensures.fault_sink c.end.ensures.complained in
-    let same = subst (λ s. OnErr said (new ≡ s)) c.fault_sink.ensures.fault_sink
-    c.end.ensures.silent in
-    let complained = said_before sink (g.H.Host.lent c.args.host.now).fault_sink mid new does.0
-    (line_of outcome) said does.2 line same in
-    simp again (record {
+    let before = c.args.host.now in
+    let after = c.do_words-said.new.host in
+    let work = work_of g.R.Source g.K.Sink g.I.Files g.P.Parts g.G.Folders g.N.Dialer link before
+    after in
+    let does = c.do_words-said.ensures in
+    record {
       did = record {
         outcome = outcome;
         status_is = c.end.ensures.status;
-        cause = c.do_words-said.ensures.cause;
+        cause = words_caused disk outcome work link score words does.0 does.1;
         preface = does.0;
         does = does.1;
-        folders = c.do_words-said.ensures.folders;
-        complained = complained;
+        folders = for_archives disk outcome work link score words does.0 does.1;
+        complained = said_before g.F.Sink before.fault_sink after.fault_sink c.end.new.fault_sink
+            does.0 (line_of outcome) said does.2 c.end.ensures.complained c.end.ensures.silent;
       };
-    })
+    }

@@ -1,5 +1,5 @@
 -- the folder that was handed out, what was sent of it, and that it is back
-use Rattle.std.proofs.Common.{◌≡◌, inl, inr, refl, ◌∙◌, ap, subst, Ok, Err}
+use Rattle.std.proofs.Common.{◌≡◌, inl, inr, refl, subst, Ok, Err}
 use Rattle.std.specs.Prelude.{MatchBool}
 use Rattle.vt_base.specs.Faults.{HasRisen}
 use Rattle.vt_out.specs.Files.{is_fault}
@@ -10,86 +10,71 @@ use Rattle.run_archives.proofs.commands.vac_served.send_folder.Goals as goal
 
 pub returns-in-Err-Failed-clause-none : goal.returns-in-Err-Failed-clause-none
 returns-in-Err-Failed-clause-none g c =
-    let again = g.met.H.Host.lent_again in
-    let folders = g.H.Folders.Folders in
-    let first = c.folders.ensures.folders in
+    let folders = g.G.Folders in
     let x = c.in-Err-Failed.ensures in
-    let old = folders.faults (g.H.Host.lent c.args.host.now).folders in
-    let new = folders.faults c.folder.new.self in
-    simp again (inl (record {
-      none = subst (λ e. MatchBool (is_fault e) (HasRisen old new) (new ≡ old))
-          c.in-Err-Failed.field-0-is (rw first at x.cause);
-      same = λ t. same_everywhere (folders.standing (g.H.Host.lent c.args.host.now).folders)
-          (folders.standing c.folder.new.self) c.args.name.now ((rw first at x.stays) t)
-          ((rw first at x.others) t);
+    let old = c.args.folders.now in
+    let new = c.folder.new.self in
+    inl (record {
+      none = subst (λ e. MatchBool (is_fault e) (HasRisen (folders.faults old) (folders.faults new))
+          (folders.faults new ≡ folders.faults old)) c.in-Err-Failed.field-0-is x.cause;
+      same = λ t. same_everywhere (folders.standing old) (folders.standing new) c.args.name.now
+          (x.stays t) (x.others t);
       undialled = refl;
-    }))
+    })
 
 pub returns-in-Err-NoMemory-clause-none : goal.returns-in-Err-NoMemory-clause-none
 returns-in-Err-NoMemory-clause-none g c =
-    let again = g.met.H.Host.lent_again in
-    let folders = g.H.Folders.Folders in
-    let first = c.folders.ensures.folders in
+    let folders = g.G.Folders in
     let x = c.in-Err-NoMemory.ensures in
-    let old = folders.faults (g.H.Host.lent c.args.host.now).folders in
-    let new = folders.faults c.folder.new.self in
-    simp again (inl (record {
-      none = subst (λ e. MatchBool (is_fault e) (HasRisen old new) (new ≡ old))
-          c.in-Err-NoMemory.field-0-is (rw first at x.cause);
-      same = λ t. same_everywhere (folders.standing (g.H.Host.lent c.args.host.now).folders)
-          (folders.standing c.folder.new.self) c.args.name.now ((rw first at x.stays) t)
-          ((rw first at x.others) t);
+    let old = c.args.folders.now in
+    let new = c.folder.new.self in
+    inl (record {
+      none = subst (λ e. MatchBool (is_fault e) (HasRisen (folders.faults old) (folders.faults new))
+          (folders.faults new ≡ folders.faults old)) c.in-Err-NoMemory.field-0-is x.cause;
+      same = λ t. same_everywhere (folders.standing old) (folders.standing new) c.args.name.now
+          (x.stays t) (x.others t);
       undialled = refl;
-    }))
+    })
 
 pub returns-in-Ok-sent-clause-sent : goal.returns-in-Ok-sent-clause-sent
 returns-in-Ok-sent-clause-sent g c =
-    let again = g.met.H.Host.lent_again in
-    let folders = g.H.Folders.Folders in
-    let folder = g.H.Folders.Folder.Folder in
-    let before = g.H.Host.lent c.args.host.now in
+    let folders = g.G.Folders in
+    let folder = g.G.Folder.Folder in
+    let old = c.args.folders.now in
     let away = c.in-Ok.ensures in
     let x = c.send_watched-sent.ensures in
-    let first = c.folders.ensures.folders in
-    let second = c.folders-2.ensures.folders ∙ (simp again at (ap (λ lent. lent.folders) x.rest)) in
-    simp again (sends_folder g.H.Dialer.Link.Link g.S.Scorer.score_of c.args.address.now
-    c.args.name.now c.args.bsize (dialer_change g.H.Dialer.Dialer g.H.Dialer.Link.Link
-    before.dialer (g.H.Host.lent c.send_watched-sent.new.host).dialer) folder.tells folders.tells
-    (folder.holds c.in-Ok.folder) (folder.holds c.send_watched-sent.result.1)
-    (folders.standing before.folders) (folders.standing c.folder.new.self)
-    (folders.standing c.done.new.self) c.send_watched-sent.result.0 (Ok c.in-Ok-sent.sent)
-    c.in-Ok-sent.is (folders.faults before.folders) (folders.faults c.folder.new.self)
-    (folders.faults c.done.new.self) (folder.faults c.in-Ok.folder)
-    (folder.faults c.send_watched-sent.result.1) (rw first at away.found) away.lent
-    (rw first at away.others) (rw second at c.done.ensures.back)
-    (rw second at c.done.ensures.others) x.stays (simp again at x.asks) away.fresh x.cause
-    (rw first at away.cause) (rw second at c.done.ensures.faults)
-    (g.met.H.Folders.Folders.faults_fit c.folder.new.self))
+    let done = c.done.ensures in
+    sends_folder g.N.Link.Link g.S.Scorer.score_of c.args.address.now c.args.name.now c.args.bsize
+    (dialer_change g.N.Dialer g.N.Link.Link c.args.dialer.now c.send_watched-sent.new.dialer)
+    folder.tells folders.tells (folder.holds c.in-Ok.folder)
+    (folder.holds c.send_watched-sent.result.1) (folders.standing old)
+    (folders.standing c.folder.new.self) (folders.standing c.done.new.self)
+    c.send_watched-sent.result.0 (Ok c.in-Ok-sent.sent) c.in-Ok-sent.is
+    (folders.faults old) (folders.faults c.folder.new.self) (folders.faults c.done.new.self)
+    (folder.faults c.in-Ok.folder) (folder.faults c.send_watched-sent.result.1) away.found
+    away.lent away.others done.back done.others x.stays x.asks away.fresh x.cause away.cause
+    done.faults (g.met.G.Folders.faults_fit c.folder.new.self)
 
 pub returns-in-Err-clause-none : goal.returns-in-Err-clause-none
 returns-in-Err-clause-none g c =
-    let again = g.met.H.Host.lent_again in
-    let folders = g.H.Folders.Folders in
-    let folder = g.H.Folders.Folder.Folder in
-    let before = g.H.Host.lent c.args.host.now in
+    let folders = g.G.Folders in
+    let folder = g.G.Folder.Folder in
+    let old = c.args.folders.now in
     let away = c.in-Ok.ensures in
     let x = c.send_watched-sent.ensures in
-    let first = c.folders.ensures.folders in
-    let second = c.folders-2.ensures.folders ∙ (simp again at (ap (λ lent. lent.folders) x.rest)) in
-    simp again (inr (
+    let done = c.done.ensures in
+    inr (
       c.in-Err.bad,
-      sends_folder g.H.Dialer.Link.Link g.S.Scorer.score_of c.args.address.now
-          c.args.name.now c.args.bsize (dialer_change g.H.Dialer.Dialer g.H.Dialer.Link.Link
-          before.dialer (g.H.Host.lent c.send_watched-sent.new.host).dialer) folder.tells
-          folders.tells (folder.holds c.in-Ok.folder) (folder.holds c.send_watched-sent.result.1)
-          (folders.standing before.folders) (folders.standing c.folder.new.self)
+      sends_folder g.N.Link.Link g.S.Scorer.score_of c.args.address.now c.args.name.now
+          c.args.bsize (dialer_change g.N.Dialer g.N.Link.Link c.args.dialer.now
+          c.send_watched-sent.new.dialer) folder.tells folders.tells
+          (folder.holds c.in-Ok.folder) (folder.holds c.send_watched-sent.result.1)
+          (folders.standing old) (folders.standing c.folder.new.self)
           (folders.standing c.done.new.self) c.send_watched-sent.result.0 (Err c.in-Err.bad)
-          c.in-Err.is (folders.faults before.folders) (folders.faults c.folder.new.self)
+          c.in-Err.is (folders.faults old) (folders.faults c.folder.new.self)
           (folders.faults c.done.new.self) (folder.faults c.in-Ok.folder)
-          (folder.faults c.send_watched-sent.result.1) (rw first at away.found) away.lent
-          (rw first at away.others) (rw second at c.done.ensures.back)
-          (rw second at c.done.ensures.others) x.stays (simp again at x.asks) away.fresh x.cause
-          (rw first at away.cause) (rw second at c.done.ensures.faults)
-          (g.met.H.Folders.Folders.faults_fit c.folder.new.self),
+          (folder.faults c.send_watched-sent.result.1) away.found away.lent away.others done.back
+          done.others x.stays x.asks away.fresh x.cause away.cause done.faults
+          (g.met.G.Folders.faults_fit c.folder.new.self),
       c.refusal_for.ensures,
-    ))
+    )

@@ -1,17 +1,16 @@
 -- the store that was made is sound for the empty history, and no call of its disks fails
-use Rattle.std.proofs.Common.{[], refl, ap, ◌∙◌}
+use Rattle.std.proofs.Common.{[], refl, ap}
 use Rattle.vt_answer.specs.Links.{since}
 use Rattle.run_base.proofs.InMemory.{never_fails}
 use Rattle.run_sessions.proofs.MemorySessions.{serves_none, session_in}
 use Rattle.run_sessions.proofs.commands.session.serve_memory.Goals as goal
 
 pub returns-in_default-clause-serves : goal.returns-in_default-clause-serves
-returns-in_default-clause-serves g c = serves_none g.S.Scorer.score_of _ _
-    (g.met.H.Source.Source.left_bytes _) refl refl refl refl
+returns-in_default-clause-serves g c =
+    serves_none g.S.Scorer.score_of _ _ (g.met.R.Source.left_bytes _) refl refl refl refl
 
 pub returns-clause-serves : goal.returns-clause-serves
 returns-clause-serves g c =
-    let again = g.met.H.Host.lent_again in
     let score = g.S.Scorer.score_of in
     let core = c.in-Ok.core in
     let fresh = c.in-Ok.ensures in
@@ -20,15 +19,15 @@ returns-clause-serves g c =
     let serve = c.serve_store.ensures in
     let client = c.serve_store.new.client in
     let never = c.memory_never_fails.ensures in
-    let input = since (g.H.Source.Source.given c.streams.result.now.source)
-    (g.H.Source.Source.given client.source) in
-    let output = since (g.H.Sink.Sink.written c.streams.result.now.sink)
-    (g.H.Sink.Sink.written client.sink) in
-    simp again (rw (← c.streams.ensures.source, ← c.streams.ensures.sink) (record {
+    let input = since (g.R.Source.given c.args.streams.now.source)
+    (g.R.Source.given client.source) in
+    let output = since (g.K.Sink.written c.args.streams.now.sink)
+    (g.K.Sink.written client.sink) in
+    record {
       input = input;
       output = output;
       passes = λ tells. record {
-        bytes = g.met.H.Source.Source.left_bytes _;
+        bytes = g.met.R.Source.left_bytes _;
         took = serve.took tells;
         taken = serve.taken tells;
         written = serve.written tells;
@@ -40,18 +39,9 @@ returns-clause-serves g c =
           serve.serves refl fresh.sound (never_fails _ never score core ended fresh);
       read = serve.reads;
       write = serve.writes;
-    }))
+    }
 
 pub returns-clause-idle : goal.returns-clause-idle
 returns-clause-idle g c none =
-    let again = g.met.H.Host.lent_again in
     let same = c.serve_store.ensures.memory none in
-    simp again (record {
-      rest = record {
-        unread = ap (λ s. s.source) same ∙ c.streams.ensures.source;
-        unwritten = ap (λ s. s.sink) same ∙ c.streams.ensures.sink;
-        unused = refl;
-        undialled = refl;
-      };
-      unopened = refl;
-    })
+    record { unread = ap (λ s. s.source) same; unwritten = ap (λ s. s.sink) same }

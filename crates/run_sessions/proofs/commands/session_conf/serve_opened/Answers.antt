@@ -1,6 +1,5 @@
--- a session is a run of events, which keeps how many devices there are; what was served over the
--- streams is told of the host's own
-use Rattle.std.proofs.Common.{◌∙◌, ap, refl}
+-- a session is a run of events, which keeps how many devices there are
+use Rattle.std.proofs.Common.{◌∙◌}
 use Rattle.vt_answer.specs.Links.{since}
 use Rattle.run_sessions.proofs.commands.session_conf.serve_opened.Goals as goal
 
@@ -19,7 +18,6 @@ close_store-requires g c =
 
 pub returns-clause-serves : goal.returns-clause-serves
 returns-clause-serves g c =
-    let again = g.met.H.Host.lent_again in
     let score = g.S.Scorer.score_of in
     let core = c.serve_store-core.result.1 in
     let serve = c.serve_store-core.ensures in
@@ -27,19 +25,17 @@ returns-clause-serves g c =
     let run = c.sessions_are_runs.ensures.run score c.serve_store-core.result.0 c.args.now c.args.core
     core _ _ _ serve.serves in
     let kept = c.shapes_are_kept.ensures.run score run.0 run.1 c.args.core core run.2 in
-    let parts_is = simp again at c.parts.ensures.parts in
-    let given = rw parts_is at c.close_store.ensures.given in
-    simp again (rw (← c.streams.ensures.source, ← c.streams.ensures.sink) (record {
+    record {
       now = c.args.now;
       ended = core;
       end = c.serve_store-core.result.0;
-      input = since (g.H.Source.Source.given c.streams.result.now.source)
-          (g.H.Source.Source.given client.source);
-      output = since (g.H.Sink.Sink.written c.streams.result.now.sink)
-          (g.H.Sink.Sink.written client.sink);
+      input = since (g.R.Source.given c.args.streams.now.source)
+          (g.R.Source.given client.source);
+      output = since (g.K.Sink.written c.args.streams.now.sink)
+          (g.K.Sink.written client.sink);
       serves = serve.serves;
       passes = λ tells. record {
-        bytes = g.met.H.Source.Source.left_bytes _;
+        bytes = g.met.R.Source.left_bytes _;
         took = serve.took tells;
         taken = serve.taken tells;
         written = serve.written tells;
@@ -51,24 +47,6 @@ returns-clause-serves g c =
         sections = kept.sections ∙ c.requires.shape.sections;
         filter = kept.filter ∙ c.requires.shape.filter;
       };
-      given = given;
+      given = c.close_store.ensures.given;
       outcome_is = c.outcome_of.ensures;
-    }))
-
-pub returns-clause-faults : goal.returns-clause-faults
-returns-clause-faults g c =
-    let again = g.met.H.Host.lent_again in
-    let parts_is = simp again at c.parts.ensures.parts in
-    simp again (c.close_store.ensures.faults ∙ ap g.H.Parts.Parts.faults parts_is)
-
-pub returns-clause-files : goal.returns-clause-files
-returns-clause-files g c = let again = g.met.H.Host.lent_again in simp again refl
-
-pub returns-clause-dialer : goal.returns-clause-dialer
-returns-clause-dialer g c = let again = g.met.H.Host.lent_again in simp again refl
-
-pub returns-clause-fault_sink : goal.returns-clause-fault_sink
-returns-clause-fault_sink g c = let again = g.met.H.Host.lent_again in simp again refl
-
-pub returns-clause-folders : goal.returns-clause-folders
-returns-clause-folders g c = let again = g.met.H.Host.lent_again in simp again refl
+    }

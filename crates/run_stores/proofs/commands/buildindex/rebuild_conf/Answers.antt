@@ -1,59 +1,32 @@
--- what became of the partitions is told of the host's own
-use Rattle.std.proofs.Common.{refl, Ok, Err, subst}
-use Rattle.std.specs.Prelude.{IsTrue}
+-- what became of the index is told
+use Rattle.std.proofs.Common.{refl, Ok, Err}
 use Rattle.vt_upkeep.specs.declared.bad.UpkeepBad.TheVariants.{Unopened, Ended}
-use Rattle.vt_upkeep.specs.Opened.{RefusesOpening}
-use Rattle.vt_upkeep.specs.Rebuilding.{Rebuilds}
-use Rattle.vt_upkeep.specs.Stores.{UsesStore}
 use Rattle.run_stores.proofs.commands.buildindex.rebuild_conf.Goals as goal
 
-pub returns-in-Ok-clause-rebuilds : goal.returns-in-Ok-clause-rebuilds
-returns-in-Ok-clause-rebuilds g c =
-    let again = g.met.H.Host.lent_again in
-    let disk = g.H.Parts.Disk.Disk in
-    let parts = g.H.Parts.Parts in
-    let new = c.rebuild_store.new.parts in
-    let sink_is = simp again at c.sink.ensures.sink in
-    simp again (record {
-      result = Ok c.in-Ok.blocks;
-      uses = subst (λ p. UsesStore disk (IsTrue parts.tells) c.args.conf.now (RefusesOpening disk)
-          (Rebuilds g.S.Scorer.score_of disk) (parts.standing p) (parts.standing new)
-          (parts.faults p) (parts.faults new) (Ok c.in-Ok.blocks))
-          c.parts.ensures.parts c.in-Ok.ensures.uses;
-      differs = c.in-Ok.ensures.differs;
-      told = rw sink_is at c.print_blocks.ensures;
-    })
+pub returns-in-Ok : goal.returns-in-Ok
+returns-in-Ok g c = record {
+  result = Ok c.in-Ok.blocks;
+  uses = c.in-Ok.ensures.uses;
+  differs = c.in-Ok.ensures.differs;
+  told = c.print_blocks.ensures;
+}
 
-pub returns-in-Err-Unopened-clause-rebuilds : goal.returns-in-Err-Unopened-clause-rebuilds
-returns-in-Err-Unopened-clause-rebuilds g c =
-    let again = g.met.H.Host.lent_again in
-    let disk = g.H.Parts.Disk.Disk in
-    let parts = g.H.Parts.Parts in
-    let new = c.rebuild_store.new.parts in
+pub returns-in-Err-Unopened : goal.returns-in-Err-Unopened
+returns-in-Err-Unopened g c =
     let ensures = rw c.in-Err-Unopened.field-0-is at c.in-Err-Unopened.ensures in
-    simp again (record {
+    record {
       result = Err (Unopened c.in-Err-Unopened.bad);
-      uses = subst (λ p. UsesStore disk (IsTrue parts.tells) c.args.conf.now (RefusesOpening disk)
-          (Rebuilds g.S.Scorer.score_of disk) (parts.standing p) (parts.standing new)
-          (parts.faults p) (parts.faults new) (Err (Unopened c.in-Err-Unopened.bad)))
-          c.parts.ensures.parts ensures.uses;
+      uses = ensures.uses;
       differs = ensures.differs;
       told = ((c.told_on.result, refl, c.told_on.ensures), refl);
-    })
+    }
 
-pub returns-in-Err-Ended-clause-rebuilds : goal.returns-in-Err-Ended-clause-rebuilds
-returns-in-Err-Ended-clause-rebuilds g c =
-    let again = g.met.H.Host.lent_again in
-    let disk = g.H.Parts.Disk.Disk in
-    let parts = g.H.Parts.Parts in
-    let new = c.rebuild_store.new.parts in
+pub returns-in-Err-Ended : goal.returns-in-Err-Ended
+returns-in-Err-Ended g c =
     let ensures = rw c.in-Err-Ended.field-0-is at c.in-Err-Ended.ensures in
-    simp again (record {
+    record {
       result = Err (Ended c.in-Err-Ended.bad);
-      uses = subst (λ p. UsesStore disk (IsTrue parts.tells) c.args.conf.now (RefusesOpening disk)
-          (Rebuilds g.S.Scorer.score_of disk) (parts.standing p) (parts.standing new)
-          (parts.faults p) (parts.faults new) (Err (Ended c.in-Err-Ended.bad)))
-          c.parts.ensures.parts ensures.uses;
+      uses = ensures.uses;
       differs = ensures.differs;
       told = ((c.failure_of.result, refl, c.failure_of.ensures), refl);
-    })
+    }
