@@ -1,6 +1,6 @@
 //! The store in memory, which a run makes for itself.
 
-ghost use Rattle.std.specs.Prelude.{◌≡◌, ℕ, List, IfErr, IfOk};
+ghost use Rattle.std.specs.Prelude.{◌≡◌, ◌≤◌, ℕ, List, IfErr, IfOk, length};
 ghost use Rattle.vt_base.specs.Protocol.{read, write, r_read, r_write};
 ghost use Rattle.vt_base.specs.declared.TheConstants.{MAX_BLOCK};
 ghost use Rattle.vt_base.specs.declared.score.Score.{Score};
@@ -47,9 +47,9 @@ pub fn memory_store<S: Scorer + Drop>(
 }
 
 /// Asks the store in memory for the block of a type and a score: it has that of no bytes alone.
-pub fn read_made<S: Scorer + Drop>(
+pub fn read_made<S: Scorer>(
     alloc: Global,
-    scorer: S,
+    scorer: &S,
     kind: Kind,
     score: &Score,
 ) -> Result<Bytes, Why>
@@ -63,18 +63,19 @@ pub fn read_made<S: Scorer + Drop>(
     let Ok(core) = memory_store(alloc, scorer) else {
         return Err(Why::NoMemory);
     };
-    let (block, _) = read_block(alloc, core, kind, score);
+    let (block, _) = read_block(alloc, core, scorer, kind, score);
     block
 }
 
-/// Hands a block to the store in memory, at this time, and gives its score.
-pub fn write_made<S: Scorer + Drop>(
+/// Hands a block of at most 57,344 bytes to the store in memory, at this time, and gives its score.
+pub fn write_made<S: Scorer>(
     alloc: Global,
-    scorer: S,
+    scorer: &S,
     now: u32,
     kind: Kind,
     bytes: &[u8],
 ) -> Result<Score, Why>
+    requires most { length bytes.now ≤ MAX_BLOCK }
     ensures answers { AnswersInMemory S.score_of (write kind bytes.now)
         (answered (λ (given : Score). r_write given.0) result) }
     ensures scored { IfOk result (λ given. given.0 ≡ S.score_of bytes.now) }
@@ -86,6 +87,6 @@ pub fn write_made<S: Scorer + Drop>(
     let Ok(core) = memory_store(alloc, scorer) else {
         return Err(Why::NoMemory);
     };
-    let (score, _) = write_block(alloc, core, now, kind, bytes);
+    let (score, _) = write_block(alloc, core, scorer, now, kind, bytes);
     score
 }

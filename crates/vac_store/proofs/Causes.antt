@@ -14,11 +14,12 @@ use Rattle.vt_tree.specs.Calls.{Call, get, put, sync, refusal_of}
 use Rattle.vt_tree.specs.Making.{Makes, EndsBy}
 use Rattle.vt_local.specs.Members.{StoreOf}
 use Rattle.vt_answer.specs.Serving.{failure_of, tells_failure}
-use Rattle.vt_answer.specs.Taking.{DoesSome, first_told}
+use Rattle.vt_answer.specs.Taking.{first_told}
 use Rattle.vt_core.specs.Core.{CoreState, history_len, stops_of}
-use Rattle.vt_alone.specs.Sessions.{FailsFor, MakesRun, at_time, store_on}
-use Rattle.vt_alone.proofs.Causes.{by_failure, if_closed, if_failure}
-use Rattle.vt_alone.proofs.Tells.{run_tells}
+use Rattle.vt_use.specs.Causes.{FailsFor}
+use Rattle.vt_use.specs.LocalJobs.{exchanges_of, new_local}
+use Rattle.vt_use.specs.Stores.{at_time, store_on}
+use Rattle.vt_use.proofs.Uses.{end_cause, first_cause}
 use Rattle.vt_local.specs.Local.{DoesLocal, HoldsLocal, LocalState, StandsFor, refused_after}
 use Rattle.vac_write.specs.declared.archived.Archived.{Archived}
 use Rattle.vac_write.specs.declared.err.VacErr.{VacErr}
@@ -26,10 +27,9 @@ use Rattle.vac_write.specs.declared.err.VacErr.TheVariants.{FolderFault, Tree, B
 use Rattle.vac_write.specs.Archiving.{GivesUpArchive}
 use Rattle.vac_store.specs.declared.outcome.ArchiveBad.{ArchiveBad}
 use Rattle.vac_store.specs.declared.outcome.StoredArchive.{StoredArchive}
-use Rattle.vac_store.specs.Storing.{ArchivesInto, FailsAs, begun, came_to, told}
-use Rattle.vac_store.proofs.Asked.{asked_so}
+use Rattle.vac_store.specs.Storing.{ArchivesInto, FailsAs, came_to, told}
+use Rattle.vac_store.proofs.Asks.{asked, asks, asks_of}
 use Rattle.vac_store.proofs.Last.{ends_so, not_ended}
-use Rattle.vac_store.proofs.Stays.{asks_run}
 
 -- ---- what failed is what was refused last
 
@@ -74,19 +74,18 @@ module _ {S : Type 0} (T : StoreOf S) where
   pub last_failed : (err : BlockErr) (why : Why) → tells_failure why ≡ Bool.true
       → (calls : List Call) (l l' : LocalState S) → (made : Makes (DoesLocal T) l calls l')
       → EndsBy (Some err) calls → l'.refused ≡ Some why
-      → first_told (asked_so T l l' calls made).0 ≡ Some why
-  unfolding asked_so
+      → first_told (exchanges_of T calls l l' made) ≡ Some why
   last_failed err why fails [] l l' made ends is =
       absurd (not_ended ends.before ends.last ends.are)
   last_failed err why fails (call ∷ calls) l l' made ends is = elim (ends_so (Some err) call calls
       ends) [
         | inl more ↦
-            ap (λ (o : Option Why). option_or o (first_told (asked_so T made.0 l' calls made.2).0))
+            ap (λ (o : Option Why). option_or o (first_told (exchanges_of T calls made.0 l' made.2)))
             (none_failed l made.0 call made.1 more.0)
             ∙ last_failed err why fails calls made.0 l' made.2 more.1 is
         | inr end ↦
             let stays = subst (λ (cs : List Call). Makes (DoesLocal T) made.0 cs l') end.0 made.2 in
-            ap (λ (o : Option Why). option_or o (first_told (asked_so T made.0 l' calls made.2).0))
+            ap (λ (o : Option Why). option_or o (first_told (exchanges_of T calls made.0 l' made.2)))
             (one_failed l made.0 call err why made.1 end.1
             (ap (λ (x : LocalState S). x.refused) (sym stays) ∙ is) fails)
       ]
@@ -96,31 +95,22 @@ module _ {D : Type 0} (score : List ℕ → List ℕ) (disk : DiskOf D)
     (none : All (λ stop. stop ≡ None) (stops_of old)) (now bsize : ℕ)
     (is_seen : Items Facts → Type 0) (result : Result StoredArchive ArchiveBad) (new : CoreState D)
     (it : ArchivesInto score disk now bsize is_seen result old new) where
-  end_run : MakesRun score disk it.kept.store.core new
-  end_run = (it.ends.parts.events, it.ends.parts.outs, it.ends.parts.runs)
-
   refused_fails : (err : BlockErr) (why : Why)
       → GivesUpArchive (DoesLocal (store_on score disk)) (HoldsLocal (store_on score disk) score)
-      score (begun now old) it.kept bsize is_seen (Tree (trees.Block err))
+      score (new_local (at_time now old)) it.kept bsize is_seen (Tree (trees.Block err))
       → it.kept.refused ≡ Some why → tells_failure why ≡ Bool.true → FailsFor disk why old new
   refused_fails err why gave is fails =
-      let asks = asked_so (store_on score disk) (begun now old) it.kept gave.calls gave.made in
-      let some : DoesSome (store_on score disk) (at_time now old) it.kept.store None
-      (first_told asks.0) =
-      record { calls = asks.0; does = asks.1; failure_is = refl } in
-      let is_told = last_failed (store_on score disk) err why fails gave.calls (begun now old)
+      let asked = exchanges_of (store_on score disk) gave.calls (new_local (at_time now old)) it.kept gave.made in
+      let is_told = last_failed (store_on score disk) err why fails gave.calls (new_local (at_time now old))
       it.kept gave.made gave.refused is in
-      if_failure score disk fits old none (Some why) it.kept.store.core new
-      (run_tells disk fits score it.kept.store.core new end_run)
-      (subst (λ (o : Option Why). IfSome o (λ w. FailsFor disk w old it.kept.store.core)) is_told
-      (by_failure score disk fits old none (first_told asks.0) (at_time now old) it.kept.store refl
-      some))
+      subst (λ (o : Option Why). IfSome o (λ w. FailsFor disk w old new)) is_told
+      (first_cause score disk now Bool.true asked it.closed old it.kept.store.core new
+      (asks_of score disk now bsize is_seen result old new it gave.calls gave.made) fits none)
 
   closed_fails : IfErr it.closed (λ why. FailsFor disk why old new)
-  closed_fails = if_closed score disk fits old none it.closed it.kept.store.core new
-      (run_tells disk fits score old it.kept.store.core
-      (asks_run score disk now bsize is_seen result old new it))
-      (run_tells disk fits score it.kept.store.core new end_run) it.ends.cause
+  closed_fails = end_cause score disk now Bool.true
+      (asked score disk now bsize is_seen result old new it) it.closed old
+      it.kept.store.core new (asks score disk now bsize is_seen result old new it) fits none
 
   pub archive_fails : IfErr result (λ bad. FailsAs disk bad old new)
   archive_fails = subst (λ (r : Result StoredArchive ArchiveBad).
@@ -129,7 +119,7 @@ module _ {D : Type 0} (score : List ℕ → List ℕ) (disk : DiskOf D)
     where
       given : (err : VacErr) (refused : Option Why)
           → GivesUpArchive (DoesLocal (store_on score disk))
-          (HoldsLocal (store_on score disk) score) score (begun now old) it.kept bsize is_seen err
+          (HoldsLocal (store_on score disk) score) score (new_local (at_time now old)) it.kept bsize is_seen err
           → it.kept.refused ≡ refused → FailsAs disk (told err refused) old new
       given FolderFault refused gave is = tt
       given (Tree (trees.Block err)) None gave is = tt
@@ -146,7 +136,7 @@ module _ {D : Type 0} (score : List ℕ → List ℕ) (disk : DiskOf D)
 
       of : (answer : Result Archived VacErr) (added : ℕ)
           → IfErr answer (GivesUpArchive (DoesLocal (store_on score disk))
-          (HoldsLocal (store_on score disk) score) score (begun now old) it.kept bsize is_seen)
+          (HoldsLocal (store_on score disk) score) score (new_local (at_time now old)) it.kept bsize is_seen)
           → (closed : Result (Unit {0}) Why) → IfErr closed (λ why. FailsFor disk why old new)
           → IfErr (came_to answer it.kept.refused added closed) (λ bad. FailsAs disk bad old new)
       of (Ok a) added gave (Ok done) fails = tt

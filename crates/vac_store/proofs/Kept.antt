@@ -1,6 +1,6 @@
 -- A folder that was archived stands in the store.
 use Rattle.std.proofs.Common.{◌≡◌, ℕ, Option, Some, None, Result, Ok, Err, IsTrue, List, [], ◌++◌, length, map, take, refl, sym, ◌∙◌, ap, subst, arith, append-nil}
-use Rattle.std.specs.Prelude.{◌+◌, ◌-◌, Bool, IfErr, IfOk, IfSome}
+use Rattle.std.specs.Prelude.{◌+◌, ◌-◌, Bool, true, IfErr, IfOk, IfSome}
 use Rattle.vt_base.specs.Protocol.{Operation}
 use Rattle.vt_base.specs.declared.why.Why.{Why}
 use Rattle.vt_base.specs.declared.why.Why.TheVariants as whys
@@ -9,7 +9,6 @@ use Rattle.vt_folder.specs.declared.item.Facts.{Facts}
 use Rattle.vt_folder.specs.Items.{Items}
 use Rattle.vt_model.specs.History.{Block, History, held}
 use Rattle.vt_model.specs.Places.{Setup}
-use Rattle.vt_part.specs.Table.{Table}
 use Rattle.vt_tree.specs.declared.err.TreeErr.TheVariants as trees
 use Rattle.vt_answer.specs.Serving.{tells_failure}
 use Rattle.vt_tree.specs.declared.err.BlockErr.{BlockErr}
@@ -22,7 +21,9 @@ use Rattle.vt_core.specs.Sound.{IsSound}
 use Rattle.vt_drive.specs.Answers.{KeepsAll}
 use Rattle.vt_drive.specs.Driven.{DrivenState}
 use Rattle.vt_drive.specs.Ending.{EndsFor}
-use Rattle.vt_alone.specs.Sessions.{store_on}
+use Rattle.vt_use.specs.LocalJobs.{new_local}
+use Rattle.vt_use.specs.Stores.{at_time, store_on}
+use Rattle.vt_use.specs.Uses.{LeftByUse}
 use Rattle.vt_local.specs.Local.{DoesLocal, HoldsLocal, LocalState}
 use Rattle.vac_model.specs.Archives.{archive_of}
 use Rattle.vac_model.specs.Kept.{archived}
@@ -34,8 +35,7 @@ use Rattle.vac_write.specs.Archiving.{KeepsArchive, WritesArchive, GivesUpArchiv
 use Rattle.vac_model.specs.Limits.{first_unfit}
 use Rattle.vac_store.specs.declared.outcome.ArchiveBad.{ArchiveBad}
 use Rattle.vac_store.specs.declared.outcome.StoredArchive.{StoredArchive}
-use Rattle.vac_store.specs.Storing.{ArchivesInto, IsBecause, IsRefusedFor, KeepsFolder, StandsIn, all_written, begun, came_to, told}
-use Rattle.vac_store.proofs.Stays.{archive_keeps}
+use Rattle.vac_store.specs.Storing.{ArchivesInto, IsBecause, IsRefusedFor, KeepsFolder, StandsIn, all_written, came_to, told}
 use Rattle.vac_store.proofs.Written.{Holds, IsLastRefusal, puts_so}
 
 -- ---- why there is no archive
@@ -81,10 +81,6 @@ all_put put rest blocks are none =
     sym (append-nil put) ∙ ap (λ (l : List Block). put ++ l) (sym none) ∙ are
 
 module _ {D : Type 0} (score : List ℕ → List ℕ) (disk : DiskOf D)
-    (prefix : (k : CoreState D) (h : History) → IsSound score disk k h
-    → EachStands score disk (setup_of k) k.log.tables k.log.durable (devices_of k) h)
-    (all : (k : CoreState D) (h : History) → IsSound score disk k h → k.log.durable ≡ length h
-    → AllStandFor score disk (setup_of k) k.log.tables (devices_of k) h (length h))
     (now bsize : ℕ) (is_seen : Items Facts → Type 0) (h : History) (old new : CoreState D)
     (tells : IsTrue disk.tells) (sound : IsSound score disk old h) where
   abbrev Does : LocalState (DrivenState D) → Call → LocalState (DrivenState D) → Type 0
@@ -97,7 +93,7 @@ module _ {D : Type 0} (score : List ℕ → List ℕ) (disk : DiskOf D)
   before : Maps
   before = record { held = held score h; synced = held score (take old.log.durable h) }
 
-  holds_before : Has (begun now old) before
+  holds_before : Has (new_local (at_time now old)) before
   unfolding before
   holds_before = record {
     scores = λ bytes. refl;
@@ -112,25 +108,17 @@ module _ {D : Type 0} (score : List ℕ → List ℕ) (disk : DiskOf D)
   }
 
   module _ (result : Result StoredArchive ArchiveBad)
-      (it : ArchivesInto score disk now bsize is_seen result old new) where
-    keeps : KeepsAll disk old new
-    keeps = archive_keeps score disk now bsize is_seen result old new it
-
+      (it : ArchivesInto score disk now bsize is_seen result old new)
+      (leave : (last : History) → IsSound score disk it.kept.store.core last
+      → LeftByUse score disk true it.closed last old it.kept.store.core new) where
     module _ (seen : Items Facts) (none_left : Type 0) (err : Option BlockErr)
         (so : Holds score disk tells (archive_of score bsize seen).blocks none_left err h
-        (begun now old) it.kept) where
+        (new_local (at_time now old)) it.kept) where
       abbrev last : History
       last = all_written score (setup_of old) h so.put
 
-      left : IsSound score disk new last
-      left = it.ends.sound last tells so.sound
-
-      stands : EachStands score disk (setup_of old) old.log.tables new.log.durable
-          (devices_of new) last
-      stands = subst (λ (t : List Table). EachStands score disk (setup_of old) t new.log.durable
-          (devices_of new) last) keeps.store.tables
-          (subst (λ (c : Setup). EachStands score disk c new.log.tables new.log.durable
-          (devices_of new) last) keeps.store.setup (prefix new last left))
+      leaves : LeftByUse score disk true it.closed last old it.kept.store.core new
+      leaves = leave last so.sound
 
       abbrev Stored : StoredArchive → Type 0
       Stored s = (so.rest ≡ []) × StandsIn score bsize seen last s.archived
@@ -138,17 +126,9 @@ module _ {D : Type 0} (score : List ℕ → List ℕ) (disk : DiskOf D)
           × AllStandFor score disk (setup_of old) old.log.tables (devices_of new) last
           (length last)
 
-      all_stand : it.closed ≡ Ok tt
-          → AllStandFor score disk (setup_of old) old.log.tables (devices_of new) last (length last)
-      all_stand well = subst (λ (t : List Table). AllStandFor score disk (setup_of old) t
-          (devices_of new) last (length last)) keeps.store.tables
-          (subst (λ (c : Setup). AllStandFor score disk c new.log.tables (devices_of new) last
-          (length last)) keeps.store.setup
-          (all new last left (it.ends.whole last tells so.sound well).durable))
-
       -- how many blocks are new
       grown : length last ≡ length h + (history_len new - history_len old)
-      grown = omega (arith, sound.log.front, left.log.front, keeps.store.len)
+      grown = omega (arith, sound.log.front, leaves.sound.log.front, leaves.keeps.store.len)
 
       keeps_so : (is : is_seen seen)
           → IfErr result (IsBecause score (setup_of old) last so.rest seen)
@@ -162,21 +142,21 @@ module _ {D : Type 0} (score : List ℕ → List ℕ) (disk : DiskOf D)
         blocks = so.are;
         last = last;
         last_is = refl;
-        sound = left;
-        keeps = keeps;
-        stands = stands;
+        sound = leaves.sound;
+        keeps = leaves.keeps;
+        stands = leaves.stands;
         because = because;
         done = done;
       }
 
     -- it was archived
     module _ (a : Archived)
-        (w : WritesArchive Does Has score (begun now old) it.kept bsize is_seen a) where
+        (w : WritesArchive Does Has score (new_local (at_time now old)) it.kept bsize is_seen a) where
       abbrev blocks : List Block
       blocks = (archive_of score bsize w.seen).blocks
 
-      so : Holds score disk tells blocks all_asked None h (begun now old) it.kept
-      so = puts_so score disk tells None [] blocks w.calls h (begun now old) it.kept sound w.made
+      so : Holds score disk tells blocks all_asked None h (new_local (at_time now old)) it.kept
+      so = puts_so score disk tells None [] blocks w.calls h (new_local (at_time now old)) it.kept sound w.made
           w.accepted (append-nil (map asked_of w.calls) ∙ w.asked)
 
       abbrev added : ℕ
@@ -228,7 +208,7 @@ module _ {D : Type 0} (score : List ℕ → List ℕ) (disk : DiskOf D)
           tree = tree;
         },
         grown w.seen all_asked None so,
-        all_stand w.seen all_asked None so well,
+        ((leaves w.seen all_asked None so).done refl well).1,
       )
 
       wrote_so : result ≡ came_to (Ok a) it.kept.refused added it.closed
@@ -242,7 +222,7 @@ module _ {D : Type 0} (score : List ℕ → List ℕ) (disk : DiskOf D)
 
     -- it was given up
     gave_so : (err : VacErr)
-        → GivesUpArchive Does Has score (begun now old) it.kept bsize is_seen err
+        → GivesUpArchive Does Has score (new_local (at_time now old)) it.kept bsize is_seen err
         → result ≡ Err (told err it.kept.refused)
         → KeepsFolder score disk bsize is_seen result h old new
     gave_so err gave is = keeps_so gave.seen (gave.rest ≡ []) (refusal_of err) so gave.is
@@ -254,17 +234,17 @@ module _ {D : Type 0} (score : List ℕ → List ℕ) (disk : DiskOf D)
         (Stored gave.seen (gave.rest ≡ []) (refusal_of err) so)) (sym is) tt)
       where
         so : Holds score disk tells (archive_of score bsize gave.seen).blocks (gave.rest ≡ [])
-            (refusal_of err) h (begun now old) it.kept
+            (refusal_of err) h (new_local (at_time now old)) it.kept
         so = puts_so score disk tells (refusal_of err) gave.rest
-            (archive_of score bsize gave.seen).blocks gave.calls h (begun now old) it.kept sound
+            (archive_of score bsize gave.seen).blocks gave.calls h (new_local (at_time now old)) it.kept sound
             gave.made gave.refused gave.asked
 
     pub keeps_folder : KeepsFolder score disk bsize is_seen result h old new
     keeps_folder = of it.answer it.archives it.gives_up it.result_is
       where
         of : (answer : Result Archived VacErr)
-            → IfOk answer (WritesArchive Does Has score (begun now old) it.kept bsize is_seen)
-            → IfErr answer (GivesUpArchive Does Has score (begun now old) it.kept bsize is_seen)
+            → IfOk answer (WritesArchive Does Has score (new_local (at_time now old)) it.kept bsize is_seen)
+            → IfErr answer (GivesUpArchive Does Has score (new_local (at_time now old)) it.kept bsize is_seen)
             → result ≡ came_to answer it.kept.refused (history_len new - history_len old) it.closed
             → KeepsFolder score disk bsize is_seen result h old new
         of (Ok a) w gave is = wrote_so a w is

@@ -1,9 +1,8 @@
-pub mod Asked
+pub mod Asks
 pub mod Causes
 pub mod Into
 pub mod Kept
 pub mod Last
 pub mod Maps
-pub mod Stays
 pub mod Using
 pub mod Written

@@ -14,13 +14,14 @@ use Rattle.vt_tree.specs.Calls.{Call, get, put, sync, asked_of, write_of}
 use Rattle.vt_tree.specs.Making.{Makes, EndsBy}
 use Rattle.vt_tree.specs.MapLaws.{Same, block_same}
 use Rattle.vt_tree.specs.Maps.{with_block, with_blocks}
-use Rattle.vt_answer.specs.Serving.{reply_in}
+use Rattle.vt_answer.specs.Serving.{asked_for, reply_in}
 use Rattle.vt_core.specs.Core.{setup_of}
 use Rattle.vt_core.specs.Sound.{IsSound}
 use Rattle.vt_drive.specs.Driven.{DrivenState, DoesRequest}
-use Rattle.vt_alone.specs.Sessions.{store_on}
-use Rattle.vt_single.specs.Single.{HasFailed, written_to}
-use Rattle.vt_single.proofs.Goes.{Goes, goes}
+use Rattle.vt_use.specs.Answers.{HasFailed}
+use Rattle.vt_use.specs.Stores.{store_on}
+use Rattle.vt_single.specs.Single.{written_to}
+use Rattle.vt_use.proofs.Answered.{Goes, request_goes}
 use Rattle.vt_local.specs.Local.{DoesLocal, LocalState, refused_after}
 use Rattle.vac_store.specs.Storing.{IsRefusedFor, all_written}
 use Rattle.vac_store.proofs.Last.{IsLastOr, ends_so, not_ended}
@@ -60,10 +61,10 @@ module _ {D : Type 0} (score : List ℕ → List ℕ) (disk : DiskOf D) (tells :
       let reply : Result RMessage Why = Ok (r_write given.0) in
       let request = subst (λ (r : Result RMessage Why). DoesRequest score disk m r l.store l'.store)
       it.stands it.once in
-      of (goes score disk m reply l.store l'.store h tells sound refl request) request
+      of (request_goes score disk tells m reply l.store l'.store h sound request) request
     where
-      of : Goes score disk (write b.kind b.bytes) (Ok (r_write given.0)) h l.store.core
-          l'.store.core
+      of : Goes score disk (setup_of l.store.core)
+          (write b.kind b.bytes, Ok (r_write given.0)) h l'.store.core
           → DoesRequest score disk (write b.kind b.bytes) (Ok (r_write given.0)) l.store l'.store
           → TakesIn b h l l'
       of went request = ⊎_elim
@@ -77,9 +78,9 @@ module _ {D : Type 0} (score : List ℕ → List ℕ) (disk : DiskOf D) (tells :
   -- a call that adds nothing: a sync, or one that is refused
   stay : (m : Operation) (reply : Result RMessage Why) (h : History) (l l' : State)
       → IsSound score disk l.store.core h → DoesRequest score disk m reply l.store l'.store
-      → ((reply_in reply ≡ (answer score (setup_of l.store.core) h m).reply)
-      → (answer score (setup_of l.store.core) h m).added ≡ None)
-      → Goes score disk m reply h l.store.core l'.store.core
+      → ((reply_in reply ≡ (answer score (setup_of l.store.core) h (asked_for m)).reply)
+      → (answer score (setup_of l.store.core) h (asked_for m)).added ≡ None)
+      → Goes score disk (setup_of l.store.core) (m, reply) h l'.store.core
       → IsSound score disk l'.store.core h
   stay m reply h l l' sound request none went =
       subst (IsSound score disk l'.store.core) (⊎_elim
@@ -99,7 +100,7 @@ module _ {D : Type 0} (score : List ℕ → List ℕ) (disk : DiskOf D) (tells :
       let why = it.stands.0 in
       let request = subst (λ (r : Result RMessage Why). DoesRequest score disk m r l.store l'.store)
       it.stands.1 it.once in
-      let went = goes score disk m (Err why) l.store l'.store h tells sound refl request in
+      let went = request_goes score disk tells m (Err why) l.store l'.store h sound request in
       record {
         sound = stay m (Err why) h l l' sound request
             (λ is. added-refused score (setup_of l.store.core) h m (text_of why) (sym is)) went;
@@ -114,7 +115,7 @@ module _ {D : Type 0} (score : List ℕ → List ℕ) (disk : DiskOf D) (tells :
       → DoesLocal (store_on score disk) l (sync result) l' → IsSound score disk l'.store.core h
   synced_so result h l l' sound it =
       stay sync_all it.reply h l l' sound it.once (λ is. refl)
-      (goes score disk sync_all it.reply l.store l'.store h tells sound refl it.once)
+      (request_goes score disk tells sync_all it.reply l.store l'.store h sound it.once)
 
   refused_sync : (err : BlockErr) (h : History) (l l' : State) → IsSound score disk l.store.core h
       → DoesLocal (store_on score disk) l (sync (Err err)) l'
@@ -126,9 +127,10 @@ module _ {D : Type 0} (score : List ℕ → List ℕ) (disk : DiskOf D) (tells :
       subst (IsLastRefusal score (setup_of l.store.core) h [])
       (sym (it.refused
       ∙ ap (λ (r : Result RMessage Why). refused_after r l.refused) it.stands.1))
-      (of why (goes score disk sync_all (Err why) l.store l'.store h tells sound refl request))
+      (of why (request_goes score disk tells sync_all (Err why) l.store l'.store h sound request))
     where
-      of : (why : Why) → Goes score disk sync_all (Err why) h l.store.core l'.store.core
+      of : (why : Why)
+          → Goes score disk (setup_of l.store.core) (sync_all, Err why) h l'.store.core
           → HasFailed (Err why)
       of why went = ⊎_elim
           (λ model. let no : r_refused why ≡ r_sync = model.0 in absurd (cc))

@@ -8,6 +8,8 @@ use Rattle.vt_folder.specs.Items.{Items}
 use Rattle.vt_model.specs.History.{Block, History, held}
 use Rattle.vt_model.specs.Places.{Setup}
 use Rattle.vt_tree.specs.declared.err.TreeErr.TheVariants as trees
+use Rattle.vt_tree.specs.Calls.{Call}
+use Rattle.vt_tree.specs.Maps.{Maps}
 use Rattle.vt_answer.specs.Serving.{tells_failure}
 use Rattle.vt_core.specs.Core.{CoreState, devices_of, history_len, setup_of}
 use Rattle.vt_core.specs.Mounting.{AllStandFor, EachStands}
@@ -15,8 +17,11 @@ use Rattle.vt_core.specs.Sound.{IsSound}
 use Rattle.vt_drive.specs.Answers.{KeepsAll}
 use Rattle.vt_drive.specs.Driven.{DrivenState}
 use Rattle.vt_drive.specs.Ending.{Ends}
-use Rattle.vt_alone.specs.Sessions.{FailsFor, at_time, store_on}
-use Rattle.vt_single.specs.Single.{HasFailed, IsAnswer, written_to}
+use Rattle.vt_use.specs.Answers.{HasFailed, IsAnswer}
+use Rattle.vt_use.specs.Causes.{FailsFor}
+use Rattle.vt_use.specs.LocalJobs.{new_local}
+use Rattle.vt_use.specs.Stores.{at_time, store_on}
+use Rattle.vt_single.specs.Single.{written_to}
 use Rattle.vt_local.specs.Local.{DoesLocal, HoldsLocal, LocalState}
 use Rattle.vac_model.specs.Archives.{archive_of}
 use Rattle.vac_model.specs.Kept.{archived, skipped}
@@ -51,13 +56,14 @@ is_folder_fault bad = Bool.false
 
 -- ---- what is done
 
--- a store on devices as a store of blocks, of which nothing was asked yet
-abbrev pub begun : {D : Type 0} → (now : ℕ) → CoreState D → LocalState (DrivenState D)
-begun now k = record {
-  store = at_time now k;
-  counts = record { faults = 0; refusals = 0 };
-  refused = None;
-}
+-- A folder was archived so into a store of blocks, by these calls, or that was given up.
+pub record ArchivesOrGivesUp {S : Type 0} (does : S → Call → S → Type 0) (holds : S → Maps → Type 0)
+    (score_of : List ℕ → List ℕ) (bsize : ℕ) (is_seen : Items Facts → Type 0)
+    (answer : Result Archived VacErr) (calls : List Call) (old new : S) : Type 0 where
+  pub archives : IfOk answer (λ a.
+      (w : WritesArchive does holds score_of old new bsize is_seen a) × (w.calls ≡ calls))
+  pub gives_up : IfErr answer (λ err.
+      (w : GivesUpArchive does holds score_of old new bsize is_seen err) × (w.calls ≡ calls))
 
 -- A folder was archived into a store, or that was given up, and the store's use was then ended.
 pub record ArchivesInto {D : Type 0} (score : List ℕ → List ℕ) (disk : DiskOf D)
@@ -66,9 +72,9 @@ pub record ArchivesInto {D : Type 0} (score : List ℕ → List ℕ) (disk : Dis
   pub answer : Result Archived VacErr
   pub kept : LocalState (DrivenState D)
   pub archives : IfOk answer (WritesArchive (DoesLocal (store_on score disk))
-      (HoldsLocal (store_on score disk) score) score (begun now old) kept bsize is_seen)
+      (HoldsLocal (store_on score disk) score) score (new_local (at_time now old)) kept bsize is_seen)
   pub gives_up : IfErr answer (GivesUpArchive (DoesLocal (store_on score disk))
-      (HoldsLocal (store_on score disk) score) score (begun now old) kept bsize is_seen)
+      (HoldsLocal (store_on score disk) score) score (new_local (at_time now old)) kept bsize is_seen)
   pub closed : Result (Unit {0}) Why
   pub ends : Ends score disk closed kept.store.core new
   pub result_is : result

@@ -15,16 +15,16 @@ ghost use Rattle.vt_model.specs.Places.{Setup};
 ghost use Rattle.vt_open.specs.Names.{AreUnder};
 ghost use Rattle.vt_part.specs.Table.{Table};
 ghost use Rattle.vt_parts.specs.Parts.{Standing};
-ghost use Rattle.vt_alone.specs.Sessions.{MakesRun};
+ghost use Rattle.vt_use.specs.Stores.{MakesRun};
 ghost use Rattle.vac_write.specs.Archiving.{IsSeen};
 ghost use Rattle.vac_store.specs.declared.outcome.ArchiveBad.{ArchiveBad};
 ghost use Rattle.vac_store.specs.declared.outcome.StoredArchive.{StoredArchive};
 ghost use Rattle.vac_store.specs.Storing.{ArchivesInto, FailsAs, KeepsFolder};
 ghost use Rattle.vac_store.specs.Stored.{KeepsStored, UsesFor};
 
-use vt_core::stores_can_be_mounted;
 use vt_disk::Disk;
 use vt_open::{opened_stores_recall, shapes_are_kept};
+use vt_use::uses_leave;
 
 /// It is a run of events: at each moment whatever a crash leaves of all devices, taken together,
 /// stands for a prefix of the history with every durable block. What the store was mounted with
@@ -55,7 +55,7 @@ pub fn archives_are_kept<D: Disk>()
         → ArchivesInto score D.Disk now bsize (IsSeen tells held) result old new
         → KeepsFolder score D.Disk bsize (IsSeen tells held) result h old new }
 {
-    stores_can_be_mounted::<D>();
+    uses_leave::<D>();
 }
 
 /// The same of the store of a configuration, where every combination of the images of its partitions

@@ -1,5 +1,4 @@
-//! Archiving a folder into a store on devices, and into the store that a configuration names, which
-//! is opened for it (vac(1)).
+//! Archiving a folder into the store that a configuration names, which is opened for it (vac(1)).
 // Tests: crates/vac_tests/src/stored.rt.
 #![tactic(auto)]
 
@@ -11,4 +10,4 @@ mod storing;
 pub use laws::{archives_are_kept, archives_are_runs, failures_have_causes, stores_keep_archives};
 pub use outcome::{ArchiveBad, StoredArchive};
 pub use stored::archive_stored;
-pub use storing::archive_into;
+pub use storing::ArchiveFolder;

@@ -7,15 +7,14 @@ ghost use Rattle.vac_write.specs.Archiving.{IsSeen};
 ghost use Rattle.vac_store.specs.Stored.{ArchivesStored};
 ghost use Rattle.vac_store.specs.Storing.{is_folder_fault};
 
-use crate::laws::archives_are_runs;
-use crate::storing::archive_into;
+use crate::storing::{ArchiveFolder, came_to};
 use crate::{ArchiveBad, StoredArchive};
 use std::alloc::Global;
 use vt_base::Scorer;
 use vt_conf::Conf;
 use vt_folder::Folder;
-use vt_open::{close_store, open_store, shapes_are_kept};
 use vt_parts::Parts;
+use vt_use::{LocalJob, use_store};
 
 /// Opens the store of a configuration, archives a folder into it (vac(1)) in blocks of at most so
 /// many bytes, 512 to 53,248, and closes it, whatever was answered. `now` is the time of the clumps
@@ -41,13 +40,15 @@ pub fn archive_stored<P: Parts, S: Scorer, F: Folder>(
         (F.faults folder.old) (F.faults folder.new) }
     ensures stays { IsTrue F.tells → F.holds folder.new ≡ F.holds folder.old }
 {
-    archives_are_runs::<P::Disk>();
-    shapes_are_kept::<P::Disk>();
-    let core = match open_store(alloc, parts, conf, 1, scorer) {
-        Ok(core) => core,
-        Err(bad) => return Err(ArchiveBad::Unopened(bad)),
+    let job = LocalJob {
+        job: ArchiveFolder { bsize },
+        scorer,
     };
-    let (archived, core) = archive_into(alloc, core, now, scorer, folder, bsize);
-    close_store(parts, conf, core);
-    archived
+    match use_store(alloc, parts, conf, scorer, now, &job, folder) {
+        Ok(used) => {
+            let (answer, last_refusal) = used.output;
+            came_to(answer, last_refusal, used.added, used.closed)
+        }
+        Err(bad) => Err(ArchiveBad::Unopened(bad)),
+    }
 }

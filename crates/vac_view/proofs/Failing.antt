@@ -20,17 +20,19 @@ use Rattle.vt_answer.specs.Serving.{failure_of, tells_failure}
 use Rattle.vt_answer.specs.Taking.{DoesCalls, DoesSome, first_told}
 use Rattle.vt_core.specs.Core.{CoreState, stops_of}
 use Rattle.vt_drive.specs.Driven.{DrivenState}
-use Rattle.vt_alone.specs.Sessions.{FailsFor, at_time, store_on}
-use Rattle.vt_alone.proofs.Causes.{by_failure, if_failure}
-use Rattle.vt_alone.proofs.Runs.{calls_run}
-use Rattle.vt_alone.proofs.Tells.{run_tells}
+use Rattle.vt_use.specs.Causes.{FailsFor}
+use Rattle.vt_use.specs.LocalJobs.{exchanges_of, new_local}
+use Rattle.vt_use.specs.Stores.{at_time, store_on}
+use Rattle.vt_use.proofs.Calls.{asked_so, one_asked}
+use Rattle.vt_use.proofs.Causes.{by_failure, if_failure}
+use Rattle.vt_use.proofs.Runs.{calls_run}
+use Rattle.vt_use.proofs.Tells.{run_tells}
 use Rattle.vt_local.specs.Local.{DoesLocal, HoldsLocal, IsToldAs, LocalState, RefusedFor, StandsFor}
 use Rattle.vac_read.specs.declared.err.VacBad.{VacBad}
 use Rattle.vac_read.specs.declared.err.VacBad.TheVariants.{Tree, Root, Meta, NoMemory}
 use Rattle.nine_view.specs.declared.serving.Served.{Served}
-use Rattle.vac_view.specs.Stored.{FailsAs, ViewsOn, begun, first_bad}
+use Rattle.vac_view.specs.Stored.{FailsAs, ViewsOn, first_bad}
 use Rattle.vac_view.specs.Viewing.{Passed}
-use Rattle.vac_view.proofs.Asked.{asked_so, one_asked}
 use Rattle.vac_view.proofs.Calls.{RefusesFirst, view_refused}
 
 -- ---- what the store itself said
@@ -136,27 +138,27 @@ module _ {D : Type 0} (score_of : List ℕ → List ℕ) (disk : DiskOf D)
   T = store_on score_of disk
 
   refused : (err : BlockErr) → first_bad result ≡ Some (Tree (trees.Block err))
-      → RefusesFirst (DoesLocal T) err (begun old) it.left
+      → RefusesFirst (DoesLocal T) err (new_local (at_time 0 old)) it.left
   refused err is = view_refused (DoesLocal T) (HoldsLocal T score_of) score_of err score p result
-      (begun old) it.left it.views is
+      (new_local (at_time 0 old)) it.left it.views is
 
-  why_fails : (err : BlockErr) (x : RefusesFirst (DoesLocal T) err (begun old) it.left) (why : Why)
-      → FailsFirst T why (begun old) x.next → FailsFor disk why old new
+  why_fails : (err : BlockErr) (x : RefusesFirst (DoesLocal T) err (new_local (at_time 0 old)) it.left) (why : Why)
+      → FailsFirst T why (new_local (at_time 0 old)) x.next → FailsFor disk why old new
   why_fails err x why first =
-      let asks = asked_so T x.next it.left x.rest x.more in
       let some : DoesSome T (at_time 0 old) x.next.store None (Some why) =
       record { calls = first.calls; does = first.does; failure_is = sym first.first } in
       subst (λ (k : CoreState D). FailsFor disk why old k) (sym it.new_is)
       (if_failure score_of disk fits old none (Some why) x.next.store.core it.left.store.core
       (run_tells disk fits score_of x.next.store.core it.left.store.core
-      (calls_run score_of disk x.next.store it.left.store asks.0 asks.1))
+      (calls_run score_of disk x.next.store it.left.store (exchanges_of T x.rest x.next it.left x.more)
+      (asked_so T x.rest x.next it.left x.more)))
       (by_failure score_of disk fits old none (Some why) (at_time 0 old) x.next.store refl some))
 
   fault_fails : first_bad result ≡ Some (Tree (trees.Block blocks.Fault))
       → FailsFor disk whys.DiskFault old new
   fault_fails is =
       let x = refused blocks.Fault is in
-      let so = refused_so T blocks.Fault (begun old) it.left x in
+      let so = refused_so T blocks.Fault (new_local (at_time 0 old)) it.left x in
       let why = fault_is so.refused.0 so.refused.2 in
       why_fails blocks.Fault x whys.DiskFault
       (so.fails whys.DiskFault (ap failure_of so.refused.1
@@ -167,7 +169,7 @@ module _ {D : Type 0} (score_of : List ℕ → List ℕ) (disk : DiskOf D)
       → Differ want found
   damage_differs want found is =
       let x = refused (blocks.Damaged want found) is in
-      let so = refused_so T (blocks.Damaged want found) (begun old) it.left x in
+      let so = refused_so T (blocks.Damaged want found) (new_local (at_time 0 old)) it.left x in
       of so.refused.0 so.refused.2
       (λ fails. why_fails (blocks.Damaged want found) x so.refused.0
       (so.fails so.refused.0 (ap failure_of so.refused.1
@@ -198,7 +200,7 @@ module _ {D : Type 0} (score_of : List ℕ → List ℕ) (disk : DiskOf D)
       → first_bad result ≡ Some (Tree (trees.Block (blocks.WrongScore want found))) → ⊥
   scores_never want found is =
       let x = refused (blocks.WrongScore want found) is in
-      let so = refused_so T (blocks.WrongScore want found) (begun old) it.left x in
+      let so = refused_so T (blocks.WrongScore want found) (new_local (at_time 0 old)) it.left x in
       of so.refused.0 so.refused.2
     where
       of : (why : Why) → IsToldAs why (blocks.WrongScore want found) → ⊥

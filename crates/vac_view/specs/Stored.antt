@@ -1,6 +1,6 @@
 -- An archive of a store on devices that is served to a client, and one of the store that a
 -- configuration names, on partitions that are handed out by name.
-use Rattle.std.specs.Prelude.{ℕ, ◌≡◌, ◌≤◌, ⊤, None, Some, Option, Result, Ok, Err, List, length}
+use Rattle.std.specs.Prelude.{ℕ, ◌≡◌, ⊤, false, Some, Option, Result, Ok, Err, List}
 use Rattle.vt_base.specs.Damage.{Differ}
 use Rattle.vt_base.specs.declared.why.Why.TheVariants as whys
 use Rattle.vt_conf.specs.declared.conf.Conf.{Conf}
@@ -11,14 +11,15 @@ use Rattle.vt_model.specs.Places.{Setup}
 use Rattle.vt_part.specs.Table.{Table}
 use Rattle.vt_parts.specs.Parts.{Standing}
 use Rattle.vt_core.specs.Core.{CoreState, devices_of, setup_of}
-use Rattle.vt_core.specs.Files.{PerDevice, all_of}
+use Rattle.vt_core.specs.Files.{all_of}
 use Rattle.vt_core.specs.Mounting.{EachStands}
 use Rattle.vt_core.specs.Sound.{IsSound}
 use Rattle.vt_drive.specs.Answers.{KeepsAll}
 use Rattle.vt_drive.specs.Driven.{DrivenState}
-use Rattle.vt_open.specs.Names.{AreUnder}
-use Rattle.vt_alone.specs.Sessions.{FailsFor, at_time, store_on}
-use Rattle.vt_single.specs.Stored.{Uses}
+use Rattle.vt_use.specs.Causes.{FailsFor}
+use Rattle.vt_use.specs.LocalJobs.{new_local}
+use Rattle.vt_use.specs.Stores.{at_time, store_on}
+use Rattle.vt_use.specs.Uses.{LeftInStore, Uses}
 use Rattle.vt_local.specs.Local.{DoesLocal, HoldsLocal, LocalState}
 use Rattle.vt_tree.specs.declared.err.BlockErr.TheVariants as blocks
 use Rattle.vt_tree.specs.declared.err.TreeErr.TheVariants as trees
@@ -30,21 +31,14 @@ use Rattle.vac_view.specs.Viewing.{IsShown, Passed, ViewsArchive}
 
 -- ---- on devices
 
--- a store on devices as a store of blocks, of which nothing was asked yet
-abbrev pub begun : {D : Type 0} → CoreState D → LocalState (DrivenState D)
-begun k = record {
-  store = at_time 0 k;
-  counts = record { faults = 0; refusals = 0 };
-  refused = None;
-}
-
 -- an archive of a store was served, or couldn't be opened, and nothing else was asked of the store
 pub record ViewsOn {D : Type 0} (score_of : List ℕ → List ℕ) (disk : DiskOf D)
     (score : List ℕ) (p : Passed) (result : Result Served VacBad) (old new : CoreState D) : Type 0
   where
     pub left : LocalState (DrivenState D)
     pub views : ViewsArchive (DoesLocal (store_on score_of disk))
-        (HoldsLocal (store_on score_of disk) score_of) score_of score p result (begun old) left
+        (HoldsLocal (store_on score_of disk) score_of) score_of score p result
+        (new_local (at_time 0 old)) left
     pub new_is : new ≡ left.store.core
 
 -- ---- of a configuration
@@ -64,7 +58,7 @@ abbrev pub ShowsOn : {D : Type 0} → {score_of : List ℕ → List ℕ} → {di
     → BlockMap → ViewsOn score_of disk score p result old new → Type 0
 ShowsOn {D} {score_of} {disk} {score} {p} {result} {old} {new} map it =
     IsShown (DoesLocal (store_on score_of disk)) (HoldsLocal (store_on score_of disk) score_of)
-    score_of p (begun old) it.left map score result it.views
+    score_of p (new_local (at_time 0 old)) it.left map score result it.views
 
 -- why the archive couldn't be read first, if that was told
 abbrev pub first_bad : Result Served VacBad → Option VacBad
@@ -90,12 +84,8 @@ pub record StaysAsRead {D : Type 0} (score_of : List ℕ → List ℕ) (disk : D
   pub stands : EachStands score_of disk (setup_of old) old.log.tables new.log.durable
       (devices_of new) h
 
--- What a view leaves of partitions that read as history `g`: whatever a crash then leaves of them,
--- taken together, stands for all of it.
+-- What a view leaves of partitions that read as history `g`: they hold it still.
 pub record KeepsStored {D : Type 0} (score_of : List ℕ → List ℕ) (disk : DiskOf D) (conf : Conf)
     (new : List ℕ → Standing D) (tables : List Table) (c : Setup) (g : History) : Type 0 where
-  pub back : PerDevice D
-  pub under : AreUnder new conf back
-  pub least : ℕ
-  pub all : length g ≤ least
-  pub stands : EachStands score_of disk c tables least back g
+  pub kept : CoreState D
+  pub left : LeftInStore score_of disk conf false (Ok tt) g kept new tables c g

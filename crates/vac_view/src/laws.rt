@@ -14,7 +14,7 @@ ghost use Rattle.vt_open.specs.Names.{AreUnder};
 ghost use Rattle.vt_part.specs.Table.{Table};
 ghost use Rattle.vt_parts.specs.Parts.{Standing};
 ghost use Rattle.vt_tree.specs.Maps.{Maps};
-ghost use Rattle.vt_alone.specs.Sessions.{MakesRun};
+ghost use Rattle.vt_use.specs.Stores.{MakesRun};
 ghost use Rattle.vt_remote.specs.Remote.{Talks};
 ghost use Rattle.vac_read.specs.declared.err.VacBad.{VacBad};
 ghost use Rattle.nine_view.specs.declared.serving.Served.{Served};
@@ -24,12 +24,11 @@ ghost use Rattle.vac_view.specs.Stored.{FailsAs, KeepsStored, ShowsOn, StaysAsRe
 ghost use Rattle.vac_view.specs.Stored.{UsesFor, ViewsOn, first_bad};
 ghost use Rattle.vac_view.specs.Viewing.{IsShown, Passed, ViewsArchive};
 
-use vt_core::stores_can_be_mounted;
 use vt_disk::Disk;
-use vt_open::{opened_stores_recall, shapes_are_kept};
+use vt_open::opened_stores_recall;
 use vt_out::Link;
-use vt_single::blocks_are_read;
 use vt_tree::Blocks;
+use vt_use::{uses_leave, uses_leave_the_store};
 
 /// By what a store tells that it holds, which it still holds afterwards, the folder at the top is
 /// that of the score's archive, and each reply is what the archive has; or the archive couldn't be
@@ -83,8 +82,7 @@ pub fn views_are_right<D: Disk>()
         → ShowsOn (held score_of h) it
         × StaysAsRead score_of D.Disk h old new }
 {
-    stores_can_be_mounted::<D>();
-    blocks_are_read::<D>();
+    uses_leave::<D>();
 }
 
 /// What is shown of the store of a configuration is what the history has that its partitions read
@@ -101,7 +99,7 @@ pub fn stores_are_viewed<D: Disk>()
         × KeepsStored score_of D.Disk conf new tables (record c { base = base }) g }
 {
     opened_stores_recall::<D>();
-    shapes_are_kept::<D>();
+    uses_leave_the_store::<D>();
     views_are_right::<D>();
 }
 

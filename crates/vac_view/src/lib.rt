@@ -9,4 +9,4 @@ pub mod laws;
 mod stored;
 
 pub use archive::view_archive;
-pub use stored::view_on;
+pub use stored::{ViewArchive, view_on};

@@ -12,12 +12,46 @@ use vac_read::VacBad;
 use vt_base::{Score, Scorer};
 use vt_core::Core;
 use vt_disk::Disk;
-use vt_drive::Driven;
-use vt_local::Local;
 use vt_out::Link;
+use vt_tree::Blocks;
+use vt_use::{BlockJob, LocalJob, use_core};
+
+/// The archive whose root has this score is served to a client over a link.
+#[derive(Drop)]
+pub struct ViewArchive {
+    pub score: Score,
+}
+
+impl<L: Link> BlockJob<L> for ViewArchive {
+    ghost use Rattle.std.specs.Prelude.{⊤, false};
+    ghost use Rattle.vac_view.specs.Viewing.{ViewsArchive};
+
+    type Output = Result<Served, VacBad>;
+
+    ghost fits = { λ it link. ⊤ };
+
+    ghost does = { λ S act holds score_of it output before after calls old new.
+        ViewsArchive act holds score_of it.score.0 (passed L.Link before after) output old new
+        × OnErr output (after ≡ before) };
+
+    ghost writes = { λ it. false };
+
+    fn writes(&self) -> bool {
+        false
+    }
+
+    fn run<B: Blocks>(
+        &self,
+        alloc: Global,
+        blocks: &mut B,
+        link: &mut L,
+    ) -> Result<Served, VacBad> {
+        view_archive(alloc, blocks, &self.score, link)
+    }
+}
 
 /// Serves an archive of a store whose first session waits for nothing. The store is asked for
-/// blocks, and for nothing else.
+/// blocks, and for nothing else. The scorer is the store's own.
 pub fn view_on<D: Disk, S: Scorer + Drop, L: Link>(
     alloc: Global,
     core: Core<D, S>,
@@ -30,8 +64,10 @@ pub fn view_on<D: Disk, S: Scorer + Drop, L: Link>(
         result.0 core result.1 }
     ensures untouched { OnErr result.0 (link.new ≡ link.old) }
 {
-    let mut blocks = Local::new(Driven::new(core, 0), scorer);
-    let served = view_archive(alloc, &mut blocks, score, link);
-    let (store, _) = blocks.into_parts();
-    (served, store.into_core())
+    let job = LocalJob {
+        job: ViewArchive { score: *score },
+        scorer: &scorer,
+    };
+    let (used, core) = use_core(alloc, core, 0, &job, link);
+    (used.output.0, core)
 }

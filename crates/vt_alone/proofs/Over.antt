@@ -1,5 +1,5 @@
 -- What came over a link and was answered, as a session over a store on devices.
-use Rattle.std.proofs.Common.{◌≡◌, ◌≢◌, ℕ, ◌≤◌, ◌<◌, List, [], ◌++◌, length, refl, sym, ◌∙◌, ap, subst, append_assoc, IsTrue, Option, None, Bool}
+use Rattle.std.proofs.Common.{◌≡◌, ◌≢◌, ℕ, ◌≤◌, ◌<◌, List, [], ◌++◌, length, refl, sym, ◌∙◌, ap, subst, append_assoc, arith, Option}
 use Rattle.std.specs.Prelude.{◌^◌}
 use Rattle.std.proofs.lemmas.Grind.{flat_map-append}
 use Rattle.std.proofs.lemmas.List.{map-append}
@@ -14,17 +14,20 @@ use Rattle.vt_session.specs.Answered.{AreToldBy}
 use Rattle.vt_session.specs.Talk.{Carries, spent_len}
 use Rattle.vt_session.proofs.Causes.{told_front}
 use Rattle.vt_session.proofs.Turns.{turns_part}
-use Rattle.vt_answer.specs.Links.{AnswersLink, SaysOver}
-use Rattle.vt_answer.specs.Taking.{DoesSome}
+use Rattle.vt_answer.specs.declared.serving.Served.{Served}
+use Rattle.vt_answer.specs.Links.{AnswersLink, SaysOver, since}
+use Rattle.vt_answer.specs.Taking.{DoesCalls}
 use Rattle.vt_core.specs.Core.{CoreState, setup_of}
-use Rattle.vt_drive.specs.Driven.{DrivenState, HoldsOn}
+use Rattle.vt_drive.specs.Driven.{DrivenState}
 use Rattle.vt_drive.specs.Ending.{Ends}
 use Rattle.vt_alone.specs.declared.serving.StoreServed.{StoreServed}
-use Rattle.vt_alone.specs.Sessions.{IsSession, ServesStore, TellsStops, at_time, faults_over, store_on}
-use Rattle.vt_alone.proofs.Keeps.{asked_time}
+use Rattle.vt_use.specs.Causes.{TellsStops}
+use Rattle.vt_use.specs.Stores.{Exchange, at_time, store_on}
+use Rattle.vt_alone.specs.Members.{ClientOf}
+use Rattle.vt_alone.specs.Sessions.{IsSession, ServesSession, ServesStore, faults_over}
+use Rattle.vt_use.proofs.Runs.{calls_run}
+use Rattle.vt_use.proofs.Tells.{run_tells}
 use Rattle.vt_alone.proofs.Quiet.{only_memory}
-use Rattle.vt_alone.proofs.Runs.{asked_run}
-use Rattle.vt_alone.proofs.Tells.{run_tells}
 
 -- what was heard, but not answered in what was written
 cut_carries : (input output : List ℕ) (turns unsaid : List Turn)
@@ -105,30 +108,34 @@ module _ {D : Type 0} (score : List ℕ → List ℕ) (disk : DiskOf D)
 
 -- ---- a session, and the end of the store's use
 
-module _ {D : Type 0} (score : List ℕ → List ℕ) (disk : DiskOf D)
-    (fits : (device : D) → disk.faults device < 2 ^ 64) (now : ℕ) (old new : CoreState D)
-    (d : DrivenState D) (end : StoreServed) (tells : Bool) (input output : List ℕ) where
-  pub serves_store : DoesSome (store_on score disk) (at_time now old) d None end.failure
-      → ((h : History) → HoldsOn score disk (at_time now old) h → IsTrue tells
-      → AnswersLink (store_on score disk) (at_time now old) d h end.failure input output end.ended)
-      → (IsTrue tells → length input ≤ spent_len)
-      → (end.ended ≡ NoMemory → d ≡ at_time now old) → Ends score disk end.closed d.core new
-      → ServesStore score disk end now old new tells input output
-  serves_store asked told most memory ends =
-      let time : d.now ≡ now = asked_time disk score (at_time now old) d end.failure asked in
-      let is : d ≡ at_time now d.core =
-      ap (λ (n : ℕ). record { core = d.core; now = n }) time in
-      let run = asked_run score disk (at_time now old) d end.failure asked in
-      let counted = run_tells disk fits score old d.core run in
+module _ {D C : Type 0} (score : List ℕ → List ℕ) (disk : DiskOf D)
+    (fits : (device : D) → disk.faults device < 2 ^ 64) (client : ClientOf C) (now : ℕ)
+    (before after : C) (old kept new : CoreState D) (asked : List Exchange) (end : StoreServed)
+    (served : Served) (failure : Option Why) where
+  abbrev came : List ℕ
+  came = since (client.sent before) (client.sent after)
+
+  abbrev went : List ℕ
+  went = since (client.written before) (client.written after)
+
+  pub serves_store : DoesCalls (store_on score disk) (at_time now old) asked (at_time now kept)
+      → ServesSession (store_on score disk) client served failure before after asked
+      (at_time now old) (at_time now kept)
+      → Ends score disk end.closed kept new → end.ended ≡ served.ended → end.failure ≡ failure
+      → ServesStore score disk end now old new client.tells came went
+  serves_store does x ends ended_is failure_is =
+      let counted = run_tells disk fits score old kept
+      (calls_run score disk (at_time now old) (at_time now kept) asked does) in
       record {
-        served = d.core;
-        session = λ h disk_tells sound t. is_session score disk fits now old d.core counted end h
-            end.failure input output end.ended
-            (subst (λ (e : DrivenState D). AnswersLink (store_on score disk) (at_time now old) e h
-            end.failure input output end.ended) is (told h (disk_tells, sound) t))
-            refl refl (most t);
-        asked = subst (λ (e : DrivenState D). DoesSome (store_on score disk) (at_time now old) e
-            None end.failure) is asked;
-        memory = λ e. ap (λ (x : DrivenState D). x.core) (memory e);
+        served = kept;
+        session = λ h disk_tells sound told. is_session score disk fits now old kept counted end h
+            failure came went served.ended (x.told h (disk_tells, sound) told) ended_is failure_is
+            (omega (arith, x.taken told, x.most));
+        asked = record {
+          calls = asked;
+          does = does;
+          failure_is = failure_is ∙ x.failure_is;
+        };
+        memory = λ e. ap (λ (d : DrivenState D). d.core) (x.memory (sym ended_is ∙ e)).0;
         ends = ends;
       }

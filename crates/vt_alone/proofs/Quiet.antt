@@ -15,8 +15,9 @@ use Rattle.vt_shard.specs.Shard.{ShardState}
 use Rattle.vt_core.specs.Core.{CoreState, each_of, setup_of, stops_of}
 use Rattle.vt_drive.specs.Driven.{section_stops, stops_in}
 use Rattle.vt_drive.proofs.Risen.{AllFit, fell_then}
-use Rattle.vt_alone.specs.Sessions.{NoCallFails, OnlyMemory, TellsStops, faults_over}
-use Rattle.vt_alone.proofs.Tells.{rose_within, all_fit}
+use Rattle.vt_use.specs.Causes.{NoCallFails, TellsStops}
+use Rattle.vt_use.proofs.Tells.{all_fit, rose_within}
+use Rattle.vt_alone.specs.Sessions.{OnlyMemory, faults_over}
 
 -- ---- no part has stopped
 

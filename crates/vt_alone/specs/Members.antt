@@ -1,2 +1,4 @@
--- The ghost members of a store as one record, which a clause writes `T.Store`.
+-- The ghost members of a store and of a client as one record, which a clause writes `T.Store` and
+-- `C.Client`.
 pub use Rattle.vt_answer.specs.declared.store.Store.{Ghosts as StoreOf}
+pub use Rattle.vt_answer.specs.declared.client.Client.{Ghosts as ClientOf}

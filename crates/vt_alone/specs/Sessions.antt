@@ -1,49 +1,37 @@
 -- One session over a store on devices, and the end of the store's use.
-use Rattle.std.specs.Prelude.{ℕ, ◌≡◌, ◌≢◌, ◌≤◌, ◌⊎◌, ◌++◌, ⊤, Bool, IsTrue, None, Some, IfSome, List, [], length, slice_get, Ok, IfErr}
-use Rattle.std.specs.List.{All, AllByRecursion}
-use Rattle.vt_base.specs.Damage.{Differ}
+use Rattle.std.specs.Prelude.{ℕ, ◌≡◌, ◌≢◌, ◌≤◌, ◌++◌, Bool, IsTrue, Option, None, IfSome, List, [], length, Ok, IfErr}
+use Rattle.std.specs.List.{AllByRecursion}
 use Rattle.vt_base.specs.declared.why.Why.{Why}
 use Rattle.vt_base.specs.declared.why.Why.TheVariants as whys
 use Rattle.vt_disk.specs.Members.{DiskOf}
-use Rattle.vt_isect.specs.declared.head.Head.{Head}
+use Rattle.vt_model.specs.Causes.{Cause, no_memory}
 use Rattle.vt_model.specs.History.{History}
 use Rattle.vt_model.specs.Places.{Setup}
 use Rattle.vt_session.specs.declared.Ended.{Ended}
 use Rattle.vt_session.specs.declared.Ended.TheVariants.{WriteFault, NoMemory}
 use Rattle.vt_session.specs.Heard.{Item, Heard}
-use Rattle.vt_model.specs.Causes.{Cause, no_memory, NoneFell, OneRose}
 use Rattle.vt_session.specs.Turns.{Turn, items_of, causes_of, first_why, synced_numbers}
 use Rattle.vt_session.specs.Answered.{AnsweredAlone, Faults, AreToldBy}
-use Rattle.vt_session.specs.Talk.{Alone}
+use Rattle.vt_session.specs.Talk.{Alone, Took, spent_len}
+use Rattle.vt_answer.specs.declared.serving.Served.{Served}
 use Rattle.vt_answer.specs.Condition.{IsNoDamage}
-use Rattle.vt_alone.specs.Members.{StoreOf}
-use Rattle.vt_answer.specs.Taking.{DoesEach, DoesSome}
-use Rattle.vt_core.specs.Core.{CoreState, devices_of, each_of, setup_of, stops_of}
-use Rattle.vt_core.specs.Files.{PerDevice}
-use Rattle.vt_core.specs.Mounting.{AllStandFor, EachStands, IsHeadRead, IsMarkRead}
+use Rattle.vt_answer.specs.Links.{AnswersLink, ReadCause, since}
+use Rattle.vt_answer.specs.Sessions.{SinkCause}
+use Rattle.vt_answer.specs.Taking.{DoesEach, DoesSome, first_told}
+use Rattle.vt_core.specs.Core.{CoreState, devices_of, each_of, setup_of}
+use Rattle.vt_core.specs.Mounting.{AllStandFor, EachStands}
 use Rattle.vt_core.specs.Sound.{IsSound}
-use Rattle.vt_core.specs.Steps.{Runs}
-use Rattle.vt_core.specs.declared.event.Event.{Event}
-use Rattle.vt_core.specs.declared.event.Out.{Out}
 use Rattle.vt_drive.specs.Answers.{KeepsAll}
-use Rattle.vt_drive.specs.Driven.{DrivenState, DoesRequest, HoldsOn, condition_of, stops_in}
+use Rattle.vt_drive.specs.Driven.{stops_in}
 use Rattle.vt_drive.specs.Ending.{AreMarkedAt, Ends}
+pub use Rattle.vt_use.specs.Causes.{FailsFor, NoCallFails, TellsStops}
+pub use Rattle.vt_use.specs.Stores.{MakesRun, at_time, store_on}
+pub use Rattle.vt_use.specs.Uses.{AreMarkedOn}
+use Rattle.vt_use.specs.Stores.{Exchange}
+use Rattle.vt_alone.specs.Members.{ClientOf, StoreOf}
 use Rattle.vt_alone.specs.declared.serving.StoreServed.{StoreServed}
 
--- ---- the store that is asked
-
--- a store on devices, as sessions ask one
-abbrev pub store_on : {D : Type 0} → (List ℕ → List ℕ) → DiskOf D → StoreOf (DrivenState D)
-store_on {D} score disk = record {
-  score_of = score;
-  condition = λ (d : DrivenState D). condition_of disk d;
-  holds = λ (d : DrivenState D) h. HoldsOn score disk d h;
-  does = λ (d : DrivenState D) m answer d'. DoesRequest score disk m answer d d';
-}
-
--- the store, and the time that the clumps get which the session adds
-abbrev pub at_time : {D : Type 0} → (now : ℕ) → CoreState D → DrivenState D
-at_time now k = record { core = k; now = now }
+-- ---- a session
 
 -- what its devices tell of their faults over a while
 abbrev pub faults_over : {D : Type 0} → DiskOf D → (old new : CoreState D) → Faults
@@ -52,13 +40,6 @@ faults_over disk old new = record {
   after = each_of disk.faults new;
   stops = stops_in new;
 }
-
--- no part of it has stopped, and over a while no device counts a failed call
-pub record NoCallFails {D : Type 0} (disk : DiskOf D) (old new : CoreState D) : Type 0 where
-  pub goes_on : All (λ stop. stop ≡ None) (stops_of old)
-  pub none_rose : ¬ OneRose (each_of disk.faults old) (each_of disk.faults new)
-
--- ---- a session
 
 -- The turns whose replies weren't written, since a write failed before: they were heard behind the
 -- others, and answered on the history that those left.
@@ -95,6 +76,25 @@ pub record IsSession {D : Type 0} (score : List ℕ → List ℕ) (disk : DiskOf
   -- what a sync was answered for is durable
   pub synced : AllByRecursion (λ n. n ≤ new.log.durable) (synced_numbers (turns ++ unsaid))
 
+-- What came of a session is told by what passed between its client and a store that was asked for
+-- these operations.
+pub record ServesSession {S C : Type 0} (T : StoreOf S) (client : ClientOf C) (served : Served)
+    (failure : Option Why) (before after : C) (asked : List Exchange) (old new : S) : Type 0 where
+  pub told : (h : History) → T.holds old h → IsTrue client.tells
+      → AnswersLink T old new h failure (since (client.sent before) (client.sent after))
+      (since (client.written before) (client.written after)) served.ended
+  pub took : IsTrue client.tells → Took (client.left before)
+      (since (client.sent before) (client.sent after)) (client.left after) served.ended
+  pub taken : IsTrue client.tells
+      → served.taken ≡ length (since (client.sent before) (client.sent after))
+  pub most : served.taken ≤ spent_len
+  pub written : IsTrue client.tells → client.written after
+      ≡ client.written before ++ since (client.written before) (client.written after)
+  pub failure_is : failure ≡ first_told asked
+  pub reads : ReadCause served.ended (client.read_faults before) (client.read_faults after)
+  pub writes : SinkCause served.ended (client.write_faults before) (client.write_faults after)
+  pub memory : served.ended ≡ NoMemory → (new ≡ old) × (after ≡ before)
+
 -- A session was served over a store, on whatever devices, and behind it the store's use was ended.
 pub record ServesStore {D : Type 0} (score : List ℕ → List ℕ) (disk : DiskOf D)
     (end : StoreServed) (now : ℕ) (old new : CoreState D) (tells : Bool)
@@ -112,29 +112,6 @@ pub record ServesStore {D : Type 0} (score : List ℕ → List ℕ) (disk : Disk
 
 -- ---- what follows
 
--- it made a run of events: at each moment of it a crash leaves a prefix of what was accepted, with
--- every durable block
-abbrev pub MakesRun : {D : Type 0} → (List ℕ → List ℕ) → DiskOf D → (old new : CoreState D)
-    → Type 0
-MakesRun score disk old new =
-    (events : List Event) × (outs : List Out) × Runs score disk events outs old new
-
--- no count of failed calls fell, and a part stopped only where one rose
-pub record TellsStops {D : Type 0} (disk : DiskOf D) (old new : CoreState D) : Type 0 where
-  pub fell : NoneFell (each_of disk.faults old) (each_of disk.faults new)
-  pub stops : (stops_of new ≡ stops_of old)
-      ⊎ OneRose (each_of disk.faults old) (each_of disk.faults new)
-
--- Why a store failed over a while before which no part had stopped, whatever its devices hold: a
--- device counted a failed call, two values differ, or memory was wanting.
-abbrev pub FailsFor : {D : Type 0} → DiskOf D → Why → (old new : CoreState D) → Type 0
-FailsFor disk whys.DiskFault old new = OneRose (each_of disk.faults old) (each_of disk.faults new)
-FailsFor disk (whys.Stopped call) old new =
-    OneRose (each_of disk.faults old) (each_of disk.faults new)
-FailsFor disk (whys.Damaged site want found) old new = Differ want found
-FailsFor disk whys.NoMemory old new = ⊤
-FailsFor disk why old new = ⊥
-
 -- each failure that is told has its cause
 pub record TellsCauses {D : Type 0} (disk : DiskOf D) (end : StoreServed) (old new : CoreState D)
     : Type 0 where
@@ -151,15 +128,6 @@ pub record LeavesAll {D : Type 0} (score : List ℕ → List ℕ) (disk : DiskOf
   pub synced : AllByRecursion (λ n. n ≤ new.log.durable) numbers
   pub stands : EachStands score disk (setup_of old) old.log.tables new.log.durable
       (devices_of new) last
-
--- The head of each section and the filter, as they are read of these devices, are marked with so
--- many blocks.
-pub record AreMarkedOn {D : Type 0} (disk : DiskOf D) (n : ℕ) (devices : PerDevice D) : Type 0
-  where
-    pub heads : (i : ℕ) (device : D) → slice_get devices.sections i ≡ Some device
-        → (head : Head) × IsHeadRead disk devices i head × (head.mark ≡ n)
-    pub filter : (device : D) → slice_get devices.filter 0 ≡ Some device
-        → IsMarkRead disk devices n
 
 -- Where nothing but memory failed, the store's use ended well: every block is durable, and has its
 -- entry below every mark, as the devices have it.

@@ -10,8 +10,8 @@ ghost use Rattle.vt_alone.specs.Sessions.{EndsWell, LeavesAll, MakesRun, NeedsMe
 ghost use Rattle.vt_alone.specs.declared.serving.StoreServed.{StoreServed};
 ghost use Rattle.vt_session.specs.Turns.{causes_of, synced_numbers};
 
-use vt_core::{marks_are_read, stores_can_be_mounted};
 use vt_disk::Disk;
+use vt_use::uses_leave;
 
 /// A session and the end of the store's use are a run of events, so all holds of them that holds of
 /// runs: at each moment whatever a crash leaves of all devices, taken together, stands for a prefix
@@ -37,9 +37,7 @@ pub fn sessions_tell_causes<D: Disk>()
         (tells : Bool) (input output : List ℕ)
         → ServesStore score D.Disk end now old new tells input output
         → All (λ stop. stop ≡ None) (stops_of old) → TellsCauses D.Disk end old new }
-{
-    sessions_are_runs::<D>();
-}
+{}
 
 /// Where no device counted a failed call, a session over a sound store needs memory alone, whatever
 /// its streams tell of what came in and went out.
@@ -62,8 +60,7 @@ pub fn sessions_leave_all<D: Disk>()
         LeavesAll score D.Disk (synced_numbers (session.turns ++ session.unsaid)) session.last
         old new }
 {
-    stores_can_be_mounted::<D>();
-    sessions_are_runs::<D>();
+    uses_leave::<D>();
 }
 
 /// Where no device counted a failed call, nothing but memory was wanting, and all is on the devices
@@ -78,7 +75,5 @@ pub fn sessions_end_well<D: Disk>()
         EndsWell score D.Disk end (causes_of (session.turns ++ session.unsaid)) session.last
         old new }
 {
-    marks_are_read::<D>();
-    stores_can_be_mounted::<D>();
-    sessions_are_runs::<D>();
+    uses_leave::<D>();
 }

@@ -9,4 +9,4 @@ pub use laws::{
     sessions_are_runs, sessions_end_well, sessions_leave_all, sessions_tell_causes,
     sound_stores_need_memory,
 };
-pub use serving::{StoreServed, serve_store};
+pub use serving::{ServeSession, StoreServed, serve_store};

@@ -14,8 +14,8 @@ use vt_answer::{Answering, Client, Served, Store};
 use vt_base::{Scorer, Why};
 use vt_core::Core;
 use vt_disk::Disk;
-use vt_drive::{Driven, end};
 use vt_session::Ended;
+use vt_use::{Job, use_core};
 
 /// What came of a session over a store.
 #[derive(Clone, Copy, Debug, PartialEq, Eq)]
@@ -62,17 +62,48 @@ pub fn serve_store<D: Disk, S: Scorer, C: Client>(
         (C.write_faults client.old) (C.write_faults client.new) }
     ensures memory { result.0.ended ≡ Ended.NoMemory → client.new ≡ client.old }
 {
-    let mut driven = Driven::new(core, now);
-    let (served, failure) = serve_session(alloc, &mut driven, client);
-    let mut core = driven.into_core();
-    let closed = end(&mut core, alloc);
+    let (used, core) = use_core(alloc, core, now, &ServeSession, client);
+    let (served, failure) = used.output;
     let all = StoreServed {
         ended: served.ended,
         taken: served.taken,
         failure,
-        closed,
+        closed: used.closed,
     };
     (all, core)
+}
+
+/// One session is served to a client. Beside how it ended it is told why the store failed first in a
+/// request, if it did.
+pub struct ServeSession;
+
+impl<C: Client> Job<C> for ServeSession {
+    ghost use Rattle.std.specs.Prelude.{true};
+    ghost use Rattle.vt_alone.specs.Sessions.{ServesSession};
+
+    type Output = (Served, Option<Why>);
+
+    ghost fits = { λ T store it client. IsTrue C.tells → IsTrue C.waits →
+        (C.sent client ≡ []) × (C.written client ≡ []) };
+
+    ghost does = { λ T store it output before after exchanges old new.
+        ServesSession store C.Client output.0 output.1 before after exchanges old new };
+
+    ghost writes = { λ it. true };
+
+    fn writes(&self) -> bool {
+        true
+    }
+
+    fn run<T: Store>(
+        &self,
+        alloc: Global,
+        mut store: T,
+        client: &mut C,
+    ) -> ((Served, Option<Why>), T) {
+        let output = serve_session(alloc, &mut store, client);
+        (output, store)
+    }
 }
 
 /// Serves a session, if there is memory for its answers, and tells why the store failed first.

@@ -1,5 +1,4 @@
+pub mod Asks
 pub mod Causes
-pub mod Goes
 pub mod Kept
-pub mod Stays
 pub mod Using

@@ -11,14 +11,6 @@ use Rattle.vt_open.specs.Names.{HaveOneShape}
 use Rattle.vt_single.specs.declared.stored.StoredBad.{StoredBad}
 use Rattle.vt_single.specs.Stored.{Uses, UsesStore, as_stored}
 
-pub shape_more : {X Y Z : Type 0} (a : PerDevice X) (b : PerDevice Y) (c : PerDevice Z)
-    → HaveOneShape a b → HaveOneShape b c → HaveOneShape a c
-shape_more a b c x y = record {
-  partitions = x.partitions ∙ y.partitions;
-  sections = x.sections ∙ y.sections;
-  filter = x.filter ∙ y.filter;
-}
-
 module _ {D T : Type 0} (score : List ℕ → List ℕ) (disk : DiskOf D) (told : Type 0) (conf : Conf)
     (Does : Result T Why → (opened left : CoreState D) → Type 0) (old new : List ℕ → Standing D)
     (faults faults' : ℕ) where

@@ -1,50 +1,34 @@
 -- One block, read from a store on devices or written to it.
-use Rattle.std.specs.Prelude.{ℕ, ◌≡◌, ◌⊎◌, ⊤, Bool, None, Result, Ok, Err, OnOk, List, [], ◌∷◌, length}
+use Rattle.std.specs.Prelude.{ℕ, ◌≡◌, ◌⊎◌, Result, Ok, Err, OnOk, List, length}
 use Rattle.vt_base.specs.declared.TheConstants.{MAX_BLOCK}
 use Rattle.vt_base.specs.declared.score.Score.{Score}
 use Rattle.vt_base.specs.declared.why.Why.{Why}
-use Rattle.vt_base.specs.Protocol.{Operation, read, write, sync, RMessage, r_read, r_write, r_sync}
+use Rattle.vt_base.specs.Protocol.{read, write, r_read, r_write}
 use Rattle.vt_disk.specs.Members.{DiskOf}
 use Rattle.vt_model.specs.Answer.{answer, with_added}
 use Rattle.vt_model.specs.History.{History}
 use Rattle.vt_model.specs.Places.{Setup}
-use Rattle.vt_answer.specs.Serving.{answered, reply_in, tells_failure}
+use Rattle.vt_answer.specs.Serving.{answered}
 use Rattle.vt_answer.specs.Taking.{DoesCalls}
-use Rattle.vt_core.specs.Causes.{READS_MOST, IsUndamagedWhy, OnlyReadFrom}
+use Rattle.vt_core.specs.Causes.{READS_MOST, OnlyReadFrom}
 use Rattle.vt_core.specs.Core.{CoreState, devices_of, setup_of}
 use Rattle.vt_core.specs.Files.{all_of}
 use Rattle.vt_core.specs.Mounting.{AllStandFor, EachStands}
 use Rattle.vt_core.specs.Sound.{IsSound}
 use Rattle.vt_drive.specs.Answers.{KeepsAll}
 use Rattle.vt_drive.specs.Ending.{Ends}
-use Rattle.vt_alone.specs.Sessions.{at_time, store_on}
+pub use Rattle.vt_use.specs.Answers.{HasFailed, IsAnswer}
+pub use Rattle.vt_use.specs.OneBlock.{ArePut, asks_block}
+pub use Rattle.vt_use.specs.Stores.{Exchange, at_time, store_on}
 use Rattle.vt_single.specs.Members.{StoreOf}
 
 -- ---- what is asked
-
--- an operation, and its answer
-abbrev pub Asked : Type 0
-Asked = Operation × Result RMessage Why
-
--- a block is asked for, and answered so
-abbrev pub asks_block : (kind : ℕ) (s : List ℕ) → Result (List ℕ) Why → List Asked
-asks_block kind s result =
-    (read s kind MAX_BLOCK, answered (λ (bytes : List ℕ). r_read bytes) result) ∷ []
-
--- A block is written, and then all is synced: the score is told where both are done. Where the
--- block is refused no sync is asked for.
-abbrev pub ArePut : (kind : ℕ) (bytes : List ℕ) → Result Score Why → List Asked → Type 0
-ArePut kind bytes (Ok given) calls =
-    calls ≡ (write kind bytes, Ok (r_write given.0)) ∷ (sync, Ok r_sync) ∷ []
-ArePut kind bytes (Err why) calls =
-    (calls ≡ (write kind bytes, Err why) ∷ [])
-    ⊎ ((given : List ℕ) × (calls ≡ (write kind bytes, Ok (r_write given)) ∷ (sync, Err why) ∷ []))
 
 -- a store was asked for a block and a sync, and for nothing else
 abbrev pub Puts : {S : Type 0} → StoreOf S → (kind : ℕ) (bytes : List ℕ) → Result Score Why
     → (old new : S) → Type 0
 Puts T kind bytes result old new =
-    (calls : List Asked) × ArePut kind bytes result calls × DoesCalls T old calls new
+    (calls : List Exchange) × ArePut kind bytes result calls × DoesCalls T old calls new
 
 -- ---- on devices
 
@@ -71,17 +55,6 @@ pub record WritesBlock {D : Type 0} (score : List ℕ → List ℕ) (disk : Disk
   pub result_is : result ≡ closed_behind put closed
 
 -- ---- what follows
-
--- the store failed, and it isn't the model that refuses, nor damage
-abbrev pub HasFailed : Result RMessage Why → Type 0
-HasFailed (Ok reply) = ⊥
-HasFailed (Err why) = (tells_failure why ≡ Bool.true) × IsUndamagedWhy why
-
--- it is what the model answers on a history, or the store failed
-abbrev pub IsAnswer : (List ℕ → List ℕ) → Setup → History → Operation → Result RMessage Why
-    → Type 0
-IsAnswer score c h m reply =
-    (reply_in reply ≡ (answer score c h m).reply) ⊎ HasFailed reply
 
 -- What is told of a block that was read is true of the history, which stays, and nothing but reads
 -- was made of the devices.

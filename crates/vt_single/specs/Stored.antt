@@ -1,5 +1,5 @@
 -- One block of the store that a configuration names, on partitions that are handed out by name.
-use Rattle.std.specs.Prelude.{ℕ, ◌≡◌, ◌≤◌, ◌⊎◌, Result, Ok, Err, OnOk, List, length}
+use Rattle.std.specs.Prelude.{ℕ, ◌≡◌, ◌⊎◌, true, false, Result, Ok, Err, OnOk, List, length}
 use Rattle.vt_base.specs.Protocol.{read, write, r_read, r_write}
 use Rattle.vt_base.specs.declared.TheConstants.{MAX_BLOCK}
 use Rattle.vt_base.specs.declared.score.Score.{Score}
@@ -11,28 +11,14 @@ use Rattle.vt_model.specs.Places.{Setup}
 use Rattle.vt_part.specs.Table.{Table}
 use Rattle.vt_parts.specs.Parts.{Standing}
 use Rattle.vt_answer.specs.Serving.{answered}
-use Rattle.vt_core.specs.Core.{CoreState, devices_of}
-use Rattle.vt_core.specs.Files.{PerDevice, all_of}
-use Rattle.vt_core.specs.Mounting.{AllStandFor, EachStands}
-use Rattle.vt_open.specs.Names.{AreUnder, HaveOneShape, files_of}
-use Rattle.vt_open.specs.Opening.{NamesCause, Opens, RefusesStore}
-use Rattle.vt_open.specs.Taking.{AreGiven}
+use Rattle.vt_core.specs.Core.{CoreState}
+use Rattle.vt_core.specs.Mounting.{AllStandFor}
+use Rattle.vt_open.specs.Opening.{NamesCause, RefusesStore}
+pub use Rattle.vt_use.specs.Uses.{Uses}
+use Rattle.vt_use.specs.Uses.{LeftInStore}
 use Rattle.vt_single.specs.declared.stored.StoredBad.{StoredBad}
 use Rattle.vt_single.specs.declared.stored.StoredBad.TheVariants.{Unopened, Refused}
 use Rattle.vt_single.specs.Single.{IsAnswer, written_to}
-
--- The store of a configuration was opened, this was done with it, and it was closed: its partitions
--- are back.
-pub record Uses {D : Type 0} (score : List ℕ → List ℕ) (disk : DiskOf D) (told : Type 0)
-    (conf : Conf) (Does : (opened left : CoreState D) → Type 0) (old new : List ℕ → Standing D)
-    : Type 0 where
-  pub opened : CoreState D
-  pub left : CoreState D
-  pub during : List ℕ → Standing D
-  pub opens : Opens score disk told conf 1 old during opened
-  pub does : Does opened left
-  pub shape : HaveOneShape (devices_of left) (files_of conf)
-  pub given : AreGiven told (all_of (files_of conf)) during new (all_of (devices_of left))
 
 -- what a store that was opened answered
 abbrev pub as_stored : {T : Type 0} → Result T Why → Result T StoredBad
@@ -52,18 +38,15 @@ UsesStore score disk told conf Does old new faults faults' (Err (Unopened bad)) 
 
 -- ---- what follows
 
--- On partitions that read as history `g`, what is told of a block that was read is true of it; and
--- whatever a crash then leaves of the partitions, taken together, stands for all of it.
+-- On partitions that read as history `g`, what is told of a block that was read is true of it, and
+-- they hold it still.
 pub record ReadsStore {D : Type 0} (score : List ℕ → List ℕ) (disk : DiskOf D) (conf : Conf)
     (kind : ℕ) (s : List ℕ) (result : Result (List ℕ) Why) (new : List ℕ → Standing D)
     (tables : List Table) (c : Setup) (g : History) : Type 0 where
   pub answers : IsAnswer score c g (read s kind MAX_BLOCK)
       (answered (λ (bytes : List ℕ). r_read bytes) result)
-  pub back : PerDevice D
-  pub under : AreUnder new conf back
-  pub least : ℕ
-  pub all : length g ≤ least
-  pub stands : EachStands score disk c tables least back g
+  pub kept : CoreState D
+  pub left : LeftInStore score disk conf false (Ok tt) g kept new tables c g
 
 -- What a write leaves of such partitions: whatever calls failed, and whatever a crash then leaves of
 -- them, they stand for all of the history, perhaps with the block that the model adds. Where a score
@@ -75,10 +58,8 @@ pub record WritesStore {D : Type 0} (score : List ℕ → List ℕ) (disk : Disk
       (answered (λ (given : Score). r_write given.0) result)
   pub last : History
   pub last_is : (last ≡ g) ⊎ (last ≡ written_to score c g kind bytes)
-  pub back : PerDevice D
-  pub under : AreUnder new conf back
-  pub least : ℕ
-  pub all : length g ≤ least
-  pub stands : EachStands score disk c tables least back last
+  pub kept : CoreState D
+  pub closed : Result (Unit {0}) Why
+  pub left : LeftInStore score disk conf true closed last kept new tables c g
   pub done : OnOk result ((last ≡ written_to score c g kind bytes)
-      × AllStandFor score disk c tables back last (length last))
+      × AllStandFor score disk c tables left.back last (length last))

@@ -15,14 +15,14 @@ ghost use Rattle.vt_model.specs.Places.{Setup};
 ghost use Rattle.vt_open.specs.Names.{AreUnder};
 ghost use Rattle.vt_part.specs.Table.{Table};
 ghost use Rattle.vt_parts.specs.Parts.{Standing};
-ghost use Rattle.vt_alone.specs.Sessions.{FailsFor, MakesRun};
+ghost use Rattle.vt_use.specs.Causes.{FailsFor};
+ghost use Rattle.vt_use.specs.Stores.{MakesRun};
 ghost use Rattle.vt_drive.specs.Answers.{KeepsAll};
 ghost use Rattle.vt_single.specs.Single.{KeepsBlock, ReadsBlock, ReadsTrue, WritesBlock};
 ghost use Rattle.vt_single.specs.Stored.{ReadsStore, Uses, WritesStore};
 
-use vt_core::stores_can_be_mounted;
 use vt_disk::Disk;
-use vt_open::{opened_stores_recall, shapes_are_kept};
+use vt_use::{stores_are_used, uses_leave};
 
 /// Both are runs of events, so all holds of them that holds of runs: at each moment whatever a crash
 /// leaves of all devices, taken together, stands for a prefix of the history with every durable
@@ -60,7 +60,7 @@ pub fn blocks_are_read<D: Disk>()
         → IsSound score D.Disk old h → ReadsBlock score D.Disk kind s result old new
         → ReadsTrue score D.Disk kind s result h old new }
 {
-    stores_can_be_mounted::<D>();
+    uses_leave::<D>();
 }
 
 /// What is written to such a store stands in it, whatever calls failed.
@@ -70,7 +70,7 @@ pub fn blocks_are_kept<D: Disk>()
         → IsSound score D.Disk old h → WritesBlock score D.Disk now kind bytes result old new
         → KeepsBlock score D.Disk kind bytes result h old new }
 {
-    stores_can_be_mounted::<D>();
+    uses_leave::<D>();
 }
 
 /// What is read of the store of a configuration is true of the history that its partitions read as,
@@ -84,9 +84,7 @@ pub fn stores_are_read<D: Disk>()
         → AreUnder old conf devices → IsLogOf score D.Disk tables devices c h g base
         → ReadsStore score D.Disk conf kind s result new tables (record c { base = base }) g }
 {
-    opened_stores_recall::<D>();
-    shapes_are_kept::<D>();
-    blocks_are_read::<D>();
+    stores_are_used::<D>();
 }
 
 /// What is written to such a store stands in it, whatever calls failed.
@@ -100,7 +98,5 @@ pub fn stores_are_written<D: Disk>()
         → AreUnder old conf devices → IsLogOf score D.Disk tables devices c h g base
         → WritesStore score D.Disk conf kind bytes result new tables (record c { base = base }) g }
 {
-    opened_stores_recall::<D>();
-    shapes_are_kept::<D>();
-    blocks_are_kept::<D>();
+    stores_are_used::<D>();
 }

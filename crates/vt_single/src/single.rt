@@ -3,20 +3,20 @@
 ghost use Rattle.std.specs.Prelude.{◌≡◌, ◌≤◌, IfOk, length};
 ghost use Rattle.vt_base.specs.declared.TheConstants.{MAX_BLOCK};
 ghost use Rattle.vt_core.specs.Machine.{WaitsForNone};
-ghost use Rattle.vt_single.specs.Single.{Puts, ReadsBlock, WritesBlock, closed_behind};
+ghost use Rattle.vt_single.specs.Single.{ReadsBlock, WritesBlock, closed_behind};
 
 use std::alloc::Global;
-use vt_answer::{Store, read, sync, write};
-use vt_base::{Bytes, Kind, MAX_BLOCK, Score, Scorer, Why};
+use vt_base::{Bytes, Kind, Score, Scorer, Why};
 use vt_core::Core;
 use vt_disk::Disk;
-use vt_drive::{Driven, end};
+use vt_use::{LocalJob, ReadBlock, WriteBlock, answer_of, blocks_are_asked, use_core};
 
 /// Asks a store whose first session waits for nothing for the block of a type and a score. That only
-/// reads.
-pub fn read_block<D: Disk, S: Scorer>(
+/// reads. The scorer is the store's own.
+pub fn read_block<D: Disk, S: Scorer + Drop>(
     alloc: Global,
     core: Core<D, S>,
+    scorer: S,
     kind: Kind,
     score: &Score,
 ) -> (Result<Bytes, Why>, Core<D, S>)
@@ -24,44 +24,50 @@ pub fn read_block<D: Disk, S: Scorer>(
     ensures reads { ReadsBlock S.score_of D.Disk kind score.now.0 result.0 core result.1 }
     ensures most { IfOk result.0 (λ bytes. length bytes ≤ MAX_BLOCK) }
 {
-    let mut store = Driven::new(core, 0);
-    let block = read(alloc, &mut store, score, kind.wire(), MAX_BLOCK as u32);
-    (block, store.into_core())
+    blocks_are_asked::<D>();
+    let job = LocalJob {
+        job: ReadBlock {
+            kind,
+            score: *score,
+        },
+        scorer: &scorer,
+    };
+    let (used, core) = use_core(alloc, core, 0, &job, &mut ());
+    let (block, last_refusal) = used.output;
+    (answer_of(block, last_refusal), core)
 }
 
-/// Hands a block to a store whose first session waits for nothing, makes all durable that the store
+/// Hands a block of at most 57,344 bytes to a store whose first session waits for nothing, makes all durable that the store
 /// has accepted, and ends the store's use, whatever was answered. The score is given where all of
-/// that was done. `now` is the time of a clump that is added.
-pub fn write_block<D: Disk, S: Scorer>(
+/// that was done. The scorer is the store's own. `now` is the time of a clump that is added.
+pub fn write_block<D: Disk, S: Scorer + Drop>(
     alloc: Global,
     core: Core<D, S>,
+    scorer: S,
     now: u32,
     kind: Kind,
     bytes: &[u8],
 ) -> (Result<Score, Why>, Core<D, S>)
-    requires { WaitsForNone core.waiting 0 }
+    requires free { WaitsForNone core.waiting 0 }
+    requires most { length bytes.now ≤ MAX_BLOCK }
     ensures writes { WritesBlock S.score_of D.Disk now kind bytes.now result.0 core result.1 }
     ensures scored { IfOk result.0 (λ score. score.0 ≡ S.score_of bytes.now) }
 {
-    let mut store = Driven::new(core, now);
-    let put = put(alloc, &mut store, kind, bytes);
-    let mut core = store.into_core();
-    let closed = end(&mut core, alloc);
-    (closed_behind(put, closed), core)
-}
-
-/// Hands a block to a store, and makes it durable.
-fn put<T: Store>(alloc: Global, store: &mut T, kind: Kind, bytes: &[u8]) -> Result<Score, Why>
-    ensures puts { Puts T.Store kind bytes.now result store.old store.new }
-    ensures scored { IfOk result (λ score. score.0 ≡ T.score_of bytes.now) }
-{
-    let score = write(alloc, store, kind.wire(), bytes)?;
-    sync(alloc, store)?;
-    Ok(score)
+    blocks_are_asked::<D>();
+    let job = LocalJob {
+        job: WriteBlock { kind, bytes },
+        scorer: &scorer,
+    };
+    let (used, core) = use_core(alloc, core, now, &job, &mut ());
+    let (put, last_refusal) = used.output;
+    (
+        closed_behind(answer_of(put, last_refusal), used.closed),
+        core,
+    )
 }
 
 /// The first refusal of the two, or the score.
-fn closed_behind(put: Result<Score, Why>, closed: Result<(), Why>) -> Result<Score, Why>
+pub(crate) fn closed_behind(put: Result<Score, Why>, closed: Result<(), Why>) -> Result<Score, Why>
     ensures { result ≡ closed_behind put closed }
 {
     let score = put?;

@@ -5,13 +5,13 @@ ghost use Rattle.vt_base.specs.declared.TheConstants.{MAX_BLOCK};
 ghost use Rattle.vt_single.specs.Single.{ReadsBlock, WritesBlock};
 ghost use Rattle.vt_single.specs.Stored.{UsesStore, as_stored};
 
-use crate::laws::blocks_are_runs;
-use crate::single::{read_block, write_block};
+use crate::single::closed_behind;
 use std::alloc::Global;
 use vt_base::{Bytes, Kind, Score, Scorer, Why};
 use vt_conf::Conf;
-use vt_open::{OpenBad, close_store, open_store, shapes_are_kept};
+use vt_open::OpenBad;
 use vt_parts::Parts;
+use vt_use::{LocalJob, ReadBlock, WriteBlock, answer_of, blocks_are_asked, use_store};
 
 /// Why a block of a configuration's store wasn't read or written.
 #[derive(Drop)]
@@ -24,11 +24,11 @@ pub enum StoredBad {
 
 /// Opens the store of a configuration, asks it for the block of a type and a score, and closes it,
 /// whatever was answered.
-pub fn read_stored<P: Parts, S: Scorer + Drop>(
+pub fn read_stored<P: Parts, S: Scorer>(
     alloc: Global,
     parts: &mut P,
     conf: &Conf,
-    scorer: S,
+    scorer: &S,
     kind: Kind,
     score: &Score,
 ) -> Result<Bytes, StoredBad>
@@ -40,24 +40,30 @@ pub fn read_stored<P: Parts, S: Scorer + Drop>(
         (P.standing parts.new) (P.faults parts.old) (P.faults parts.new) result }
     ensures most { IfOk result (λ bytes. length bytes ≤ MAX_BLOCK) }
 {
-    blocks_are_runs::<P::Disk>();
-    shapes_are_kept::<P::Disk>();
-    let core = match open_store(alloc, parts, conf, 1, scorer) {
-        Ok(core) => core,
-        Err(bad) => return Err(StoredBad::Unopened(bad)),
+    blocks_are_asked::<P::Disk>();
+    let job = LocalJob {
+        job: ReadBlock {
+            kind,
+            score: *score,
+        },
+        scorer,
     };
-    let (block, core) = read_block(alloc, core, kind, score);
-    close_store(parts, conf, core);
-    as_stored(block)
+    match use_store(alloc, parts, conf, scorer, 0, &job, &mut ()) {
+        Ok(used) => {
+            let (block, last_refusal) = used.output;
+            as_stored(answer_of(block, last_refusal))
+        }
+        Err(bad) => Err(StoredBad::Unopened(bad)),
+    }
 }
 
-/// Opens the store of a configuration, hands it a block, makes that durable, ends the store's use and
+/// Opens the store of a configuration, hands it a block of at most 57,344 bytes, makes that durable, ends the store's use and
 /// closes it, whatever was answered. `now` is the time of a clump that is added.
-pub fn write_stored<P: Parts, S: Scorer + Drop>(
+pub fn write_stored<P: Parts, S: Scorer>(
     alloc: Global,
     parts: &mut P,
     conf: &Conf,
-    scorer: S,
+    scorer: &S,
     now: u32,
     kind: Kind,
     bytes: &[u8],
@@ -65,20 +71,24 @@ pub fn write_stored<P: Parts, S: Scorer + Drop>(
     requires few { length conf.now.arenas.items + length conf.now.sections.items + 1 < 2 ^ 32 }
     requires some_arenas { 0 < length conf.now.arenas.items }
     requires some_section { 0 < length conf.now.sections.items }
+    requires most { length bytes.now ≤ MAX_BLOCK }
     ensures uses { UsesStore S.score_of P.Disk.Disk (IsTrue P.tells) conf.now
         (WritesBlock S.score_of P.Disk.Disk now kind bytes.now) (P.standing parts.old)
         (P.standing parts.new) (P.faults parts.old) (P.faults parts.new) result }
     ensures scored { IfOk result (λ score. score.0 ≡ S.score_of bytes.now) }
 {
-    blocks_are_runs::<P::Disk>();
-    shapes_are_kept::<P::Disk>();
-    let core = match open_store(alloc, parts, conf, 1, scorer) {
-        Ok(core) => core,
-        Err(bad) => return Err(StoredBad::Unopened(bad)),
+    blocks_are_asked::<P::Disk>();
+    let job = LocalJob {
+        job: WriteBlock { kind, bytes },
+        scorer,
     };
-    let (score, core) = write_block(alloc, core, now, kind, bytes);
-    close_store(parts, conf, core);
-    as_stored(score)
+    match use_store(alloc, parts, conf, scorer, now, &job, &mut ()) {
+        Ok(used) => {
+            let (put, last_refusal) = used.output;
+            as_stored(closed_behind(answer_of(put, last_refusal), used.closed))
+        }
+        Err(bad) => Err(StoredBad::Unopened(bad)),
+    }
 }
 
 /// What a store that was opened answered.

@@ -4,7 +4,7 @@ use crate::made::{Form, InMemory, Made, Making, in_memory, make_all};
 use std::alloc::Global;
 use std::test::Fail;
 use std::thread::Threads;
-use vt_base::{FieldValue, Kind, MountBad, MountField, Scorer, Sha1Scorer, Text};
+use vt_base::{FieldValue, Kind, MAX_BLOCK, MountBad, MountField, Scorer, Sha1Scorer, Text};
 use vt_check::{ArenaReport, CheckErr, Damage, Report};
 use vt_conf::parse_conf;
 use vt_disk::Disk;
@@ -125,7 +125,8 @@ impl<P: TestParts> Made<P> {
             return false;
         };
         let (alloc, parts) = (self.alloc, &mut self.parts);
-        write_stored(alloc, parts, &conf, Sha1Scorer, 0, Kind::DATA, block).is_ok()
+        block.len() <= MAX_BLOCK
+            && write_stored(alloc, parts, &conf, &Sha1Scorer, 0, Kind::DATA, block).is_ok()
     }
 
     /// Whether the block is there.
@@ -136,7 +137,7 @@ impl<P: TestParts> Made<P> {
         };
         let score = Sha1Scorer.score(block);
         let (alloc, parts) = (self.alloc, &mut self.parts);
-        match read_stored(alloc, parts, &conf, Sha1Scorer, Kind::DATA, &score) {
+        match read_stored(alloc, parts, &conf, &Sha1Scorer, Kind::DATA, &score) {
             Ok(bytes) => bytes.as_slice() == block,
             Err(_) => false,
         }

@@ -1,6 +1,6 @@
 -- what is asked of a store, and the end of its use, are runs of events
 use Rattle.vac_write.specs.Archiving.{IsSeen}
-use Rattle.vac_store.proofs.Stays.{archive_keeps, archive_runs}
+use Rattle.vac_store.proofs.Asks.{archive_keeps, archive_runs}
 use Rattle.vac_store.proofs.laws.archives_are_runs.Goals as goal
 
 pub returns : goal.returns

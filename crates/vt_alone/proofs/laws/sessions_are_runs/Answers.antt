@@ -1,6 +1,6 @@
 -- requests and the end are runs of events
+use Rattle.vt_use.proofs.Tells.{run_tells}
 use Rattle.vt_alone.proofs.Leaves.{store_keeps, store_runs}
-use Rattle.vt_alone.proofs.Tells.{run_tells}
 use Rattle.vt_alone.proofs.laws.sessions_are_runs.Goals as goal
 
 pub returns-clause-run : goal.returns-clause-run

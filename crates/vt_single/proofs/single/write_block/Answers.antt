@@ -1,34 +1,23 @@
--- what was put, and the end behind it
-use Rattle.std.proofs.Common.{◌≡◌, sym, ◌∙◌, subst, Result}
+-- one use of the store, by a job that writes
+use Rattle.std.proofs.Common.{◌≡◌, refl}
 use Rattle.vt_base.specs.declared.score.Score.{Score}
-use Rattle.vt_base.specs.declared.why.Why.{Why}
-use Rattle.vt_core.specs.Core.{CoreState}
-use Rattle.vt_drive.specs.Driven.{DrivenState}
-use Rattle.vt_drive.specs.Ending.{Ends}
-use Rattle.vt_alone.specs.Sessions.{at_time, store_on}
-use Rattle.vt_single.specs.Single.{Puts}
-use Rattle.vt_single.proofs.Stays.{put_there, scored_behind}
+use Rattle.vt_single.proofs.Asks.{answer_holds, closed_holds, write_used}
 use Rattle.vt_single.proofs.single.write_block.Goals as goal
 
 pub returns-clause-writes : goal.returns-clause-writes
 returns-clause-writes g c =
-    let score = g.S.Scorer.score_of in
-    let disk = g.D.Disk in
-    let put = c.put-put.result in
-    let kept = c.into_core-core.result in
-    record {
-      put = put;
-      closed = c.end-closed.result;
-      kept = kept;
-      puts = put_there score disk c.args.now c.args.kind c.args.bytes.now put c.args.core
-          c.put-put.new.store kept (subst (λ (d : DrivenState _). Puts (store_on score disk)
-          c.args.kind c.args.bytes.now put d c.put-put.new.store) c.new-store.ensures
-          c.put-put.ensures.puts) c.into_core-core.ensures.core;
-      ends = c.end-closed.ensures;
-      result_is = c.closed_behind.ensures;
-    }
+    let used = c.use_core-used in
+    let output = used.result.0.output in
+    write_used g.S.Scorer.score_of g.D.Disk output.1 used.result.0.added used.result.0.closed
+    c.args.core used.result.1 c.args.now (record { kind = c.args.kind; bytes = c.args.bytes.now })
+    output.0 c.closed_behind.result used.ensures.uses
+    (rw (c.closed_behind.ensures, c.answer_of.ensures) refl)
 
 pub returns-clause-scored : goal.returns-clause-scored
-returns-clause-scored g c = scored_behind c.put-put.result c.end-closed.result
-    c.closed_behind.result c.closed_behind.ensures (g.S.Scorer.score_of c.args.bytes.now)
-    c.put-put.ensures.scored
+returns-clause-scored g c =
+    let used = c.use_core-used in
+    let output = used.result.0.output in
+    rw (c.closed_behind.ensures, c.answer_of.ensures) (closed_holds
+    (λ (given : Score). given.0 ≡ g.S.Scorer.score_of c.args.bytes.now) _ _
+    (answer_holds (λ (given : Score). given.0 ≡ g.S.Scorer.score_of c.args.bytes.now) output.0
+    output.1 used.ensures.uses.does.does.1))

@@ -1,54 +1,41 @@
--- a run of events keeps how many devices there are; the partitions are those that were handed out
-use Rattle.std.proofs.Common.{◌≡◌, ◌≤◌, ◌∙◌, ℕ, List, length}
+-- one use of the store, by a job that writes
+use Rattle.std.proofs.Common.{◌≡◌, refl}
 use Rattle.std.specs.Prelude.{IsTrue}
-use Rattle.vt_base.specs.declared.TheConstants.{MAX_BLOCK}
 use Rattle.vt_base.specs.declared.score.Score.{Score}
-use Rattle.vt_core.specs.Core.{devices_of}
-use Rattle.vt_open.specs.Names.{files_of}
-use Rattle.vt_single.specs.Single.{ReadsBlock, WritesBlock}
-use Rattle.vt_single.proofs.Using.{holds_as, shape_more, uses_so}
+use Rattle.vt_single.specs.Single.{WritesBlock}
+use Rattle.vt_single.proofs.Asks.{answer_holds, closed_holds, write_used}
+use Rattle.vt_single.proofs.Using.{holds_as, uses_so}
 use Rattle.vt_single.proofs.stored.write_stored.Goals as goal
 
-pub close_store-requires : goal.close_store-requires
-close_store-requires g c =
-    let score = g.S.Scorer.score_of in
-    let kind = c.args.kind in
-    let opened = c.in-Ok.core in
-    let left = c.write_block-score.result.1 in
-    let run = (c.blocks_are_runs.ensures.written score c.args.now kind c.args.bytes.now c.write_block-score.result.0 opened left
-    c.write_block-score.ensures.writes).0 in
-    shape_more (devices_of left) (devices_of opened) (files_of c.args.conf.now)
-    (c.shapes_are_kept.ensures.run score run.0 run.1 opened left run.2)
-    c.in-Ok.ensures.opens.devices
-
-pub returns-clause-uses : goal.returns-clause-uses
-returns-clause-uses g c =
+pub returns-in-Ok-clause-uses : goal.returns-in-Ok-clause-uses
+returns-in-Ok-clause-uses g c =
     let score = g.S.Scorer.score_of in
     let disk = g.P.Disk.Disk in
     let parts = g.P.Parts in
-    let kind = c.args.kind in
-    let opened = c.in-Ok.core in
-    let left = c.write_block-score.result.1 in
-    let run = (c.blocks_are_runs.ensures.written score c.args.now kind c.args.bytes.now c.write_block-score.result.0 opened left
-    c.write_block-score.ensures.writes).0 in
+    let used = c.in-Ok.used in
+    let uses = c.in-Ok.ensures.uses in
     uses_so score disk (IsTrue parts.tells) c.args.conf.now
-    (WritesBlock score disk c.args.now kind c.args.bytes.now)
-    (parts.standing c.args.parts.now) (parts.standing c.close_store.new.parts)
-    (parts.faults c.args.parts.now) (parts.faults c.close_store.new.parts)
-    c.write_block-score.result.0 c.as_stored.result c.as_stored.ensures (record {
-      opened = opened;
-      left = left;
-      during = parts.standing c.open_store.new.parts;
-      opens = c.in-Ok.ensures.opens;
-      does = c.write_block-score.ensures.writes;
-      shape = shape_more (devices_of left) (devices_of opened) (files_of c.args.conf.now)
-          (c.shapes_are_kept.ensures.run score run.0 run.1 opened left run.2)
-          c.in-Ok.ensures.opens.devices;
-      given = c.close_store.ensures.given;
-    }) (c.close_store.ensures.faults ∙ c.in-Ok.ensures.faults)
+    (WritesBlock score disk c.args.now c.args.kind c.args.bytes.now)
+    (parts.standing c.args.parts.now) (parts.standing c.use_store.new.parts)
+    (parts.faults c.args.parts.now) (parts.faults c.use_store.new.parts)
+    c.closed_behind.result c.as_stored.result c.as_stored.ensures (record {
+      opened = uses.opened;
+      left = uses.left;
+      during = uses.during;
+      opens = uses.opens;
+      does = write_used score disk used.output.1 used.added used.closed uses.opened uses.left
+          c.args.now (record { kind = c.args.kind; bytes = c.args.bytes.now }) used.output.0
+          c.closed_behind.result uses.does (rw (c.closed_behind.ensures, c.answer_of.ensures) refl);
+      shape = uses.shape;
+      given = uses.given;
+    }) c.in-Ok.ensures.faults
 
-pub returns-clause-scored : goal.returns-clause-scored
-returns-clause-scored g c = holds_as
-    (λ (given : Score). given.0 ≡ g.S.Scorer.score_of c.args.bytes.now)
-    c.write_block-score.result.0 c.as_stored.result c.as_stored.ensures
-    c.write_block-score.ensures.scored
+pub returns-in-Ok-clause-scored : goal.returns-in-Ok-clause-scored
+returns-in-Ok-clause-scored g c =
+    let output = c.in-Ok.used.output in
+    holds_as (λ (given : Score). given.0 ≡ g.S.Scorer.score_of c.args.bytes.now)
+    c.closed_behind.result c.as_stored.result c.as_stored.ensures
+    (rw (c.closed_behind.ensures, c.answer_of.ensures) (closed_holds
+    (λ (given : Score). given.0 ≡ g.S.Scorer.score_of c.args.bytes.now) _ _
+    (answer_holds (λ (given : Score). given.0 ≡ g.S.Scorer.score_of c.args.bytes.now)
+    output.0 output.1 c.in-Ok.ensures.uses.does.does.does.1)))

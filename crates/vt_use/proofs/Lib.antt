@@ -1,0 +1,10 @@
+pub mod Answered
+pub mod Calls
+pub mod Causes
+pub mod Keeps
+pub mod Marks
+pub mod Memory
+pub mod OneBlocks
+pub mod Runs
+pub mod Tells
+pub mod Uses
