@@ -1,4 +1,4 @@
--- What the steps of a walk tell.
+-- What the steps of a walk tell (where names lead: Walks.antt).
 use Rattle.std.specs.Prelude.{ℕ, ◌≡◌, ◌≢◌, ◌<◌, ◌^◌, map, false, Result, Ok, Err, List, [], length}
 use Rattle.std.specs.List.{AllByRecursion}
 use Rattle.std.specs.Str.{bytes_eq}

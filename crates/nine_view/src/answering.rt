@@ -201,6 +201,7 @@ impl View {
         requires room { length out.old ≡ 65536 }
         ensures { Settles tag self.now self.now out.new result (stays self.now r_flush) }
     {
+        // (so that what a view keeps is known here)
         let _ = &self.msize;
         Ok(encode(tag, &Reply::Flush, out))
     }

@@ -25,6 +25,7 @@ impl Model for Fids {
 }
 
 impl Fids {
+    /// No fid is known.
     pub(crate) fn new(alloc: Global) -> Self
         ensures { result ≡ [] }
     {
@@ -33,6 +34,7 @@ impl Fids {
         }
     }
 
+    /// How many fids are known.
     pub(crate) fn len(&self) -> usize
         ensures { result ≡ length self.now }
     {
@@ -46,6 +48,7 @@ impl Fids {
         self.entries.clear();
     }
 
+    /// What is known of a fid, if it is known.
     pub(crate) fn get(&self, fid: u32) -> Option<&Fid>
         ensures { option_copied result ≡ fid_at fid self.now }
     {
@@ -55,6 +58,7 @@ impl Fids {
         }
     }
 
+    /// Whether a fid is known.
     pub(crate) fn contains(&self, fid: u32) -> bool
         ensures { result ≡ is_known fid self.now }
     {
@@ -73,6 +77,7 @@ impl Fids {
         Ok(())
     }
 
+    /// A fid isn't known any more.
     pub(crate) fn remove(&mut self, fid: u32)
         ensures { self.new ≡ without_fid fid self.old }
     {

@@ -24,11 +24,12 @@ pub use serving::{Ended, Served, serve_nine};
 pub use view::View;
 pub use way::Way;
 
-/// The least and the most bytes that a message may be agreed to have (version(5)).
+/// The least bytes that a message may be agreed to have (version(5)).
 pub const MIN_MESSAGE: u32 = 256;
 
 const _: () = prove!(MIN_MESSAGE == 256);
 
+/// The most, and as many as the buffers have.
 pub const MAX_MESSAGE: usize = 65_536;
 
 const _: () = prove!(MAX_MESSAGE == 65_536);

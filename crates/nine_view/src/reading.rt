@@ -144,7 +144,7 @@ fn put_next(
         return Err(Refusal::FidNotOpen);
     };
     let from = first_file(&reading, offset);
-    let (count, len) = put_files(behind(files, from), room, buf);
+    let (count, len) = put_files(files_from(files, from), room, buf);
     if is_small(count, from, count_of(files)) {
         return Err(Refusal::SmallCount);
     }
@@ -189,14 +189,15 @@ fn is_small(count: usize, from: usize, files: usize) -> bool
     count == 0 && from < files
 }
 
+/// How many files there are.
 fn count_of(files: &[Node]) -> usize
     ensures { result ≡ length files.now }
 {
     files.len()
 }
 
-/// The files from this number on.
-fn behind(files: &[Node], from: usize) -> &[Node]
+/// The files from this number on, that one among them; none where there are fewer.
+fn files_from(files: &[Node], from: usize) -> &[Node]
     ensures { result.now ≡ drop from files.now }
 {
     &files[from.min(files.len())..]

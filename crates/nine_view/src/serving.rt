@@ -85,6 +85,7 @@ struct Buffers {
 }
 
 impl Buffers {
+    /// Both of zeros, and each as long as the longest message.
     fn new(alloc: Global) -> Result<Self, AllocError>
         ensures message { IfOk result (λ b. length b.message.items ≡ 65536) }
         ensures reply { IfOk result (λ b. length b.reply.items ≡ 65536) }

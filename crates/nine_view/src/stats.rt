@@ -14,12 +14,14 @@ use vt_folder::Item;
 /// The bit that a folder's mode has (stat(5)).
 const FOLDER: u32 = 0x8000_0000;
 
+/// Whether what is stored is a folder.
 pub(crate) fn is_folder(stored: &Stored) -> bool
     ensures { result ≡ is_folder stored.now }
 {
     matches!(stored, Stored::Folder { .. })
 }
 
+/// A file's qid: whether it is a folder, and its number in the archive.
 pub(crate) fn qid_of(node: &Node) -> Qid
     ensures { wire_qid result ≡ qid_of node.now }
 {
@@ -29,6 +31,7 @@ pub(crate) fn qid_of(node: &Node) -> Qid
     }
 }
 
+/// What is told of a file (stat(5)).
 pub(crate) fn stat_of(node: &Node) -> Stat<'_>
     requires { IsTold node.now }
     ensures stat { wire_stat result ≡ stat_of node.now }
@@ -50,12 +53,14 @@ pub(crate) fn stat_of(node: &Node) -> Stat<'_>
     }
 }
 
+/// When an item was changed last, in seconds since 1970.
 fn mtime_of(item: &Item) -> u32
     ensures { result ≡ item.now.mtime }
 {
     item.mtime
 }
 
+/// How many bytes a file has; 0 of a folder.
 fn size_of(node: &Node) -> u64
     ensures { result ≡ node.now.size }
 {

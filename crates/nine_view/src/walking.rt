@@ -94,6 +94,7 @@ impl View {
         requires room { length out.old ≡ 65536 }
         ensures { EndsShort tag (limit self.now) out.new result (map wire_qid qids.now) why }
     {
+        // (so that what a view keeps is known here)
         let _ = &self.msize;
         if qids.is_empty() {
             return Err(why.into());

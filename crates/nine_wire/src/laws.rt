@@ -1,11 +1,12 @@
-//! Laws of messages, each the contract of a function that does nothing.
+//! Laws of messages, each the contract of a function that does nothing. No code calls them: they
+//! check the definitions.
 
 ghost use Rattle.std.specs.Prelude.{◌≡◌, ◌<◌, ◌^◌, ◌++◌, ℕ, List};
 ghost use Rattle.nine_wire.specs.Frames.{IsFrame, Spells, spelled};
 ghost use Rattle.nine_wire.specs.Messages.{TMessage, RMessage, FitsReply};
 ghost use Rattle.nine_wire.specs.Messages.{reply_type, reply_parameters};
 
-/// No bytes spell two requests.
+/// No bytes spell two requests, nor one under two tags.
 pub fn one_request()
     ensures { (s t : ℕ) (m n : TMessage) (bytes : List ℕ) →
         Spells s m bytes → Spells t n bytes → (s ≡ t) × (m ≡ n) }

@@ -115,6 +115,7 @@ fn check(head: &ArenaHead, sealed: u8, number: u32, len: u64) -> Result<(), Aren
     Ok(())
 }
 
+/// A field that can't stand there.
 fn torn(field: Field, found: u128, want: u128) -> ArenaBad
     ensures { result ≡ ArenaBad.Torn field found want }
 {

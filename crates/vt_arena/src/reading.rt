@@ -175,19 +175,22 @@ fn refusal(bad: ClumpBad) -> ReadBad
     ensures memory { bad ≡ ClumpBad.NoMemory → result ≡ ReadBad.NoMemory }
 {
     let (want, found) = match bad {
-        ClumpBad::Short => (number(CLUMP_HEADER_LEN as u16), number(0)),
+        ClumpBad::Short => (number_value(CLUMP_HEADER_LEN as u16), number_value(0)),
         ClumpBad::Magic(found) => (FieldValue::Magic(*b"VCLP"), FieldValue::Magic(found)),
-        ClumpBad::Kind(found) => (number(13), number(u16::from(found))),
-        ClumpBad::Encoding(Encoding::Compressed) => (number(1), number(2)),
-        ClumpBad::Encoding(Encoding::Unknown(found)) => (number(1), number(u16::from(found))),
-        ClumpBad::Size { want, found } => (number(want), number(found)),
+        ClumpBad::Kind(found) => (number_value(13), number_value(u16::from(found))),
+        ClumpBad::Encoding(Encoding::Compressed) => (number_value(1), number_value(2)),
+        ClumpBad::Encoding(Encoding::Unknown(found)) => {
+            (number_value(1), number_value(u16::from(found)))
+        }
+        ClumpBad::Size { want, found } => (number_value(want), number_value(found)),
         ClumpBad::Score { want, found } => (FieldValue::Score(want), FieldValue::Score(found)),
         ClumpBad::NoMemory => return ReadBad::NoMemory,
     };
     ReadBad::Damaged { want, found }
 }
 
-fn number(n: u16) -> FieldValue
+/// A number, as damage tells it.
+fn number_value(n: u16) -> FieldValue
     ensures { result ≡ FieldValue.Number n }
 {
     FieldValue::Number(u128::from(n))

@@ -46,7 +46,7 @@ impl Kind {
         }
     }
 
-    /// The number of the block type.
+    /// The number of the block type, the same in messages and on disks.
     pub fn wire(self) -> u8
         ensures number { result ≡ self }
         ensures valid { IsKind result }

@@ -83,6 +83,7 @@ pub fn decode_head(frame: &[u8], m: u8) -> Result<(u8, u64), BloomBad>
     Ok((k, u64_at(frame, 8)))
 }
 
+/// A field that can't stand there.
 fn torn(field: Field, found: u64, want: u64) -> BloomBad
     ensures { result ≡ BloomBad.Torn field found want }
 {

@@ -101,6 +101,7 @@ impl<D: Disk, S: Scorer> Core<D, S> {
         self.find_on::<Brand>(alloc, key, Blank::new(1))
     }
 
+    /// The same on a new ledger, in which steps are counted in contracts alone (`vt_steps`).
     fn find_on<L: Ledger>(
         &mut self,
         alloc: Global,
@@ -176,7 +177,9 @@ impl<D: Disk, S: Scorer> Core<D, S> {
         }
     }
 
-    /// Tests a block of a key, which isn't the zero score's. One that is new can be added.
+    /// Tests a block of a key, which isn't the zero score's: whether it or another one of its score
+    /// is held, and whether its bucket and the arenas have room (`test_write` of vt_lookup). One
+    /// that is new can be added.
     fn test(&mut self, alloc: Global, shard: usize, key: &Key, block: &[u8]) -> Result<Verdict, Why>
         requires shard { shard ≡ shard_of self.old key.now.score.0 }
         requires has { (s : ShardState D) → slice_get self.old.shards shard ≡ Some s
@@ -191,6 +194,7 @@ impl<D: Disk, S: Scorer> Core<D, S> {
         self.test_on::<Brand>(alloc, shard, key, block, Blank::new(1))
     }
 
+    /// The same on a new ledger, in which steps are counted in contracts alone (`vt_steps`).
     fn test_on<L: Ledger>(
         &mut self,
         alloc: Global,

@@ -2,7 +2,8 @@
 //! one event at a time (Quinlan and Dorward, "Venti: a new approach to archival storage", FAST
 //! 2002). After a crash at any moment it is found again with a prefix of its history that has every
 //! block that a sync covered.
-// Tests: crates/vt_core_tests/src.
+// Tests: crates/vt_core_tests/src/asking.rt (answers), drawn.rt (events beside a plain list),
+// crashing.rt, mounting.rt and refusals.rt (mounting).
 #![tactic(auto)]
 
 mod advancing;

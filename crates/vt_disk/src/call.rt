@@ -14,6 +14,7 @@ use vt_base::Failed;
 pub enum Call<'a> {
     /// Writes these bytes over what stands from this place of the disk on.
     Write { start: u64, chunk: &'a [u8] },
+    /// Syncs the disk.
     Sync,
 }
 
@@ -70,6 +71,7 @@ impl CallCount {
     }
 }
 
+/// Makes this call, and counts nothing.
 fn make_call<D: Disk>(disk: &mut D, call: Call<'_>) -> Result<(), Failed>
     requires { CallFits (call_of call) (D.size disk.old) }
     ensures written { OnOk result (IsTrue D.tells

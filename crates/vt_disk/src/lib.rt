@@ -1,5 +1,6 @@
 //! A disk: what a read gives, and what a crash may leave.
-// Tests: crates/vt_disk_tests/src/memdisk.rt.
+// Tests: crates/vt_disk_tests/src/memdisk.rt (disks, regions), crates/vt_disk_tests/src/twin.rt
+// (calls that are counted).
 #![tactic(auto)]
 
 mod call;

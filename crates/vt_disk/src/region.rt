@@ -22,7 +22,9 @@ pub struct Region {
 }
 
 impl Region {
-    /// The call that writes from a place in the region on, counted from its start.
+    /// The call that writes from a place in the region on, counted from its start. It is made by
+    /// `CallCount::make`, which asks that it fits the disk: that it lies in the region is for the
+    /// caller to show.
     pub fn write_call<'a>(self, at: u64, chunk: &'a [u8]) -> Call<'a>
         requires { self.start + at < 2 ^ 64 }
         ensures { call_of result ≡ write (self.start + at) chunk.now }

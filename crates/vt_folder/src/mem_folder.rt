@@ -87,7 +87,7 @@ impl MemFolder {
         folder
     }
 
-    /// From now on the calls with these numbers fail too.
+    /// From now on the calls with these numbers fail, in place of those that were named before.
     pub fn failing(self, calls: Vec<u64>) -> Self
         ensures { state_of result ≡ record (state_of self) { failing = calls.items } }
     {

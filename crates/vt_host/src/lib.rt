@@ -4,7 +4,8 @@
 //! Nothing is told of what they hold. Each failed call is counted. Which calls of the system an
 //! adapter makes, in which order, and that it hands on what they answer is proved over every file,
 //! stream and clock that tells the calls that were made of it.
-// Tests: crates/vt_host_tests/src.
+// Tests: crates/vt_host_tests/src/streams.rt (source, sink), named.rt (files, parts), disk.rt,
+// folder.rt and owners.rt (folders), dialer.rt (links), clock.rt.
 #![tactic(auto)]
 
 mod clock;

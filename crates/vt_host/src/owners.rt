@@ -20,6 +20,7 @@ pub struct Owners {
     owners: Vec<Owner>,
 }
 
+// No clause says which names these are: that is only tested (crates/vt_host_tests/src/owners.rt).
 impl Owners {
     /// What the lines of a file say. A line that is none of a number is skipped.
     pub fn from_lines(alloc: Global, lines: &[u8]) -> Result<Self, AllocError> {
@@ -57,11 +58,12 @@ fn owner_in(line: &[u8]) -> Option<(&[u8], u32)> {
     Some((name, id as u32))
 }
 
-/// The bytes before the first such byte, and those behind it; where there is none, all, and none.
-pub(crate) fn cut(bytes: &[u8], at: u8) -> (&[u8], &[u8])
+/// The bytes before the first one that is this byte, and those behind it; where there is none, all,
+/// and none. The clause is for loops, which end by it.
+pub(crate) fn cut(bytes: &[u8], separator: u8) -> (&[u8], &[u8])
     ensures shorter { 0 < length bytes.now → length result.1.now < length bytes.now }
 {
-    match bytes.iter().position(|byte| *byte == at) {
+    match bytes.iter().position(|byte| *byte == separator) {
         Some(place) => (&bytes[..place], &bytes[place + 1..]),
         None => (bytes, &[]),
     }

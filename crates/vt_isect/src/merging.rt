@@ -1,4 +1,4 @@
-//! Putting the entries of a writeback into a bucket.
+//! Buckets out of frames, and putting the entries of a writeback into one.
 
 ghost use Rattle.std.specs.Prelude.{◌≡◌, ◌≢◌, ◌⊎◌, ◌↔◌, ℕ, ◌+◌, ◌%◌, ◌<◌, ◌≤◌, List, length, IsTrue, IsOkAnd, IfOk, IfErr, OnOk, IfSome, MatchOption, Some, Err};
 ghost use Rattle.std.specs.List.{Contains};
@@ -19,7 +19,8 @@ use vt_bucket::{Bucket, BucketBad, Full, decode};
 use vt_disk::{Disk, Region};
 use vt_model::BUCKET_ROOM;
 
-/// The bucket of a frame.
+/// The bucket of this number, over all sections, as a frame spells it; or the frame's first fault,
+/// told as the section's damage.
 pub fn decode_bucket(frame: &[u8], number: u32) -> Result<Bucket, ShardErr>
     requires { length frame.now ≡ FRAME_LEN }
     ensures number { IfOk result (λ bucket. number_of bucket ≡ number) }
@@ -40,9 +41,15 @@ fn damage(bucket: u32, bad: BucketBad) -> ShardErr
 {
     let (want, found) = match bad {
         BucketBad::Magic(found) => (FieldValue::Magic(*b"VBKT"), FieldValue::Magic(found)),
-        BucketBad::Number(found) => (number(bucket), number(found)),
-        BucketBad::Count(found) => (number(BUCKET_ROOM as u32), number(u32::from(found))),
-        BucketBad::Order { entry, count } => (number(u32::from(count)), number(u32::from(entry))),
+        BucketBad::Number(found) => (number_value(bucket), number_value(found)),
+        BucketBad::Count(found) => (
+            number_value(BUCKET_ROOM as u32),
+            number_value(u32::from(found)),
+        ),
+        BucketBad::Order { entry, count } => (
+            number_value(u32::from(count)),
+            number_value(u32::from(entry)),
+        ),
     };
     ShardErr::Damaged {
         bucket,
@@ -51,7 +58,8 @@ fn damage(bucket: u32, bad: BucketBad) -> ShardErr
     }
 }
 
-fn number(value: u32) -> FieldValue
+/// A number, as damage tells it.
+fn number_value(value: u32) -> FieldValue
     ensures { result ≡ FieldValue.Number value }
 {
     FieldValue::Number(u128::from(value))

@@ -54,6 +54,7 @@ pub fn frame_write<'a>(bucket: u32, number: u8, frame: &'a [u8]) -> Call<'a>
 pub fn selector_write<'a>(bucket: u32, selector: &'a [u8; SECTOR_LEN]) -> Call<'a>
     ensures { call_of result ≡ write (selector_start (place_of bucket) FRAME_LEN) selector.now }
 {
+    // (the selector, behind both frames)
     bucket_place(bucket).write_call(2 * FRAME_LEN as u64, selector)
 }
 

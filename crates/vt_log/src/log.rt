@@ -38,14 +38,18 @@ pub struct Log<D: Disk, S: Scorer> {
     pub(crate) layout: Layout,
     /// Each arena's head, as mounted or last committed. The selectors are those at mounting.
     pub(crate) heads: Vec<Found>,
+    /// The first arena that wasn't sealed at mounting, or the count of arenas.
     pub(crate) base: u32,
+    /// The number of the arena that is committed in.
     pub(crate) committing: u32,
     /// The arena that is committed in. Its room goes to the next one with it. Where every arena is
     /// sealed, it is one of no partition.
     pub(crate) arena: Arena,
     pub(crate) queue: Queue,
     pub(crate) filling: Filling,
+    /// How many blocks are committed.
     pub(crate) durable: u64,
+    /// The device calls of `advance`.
     pub(crate) calls: CallCount,
 }
 
@@ -131,13 +135,6 @@ impl<D: Disk, S: Scorer> Log<D, S> {
         ensures { result ≡ self.now.durable }
     {
         self.durable
-    }
-
-    /// The first arena that wasn't sealed when the log was mounted, or their count.
-    pub fn base(&self) -> u32
-        ensures { result ≡ self.now.base }
-    {
-        self.base
     }
 
     /// The score of a block's bytes.

@@ -23,7 +23,6 @@ fn next_byte(pending: bool, synced: u8, written: u8, choice: &[u16], next: usize
 }
 
 /// The place in the list for the next byte.
-// (tests of crashes: crates/vt_disk_tests/src/memdisk.rt)
 fn next_place(pending: bool, next: usize) -> usize
     requires { next < 2 ^ 64 - 1 }
     ensures value { result ≡ (if pending then next + 1 else next) }

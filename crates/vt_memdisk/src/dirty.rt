@@ -89,7 +89,7 @@ impl Dirty {
         self.count == 0
     }
 
-    /// The last dirty sector.
+    /// The dirty sector at the last dirty place of the order, whatever its number.
     pub fn last(&self) -> usize
         requires { 0 < self.now.count }
         ensures in_range { result < length self.now.place.items }
@@ -98,7 +98,7 @@ impl Dirty {
         self.order[self.count - 1]
     }
 
-    /// The last one is clean.
+    /// The sector that `last` gives becomes clean.
     pub fn drop_last(&mut self)
         requires { 0 < self.old.count }
         ensures place { self.new.place ≡ self.old.place }

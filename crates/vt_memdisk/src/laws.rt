@@ -1,4 +1,5 @@
-//! Laws of disks in memory: what a crash leaves is what the model says, and all that it says.
+//! Laws of disks in memory: what a crash leaves is what the model says, and all that it says. No
+//! code calls them: they check the definitions.
 
 ghost use Rattle.std.specs.Prelude.{◌≡◌, ◌↔◌, ◌+◌, ◌≤◌, ℕ, Bool, List, IsTrue, length};
 ghost use Rattle.vt_base.specs.Bytes.{AreBytes};

@@ -1,5 +1,6 @@
-//! Laws of the definitions of this crate, each the contract of a function that does nothing. In
-//! each, `score` is any function of a block's bytes, also one that gives different bytes one score.
+//! Laws of the definitions of this crate, each the contract of a function that does nothing. Those
+//! that no code calls check the definitions. In each, `score` is any function of a block's bytes,
+//! also one that gives different bytes one score.
 
 ghost use Rattle.std.specs.Prelude.{◌≡◌, ◌≢◌, ◌↔◌, ◌⊎◌, ℕ, ◌+◌, ◌<◌, ◌≤◌, true, false, List, [], ◌∷◌, ◌++◌, Some, None, slice_get, slice_index, length, take, sum};
 ghost use Rattle.std.specs.List.{AllPairs};

@@ -16,14 +16,16 @@ use std::alloc::{AllocError, Global};
 use std::marker::Model;
 use vt_base::{Bytes, Key, Kind, MAX_BLOCK, Score, Scorer, Why};
 
-// A write that is answered with its score: that, and where its block is to be added, if it is.
+/// A write that is answered with its score: that, and where its block is to be added, if it is.
 #[derive(Clone, Copy)]
 struct Verdict {
     score: Score,
     arena: Option<usize>,
 }
 
-/// A store that is one list of blocks, searched from the front: slow, and plainly right.
+/// A store that is one list of blocks, searched from the front: slow, and plainly right. Tests
+/// alone use it, beside the log and the store: crates/vt_log_tests/src/log.rt,
+/// crates/vt_core_tests/src/drawn.rt.
 #[derive(Drop)]
 pub struct PlainStore<S: Scorer> {
     scorer: S,
@@ -107,7 +109,7 @@ impl<S: Scorer> PlainStore<S> {
         Ok(bytes)
     }
 
-    // What becomes of a write of a block type.
+    /// What becomes of a write of a block type.
     fn judge(&self, kind: Kind, bytes: &[u8]) -> Result<Verdict, Why>
         ensures answer { answer_to_write S.score_of self.now.setup self.now.history kind bytes.now
             ≡ outcome_of kind bytes.now result }
@@ -137,7 +139,7 @@ impl<S: Scorer> PlainStore<S> {
         })
     }
 
-    // The bytes under a key.
+    /// The bytes under a key.
     fn held(&self, key: &Key) -> Option<&[u8]>
         ensures { option_copied result
             ≡ held S.score_of self.now.history key.now.score.0 key.now.kind }
@@ -149,7 +151,7 @@ impl<S: Scorer> PlainStore<S> {
         Some(block.bytes.as_slice())
     }
 
-    // Whether this score is the zero score, or that of a block with other bytes.
+    /// Whether this score is the zero score, or that of a block with other bytes.
     fn collides(&self, score: &Score, bytes: &[u8]) -> bool
         requires { score.now.0 ≡ S.score_of bytes.now }
         ensures { result ≡ collides S.score_of self.now.history bytes.now }
@@ -157,7 +159,7 @@ impl<S: Scorer> PlainStore<S> {
         *score == self.scorer.score(&[]) || has_other_bytes(&self.blocks, score, bytes)
     }
 
-    // Whether the bucket of a score has no room.
+    /// Whether the bucket of a score has no room.
     fn is_full(&self, score: &Score) -> bool
         ensures { let n = bucket_count self.now.setup in
             let taken = crowd S.score_of n self.now.history (bucket_of n score.now.0) in
@@ -167,7 +169,7 @@ impl<S: Scorer> PlainStore<S> {
         crowd(&self.blocks, buckets, bucket_of(buckets, score)) >= BUCKET_ROOM
     }
 
-    // Where a further block of `len` bytes goes.
+    /// Where a further block of `len` bytes goes.
     fn next_arena(&self, len: usize) -> Option<usize>
         ensures { result ≡ next_arena self.now.setup self.now.history len }
     {
@@ -180,7 +182,7 @@ impl<S: Scorer> PlainStore<S> {
         Some(next)
     }
 
-    // Whether a further block of `len` bytes fits an arena.
+    /// Whether a further block of `len` bytes fits an arena.
     fn fits(&self, arena: usize, len: usize) -> bool
         ensures { result
             ≡ fits self.now.setup arena (lengths_in arena self.now.history ++ len ∷ []) }
@@ -191,7 +193,7 @@ impl<S: Scorer> PlainStore<S> {
         }
     }
 
-    // Puts a new block at the end; on want of memory nothing changes.
+    /// Puts a new block at the end; on want of memory nothing changes.
     fn add(&mut self, alloc: Global, key: Key, bytes: &[u8], arena: usize) -> Result<(), AllocError>
         requires { key.score.0 ≡ S.score_of bytes.now }
         ensures ok { OnOk result (self.new.history ≡ self.old.history ++ record {

@@ -52,7 +52,7 @@ impl MemFiles {
         Ok(files)
     }
 
-    /// From now on the calls with these numbers fail too.
+    /// From now on the calls with these numbers fail, in place of those that were named before.
     pub fn failing(self, calls: Vec<u64>) -> Self
         ensures held { files_held result ≡ files_held self }
         ensures failing { files_failing result ≡ calls.items }

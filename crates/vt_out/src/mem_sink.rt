@@ -49,7 +49,7 @@ impl MemSink {
         })
     }
 
-    /// From now on the calls with these numbers fail too.
+    /// From now on the calls with these numbers fail, in place of those that were named before.
     pub fn failing(self, calls: Vec<u64>) -> Self
         ensures written { sink_written result ≡ sink_written self }
         ensures room { sink_room result ≡ sink_room self }

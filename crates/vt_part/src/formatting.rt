@@ -71,7 +71,7 @@ pub fn format<D: Disk>(disk: &mut D, name: &Text, arena_size: u64) -> Result<u32
     Ok(count)
 }
 
-/// The bytes of block 0.
+/// The bytes of block 0: the table, which `Head::decode` reads back, and zeros behind it.
 fn encode(name: &[u8], arena_size: u64, count: u32) -> [u8; BLOCK_LEN]
     requires { length name.now ≤ NAME_LEN }
     ensures { result

@@ -71,6 +71,7 @@ impl Head {
     }
 }
 
+/// A field that can't stand there.
 fn torn(field: Field, found: u64, want: u64) -> PartBad
     ensures { result ≡ PartBad.Torn field found want }
 {

@@ -62,6 +62,7 @@ pub fn read_back<D: Disk, S: Scorer>(
     read_back_on::<D, S, Brand>(log, shards, bits, least, part, Blank::new(1))
 }
 
+/// The same on a new ledger, in which steps are counted in contracts alone (`vt_steps`).
 fn read_back_on<D: Disk, S: Scorer, L: Ledger>(
     log: &mut Log<D, S>,
     shards: &mut [Shard<D>],

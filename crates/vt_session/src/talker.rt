@@ -16,7 +16,7 @@ use std::alloc::{AllocError, Global};
 use std::marker::Model;
 use vt_wire::{Line, decode_line, frame_len};
 
-/// The most bytes that one link takes.
+/// The most bytes that one link takes: `spent_len` of specs/Talk.antt.
 pub const MAX_TAKEN: u64 = 1 << 62;
 
 /// Hears an input as it comes in, to the same effect whatever the pieces.
@@ -108,7 +108,7 @@ impl Talker {
         }
     }
 
-    /// How many bytes were taken.
+    /// How many bytes of the input were taken, heard or still waiting: at most 2^62.
     pub fn taken(&self) -> u64
         ensures is { result ≡ self.now.taken }
         ensures most { result ≤ spent_len }

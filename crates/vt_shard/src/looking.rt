@@ -145,6 +145,7 @@ impl<D: Disk> Shard<D> {
         self.read_on::<Brand>(number, Blank::new(1))
     }
 
+    /// The same on a new ledger, in which steps are counted in contracts alone (`vt_steps`).
     fn read_on<L: Ledger>(&mut self, number: u32, blank: Blank) -> Result<(), ShardErr>
         requires in_range { InRange self.old.section.head self.old.section.buckets number }
         requires name { blank.name ≡ L.name }

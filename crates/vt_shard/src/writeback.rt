@@ -154,14 +154,14 @@ impl<D: Disk> Shard<D> {
     }
 }
 
-/// Whether an entry is that of a block below this number.
+/// Whether one of these dirty entries is that of a block whose number in the log is below this.
 fn has_below(dirty: &[Info], below: u64) -> bool
     ensures { IsTrue result ↔ HasBelow below dirty.now }
 {
     dirty.iter().any(|info| info.number < below)
 }
 
-/// These dirty entries become clean, which are of blocks below a number.
+/// These dirty entries, of blocks below a number, become clean.
 fn settle(index: &mut IndexCache, entries: &[Entry], below: u64)
     requires keys { AllPairs (λ a b. a.key ≢ b.key) index.old.dirty }
     requires apart { AllPairs (λ a b. a.key ≢ b.key) entries.now }
@@ -273,7 +273,7 @@ fn fill(list: &mut Vec<Entry>, dirty: &[Info], below: u64)
     }
 }
 
-/// The least number that is above those of all entries.
+/// The least number above those of all dirty entries.
 fn above_all(dirty: &[Info]) -> Option<u64>
     requires { All (λ info. info.number < 2 ^ 64 - 1) dirty.now }
     ensures some { IfSome result (IsAboveAll dirty.now) }

@@ -24,6 +24,10 @@ impl<L: Ledger> Model for Steps<L> {
 
 impl<L: Ledger> Steps<L> {
     /// No steps, on a new ledger.
+    ///
+    /// Whoever starts a count calls a function over any ledger, at `std::marker::Brand` and with
+    /// `Blank::new(1)`, and the proof names the ledger there: so such a call comes in two, as
+    /// `test` and `test_on` of vt_core.
     pub fn new(blank: Blank) -> Self
         requires name { blank.name ≡ L.name }
         requires parts { blank.parts ≡ L.parts }

@@ -1,4 +1,5 @@
 //! Laws of entries, roots, calls and content, each the contract of a function that does nothing.
+//! Those that no code calls check the definitions.
 
 ghost use Rattle.std.specs.Prelude.{◌≡◌, ◌↔◌, ◌+◌, ◌*◌, ◌<◌, ◌≤◌, ◌^◌, ◌/◌, ◌%◌, ℕ, List, Some, Ok};
 ghost use Rattle.std.specs.Prelude.{[], length, map, take, drop, slice_index};
@@ -53,7 +54,8 @@ pub fn gets_change_nothing()
         AllByRecursion (Tells score_of m.held) calls }
 {}
 
-/// Where blocks were put, and each put was answered, these are held, beside what was.
+/// Where calls are puts of these blocks, in this order, and each was answered, they are held,
+/// beside what was.
 pub fn puts_are_held()
     ensures map { (score_of : List ℕ → List ℕ) (calls : List Call) (blocks : List Block)
         (m : Maps) → map asked_of calls ≡ map write_of blocks → refusals_of calls ≡ [] →

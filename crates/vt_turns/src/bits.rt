@@ -12,6 +12,7 @@ use crate::view::Pass;
 use std::marker::Brand;
 
 impl<P: Held<B>, B> Turns<P, B> {
+    /// `set_bit`, where `W` says for the proof what the call at `Brand` was handed.
     fn set_bit_as<W: BitPlace>(&self, pass: &mut Pass<P, B>, place: u32)
         requires named { W.place ≡ place }
         requires own { IsPassOf self.now pass.old }
@@ -26,6 +27,7 @@ impl<P: Held<B>, B> Turns<P, B> {
             .fetch_or::<SetsBit<W>>(pass, word, 1 << (place % 64));
     }
 
+    /// Sets the bit at this place, which the pass then knows as set.
     fn set_bit(&self, pass: &mut Pass<P, B>, place: u32)
         requires own { IsPassOf self.now pass.old }
         requires place { place / 64 < word_count self.now }
@@ -47,6 +49,7 @@ impl<P: Held<B>, B> Turns<P, B> {
         }
     }
 
+    /// `load_bit`, where `W` says for the proof what the call at `Brand` was handed.
     fn load_bit_as<W: BitPlace>(&self, pass: &mut Pass<P, B>, place: u32) -> bool
         requires named { W.place ≡ place }
         requires own { IsPassOf self.now pass.old }
@@ -62,6 +65,8 @@ impl<P: Held<B>, B> Turns<P, B> {
         (found >> (place % 64)) & 1 == 1
     }
 
+    /// Whether the bit at this place is set. The pass then knows it as set; where it isn't, no
+    /// block that the pass has seen has it.
     fn load_bit(&self, pass: &mut Pass<P, B>, place: u32) -> bool
         requires own { IsPassOf self.now pass.old }
         requires place { place / 64 < word_count self.now }

@@ -32,8 +32,10 @@ fn first_words(
     Ok(words)
 }
 
-/// What J remembers, as a value that clauses read.
-fn remember<P, B, J: Opened<P, B>>(
+/// What the store is opened with (`J`), as a value that stays with the table, since its rule
+/// (`Law`, shared.rt) and clauses name it, and no type that `new` gives can. It is what a seat
+/// knows (`me.0`), so that a table without words and slots is made for its seat alone.
+fn opening_of_seat<P, B, J: Opened<P, B>>(
     alloc: Global,
 ) -> Result<Snapshot<Seat<(), Opening<P, B>>>, AllocError>
     ensures { IfOk result (λ s. s.value.me.0 ≡ J.opening) }
@@ -71,7 +73,7 @@ fn prepare<P: Drop, B, J: Opened<P, B>>(
     ensures back { IfOk result (λ r. (r.back.items ≡ []) × (count ≤ vec_capacity r.back)) }
 {
     Ok(Prepared {
-        opening: remember::<P, B, J>(alloc)?,
+        opening: opening_of_seat::<P, B, J>(alloc)?,
         words: first_words(alloc, count, front, bits)?,
         slots: Vec::with_capacity(alloc, count)?,
         back: Vec::with_capacity(alloc, count)?,

@@ -10,7 +10,8 @@ use crate::view::{Opening, View};
 use atomic_table::{Join, Play, Split, TableRule};
 use std::marker::{Brand, PhantomData};
 
-/// With what a store is opened, for the proofs alone. A call at `Brand` picks it.
+/// With what a store is opened, for the proofs alone. A call at `Brand` picks it, in the
+/// `Invariants.antt` of the caller's proof, as that of `open` in vt_turns_example.
 pub trait Opened<P, B> {
     ghost opening: { Opening P B };
 }

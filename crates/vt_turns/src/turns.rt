@@ -87,6 +87,7 @@ impl<P: Held<B>, B> Turns<P, B> {
         shared.store::<GivesPart>(pass, number as usize + 1, 0);
     }
 
+    /// `book`, where `W` says for the proof what the call at `Brand` was handed.
     fn book_as<W: BookedPart<P>>(&self, pass: &mut Pass<P, B>, number: u32, part: &P)
         requires named { W.part ≡ Some part.now }
         requires own { IsPassOf self.now pass.old }
@@ -119,6 +120,7 @@ impl<P: Held<B>, B> Turns<P, B> {
         self.book_as::<Brand>(pass, number, part);
     }
 
+    /// `raise`, where `W` says for the proof what the call at `Brand` was handed.
     fn raise_as<W: AddedBlock<P, B>>(
         &self,
         pass: &mut Pass<P, B>,

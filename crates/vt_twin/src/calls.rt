@@ -70,6 +70,7 @@ pub fn selector_call<'a>(
         (selector_bytes number (selector_len region frame_len)) }
 {
     let len = (region.len - 2 * frame_len) as usize;
+    // (the selector, behind both frames)
     region.write_call(2 * frame_len, &selector[..len])
 }
 
@@ -91,5 +92,6 @@ pub fn write_selector<D: Disk>(
 {
     let selector = selector_naming(number);
     let len = (region.len - 2 * frame_len) as usize;
+    // (the selector, behind both frames)
     region.write_at(disk, 2 * frame_len, &selector[..len])
 }

@@ -1,4 +1,5 @@
-//! Laws about frames, messages and lines. Each is the contract of a function that does nothing.
+//! Laws about frames, messages and lines. Each is the contract of a function that does nothing. No
+//! code calls them: they check the definitions.
 
 ghost use Rattle.std.specs.Prelude.{◌≡◌, ◌≢◌, ◌↔◌, ◌+◌, ◌<◌, ◌≤◌, ℕ, Bool, true, Some, List, ◌∷◌, ◌++◌, ◌⊎◌, length, take, drop};
 ghost use Rattle.std.specs.List.{All, list_any};
@@ -35,7 +36,7 @@ pub fn cutting_goes_on()
         Splits (front ++ back) (bodies ++ more) last }
 {}
 
-/// No bytes spell two requests.
+/// No bytes spell two requests, nor one under two tags.
 pub fn one_request()
     ensures body { (m n : TMessage) (type : ℕ) (parameters : List ℕ) →
         SpellsBody m type parameters → SpellsBody n type parameters → m ≡ n }
@@ -43,8 +44,8 @@ pub fn one_request()
         Spells s m bytes → Spells t n bytes → (s ≡ t) × (m ≡ n) }
 {}
 
-/// No bytes spell two replies, and replies that this server sends one behind another are read apart
-/// in one way.
+/// No bytes spell two replies, nor one under two tags, and replies that this server sends one
+/// behind another are read apart in one way.
 pub fn one_reply()
     ensures frame { (s t : ℕ) (p q : RMessage) (bytes : List ℕ) →
         SpellsReply s p bytes → SpellsReply t q bytes → (s ≡ t) × (p ≡ q) }

@@ -1,4 +1,4 @@
-//! What follows of what words ask for.
+//! What follows of what words ask for. No code calls these laws: they check the definitions.
 
 ghost use Rattle.std.specs.Prelude.{◌≡◌, List, [], codes};
 ghost use Rattle.clap.specs.Words.{Text};

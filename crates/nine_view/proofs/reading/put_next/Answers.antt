@@ -13,16 +13,16 @@ use Rattle.nine_view.proofs.reading.put_next.Goals as goal
 pub put_files-count-requires-clause-told : goal.put_files-count-requires-clause-told
 put_files-count-requires-clause-told c =
     let l = c.in-Some.ensures.some in
-    subst (λ (x : List Node). All IsTold x) (sym c.behind.ensures)
+    subst (λ (x : List Node). All IsTold x) (sym c.files_from.ensures)
     (All-drop IsTold c.first_file-from.result c.in-Some.files.now
     (subst (λ (o : Option (List Node)). IfSome o (All IsTold)) l.2 (c.requires.told l.0 l.1)))
 
 pub returns-then-is_small : goal.returns-then-is_small
 returns-then-is_small c = λ f r files at now kept.
     let l = c.in-Some.ensures.some in
-    let put = put_is c.in-Some.reading c.in-Some.files.now c.behind.result.now c.args.offset
+    let put = put_is c.in-Some.reading c.in-Some.files.now c.files_from.result.now c.args.offset
     c.args.room c.first_file-from.result c.put_files-count.result.0 c.count_of.result
-    c.first_file-from.ensures c.behind.ensures c.put_files-count.ensures.count c.count_of.ensures in
+    c.first_file-from.ensures c.files_from.ensures c.put_files-count.ensures.count c.count_of.ensures in
     told_same (λ g q m. (has_no_room q m c.args.offset c.args.room ≡ true)
     × (SmallCount ≡ SmallCount)) c.args.fid c.args.fids.now
     f l.0 r c.in-Some.reading files c.in-Some.files.now at now kept l.1 l.3 l.2
@@ -30,19 +30,19 @@ returns-then-is_small c = λ f r files at now kept.
 
 pub overflow_add-reading : goal.overflow_add-reading
 overflow_add-reading c =
-    let few = fitting_few c.args.room c.behind.result.now in
-    let behind : length c.behind.result.now
+    let few = fitting_few c.args.room c.files_from.result.now in
+    let behind : length c.files_from.result.now
     ≡ length (drop c.first_file-from.result c.in-Some.files.now) =
-    ap (λ (x : List Node). length x) c.behind.ensures in
+    ap (λ (x : List Node). length x) c.files_from.ensures in
     let rest = length-drop c.first_file-from.result c.in-Some.files.now in
     omega (arith, c.count_of.ensures, c.put_files-count.ensures.count)
 
 pub returns : goal.returns
 returns c =
     let l = c.in-Some.ensures.some in
-    let put = put_is c.in-Some.reading c.in-Some.files.now c.behind.result.now c.args.offset
+    let put = put_is c.in-Some.reading c.in-Some.files.now c.files_from.result.now c.args.offset
     c.args.room c.first_file-from.result c.put_files-count.result.0 c.count_of.result
-    c.first_file-from.ensures c.behind.ensures c.put_files-count.ensures.count c.count_of.ensures in
+    c.first_file-from.ensures c.files_from.ensures c.put_files-count.ensures.count c.count_of.ensures in
     let len = c.put_files-count.ensures.len
     ∙ ap (λ (x : List Node). length (flat_map stat_in x)) put.0 in
     record {
